@@ -1,0 +1,81 @@
+//! `amber`: hands its words to the top call, over the system's files and the standard output, and ends
+//! with the status as its exit code.
+#![tactic(auto)]
+
+use amber_io::{RealFolder, RealSink};
+use amber_run::{Status, amber};
+use std::io::ErrorKind;
+use std::process::ExitCode;
+use std::rt::{Env, Files};
+use std::{env, io};
+
+const VERSION: &str = "amber 0.1.0\n";
+
+const HELP: &str = "amber answers queries over CSV files.
+
+  amber plain WORKFLOW   prints the answer of the workflow in the file WORKFLOW
+  amber --help           prints this text
+  amber --version        prints the version
+
+A workflow is a JSON text with a list of operators: a scan of a CSV file, filters and a sink. The
+answer is the sink's rows in their order, behind their number and the columns' names.
+
+Whatever is refused is told in one line on the standard output. The exit code is
+
+   0  all was done and printed
+   1  the words are no form of a call
+   2  the workflow was refused, or the header of a scan's file
+   3  the script was refused
+   4  a file was not there, or could not be read
+   5  the log could not be written
+   6  the output could not be written
+   7  the log was refused
+   8  the work went past its limit
+   9  a file was too large
+  10  memory ran out
+";
+
+fn main(rt: HostRuntime) -> ExitCode {
+    match words(&rt) {
+        Ok(words) => ExitCode::from(answer(&rt, words.as_slice()).code()),
+        Err(error) => ExitCode::from(no_words(&rt, error.kind()).code()),
+    }
+}
+
+// The words after the program's name.
+fn words<R: Env + AllocGlobal>(rt: &R) -> io::Result<Vec<String>> {
+    Ok(env::args(rt)?.skip(1).collect(rt.alloc())?)
+}
+
+// The words could not be read: memory ran out, or one of them is no text, which no form has.
+fn no_words<R: Files + Print + AllocGlobal>(rt: &R, kind: ErrorKind) -> Status {
+    if kind == ErrorKind::OutOfMemory {
+        let _ = rt.print("error 10 memory\n");
+        return Status::NoMemory;
+    }
+    call(rt, &[])
+}
+
+fn answer<R: Files + Print + AllocGlobal>(rt: &R, words: &[String]) -> Status {
+    if let [word] = words {
+        match word.as_str() {
+            "--help" => return show(rt, HELP),
+            "--version" => return show(rt, VERSION),
+            _ => {}
+        }
+    }
+    call(rt, words)
+}
+
+fn show<R: Print>(rt: &R, text: &str) -> Status {
+    match rt.print(text) {
+        Ok(()) => Status::Ok,
+        Err(_) => Status::OutFault,
+    }
+}
+
+fn call<R: Files + Print + AllocGlobal>(rt: &R, words: &[String]) -> Status {
+    let mut folder = RealFolder::new(rt);
+    let mut out = RealSink::new(rt);
+    amber(rt.alloc(), words, &mut folder, &mut out)
+}

@@ -1,0 +1,6 @@
+pub mod Sums
+pub mod Views
+pub mod Stays
+pub mod WordSteps
+pub mod Keeps
+pub mod Ends

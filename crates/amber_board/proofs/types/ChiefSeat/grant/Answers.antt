@@ -1,0 +1,23 @@
+use Rattle.std.proofs.Common.{rules, ℕ, ◌-◌, refl, ap, ◌∙◌}
+use Rattle.amber_board.specs.declared.view.View.{View}
+use Rattle.amber_board.proofs.Keeps.{grants}
+use Rattle.amber_board.proofs.types.ChiefSeat.grant.Goals as goal
+
+pub fetch_add-requires : goal.fetch_add-requires
+fetch_add-requires c = (c.requires.own.table, search rules, grants _ _ _ _ c.args.self.now.is_chief c.args.worker c.args.n (search rules) (search rules) c.requires.has)
+
+pub invariant_of-self : goal.invariant_of-self
+invariant_of-self c =
+    let s = c.args.self.now in
+    let moved = c.fetch_add.ensures.2.0 c.args.worker refl in
+    record {
+      is_chief = ap (λ (v : View). v.role) moved ∙ s.is_chief;
+      in_hand = ap (λ (v : View). v.hand) moved ∙ ap (λ (n : ℕ). n - c.args.n) s.in_hand;
+      aim = ap (λ (v : View). v.target) moved ∙ s.aim;
+      made = ap (λ (v : View). v.made) moved ∙ s.made;
+      remembered = ap (λ (v : View). v.seen) moved ∙ s.remembered;
+      none_kept = ap (λ (v : View). v.kept) moved ∙ s.none_kept;
+      no_slots = c.fetch_add.ensures.2.1 ∙ s.no_slots;
+      few = s.few;
+      at_most = s.at_most;
+    }

@@ -1,0 +1,114 @@
+-- The ledger as plain data, and the rule that holds of it between any two steps.
+-- Word 0 is the target, word 1 the units that are assigned to nobody. Words 2 to 17 are the workers' allotments, which they have yet to claim, and words 18 to 33 what they counted.
+use Rattle.std.specs.Prelude.{◌≡◌, ℕ, zero, suc, ◌+◌, ◌^◌, ◌<◌, ◌≤◌, Bool, true, false, if◌then◌else◌, nat_lt, ◌==◌, List, [], length, slice_index, replicate, sum_by, count_by}
+use mathlib.Core.Option.{some}
+use lib.ListN.{get_elem?}
+use Rattle.amber_board.specs.declared.view.Role.{Role}
+use Rattle.amber_board.specs.declared.view.Role.TheVariants.{Chief, Worker, Spent}
+use Rattle.amber_board.specs.declared.view.Kept.{Kept}
+use Rattle.amber_board.specs.declared.view.Terms.{Terms}
+use Rattle.amber_board.specs.declared.view.View.{View}
+
+-- the units that are assigned to nobody
+abbrev pub unassigned : List ℕ → ℕ
+unassigned words = slice_index words 1
+
+-- the units that worker w may claim
+abbrev pub allotment : List ℕ → ℕ → ℕ
+allotment words w = slice_index words (2 + w)
+
+-- the units that worker w counted
+abbrev pub counted : List ℕ → ℕ → ℕ
+counted words w = slice_index words (18 + w)
+
+-- f 0 + f 1 + .. + f (n - 1)
+unfoldable pub total_below : ℕ → (ℕ → ℕ) → ℕ
+total_below zero f = 0
+total_below (suc n) f = f zero + total_below n (λ k. f (suc k))
+
+-- the units in the hands of all seats
+abbrev pub hands : List View → ℕ
+hands views = sum_by (λ v. v.hand) views
+
+-- the worker whose seat it is
+abbrev pub number_of : Role → ℕ
+number_of Chief = 0
+number_of (Worker n) = n
+number_of Spent = 0
+
+-- whether the seat is worker w's
+abbrev pub is_worker : ℕ → Role → Bool
+is_worker w Chief = false
+is_worker w (Worker n) = n == w
+is_worker w Spent = false
+
+-- how many seats of worker w are out
+abbrev pub seats_of : ℕ → List View → ℕ
+seats_of w views = count_by (λ v. is_worker w v.role) views
+
+-- what the seats of worker w that are out counted
+abbrev pub mine_of : ℕ → List View → ℕ
+mine_of w views = sum_by (λ v. if is_worker w v.role then v.mine else 0) views
+
+-- how often the chief took in a seat of worker w
+abbrev pub times_kept : ℕ → List Kept → ℕ
+times_kept w kept = count_by (λ k. k.worker == w) kept
+
+-- what the seats of worker w that the chief took in had counted
+abbrev pub kept_of : ℕ → List Kept → ℕ
+kept_of w kept = sum_by (λ k. if k.worker == w then k.count else 0) kept
+
+-- 1 for yes
+abbrev pub flag : Bool → ℕ
+flag true = 1
+flag false = 0
+
+-- the rule, where the chief's view stands at this place
+pub record ConservedBy (terms : Terms) (words : List ℕ) (views : List View) (place : ℕ) (chief : View) : Type 0 where
+  -- no unit is made or lost
+  pub units : unassigned words + total_below 16 (allotment words) + total_below 16 (counted words) + hands views ≡ terms.target
+  -- exactly one view is the chief's
+  pub there : get_elem? views place ≡ some chief
+  pub is_chief : chief.role ≡ Chief
+  pub only : (k : ℕ) (v : View) → get_elem? views k ≡ some v → v.role ≡ Chief → k ≡ place
+  -- each worker below `made` has one seat, which is out or was taken in, and no other worker has one
+  pub seats : (w : ℕ) → seats_of w views + times_kept w chief.kept ≡ flag (nat_lt w chief.made)
+  pub made : chief.made ≤ terms.workers
+  pub unmade : (w : ℕ) → chief.made ≤ w → w < 16 → (allotment words w ≡ 0) × (counted words w ≡ 0)
+  pub spent : (k : ℕ) (v : View) → get_elem? views k ≡ some v → v.role ≡ Spent → v.hand ≡ 0
+  -- a worker's word is what its seat counted, or had counted when it was taken in
+  pub mine : (w : ℕ) → w < 16 → counted words w ≡ mine_of w views + kept_of w chief.kept
+  -- what the chief saw of a worker is at most what that worker counted
+  pub seen : (w : ℕ) → w < 16 → slice_index chief.seen w ≤ counted words w
+  pub all_seen : length chief.seen ≡ 16
+  -- what the words and the chief say of the target, and how large a board may be
+  pub target : (slice_index words 0 ≡ terms.target) × (chief.target ≡ terms.target)
+  pub size : length words ≡ 34
+  pub limits : (terms.target ≤ 2 ^ 40) × (terms.workers ≤ 16)
+
+-- the conservation rule of the ledger
+abbrev pub Conserved : Terms → List ℕ → List View → Type 0
+Conserved terms words views = (place : ℕ) × (chief : View) × ConservedBy terms words views place chief
+
+-- every unit is counted, and none is anywhere else
+pub record IsAllCounted (target : ℕ) (words : List ℕ) (views : List View) : Type 0 where
+  pub counted_all : total_below 16 (counted words) ≡ target
+  pub none_unassigned : unassigned words ≡ 0
+  pub none_allotted : total_below 16 (allotment words) ≡ 0
+  pub none_in_hand : hands views ≡ 0
+
+-- the chief's view before any seat is made
+abbrev pub first_view : Terms → View
+first_view terms = record { role = Chief; hand = 0; mine = 0; target = terms.target; made = 0; seen = replicate 16 0; kept = []; done = [] }
+
+-- in every state that meets the rule and has this view of a worker's seat, that worker's word is what the seat counted
+abbrev pub IsWord : View → Type 0
+IsWord v = (terms : Terms) (words : List ℕ) (views : List View) (k : ℕ) → Conserved terms words views → get_elem? views k ≡ some v → counted words (number_of v.role) ≡ v.mine
+
+-- in every state that meets the rule and has this view of the chief, no worker counted less than the chief saw
+abbrev pub IsSeen : View → Type 0
+IsSeen v = (terms : Terms) (words : List ℕ) (views : List View) (k : ℕ) → Conserved terms words views → get_elem? views k ≡ some v → (w : ℕ) → w < 16 → slice_index v.seen w ≤ counted words w
+
+-- in every state that meets the rule and has this view of the chief, every unit is counted
+abbrev pub IsExact : View → Type 0
+IsExact v = (terms : Terms) (words : List ℕ) (views : List View) (k : ℕ) → Conserved terms words views → get_elem? views k ≡ some v → IsAllCounted terms.target words views

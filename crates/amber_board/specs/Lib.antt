@@ -1,0 +1,4 @@
+pub mod Ledger
+pub mod Moves
+pub mod Seats
+pub mod Opening

@@ -1,0 +1,83 @@
+//! The kinds of step: what each makes of the view of the seat that makes it.
+ghost use Rattle.std.specs.Prelude.{◌≡◌, ℕ, ◌+◌, ◌^◌, ◌≤◌};
+ghost use Rattle.amber_board.specs.Ledger.{number_of};
+ghost use Rattle.amber_board.specs.Moves.{drawn, granted, put_back_of, swept, watched, claimed, counted_one, given_back, after_split, new_seat, joined, spent_view};
+
+use crate::view::View;
+use atomic_table::{Join, Play, Split};
+
+/// The chief makes a seat for the next worker, with no unit.
+pub(crate) struct WithNothing;
+
+impl Split<View> for WithNothing {
+    ghost left = { λ v. after_split v v.hand };
+
+    ghost right = { λ v. new_seat v.made 0 };
+}
+
+/// The chief makes a seat for the next worker, with all that it has in hand.
+pub(crate) struct WithHand;
+
+impl Split<View> for WithHand {
+    ghost left = { λ v. after_split v 0 };
+
+    ghost right = { λ v. new_seat v.made v.hand };
+}
+
+pub(crate) struct Draw;
+
+impl Play<(), View> for Draw {
+    ghost then = { λ step me n after. (after.0 ≡ drawn me.0 n) × (after.1 ≡ me.1) × (me.0.hand + n ≤ 2 ^ 40) × (me.0.made ≡ 0 → me.0.hand + n ≡ me.0.target) };
+}
+
+/// The word tells the worker. The next two are as this one.
+pub(crate) struct Grant;
+
+impl Play<(), View> for Grant {
+    ghost then = { λ step me n after. ((w : ℕ) → step.word ≡ 2 + w → after.0 ≡ granted me.0 w step.first) × (after.1 ≡ me.1) };
+}
+
+pub(crate) struct Sweep;
+
+impl Play<(), View> for Sweep {
+    ghost then = { λ step me n after. ((w : ℕ) → step.word ≡ 2 + w → after.0 ≡ swept me.0 w n) × (after.1 ≡ me.1) × (me.0.hand + n ≤ 2 ^ 40) };
+}
+
+pub(crate) struct Watch;
+
+impl Play<(), View> for Watch {
+    ghost then = { λ step me n after. ((w : ℕ) → step.word ≡ 18 + w → after.0 ≡ watched me.0 w n) × (after.1 ≡ me.1) × (n ≤ 2 ^ 40) };
+}
+
+pub(crate) struct PutBack;
+
+impl Play<(), View> for PutBack {
+    ghost then = { λ step me n after. (after.0 ≡ put_back_of me.0) × (after.1 ≡ me.1) };
+}
+
+pub(crate) struct Claim;
+
+impl Play<(), View> for Claim {
+    ghost then = { λ step me n after. (after.0 ≡ claimed me.0 (number_of me.0.role) n) × (after.1 ≡ me.1) × (me.0.hand + n ≤ 2 ^ 40) };
+}
+
+pub(crate) struct Count;
+
+impl Play<(), View> for Count {
+    ghost then = { λ step me n after. (after.0 ≡ counted_one me.0 (number_of me.0.role)) × (after.1 ≡ me.1) × (me.0.mine + 1 ≤ 2 ^ 40) };
+}
+
+pub(crate) struct GiveBack;
+
+impl Play<(), View> for GiveBack {
+    ghost then = { λ step me n after. (after.0 ≡ given_back me.0 (number_of me.0.role)) × (after.1 ≡ me.1) };
+}
+
+/// The chief takes in a worker's seat.
+pub(crate) struct TakeIn;
+
+impl Join<View> for TakeIn {
+    ghost both = { joined };
+
+    ghost spent = { spent_view };
+}

@@ -1,0 +1,5 @@
+mod ColumnFacts
+mod OperatorFacts
+mod ReaderFacts
+mod TreeFacts
+mod FlowFacts

@@ -1,0 +1,29 @@
+-- What the readers answer.
+use Rattle.std.specs.Prelude.{◌≡◌, ℕ, List, Option, Some, None, Result, Ok, Err, IsErr, ⊤}
+use Rattle.serde_json.specs.Data.{Data}
+use Rattle.serde_json.specs.View.{view}
+use Rattle.serde_json.specs.declared.value.Value.{Value}
+use Rattle.amber_rows.specs.declared.flow.Operator.{Operator}
+use Rattle.amber_flow.specs.Workflow.{fault_at}
+use Rattle.amber_flow.specs.declared.error.Fault.{Fault}
+use Rattle.amber_flow.specs.declared.error.FlowErr.{FlowErr}
+use Rattle.amber_flow.specs.declared.error.FlowErr.TheVariants.{Bad, NoMemory}
+use Rattle.amber_flow.specs.declared.error.FlowWhy.TheVariants as why
+
+-- the value that was meant; `Json` of the whole where none was; or nothing, for want of memory
+abbrev pub AnswersTree : Result Value FlowErr → Option Data → Type 0
+AnswersTree (Ok tree) meant = meant ≡ Some (view tree)
+AnswersTree (Err (Bad op reason)) meant = (op ≡ 0) × (reason ≡ why.Json) × (meant ≡ None)
+AnswersTree (Err NoMemory) meant = ⊤
+
+-- the workflow that was meant; its first reason and the operator at fault; or nothing, for want of memory
+abbrev pub AnswersExactly : Result (List Operator) FlowErr → Result (List Operator) Fault → Type 0
+AnswersExactly (Ok flow) meant = meant ≡ Ok flow
+AnswersExactly (Err (Bad op reason)) meant = meant ≡ Err (fault_at op reason)
+AnswersExactly (Err NoMemory) meant = ⊤
+
+-- the workflow that was meant; `Shape` of the whole where none was; or nothing, for want of memory
+abbrev pub AnswersFlow : Result (List Operator) FlowErr → Result (List Operator) Fault → Type 0
+AnswersFlow (Ok flow) meant = meant ≡ Ok flow
+AnswersFlow (Err (Bad op reason)) meant = (op ≡ 0) × (reason ≡ why.Shape) × IsErr meant
+AnswersFlow (Err NoMemory) meant = ⊤

@@ -1,0 +1,102 @@
+ghost use Rattle.std.specs.Prelude.{◌≡◌, ◌+◌, ◌^◌, ◌≤◌, ◌<◌, true, length, position, bytes_eq, IfOk, IfSome, MatchResult, Ok, Err};
+ghost use Rattle.std.specs.List.{list_all, list_any};
+ghost use Rattle.serde_json.specs.View.{items_view, view};
+ghost use Rattle.amber_rows.specs.Columns.{names_of};
+ghost use Rattle.amber_rows.specs.FlowRules.{are_apart, is_among, is_column_name};
+ghost use Rattle.amber_flow.specs.Columns.{column_number, column_of, columns_of};
+
+use crate::error::FlowWhy;
+use crate::fields::text_item;
+use crate::names::{column_kind, may_name_column};
+use amber_rows::{Column, Text};
+use serde_json::Value;
+use std::alloc::{AllocError, Global};
+
+/// The column that a pair of a name and a kind means.
+#[tactic(auto, unfolding(crate::specs::Columns::column_of))]
+fn read_column(alloc: Global, tree: &Value) -> Result<Result<Column, FlowWhy>, AllocError>
+    ensures column { IfOk result (λ read. read ≡ column_of (view tree.now)) }
+    ensures named { IfOk result (λ read. IfOk read (λ column. is_column_name column.name ≡ true)) }
+{
+    let Some(name) = text_item(tree, 0) else {
+        return Ok(Err(FlowWhy::Shape));
+    };
+    let Some(word) = text_item(tree, 1) else {
+        return Ok(Err(FlowWhy::Shape));
+    };
+    if tree.get(2).is_some() {
+        return Ok(Err(FlowWhy::Shape));
+    }
+    if !may_name_column(name) {
+        return Ok(Err(FlowWhy::Shape));
+    }
+    let Some(kind) = column_kind(word) else {
+        return Ok(Err(FlowWhy::Shape));
+    };
+    let name = Text::new(String::from_str(alloc, name)?);
+    Ok(Ok(Column { name, kind }))
+}
+
+/// The columns that a list of pairs means.
+pub fn read_columns(
+    alloc: Global,
+    trees: &[Value],
+) -> Result<Result<Vec<Column>, FlowWhy>, AllocError>
+    ensures columns { IfOk result (λ read. MatchResult read
+        (λ columns. columns_of (items_view trees.now) ≡ Ok columns.items)
+        (λ why. columns_of (items_view trees.now) ≡ Err why)) }
+    ensures named { IfOk result (λ read. IfOk read (λ columns. list_all is_column_name (names_of columns.items) ≡ true)) }
+{
+    let mut columns = Vec::new(alloc);
+    for tree in trees {
+        match read_column(alloc, tree)? {
+            Ok(column) => columns.push(column)?,
+            Err(why) => return Ok(Err(why)),
+        }
+    }
+    Ok(Ok(columns))
+}
+
+fn index_of(columns: &[Column], name: &str) -> Option<usize>
+    ensures { result ≡ position (λ column. bytes_eq column.name name.now) columns.now }
+{
+    columns.iter().position(|column| column.name.get() == name)
+}
+
+/// The number of the column with this name, from 1.
+pub fn find_column(columns: &[Column], name: &str) -> Option<u32>
+    requires { length columns.now ≤ 64 }
+    ensures number { result ≡ column_number columns.now name.now }
+    ensures there { IfSome result (λ number. (0 < number) × (number ≤ length columns.now)) }
+{
+    match index_of(columns, name) {
+        None => None,
+        Some(index) => Some(index as u32 + 1),
+    }
+}
+
+fn has_named(columns: &[Column], name: &str) -> bool
+    ensures { result ≡ list_any (λ column. bytes_eq column.name name.now) columns.now }
+{
+    columns.iter().any(|column| column.name.get() == name)
+}
+
+fn has_column(columns: &[Column], name: &Text) -> bool
+    ensures { result ≡ is_among name.now (names_of columns.now) }
+{
+    has_named(columns, name.get())
+}
+
+/// Whether no name stands twice.
+pub fn are_all_apart(columns: &[Column]) -> bool
+    ensures { result ≡ are_apart (names_of columns.now) }
+{
+    for index in 0..columns.len() {
+        let column = &columns[index];
+        let (_, later) = columns.split_at(index + 1);
+        if has_column(later, &column.name) {
+            return false;
+        }
+    }
+    true
+}

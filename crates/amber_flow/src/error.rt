@@ -1,0 +1,86 @@
+ghost use Rattle.std.specs.Prelude.{◌≡◌, Some};
+ghost use Rattle.amber_flow.specs.Words.{why_word};
+
+use std::fmt;
+use thiserror::Error;
+
+/// Why bytes are no workflow.
+#[derive(Clone, Copy, Debug, PartialEq, Eq)]
+pub enum FlowWhy {
+    /// The bytes are no JSON.
+    Json,
+    /// A value is absent, or has another form than it must.
+    Shape,
+    /// There are too few or too many operators, or too many workers.
+    Count,
+    /// An id is not a letter and up to 31 letters, digits and `_`.
+    Name,
+    /// An id or a column's name stands twice.
+    Duplicate,
+    /// There is no such kind of operator.
+    Kind,
+    /// The number of workers is not one that the operator may have.
+    Workers,
+    /// An input is no earlier operator.
+    Forward,
+    /// A column is not there.
+    Column,
+    /// A constant is not of its column's kind.
+    Mismatch,
+    /// An operator gives no column or too many.
+    Wide,
+    /// A sink is not the last operator, or the last operator is no sink.
+    SinkPlace,
+    /// An operator other than the sink is not read exactly once.
+    Readers,
+}
+
+impl FlowWhy {
+    /// The reason's word, as error lines have it.
+    pub fn word(self) -> &'static str
+        ensures { result.now ≡ why_word self }
+    {
+        match self {
+            FlowWhy::Json => "Json",
+            FlowWhy::Shape => "Shape",
+            FlowWhy::Count => "Count",
+            FlowWhy::Name => "Name",
+            FlowWhy::Duplicate => "Duplicate",
+            FlowWhy::Kind => "Kind",
+            FlowWhy::Workers => "Workers",
+            FlowWhy::Forward => "Forward",
+            FlowWhy::Column => "Column",
+            FlowWhy::Mismatch => "Mismatch",
+            FlowWhy::Wide => "Wide",
+            FlowWhy::SinkPlace => "SinkPlace",
+            FlowWhy::Readers => "Readers",
+        }
+    }
+}
+
+impl fmt::Display for FlowWhy {
+    ghost output = { λ why. Some (why_word why) };
+
+    fn fmt<W: fmt::Write>(&self, f: &mut fmt::Formatter<W>) -> fmt::Result {
+        f.write_str(self.word())
+    }
+}
+
+/// Why no workflow was read.
+#[derive(Debug, Drop, Error)]
+pub enum FlowErr {
+    /// The bytes are no workflow. `op` is the number of the operator at fault, from 1, or 0 where the
+    /// whole is at fault.
+    #[error("operator {op}: {why}")]
+    Bad { op: u32, why: FlowWhy },
+    /// Memory ran out.
+    #[error("out of memory")]
+    NoMemory,
+}
+
+/// The first reason why bytes are no workflow, and the operator at fault, or 0.
+#[derive(Clone, Copy, Debug, PartialEq, Eq)]
+pub struct Fault {
+    pub op: u32,
+    pub why: FlowWhy,
+}

@@ -1,0 +1,19 @@
+//! Reads a workflow from JSON.
+//!
+//! A workflow is a JSON object with a list of operators. The definition `workflow_of` in `specs/` says
+//! which workflow a byte list means, or the first reason why it means none.
+#![tactic(auto)]
+
+mod columns;
+mod error;
+mod fields;
+mod names;
+mod operator;
+mod parts;
+mod read;
+mod readers;
+#[cfg(test)]
+mod tests;
+
+pub use error::{FlowErr, FlowWhy};
+pub use read::read_flow;

@@ -1,0 +1,136 @@
+ghost use Rattle.std.specs.Prelude.{◌≡◌, ◌==◌, ◌<◌, ◌≤◌, ◌⊎◌, [], true, length, MatchResult, IfOk, Ok, Err};
+ghost use Rattle.serde_json.specs.View.{items_view, view};
+ghost use Rattle.amber_rows.specs.FlowRules.{AreNext, ends_in_sink};
+ghost use Rattle.amber_flow.specs.Answers.{AnswersExactly, AnswersFlow, AnswersTree};
+ghost use Rattle.amber_flow.specs.Workflow.{check_whole, flow_of, is_flow_length, operators_from, tree_of, workflow_of};
+
+use crate::error::{Fault, FlowErr, FlowWhy};
+use crate::fields::list_field;
+use crate::operator::read_operator;
+use crate::readers::{count_workers, find_unread};
+use amber_rows::{Flow, Operator};
+use serde_json::{Category, Value};
+use std::alloc::{AllocError, Global};
+
+/// The JSON value of a text.
+fn read_tree(alloc: Global, bytes: &[u8]) -> Result<Value, FlowErr>
+    ensures { AnswersTree result (tree_of bytes.now) }
+{
+    match Value::from_slice(alloc, bytes) {
+        Ok(tree) => Ok(tree),
+        Err(e) => match e.classify() {
+            Category::Memory => Err(FlowErr::NoMemory),
+            _ => Err(FlowErr::Bad {
+                op: 0,
+                why: FlowWhy::Json,
+            }),
+        },
+    }
+}
+
+/// The operators that a list means.
+fn read_operators(
+    alloc: Global,
+    trees: &[Value],
+) -> Result<Result<Vec<Operator>, Fault>, AllocError>
+    requires { length trees.now ≤ 32 }
+    ensures operators { IfOk result (λ read. MatchResult read
+        (λ operators. operators_from (length trees.now) [] (items_view trees.now) ≡ Ok operators.items)
+        (λ fault. operators_from (length trees.now) [] (items_view trees.now) ≡ Err fault)) }
+    ensures count { IfOk result (λ read. IfOk read (λ operators. length operators.items ≡ length trees.now)) }
+    ensures next { IfOk result (λ read. IfOk read (λ operators. AreNext [] operators.items)) }
+    ensures ends { IfOk result (λ read. IfOk read (λ operators. 0 < length trees.now → ends_in_sink operators.items ≡ true)) }
+{
+    let mut operators = Vec::new(alloc);
+    for tree in trees {
+        let before = operators.as_slice();
+        let op = before.len() as u32 + 1;
+        match read_operator(alloc, trees.len(), before, tree)? {
+            Ok(operator) => operators.push(operator)?,
+            Err(why) => return Ok(Err(Fault { op, why })),
+        }
+    }
+    Ok(Ok(operators))
+}
+
+/// The workflow of these operators, where they have few enough workers and each is read as it must be.
+#[tactic(auto, unfolding(crate::specs::Workflow::check_whole))]
+fn make_flow(operators: Vec<Operator>) -> Result<Flow, Fault>
+    requires some { 2 ≤ length operators.items }
+    requires few { length operators.items ≤ 32 }
+    requires next { AreNext [] operators.items }
+    requires ends { ends_in_sink operators.items ≡ true }
+    ensures { result ≡ check_whole operators.items }
+{
+    if 128 < count_workers(operators.as_slice()) {
+        return Err(Fault {
+            op: 0,
+            why: FlowWhy::Count,
+        });
+    }
+    if let Some(op) = find_unread(operators.as_slice()) {
+        return Err(Fault {
+            op,
+            why: FlowWhy::Readers,
+        });
+    }
+    Ok(Flow::new(operators))
+}
+
+/// Whether a workflow may have so many operators.
+fn may_be_flow(count: usize) -> bool
+    ensures { result ≡ is_flow_length count }
+{
+    2 <= count && count <= 32
+}
+
+/// The workflow that a JSON value means, or its first reason and the operator at fault.
+#[tactic(auto, unfolding(crate::specs::Workflow::flow_of))]
+fn read_whole(alloc: Global, tree: &Value) -> Result<Result<Flow, Fault>, AllocError>
+    ensures { IfOk result (λ read. read ≡ flow_of (view tree.now)) }
+{
+    let Some(trees) = list_field(tree, "operators") else {
+        return Ok(Err(Fault {
+            op: 0,
+            why: FlowWhy::Shape,
+        }));
+    };
+    let trees = trees.as_slice();
+    if !may_be_flow(trees.len()) {
+        return Ok(Err(Fault {
+            op: 0,
+            why: FlowWhy::Count,
+        }));
+    }
+    match read_operators(alloc, trees)? {
+        Ok(operators) => Ok(make_flow(operators)),
+        Err(fault) => Ok(Err(fault)),
+    }
+}
+
+/// The workflow that bytes mean, or its first reason and the operator at fault.
+#[tactic(auto, unfolding(crate::specs::Workflow::workflow_of))]
+pub(crate) fn read_exact_flow(alloc: Global, bytes: &[u8]) -> Result<Flow, FlowErr>
+    ensures { AnswersExactly result (workflow_of bytes.now) }
+{
+    let tree = read_tree(alloc, bytes)?;
+    match read_whole(alloc, &tree) {
+        Ok(Ok(flow)) => Ok(flow),
+        Ok(Err(Fault { op, why })) => Err(FlowErr::Bad { op, why }),
+        Err(_) => Err(FlowErr::NoMemory),
+    }
+}
+
+/// Reads a workflow from JSON: an object with a list `operators`, as the definition `workflow_of` in
+/// `specs/` has it. Every reason is answered as `Shape` of the whole.
+pub fn read_flow(alloc: Global, bytes: &[u8]) -> Result<Flow, FlowErr>
+    ensures answer { AnswersFlow result (workflow_of bytes.now) }
+{
+    match read_exact_flow(alloc, bytes) {
+        Err(FlowErr::Bad { .. }) => Err(FlowErr::Bad {
+            op: 0,
+            why: FlowWhy::Shape,
+        }),
+        answer => answer,
+    }
+}

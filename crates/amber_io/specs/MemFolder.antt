@@ -1,0 +1,25 @@
+-- What a folder in memory shows.
+use Rattle.std.specs.Prelude.{ℕ}
+use Rattle.amber_io.specs.Folder.{Named, named}
+use Rattle.amber_io.specs.declared.fails.Fails.{Fails}
+use Rattle.amber_io.specs.declared.mem_folder.MemFolder.{MemFolder}
+
+-- the files
+abbrev pub held_files : MemFolder → Named
+held_files folder = named folder.files
+
+-- which of its calls fail
+abbrev pub folder_plan : MemFolder → Fails
+folder_plan folder = folder.fails
+
+-- how many loads it has had, up to `u64::MAX`: the number of the last one
+abbrev pub loads_made : MemFolder → ℕ
+loads_made folder = folder.loads_made
+
+-- how many of them failed while the file was there
+abbrev pub failed_loads : MemFolder → ℕ
+failed_loads folder = folder.load_faults
+
+-- how many of its writes failed
+abbrev pub failed_writes : MemFolder → ℕ
+failed_writes folder = folder.write_faults

@@ -1,0 +1,25 @@
+//! The outside of the engine as traits: a folder of named files and a sink of bytes.
+//!
+//! `MemFolder` and `MemSink` keep all in memory and fail where they are told to. `RealFolder` and
+//! `RealSink` stand on the runtime's files and its standard output.
+#![tactic(auto)]
+
+pub use error::IoErr;
+pub use fails::{Fails, Numbers};
+pub use folder::Folder;
+pub use mem_folder::MemFolder;
+pub use mem_sink::MemSink;
+pub use named_files::NamedFiles;
+pub use real::{RealFolder, RealSink};
+pub use sink::Sink;
+
+mod error;
+mod fails;
+mod folder;
+mod mem_folder;
+mod mem_sink;
+mod named_files;
+mod real;
+mod sink;
+#[cfg(test)]
+mod tests;

@@ -1,0 +1,86 @@
+ghost use Rattle.std.specs.Prelude.{◌≡◌, ℕ, ◌≤◌, Option, Some, IsErr, IfOk, vec_len, option_map};
+ghost use Rattle.std.specs.FinMap as finmap;
+ghost use Rattle.amber_io.specs.Counts.{HasCause, next_number};
+ghost use Rattle.amber_io.specs.Folder.{Named, Lacks, Gives, named};
+ghost use Rattle.amber_io.specs.Memory.{IsPlanned, is_listed};
+ghost use Rattle.amber_io.specs.MemFolder.{held_files, folder_plan, loads_made, failed_loads, failed_writes};
+
+use crate::error::IoErr;
+use crate::fails::{Fails, first_bytes};
+use crate::folder::Folder;
+use crate::named_files::NamedFiles;
+use std::alloc::Global;
+
+/// A folder in memory, which tells its files and fails where its plan says so.
+#[derive(Drop)]
+pub struct MemFolder {
+    files: NamedFiles,
+    fails: Fails,
+    loads_made: u64,
+    load_faults: u64,
+    write_faults: u64,
+    // The folder grows on it.
+    alloc: Global,
+}
+
+impl MemFolder {
+    /// A folder of these files, whose loads and writes fail as `fails` says.
+    pub fn new(alloc: Global, files: NamedFiles, fails: Fails) -> MemFolder
+        ensures files { held_files result ≡ named files }
+        ensures plan { folder_plan result ≡ fails }
+        ensures made { loads_made result ≡ 0 }
+        ensures load_faults { failed_loads result ≡ 0 }
+        ensures write_faults { failed_writes result ≡ 0 }
+    {
+        MemFolder {
+            files,
+            fails,
+            loads_made: 0,
+            load_faults: 0,
+            write_faults: 0,
+            alloc,
+        }
+    }
+
+    /// What the file of this name holds, and `None` exactly where there is none.
+    pub fn read(&self, name: &str) -> Option<&[u8]>
+        ensures { option_map (λ bytes. bytes.now) result ≡ finmap.get (held_files self.now) name.now }
+    {
+        self.files.find(name)
+    }
+}
+
+impl Folder for MemFolder {
+    ghost files = { λ folder. Some (held_files folder) };
+
+    ghost load_faults = { failed_loads };
+
+    ghost write_faults = { failed_writes };
+
+    /// As the trait says; the load fails where its number is listed and the file is there.
+    fn load(&mut self, alloc: Global, name: &str, most: u64) -> Result<Vec<u8>, IoErr>
+        ensures same { Some (held_files self.new) ≡ Some (held_files self.old) }
+        ensures gives { IfOk result (λ bytes. Gives (Some (held_files self.old)) name.now most bytes.items) }
+        ensures short { IfOk result (λ bytes. vec_len bytes ≤ most) }
+        ensures cause { HasCause result (Lacks (Some (held_files self.old)) name.now) (failed_loads self.old) (failed_loads self.new) }
+        ensures absent { Lacks (Some (held_files self.old)) name.now → IsErr result × (failed_loads self.new ≡ failed_loads self.old) }
+        ensures writes { failed_writes self.new ≡ failed_writes self.old }
+        ensures plan { folder_plan self.new ≡ folder_plan self.old }
+        ensures made { loads_made self.new ≡ next_number (loads_made self.old) }
+        ensures planned { IsPlanned result (Lacks (Some (held_files self.old)) name.now)
+            (is_listed (folder_plan self.old).loads (loads_made self.new)) (failed_loads self.old) (failed_loads self.new) }
+    {
+        self.loads_made = self.loads_made.saturating_add(1);
+        let Some(bytes) = self.files.find(name) else {
+            return Err(IoErr::Failed);
+        };
+        if self.fails.loads.contains(self.loads_made) {
+            self.load_faults = self.load_faults.saturating_add(1);
+            return Err(IoErr::Failed);
+        }
+        match Vec::from_slice(alloc, first_bytes(bytes, most)) {
+            Ok(loaded) => Ok(loaded),
+            Err(_) => Err(IoErr::NoMemory),
+        }
+    }
+}

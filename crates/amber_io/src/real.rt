@@ -1,0 +1,116 @@
+ghost use Rattle.std.specs.Prelude.{◌≡◌, ◌≢◌, ◌≤◌, Option, None, IfOk, IsErr, vec_len};
+ghost use Rattle.amber_io.specs.Counts.{HasCause};
+ghost use Rattle.amber_io.specs.Folder.{Named, Lacks, Gives};
+ghost use Rattle.amber_io.specs.Sink.{Leaves};
+ghost use Rattle.amber_io.specs.Real.{failed_loads, failed_writes, failed_puts, IsCounted};
+
+use crate::error::IoErr;
+use crate::folder::Folder;
+use crate::sink::Sink;
+use std::alloc::Global;
+use std::io::{ErrorKind, Read, Write};
+use std::rt::Files;
+use std::{fs, io};
+
+#[cfg(test)]
+mod tests;
+
+/// The files of the system, by their paths. It tells nothing of what they hold.
+#[derive(Drop)]
+pub struct RealFolder<'r, R> {
+    rt: &'r R,
+    load_faults: u64,
+    write_faults: u64,
+}
+
+impl<'r, R: Files> RealFolder<'r, R> {
+    /// The files that `rt` reaches, with no fault counted yet.
+    pub fn new(rt: &'r R) -> RealFolder<'r, R>
+        ensures load_faults { failed_loads result ≡ 0 }
+        ensures write_faults { failed_writes result ≡ 0 }
+    {
+        RealFolder {
+            rt,
+            load_faults: 0,
+            write_faults: 0,
+        }
+    }
+}
+
+fn read_file<R: Files>(rt: &R, alloc: Global, name: &str, most: u64) -> io::Result<Vec<u8>>
+    ensures { IfOk result (λ bytes. vec_len bytes ≤ most) }
+{
+    let mut bytes = Vec::new(alloc);
+    fs::open(rt, name)?.take(most).read_to_end(&mut bytes)?;
+    // It reads no more than that, but no clause of `take` says so.
+    bytes.truncate(most as usize);
+    Ok(bytes)
+}
+
+impl<R: Files> Folder for RealFolder<'_, R> {
+    ghost files = { λ _. None };
+
+    ghost load_faults = { failed_loads };
+
+    ghost write_faults = { failed_writes };
+
+    /// As the trait says; each failure is counted.
+    fn load(&mut self, alloc: Global, name: &str, most: u64) -> Result<Vec<u8>, IoErr>
+        ensures same { ◌≡◌ {A = Option Named} None None }
+        ensures gives { IfOk result (λ bytes. Gives None name.now most bytes.items) }
+        ensures short { IfOk result (λ bytes. vec_len bytes ≤ most) }
+        ensures cause { HasCause result (Lacks None name.now) (failed_loads self.old) (failed_loads self.new) }
+        ensures absent { Lacks None name.now → IsErr result × (failed_loads self.new ≡ failed_loads self.old) }
+        ensures writes { failed_writes self.new ≡ failed_writes self.old }
+        ensures counted { IsCounted result (failed_loads self.old) (failed_loads self.new) }
+    {
+        match read_file(self.rt, alloc, name, most) {
+            Ok(bytes) => Ok(bytes),
+            Err(error) if error.kind() == ErrorKind::OutOfMemory => Err(IoErr::NoMemory),
+            Err(_) => {
+                self.load_faults = self.load_faults.saturating_add(1);
+                Err(IoErr::Failed)
+            }
+        }
+    }
+}
+
+/// The standard output. It tells nothing of what was written.
+#[derive(Drop)]
+pub struct RealSink<'r, R> {
+    rt: &'r R,
+    faults: u64,
+}
+
+impl<'r, R: Print> RealSink<'r, R> {
+    /// The standard output of `rt`, with no fault counted yet.
+    pub fn new(rt: &'r R) -> RealSink<'r, R>
+        ensures { failed_puts result ≡ 0 }
+    {
+        RealSink { rt, faults: 0 }
+    }
+}
+
+impl<R: Print> Sink for RealSink<'_, R> {
+    ghost written = { λ _. None };
+
+    ghost faults = { failed_puts };
+
+    /// As the trait says; each failure is counted. A part of the piece may have been written when memory
+    /// runs out, so that is a failure too.
+    fn put(&mut self, bytes: &[u8]) -> Result<(), IoErr>
+        ensures leaves { Leaves result None None bytes.now }
+        ensures cause { HasCause result ⊥ (failed_puts self.old) (failed_puts self.new) }
+        ensures memory { result ≢ Err IoErr.NoMemory }
+        ensures counted { IsCounted result (failed_puts self.old) (failed_puts self.new) }
+    {
+        // A write that takes nothing of a piece that is not empty is an error of `write_all`.
+        match io::writer(self.rt).write_all(bytes) {
+            Ok(()) => Ok(()),
+            Err(_) => {
+                self.faults = self.faults.saturating_add(1);
+                Err(IoErr::Failed)
+            }
+        }
+    }
+}

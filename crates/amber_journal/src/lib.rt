@@ -1,0 +1,16 @@
+//! The text of a log: what is appended to its file, item by item.
+//!
+//! The log is ASCII text in lines that end with a line feed. Every number is a decimal without leading
+//! zeros, the words of a line have one space between each two, and each item has one spelling. The
+//! definitions and the grammar stand in `amber_log`.
+#![tactic(auto)]
+
+mod commands;
+mod legs;
+mod lines;
+mod write;
+
+pub use write::{write_head, write_item};
+
+#[cfg(test)]
+mod tests;

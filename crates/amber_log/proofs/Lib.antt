@@ -1,0 +1,10 @@
+pub mod Complete
+pub mod Exact
+pub mod FoundWords
+pub mod Plain
+pub mod Pushes
+pub mod Sound
+pub mod Torn
+pub mod Utf8Bytes
+pub mod Whole
+pub mod WordsRead

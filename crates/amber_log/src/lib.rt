@@ -1,0 +1,22 @@
+//! Logs: the plain data of a debugged run's log, and what its text means.
+//!
+//! A log is a batch size and a list of items: the commands that were given and the legs that were run.
+//! The definitions in `specs/` give the text of each item, the grammar of logs, and how a text is read.
+//! The laws say that no item's text begins another's, and that a text that was cut off anywhere reads
+//! as a log with fewer items.
+#![tactic(auto)]
+
+pub mod command;
+pub mod entry;
+pub mod laws;
+pub mod leg;
+pub mod line;
+pub mod log;
+pub mod reading;
+
+pub use command::{Command, Commands};
+pub use entry::{Entries, Entry};
+pub use leg::{Close, Leg, Part, Parts};
+pub use line::Line;
+pub use log::{Item, Items, Log};
+pub use reading::{Place, Reading};

@@ -1,0 +1,62 @@
+ghost use Rattle.std.specs.Prelude.{◌≡◌};
+
+use crate::command::Command;
+use crate::leg::Leg;
+use std::marker::Model;
+
+/// An item of a log: a command, or a leg that a command to run began.
+#[derive(Debug, Drop)]
+pub enum Item {
+    /// A command other than those that run.
+    Do(Command),
+    /// A leg that goes on until something stops the workers.
+    Run(Leg),
+    /// A leg that goes on to the end of the workflow.
+    End(Leg),
+}
+
+/// The items of a log in their order, seen as a list.
+#[derive(Debug, Drop)]
+pub struct Items {
+    inner: Vec<Item>,
+}
+
+impl Model for Items {
+    ghost use Rattle.std.specs.Prelude.{List};
+    ghost use Rattle.amber_log.specs.declared.log.Item.{Item as OneItem};
+
+    ghost Value = { List OneItem };
+
+    ghost view = { λ a. a.inner.items };
+}
+
+impl Items {
+    /// The items of a `Vec`, in its order.
+    pub fn new(inner: Vec<Item>) -> Self
+        ensures { result ≡ inner.items }
+    {
+        Items { inner }
+    }
+
+    /// The items as a slice.
+    pub fn get(&self) -> &[Item]
+        ensures { result.now ≡ self.now }
+    {
+        self.inner.as_slice()
+    }
+
+    /// The items as the `Vec` of which they were made.
+    pub fn into_vec(self) -> Vec<Item>
+        ensures { result.items ≡ self }
+    {
+        let Items { inner } = self;
+        inner
+    }
+}
+
+/// A log: how many rows a batch has, from 1 to 65,536, and what happened.
+#[derive(Debug, Drop)]
+pub struct Log {
+    pub batch: u32,
+    pub items: Items,
+}

@@ -1,0 +1,33 @@
+use crate::entry::Entries;
+use crate::leg::Parts;
+use crate::log::Items;
+
+/// Where a reader of a log's text stands.
+#[derive(Debug, Drop)]
+pub enum Place {
+    /// Behind the head or an item, and another item may follow.
+    Outside,
+    /// Behind the last item.
+    Over,
+    /// Behind the line that opens a leg, whether or not to the end of the workflow.
+    Opened {
+        end: bool,
+    },
+    /// Inside a worker's part of a leg, behind the parts of other workers and some entries of its own;
+    /// `gone` says whether the last of these takes or emits rows.
+    Inside {
+        end: bool,
+        parts: Parts,
+        worker: u32,
+        entries: Entries,
+        gone: bool,
+    },
+}
+
+/// What was read of a log's text so far.
+#[derive(Debug, Drop)]
+pub struct Reading {
+    pub batch: u32,
+    pub items: Items,
+    pub place: Place,
+}

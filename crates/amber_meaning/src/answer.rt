@@ -1,0 +1,55 @@
+ghost use Rattle.std.specs.Prelude.{◌≡◌};
+
+use amber_rows::{RowFault, Rows, Schema};
+use std::marker::Model;
+
+/// Something that gave no row.
+#[derive(Clone, Copy, Debug, PartialEq, Eq)]
+pub enum Refusal {
+    /// A record of a scan: the operator's number, the record's number in its file (from 1, after the header), and
+    /// why it is no row.
+    Record {
+        op: u32,
+        number: u64,
+        fault: RowFault,
+    },
+}
+
+/// What a query refused, in the order of the operators and their records, seen as a list.
+#[derive(Debug, Drop)]
+pub struct Refusals {
+    inner: Vec<Refusal>,
+}
+
+impl Model for Refusals {
+    ghost use Rattle.std.specs.Prelude.{List};
+    ghost use Rattle.amber_meaning.specs.declared.answer.Refusal.{Refusal as OneRefusal};
+
+    ghost Value = { List OneRefusal };
+
+    ghost view = { λ a. a.inner.items };
+}
+
+impl Refusals {
+    /// The refusals of a `Vec`, in its order.
+    pub fn new(inner: Vec<Refusal>) -> Self
+        ensures { result ≡ inner.items }
+    {
+        Refusals { inner }
+    }
+
+    /// The refusals as a slice.
+    pub fn get(&self) -> &[Refusal]
+        ensures { result.now ≡ self.now }
+    {
+        self.inner.as_slice()
+    }
+}
+
+/// The answer of a query: what was refused, and the sink's columns and rows.
+#[derive(Debug, Drop)]
+pub struct Answer {
+    pub refused: Refusals,
+    pub columns: Schema,
+    pub rows: Rows,
+}

@@ -1,0 +1,101 @@
+ghost use Rattle.std.specs.Prelude.{◌≡◌, ◌≤◌, count_by, length, take, IfOk, bytes_eq};
+ghost use Rattle.std.specs.Cmp.Lexicographic.{pointwise};
+ghost use Rattle.csv.specs.Records.{fields_of};
+ghost use Rattle.amber_rows.specs.Columns.{names_of};
+ghost use Rattle.amber_rows.specs.Record.{has_header};
+ghost use Rattle.amber_meaning.specs.Plain.{is_headed, is_scan, next_file, wrong_header};
+ghost use Rattle.amber_meaning.specs.Pipes.{files_left};
+
+use amber_rows::{Files, Flow, Operator, RecordReader, Schema, What};
+use csv::ByteRecord;
+use std::alloc::{AllocError, Global};
+
+/// Whether an operator is a scan.
+fn is_scan(what: &What) -> bool
+    ensures { result ≡ is_scan what.now }
+{
+    match what {
+        What::Scan { .. } => true,
+        What::Filter { .. } | What::Sink { .. } => false,
+    }
+}
+
+/// How many of these operators are scans.
+fn scans_in(operators: &[Operator]) -> usize
+    ensures { result ≡ count_by (λ operator. is_scan operator.what) operators.now }
+{
+    operators
+        .iter()
+        .filter(|operator| is_scan(&operator.what))
+        .count()
+}
+
+/// The file that is next behind so many operators: that of the next scan.
+pub fn file_behind<'a>(flow: &Flow, files: &'a Files, before: usize) -> &'a [u8]
+    requires { before ≤ length flow.now }
+    ensures { result.now ≡ next_file (files_left files.now (take before flow.now)) }
+{
+    let operators = flow.get();
+    let scans = scans_in(&operators[..before]);
+    match files.get().get(scans) {
+        Some(file) => file.get(),
+        None => &[],
+    }
+}
+
+/// Whether the fields of a record are the columns' names.
+fn are_names(fields: &ByteRecord, schema: &Schema) -> bool
+    ensures { result ≡ pointwise bytes_eq (fields_of fields.now) (names_of schema.now) }
+{
+    let columns = schema.get();
+    if fields.len() != columns.len() {
+        return false;
+    }
+    for (i, column) in columns.iter().enumerate() {
+        let Some(field) = fields.get(i) else {
+            return false;
+        };
+        if field != column.name.get().as_bytes() {
+            return false;
+        }
+    }
+    true
+}
+
+/// Whether a file begins with the names of its columns.
+fn has_header(alloc: Global, schema: &Schema, file: &[u8]) -> Result<bool, AllocError>
+    ensures { IfOk result (λ right. right ≡ has_header schema.now file.now) }
+{
+    let mut reader = RecordReader::open(alloc, file);
+    let mut fields = ByteRecord::new(alloc);
+    let found = reader.next(&mut fields)?;
+    if !found {
+        return Ok(false);
+    }
+    Ok(are_names(&fields, schema))
+}
+
+/// Whether an operator is no scan, or this file begins with the names of its columns.
+fn is_headed(alloc: Global, operator: &Operator, file: &[u8]) -> Result<bool, AllocError>
+    ensures { IfOk result (λ headed. headed ≡ is_headed operator.now.what operator.now.schema file.now) }
+{
+    match &operator.what {
+        What::Scan { .. } => has_header(alloc, &operator.schema, file),
+        What::Filter { .. } | What::Sink { .. } => Ok(true),
+    }
+}
+
+/// The number of the first scan whose file does not begin with the names of its columns, if there is one.
+pub fn wrong_header(alloc: Global, flow: &Flow, files: &Files) -> Result<Option<u32>, AllocError>
+    ensures { IfOk result (λ found. found ≡ wrong_header 1 files.now flow.now) }
+{
+    let operators = flow.get();
+    for (i, operator) in operators.iter().enumerate() {
+        let file = file_behind(flow, files, i);
+        let headed = is_headed(alloc, operator, file)?;
+        if !headed {
+            return Ok(Some(i as u32 + 1));
+        }
+    }
+    Ok(None)
+}

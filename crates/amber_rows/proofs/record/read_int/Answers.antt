@@ -1,0 +1,12 @@
+-- std's reading of a number is the definition's.
+use Rattle.std.proofs.Common.{◌∙◌}
+use Rattle.amber_rows.proofs.Numerals.{read_int-none, read_int-parses}
+use Rattle.amber_rows.proofs.record.read_int.Goals as goal
+
+pub returns : goal.returns
+returns c =
+    let parsed = rw c.in-Ok.ensures.cases.0 at c.parse.ensures.value.0 in
+    c.ok.ensures.value ∙ read_int-parses c.args.bytes.now c.parse.result parsed
+
+pub returns-in_default : goal.returns-in_default
+returns-in_default c = read_int-none c.args.bytes.now c.in_default.ensures.cases.0

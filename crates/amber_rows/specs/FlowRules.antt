@@ -1,0 +1,117 @@
+-- When a list of operators is a workflow.
+use Rattle.std.specs.Prelude.{◌≡◌, ℕ, ◌<◌, ◌≤◌, ◌==◌, ◌&&◌, ◌||◌, not, nat_lt, nat_le, List, [], ◌∷◌, ◌++◌, length, map, sum_by, count_by, Bool, true, false, IsSomeAnd, bytes_eq}
+use Rattle.std.specs.List.{list_all, list_any, flat_map}
+use Rattle.amber_rows.specs.Cond.{numbered}
+use Rattle.amber_rows.specs.Columns.{names_of}
+use Rattle.amber_rows.specs.declared.value.Value.{Value}
+use Rattle.amber_rows.specs.declared.value.Value.TheVariants as value
+use Rattle.amber_rows.specs.declared.column.ColKind.{ColKind}
+use Rattle.amber_rows.specs.declared.column.ColKind.TheVariants as kind
+use Rattle.amber_rows.specs.declared.column.Column.{Column}
+use Rattle.amber_rows.specs.declared.cond.Cond.{Cond}
+use Rattle.amber_rows.specs.declared.flow.What.{What}
+use Rattle.amber_rows.specs.declared.flow.What.TheVariants as what
+use Rattle.amber_rows.specs.declared.flow.Operator.{Operator}
+
+-- ---- names
+
+-- `a` to `z`
+abbrev pub is_letter : ℕ → Bool
+is_letter b = nat_le 97 b && nat_le b 122
+
+-- `a` to `z`, `0` to `9` and `_`
+abbrev pub is_id_byte : ℕ → Bool
+is_id_byte b = is_letter b || (nat_le 48 b && nat_le b 57) || (b == 95)
+
+-- a letter, and up to 31 letters, digits and `_`
+unfoldable pub is_id : List ℕ → Bool
+is_id [] = false
+is_id (b ∷ bs) = is_letter b && list_all is_id_byte bs && nat_lt (length bs) 32
+
+-- whether a list has an element equal to this text
+abbrev pub is_among : List ℕ → List (List ℕ) → Bool
+is_among name names = list_any (λ other. bytes_eq other name) names
+
+-- no two texts are equal
+unfoldable pub are_apart : List (List ℕ) → Bool
+are_apart [] = true
+are_apart (name ∷ names) = not (is_among name names) && are_apart names
+
+-- ---- columns
+
+-- the kind of the column in which a value may stand
+abbrev pub kind_of : Value → ColKind
+kind_of (value.Int n) = kind.Int
+kind_of (value.Text t) = kind.Text
+
+-- 1 to 64 columns, no name twice
+pub record AreColumns (columns : List Column) : Type 0 where
+  pub some : 0 < length columns
+  pub few : length columns ≤ 64
+  pub apart : are_apart (names_of columns) ≡ true
+
+-- a name of 1 to 64 bytes
+abbrev pub is_column_name : List ℕ → Bool
+is_column_name name = nat_lt 0 (length name) && nat_le (length name) 64
+
+-- the condition's column is there and of the constant's kind
+abbrev pub IsCondOn : List Column → Cond → Type 0
+IsCondOn columns cond = IsSomeAnd (numbered columns cond.column) (λ column. column.kind ≡ kind_of cond.constant)
+
+-- ---- operators
+
+-- the operators from which an operator reads
+abbrev pub inputs_of : What → List ℕ
+inputs_of (what.Scan file) = []
+inputs_of (what.Filter input cond) = input ∷ []
+inputs_of (what.Sink input) = input ∷ []
+
+abbrev pub is_sink : What → Bool
+is_sink (what.Scan file) = false
+is_sink (what.Filter input cond) = false
+is_sink (what.Sink input) = true
+
+-- the input is one of the earlier operators, and has these columns
+abbrev pub HasInput : List Operator → ℕ → List Column → Type 0
+HasInput before input columns = IsSomeAnd (numbered before input) (λ earlier. earlier.schema ≡ columns)
+
+-- what each kind asks of an operator with these columns, where these stand before it
+abbrev pub IsKind : List Operator → What → List Column → Type 0
+IsKind before (what.Scan file) columns = (0 < length file) × (length file ≤ 255) × (list_all is_column_name (names_of columns) ≡ true)
+IsKind before (what.Filter input cond) columns = HasInput before input columns × IsCondOn columns cond
+IsKind before (what.Sink input) columns = HasInput before input columns
+
+-- an operator that may follow these
+pub record IsNext (before : List Operator) (operator : Operator) : Type 0 where
+  pub named : is_id operator.id ≡ true
+  pub fresh : is_among operator.id (map (λ earlier. earlier.id) before) ≡ false
+  pub columns : AreColumns operator.schema
+  pub kind : IsKind before operator.what operator.schema
+  pub some_workers : 0 < operator.workers
+  pub few_workers : operator.workers ≤ 16
+  pub one_at_sink : is_sink operator.what ≡ true → operator.workers ≡ 1
+
+-- each operator may follow those before it
+unfoldable pub AreNext : List Operator → List Operator → Type 0
+AreNext before [] = Unit {0}
+AreNext before (operator ∷ more) = IsNext before operator × AreNext (before ++ operator ∷ []) more
+
+-- the last operator is a sink, and no other
+unfoldable pub ends_in_sink : List Operator → Bool
+ends_in_sink [] = false
+ends_in_sink (operator ∷ []) = is_sink operator.what
+ends_in_sink (operator ∷ next ∷ more) = not (is_sink operator.what) && ends_in_sink (next ∷ more)
+
+-- how often an operator is named as an input
+unfoldable pub reader_count : List Operator → ℕ → ℕ
+reader_count flow op = count_by (λ input. input == op) (flat_map (λ operator. inputs_of operator.what) flow)
+
+-- a workflow: 2 to 32 operators, each of which may follow those before it, a sink at the end and nowhere else,
+-- every other operator read exactly once, and at most 128 workers in all
+pub record IsFlow (flow : List Operator) : Type 0 where
+  pub some : 2 ≤ length flow
+  pub few : length flow ≤ 32
+  pub operators : AreNext [] flow
+  pub ends : ends_in_sink flow ≡ true
+  pub read_once : (op : ℕ) → 0 < op → op < length flow → reader_count flow op ≡ 1
+  pub few_workers : sum_by (λ operator. operator.workers) flow ≤ 128

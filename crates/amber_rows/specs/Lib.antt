@@ -1,0 +1,10 @@
+pub mod Columns
+pub mod Cond
+pub mod FlowRules
+pub mod Key
+pub mod Number
+pub mod Order
+pub mod OrderLaws
+pub mod Reading
+pub mod Record
+pub mod RowText

@@ -1,0 +1,81 @@
+ghost use Rattle.std.specs.Prelude.{◌≡◌, IfOk, length};
+
+use crate::text::Text;
+use std::alloc::{AllocError, Global};
+use std::marker::Model;
+
+/// What the cells of a column are.
+#[derive(Clone, Copy, Debug, PartialEq, Eq)]
+pub enum ColKind {
+    Int,
+    Text,
+}
+
+/// A column: its name, and what its cells are.
+#[derive(Debug, Drop)]
+pub struct Column {
+    pub name: Text,
+    pub kind: ColKind,
+}
+
+impl Column {
+    /// Another column equal to this one.
+    pub fn copy(&self) -> Result<Self, AllocError>
+        ensures { IfOk result (λ column. column ≡ self.now) }
+    {
+        Ok(Column {
+            name: self.name.copy()?,
+            kind: self.kind,
+        })
+    }
+}
+
+/// The columns of an operator, seen as a list. They are numbered from 1.
+#[derive(Debug, Drop)]
+pub struct Schema {
+    inner: Vec<Column>,
+}
+
+impl Model for Schema {
+    ghost use Rattle.std.specs.Prelude.{List};
+    ghost use Rattle.amber_rows.specs.declared.column.Column.{Column as OneColumn};
+
+    ghost Value = { List OneColumn };
+
+    ghost view = { λ a. a.inner.items };
+}
+
+impl Schema {
+    /// The columns of a `Vec`, in its order.
+    pub fn new(inner: Vec<Column>) -> Self
+        ensures { result ≡ inner.items }
+    {
+        Schema { inner }
+    }
+
+    /// The columns as a slice.
+    pub fn get(&self) -> &[Column]
+        ensures { result.now ≡ self.now }
+    {
+        self.inner.as_slice()
+    }
+
+    /// How many columns there are.
+    pub fn len(&self) -> usize
+        ensures { result ≡ length self.now }
+    {
+        self.inner.len()
+    }
+
+    /// Another list of equal columns.
+    pub fn copy(&self, alloc: Global) -> Result<Self, AllocError>
+        ensures { IfOk result (λ schema. schema ≡ self.now) }
+    {
+        let mut columns = Vec::with_capacity(alloc, self.len())?;
+        let all = self.get();
+        for column in all {
+            columns.push(column.copy()?)?;
+        }
+        Ok(Schema { inner: columns })
+    }
+}

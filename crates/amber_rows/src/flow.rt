@@ -1,0 +1,104 @@
+ghost use Rattle.std.specs.Prelude.{◌≡◌, length, option_map};
+ghost use Rattle.amber_rows.specs.Cond.{numbered};
+ghost use Rattle.amber_rows.specs.FlowRules.{IsFlow};
+
+use crate::column::Schema;
+use crate::cond::Cond;
+use crate::text::{Bytes, Text};
+use std::marker::Model;
+
+/// What an operator does with the rows of its input. An input is an operator's number; they are numbered from 1.
+#[derive(Debug, Drop)]
+pub enum What {
+    /// Gives the typed records of a file.
+    Scan { file: Text },
+    /// Gives the rows for which the condition holds.
+    Filter { input: u32, cond: Cond },
+    /// Keeps the rows for the answer, which has them in their order.
+    Sink { input: u32 },
+}
+
+/// One operator of a workflow: its id, what it does, the columns that it gives, and how many workers do it.
+#[derive(Debug, Drop)]
+pub struct Operator {
+    pub id: Text,
+    pub what: What,
+    pub schema: Schema,
+    pub workers: u32,
+}
+
+/// A workflow, seen as the list of its operators.
+#[derive(Debug, Drop)]
+pub struct Flow {
+    inner: Vec<Operator>,
+}
+
+impl Model for Flow {
+    ghost use Rattle.std.specs.Prelude.{List};
+    ghost use Rattle.amber_rows.specs.declared.flow.Operator.{Operator as OneOperator};
+    ghost use Rattle.amber_rows.specs.FlowRules.{IsFlow};
+
+    ghost Value = { List OneOperator };
+
+    ghost view = { λ a. a.inner.items };
+
+    ghost invariant = { λ a. IsFlow a.inner.items };
+}
+
+impl Flow {
+    /// The workflow of these operators.
+    pub fn new(inner: Vec<Operator>) -> Self
+        requires { IsFlow inner.items }
+        ensures { result ≡ inner.items }
+    {
+        Flow { inner }
+    }
+
+    /// The operators in order.
+    pub fn get(&self) -> &[Operator]
+        ensures operators { result.now ≡ self.now }
+        ensures flow { IsFlow self.now }
+    {
+        self.inner.as_slice()
+    }
+
+    /// The operator with this number, if there is one.
+    pub fn operator(&self, op: u32) -> Option<&Operator>
+        ensures { option_map (λ operator. operator.now) result ≡ numbered self.now op }
+    {
+        if op == 0 {
+            return None;
+        }
+        self.inner.get(op as usize - 1)
+    }
+}
+
+/// The bytes of the scans' files, one for each scan in the order of the operators, seen as a list.
+#[derive(Debug, Drop)]
+pub struct Files {
+    inner: Vec<Bytes>,
+}
+
+impl Model for Files {
+    ghost use Rattle.std.specs.Prelude.{List, ℕ};
+
+    ghost Value = { List (List ℕ) };
+
+    ghost view = { λ a. a.inner.items };
+}
+
+impl Files {
+    /// The files of a `Vec`, in its order.
+    pub fn new(inner: Vec<Bytes>) -> Self
+        ensures { result ≡ inner.items }
+    {
+        Files { inner }
+    }
+
+    /// The files as a slice.
+    pub fn get(&self) -> &[Bytes]
+        ensures { result.now ≡ self.now }
+    {
+        self.inner.as_slice()
+    }
+}

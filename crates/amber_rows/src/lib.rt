@@ -1,0 +1,36 @@
+//! Rows: the plain data of workflows, and what it means.
+//!
+//! A workflow moves rows of whole numbers and texts. This crate has those rows with their order and
+//! their text, the reading of a scan's file into typed rows, conditions, and the workflow itself.
+//! The definitions in `specs/` say what each of these means; whatever stands above names no more
+//! than these words.
+#![tactic(auto)]
+
+pub mod column;
+pub mod cond;
+pub mod flow;
+mod key;
+pub mod order;
+pub mod record;
+pub mod record_reader;
+pub mod record_writer;
+pub mod row;
+pub mod text;
+pub mod value;
+
+pub use column::{ColKind, Column, Schema};
+pub use cond::{Cmp, Cond, holds};
+pub use flow::{Files, Flow, Operator, What};
+pub use order::{compare, sort};
+pub use record::{RowFault, read_int, type_record};
+pub use record_reader::RecordReader;
+pub use record_writer::{append_names, append_rows, row_text};
+pub use row::{Row, Rows};
+pub use std::alloc::AllocError as NoMemory;
+pub use text::{Bytes, Text};
+pub use value::Value;
+
+#[cfg(test)]
+mod tests;
+#[cfg(test)]
+mod tests_records;

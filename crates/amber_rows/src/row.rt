@@ -1,0 +1,180 @@
+ghost use Rattle.std.specs.Prelude.{◌≡◌, ◌==◌, IfOk, length};
+ghost use Rattle.amber_rows.specs.Order.{row_cmp};
+ghost use Rattle.std.specs.Ordering.{as_partial_cmp, eq_by_cmp};
+ghost use Rattle.std.specs.Cmp.{eq_by_cmp_equiv, partial_equiv_from_equiv, partial_order_from_total};
+ghost use Rattle.std.specs.Prelude.{refl};
+ghost use Rattle.amber_rows.specs.OrderLaws.{row-total};
+
+use crate::key::key_of;
+use crate::value::Value;
+use std::alloc::AllocError;
+use std::cmp::Ordering;
+use std::marker::Model;
+
+/// A row, seen as the list of its cells.
+#[derive(Debug, Drop)]
+pub struct Row {
+    // Made once from the cells, so that most comparisons look at no cell.
+    key: u64,
+    inner: Vec<Value>,
+}
+
+impl Model for Row {
+    ghost use Rattle.std.specs.Prelude.{◌≡◌, List};
+    ghost use Rattle.amber_rows.specs.Key.{key_of};
+    ghost use Rattle.amber_rows.specs.declared.value.Value.{Value as Cell};
+
+    ghost Value = { List Cell };
+
+    ghost view = { λ a. a.inner.items };
+
+    ghost invariant = { λ a. a.key ≡ key_of a.inner.items };
+}
+
+impl Row {
+    /// The row of these cells.
+    pub fn new(inner: Vec<Value>) -> Self
+        ensures { result ≡ inner.items }
+    {
+        let key = key_of(inner.as_slice());
+        Row { key, inner }
+    }
+
+    /// The cells in the order of the columns.
+    pub fn get(&self) -> &[Value]
+        ensures { result.now ≡ self.now }
+    {
+        self.inner.as_slice()
+    }
+
+    /// The cells as the `Vec` of which the row was made.
+    pub fn into_inner(self) -> Vec<Value>
+        ensures { result.items ≡ self }
+    {
+        let Row { inner, .. } = self;
+        inner
+    }
+
+    /// How many cells the row has.
+    pub fn len(&self) -> usize
+        ensures { result ≡ length self.now }
+    {
+        self.inner.len()
+    }
+
+    /// Whether the row has no cell.
+    pub fn is_empty(&self) -> bool
+        ensures { result ≡ (length self.now == 0) }
+    {
+        self.inner.is_empty()
+    }
+
+    /// Another row of equal cells.
+    pub fn copy(&self) -> Result<Self, AllocError>
+        ensures { IfOk result (λ row. row ≡ self.now) }
+    {
+        let mut cells = Vec::with_capacity(*self.inner.allocator(), self.len())?;
+        let all = self.get();
+        for cell in all {
+            cells.push(cell.copy()?)?;
+        }
+        Ok(Row {
+            key: self.key,
+            inner: cells,
+        })
+    }
+}
+
+impl PartialEq for Row {
+    ghost eq = { eq_by_cmp row_cmp };
+
+    ghost laws = { partial_equiv_from_equiv (eq_by_cmp_equiv row-total) };
+
+    fn eq(&self, other: &Self) -> bool {
+        self.cmp(other).is_eq()
+    }
+}
+
+impl Eq for Row {
+    ghost laws = { eq_by_cmp_equiv row-total };
+}
+
+impl PartialOrd for Row {
+    ghost partial_cmp = { as_partial_cmp row_cmp };
+
+    ghost laws = { partial_order_from_total row-total };
+
+    fn partial_cmp(&self, other: &Self) -> Option<Ordering> {
+        Some(self.cmp(other))
+    }
+}
+
+impl Ord for Row {
+    ghost cmp = { row_cmp };
+
+    ghost total = { row-total };
+
+    ghost matches_partial_cmp = { λ _ _. refl };
+
+    ghost matches_eq = { λ _ _. refl };
+
+    fn cmp(&self, other: &Self) -> Ordering {
+        if self.key != other.key {
+            return self.key.cmp(&other.key);
+        }
+        self.get().cmp(other.get())
+    }
+}
+
+/// Rows in a certain order, seen as a list.
+#[derive(Debug, Drop)]
+pub struct Rows {
+    inner: Vec<Row>,
+}
+
+impl Model for Rows {
+    ghost use Rattle.std.specs.Prelude.{List};
+    ghost use Rattle.amber_rows.specs.declared.value.Value.{Value as Cell};
+
+    ghost Value = { List (List Cell) };
+
+    ghost view = { λ a. a.inner.items };
+}
+
+impl Rows {
+    /// The rows of a `Vec`, in its order.
+    pub fn new(inner: Vec<Row>) -> Self
+        ensures { result ≡ inner.items }
+    {
+        Rows { inner }
+    }
+
+    /// The rows as a slice.
+    pub fn get(&self) -> &[Row]
+        ensures { result.now ≡ self.now }
+    {
+        self.inner.as_slice()
+    }
+
+    /// The rows as the `Vec` of which they were made.
+    pub fn into_inner(self) -> Vec<Row>
+        ensures { result.items ≡ self }
+    {
+        let Rows { inner } = self;
+        inner
+    }
+
+    /// How many rows there are.
+    pub fn len(&self) -> usize
+        ensures { result ≡ length self.now }
+    {
+        self.inner.len()
+    }
+
+    /// Whether there is no row.
+    pub fn is_empty(&self) -> bool
+        ensures { result ≡ (length self.now == 0) }
+    {
+        self.inner.is_empty()
+    }
+}

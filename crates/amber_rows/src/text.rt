@@ -1,0 +1,149 @@
+ghost use Rattle.std.specs.Prelude.{◌≡◌, ◌==◌, IfOk, Some, length, string_bytes};
+ghost use Rattle.std.specs.Ordering.{as_partial_cmp, nat_cmp};
+ghost use Rattle.std.specs.Cmp.{partial_equiv_from_equiv, partial_order_from_own_ties};
+ghost use Rattle.std.specs.Cmp.Lexicographic.{nat_list_cmp_total, nat_list_eq_equiv, pointwise, slice_cmp};
+ghost use Rattle.std.proofs.Common.{rules};
+ghost use Rattle.std.specs.Cmp.Rules.{comparing};
+
+use std::alloc::AllocError;
+use std::cmp::Ordering;
+use std::fmt;
+use std::marker::Model;
+
+/// A text, seen as the list of its UTF-8 bytes.
+#[derive(Debug, Drop)]
+pub struct Text {
+    inner: String,
+}
+
+impl Model for Text {
+    ghost use Rattle.std.specs.Prelude.{List, string_bytes, ℕ};
+
+    ghost Value = { List ℕ };
+
+    ghost view = { λ a. string_bytes a.inner };
+}
+
+impl Text {
+    /// The text of a string.
+    pub fn new(inner: String) -> Self
+        ensures { result ≡ string_bytes inner }
+    {
+        Text { inner }
+    }
+
+    /// The text as std's text.
+    pub fn get(&self) -> &str
+        ensures { result.now ≡ self.now }
+    {
+        self.inner.as_str()
+    }
+
+    /// How many bytes the text has.
+    pub fn len(&self) -> usize
+        ensures { result ≡ length self.now }
+    {
+        self.inner.len()
+    }
+
+    /// Another text of the same bytes.
+    pub fn copy(&self) -> Result<Self, AllocError>
+        ensures { IfOk result (λ text. text ≡ self.now) }
+    {
+        Ok(Text {
+            inner: self.inner.clone()?,
+        })
+    }
+}
+
+impl PartialEq for Text {
+    ghost eq = { pointwise ◌==◌ };
+
+    ghost laws = { partial_equiv_from_equiv nat_list_eq_equiv };
+
+    fn eq(&self, other: &Self) -> bool {
+        self.get() == other.get()
+    }
+}
+
+impl Eq for Text {
+    ghost laws = { nat_list_eq_equiv };
+}
+
+impl PartialOrd for Text {
+    ghost partial_cmp = { as_partial_cmp (slice_cmp nat_cmp) };
+
+    ghost laws = { partial_order_from_own_ties (Prim.search (comparing, rules)) (Prim.search (comparing, rules)) };
+
+    fn partial_cmp(&self, other: &Self) -> Option<Ordering> {
+        Some(self.cmp(other))
+    }
+}
+
+impl Ord for Text {
+    ghost cmp = { slice_cmp nat_cmp };
+
+    ghost total = { nat_list_cmp_total };
+
+    ghost matches_partial_cmp = { Prim.search (comparing, rules) };
+
+    ghost matches_eq = { Prim.search (comparing, rules) };
+
+    fn cmp(&self, other: &Self) -> Ordering {
+        self.get().cmp(other.get())
+    }
+}
+
+impl fmt::Display for Text {
+    ghost output = { λ text. Some text };
+
+    fn fmt<W: fmt::Write>(&self, f: &mut fmt::Formatter<W>) -> fmt::Result {
+        f.write_str(self.get())
+    }
+}
+
+/// The bytes of a file, seen as a list.
+#[derive(Debug, Drop)]
+pub struct Bytes {
+    inner: Vec<u8>,
+}
+
+impl Model for Bytes {
+    ghost use Rattle.std.specs.Prelude.{List, ℕ};
+
+    ghost Value = { List ℕ };
+
+    ghost view = { λ a. a.inner.items };
+}
+
+impl Bytes {
+    /// The bytes of a `Vec`.
+    pub fn new(inner: Vec<u8>) -> Self
+        ensures { result ≡ inner.items }
+    {
+        Bytes { inner }
+    }
+
+    /// The bytes as a slice.
+    pub fn get(&self) -> &[u8]
+        ensures { result.now ≡ self.now }
+    {
+        self.inner.as_slice()
+    }
+
+    /// How many bytes there are.
+    pub fn len(&self) -> usize
+        ensures { result ≡ length self.now }
+    {
+        self.inner.len()
+    }
+
+    /// The same bytes once more.
+    pub fn copy(&self) -> Result<Self, AllocError>
+        ensures { IfOk result (λ bytes. bytes ≡ self.now) }
+    {
+        Ok(Bytes {
+            inner: self.inner.clone()?,
+        })
+    }
+}

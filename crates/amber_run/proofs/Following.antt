@@ -1,0 +1,170 @@
+-- Steps that follow the course, one after the other.
+use Rattle.std.proofs.Common.{◌≡◌, ℕ, ◌-◌, ◌^◌, ◌<◌, ◌≤◌, ◌⊎◌, inl, inr, List, length, take, Option, None, Some, Result, Ok, Err, refl, sym, ap, subst, ◌∙◌, arith}
+use Rattle.std.proofs.lemmas.List.{length-take, take_all}
+use Rattle.std.specs.Result.{IfErr}
+use Rattle.amber_io.specs.Counts.{Rose}
+use Rattle.amber_io.specs.Folder.{Gives, Lacks, Named, Told}
+use Rattle.amber_rows.specs.declared.flow.Operator.{Operator}
+use Rattle.amber_run.specs.Course.{IsLoaded, IsScanFile, load_of, then_on, workflow_in}
+use Rattle.amber_run.specs.Steps.{Follows, IsMissing, Judges, Names, Stopped, Tells}
+use Rattle.amber_run.specs.declared.stop.Stop.{Stop}
+use Rattle.amber_run.specs.declared.stop.Stop.TheVariants as stop
+
+-- ---- facts over told files
+
+pub told-all : (told : Option Named) (P : Named → Type 0) → ((files : Named) → P files) → Told told P
+told-all None P h = tt
+told-all (Some files) P h = h files
+
+pub told-map : (told : Option Named) (P Q : Named → Type 0) → ((files : Named) → P files → Q files) → Told told P → Told told Q
+told-map None P Q h p = tt
+told-map (Some files) P Q h p = h files p
+
+pub told-both : (told : Option Named) (P Q R : Named → Type 0) → ((files : Named) → P files → Q files → R files) → Told told P → Told told Q → Told told R
+told-both None P Q R h p q = tt
+told-both (Some files) P Q R h p q = h files p q
+
+pub tells-map : (told : Option Named) (P Q : Named → Type 0) → ((files : Named) → P files → Q files) → Tells told P → Tells told Q
+tells-map None P Q h p = p
+tells-map (Some files) P Q h p = h files p
+
+pub tells-both : (told : Option Named) (P Q R : Named → Type 0) → ((files : Named) → P files → Q files → R files) → Told told P → Tells told Q → Tells told R
+tells-both None P Q R h p q = q
+tells-both (Some files) P Q R h p q = h files p q
+
+-- ---- stops
+
+pub stopped-map : (s : Stop) (a b : ℕ) (M N T U : Type 0) → (M → N) → (T → U) → Stopped s a b M T → Stopped s a b N U
+stopped-map stop.Usage a b M N T U m t h = h
+stopped-map (stop.BadFlow op why) a b M N T U m t h = (h.0, m h.1)
+stopped-map (stop.ReadFault name) a b M N T U m t h = elim h [ inl p ↦ inl (p.0, t p.1) | inr r ↦ inr r ]
+stopped-map stop.OutFault a b M N T U m t h = h
+stopped-map stop.NoMemory a b M N T U m t h = tt
+
+-- ---- steps
+
+-- two ways to say what is meant
+pub follows-same : {A : Type 0} (r : Result A Stop) (told : Option Named) (f g : Named → Result A Stop) (a b : ℕ)
+    → ((files : Named) → f files ≡ g files) → Follows r told f a b → Follows r told g a b
+follows-same (Ok x) told f g a b same h = (h.0, told-map told (λ files. f files ≡ Ok x) (λ files. g files ≡ Ok x) (λ files e. sym (same files) ∙ e) h.1)
+follows-same (Err s) told f g a b same h =
+    stopped-map s a b (Told told (λ files. f files ≡ Err s)) (Told told (λ files. g files ≡ Err s)) (Tells told (λ files. f files ≡ Err s)) (Tells told (λ files. g files ≡ Err s))
+    (told-map told (λ files. f files ≡ Err s) (λ files. g files ≡ Err s) (λ files e. sym (same files) ∙ e))
+    (tells-map told (λ files. f files ≡ Err s) (λ files. g files ≡ Err s) (λ files e. sym (same files) ∙ e))
+    h
+
+then-err : {A B : Type 0} (r : Result A Stop) (s : Stop) (next : A → Result B Stop) → r ≡ Err s → then_on r next ≡ Err s
+then-err r s next e = rw e
+
+then-ok : {A B : Type 0} (r : Result A Stop) (x : A) (next : A → Result B Stop) (y : Result B Stop) → r ≡ Ok x → next x ≡ y → then_on r next ≡ y
+then-ok r x next y e h = rw e h
+
+-- a step stopped, so the whole did
+pub follows-stop : {A B : Type 0} (s : Stop) (told : Option Named) (f : Named → Result A Stop) (g : Named → A → Result B Stop) (a b : ℕ)
+    → Follows {A = A} (Err s) told f a b → Follows {A = B} (Err s) told (λ files. then_on (f files) (g files)) a b
+follows-stop s told f g a b h =
+    stopped-map s a b (Told told (λ files. f files ≡ Err s)) (Told told (λ files. then_on (f files) (g files) ≡ Err s)) (Tells told (λ files. f files ≡ Err s))
+    (Tells told (λ files. then_on (f files) (g files) ≡ Err s))
+    (told-map told (λ files. f files ≡ Err s) (λ files. then_on (f files) (g files) ≡ Err s) (λ files e. then-err (f files) s (g files) e))
+    (tells-map told (λ files. f files ≡ Err s) (λ files. then_on (f files) (g files) ≡ Err s) (λ files e. then-err (f files) s (g files) e))
+    h
+
+-- a step went on
+pub follows-on : {A B : Type 0} (r : Result B Stop) (x : A) (told : Option Named) (f : Named → Result A Stop) (g : Named → A → Result B Stop) (a b c : ℕ)
+    → Follows (Ok x) told f a b → Follows r told (λ files. g files x) b c → Follows r told (λ files. then_on (f files) (g files)) a c
+follows-on (Ok y) x told f g a b c p q = (
+  q.0 ∙ p.0,
+  told-both told (λ files. f files ≡ Ok x) (λ files. g files x ≡ Ok y) (λ files. then_on (f files) (g files) ≡ Ok y)
+      (λ files e h. then-ok (f files) x (g files) (Ok y) e h) p.1 q.1,
+)
+follows-on (Err s) x told f g a b c p q =
+    stopped-map s a c (Told told (λ files. g files x ≡ Err s)) (Told told (λ files. then_on (f files) (g files) ≡ Err s)) (Tells told (λ files. g files x ≡ Err s))
+    (Tells told (λ files. then_on (f files) (g files) ≡ Err s))
+    (told-both told (λ files. f files ≡ Ok x) (λ files. g files x ≡ Err s) (λ files. then_on (f files) (g files) ≡ Err s)
+    (λ files e h. then-ok (f files) x (g files) (Err s) e h) p.1)
+    (tells-both told (λ files. f files ≡ Ok x) (λ files. g files x ≡ Err s) (λ files. then_on (f files) (g files) ≡ Err s)
+    (λ files e h. then-ok (f files) x (g files) (Err s) e h) p.1)
+    (subst (λ n. Stopped s n c (Told told (λ files. g files x ≡ Err s)) (Tells told (λ files. g files x ≡ Err s))) p.0 q)
+
+-- a step that reads nothing
+pub follows-judged : {A : Type 0} (r meant : Result A Stop) (told : Option Named) (a : ℕ) → Judges r meant → Follows r told (λ files. meant) a a
+follows-judged (Ok x) meant told a h = (refl, told-all told (λ files. meant ≡ Ok x) (λ files. h))
+follows-judged (Err stop.Usage) meant told a h = h
+follows-judged (Err (stop.BadFlow op why)) meant told a h = (refl, told-all told (λ files. meant ≡ Err (stop.BadFlow op why)) (λ files. h))
+follows-judged (Err (stop.ReadFault name)) meant told a h = absurd h
+follows-judged (Err stop.OutFault) meant told a h = h
+follows-judged (Err stop.NoMemory) meant told a h = tt
+
+-- ---- loads
+
+-- fewer bytes than were asked for are the whole file
+whole-file : (whole bytes : List ℕ) → bytes ≡ take (2 ^ 64 - 1) whole → length bytes < 2 ^ 63 → bytes ≡ whole
+whole-file whole bytes e short =
+    let size = ap length e ∙ length-take (2 ^ 64 - 1) whole in
+    let fits : length whole ≤ 2 ^ 64 - 1 = omega (arith, size, short) in
+    e ∙ take_all (2 ^ 64 - 1) whole fits
+
+pub load-ok : (told : Option Named) (name bytes : List ℕ) → Gives told name (2 ^ 64 - 1) bytes → length bytes < 2 ^ 63
+    → Told told (λ files. load_of name files ≡ Ok bytes)
+unfolding load_of
+load-ok None name bytes h short = tt
+load-ok (Some files) name bytes h short = rw (h.1, ← whole-file h.0 bytes h.2 short) refl
+
+lacks-tells : (told : Option Named) (name : List ℕ) → Lacks told name → Tells told (λ files. load_of name files ≡ Err (stop.ReadFault name))
+unfolding load_of
+lacks-tells None name h = h
+lacks-tells (Some files) name h = rw h refl
+
+-- a load failed
+pub load-err : (s : Stop) (told : Option Named) (name : List ℕ) (a b : ℕ) → IsMissing s name → Lacks told name ⊎ Rose a b → (Lacks told name → b ≡ a)
+    → Follows {A = List ℕ} (Err s) told (load_of name) a b
+load-err stop.Usage told name a b m h same = absurd m
+load-err (stop.BadFlow op why) told name a b m h same = absurd m
+load-err (stop.ReadFault file) told name a b m h same =
+    elim h [
+      | inl lacks ↦ inl (same lacks, rw m (lacks-tells told name lacks))
+      | inr rose ↦ inr rose
+    ]
+load-err stop.OutFault told name a b m h same = m
+load-err stop.NoMemory told name a b m h same = tt
+
+-- ---- names
+
+pub missing-named : (s : Stop) (name : List ℕ) → IsMissing s name → Names s (λ file. file ≡ name)
+missing-named stop.Usage name h = tt
+missing-named (stop.BadFlow op why) name h = tt
+missing-named (stop.ReadFault file) name h = h
+missing-named stop.OutFault name h = tt
+missing-named stop.NoMemory name h = tt
+
+-- a step that reads nothing names nothing
+pub judged-named : {A : Type 0} (r meant : Result A Stop) (P : List ℕ → Type 0) → Judges r meant → IfErr r (λ s. Names s P)
+judged-named (Ok x) meant P h = tt
+judged-named (Err stop.Usage) meant P h = tt
+judged-named (Err (stop.BadFlow op why)) meant P h = tt
+judged-named (Err (stop.ReadFault file)) meant P h = absurd h
+judged-named (Err stop.OutFault) meant P h = tt
+judged-named (Err stop.NoMemory) meant P h = tt
+
+pub names-map : (s : Stop) (P Q : List ℕ → Type 0) → ((file : List ℕ) → P file → Q file) → Names s P → Names s Q
+names-map stop.Usage P Q f h = tt
+names-map (stop.BadFlow op why) P Q f h = tt
+names-map (stop.ReadFault file) P Q f h = f file h
+names-map stop.OutFault P Q f h = tt
+names-map stop.NoMemory P Q f h = tt
+
+names-all : {A : Type 0} (r : Result A Stop) (P Q : List ℕ → Type 0) → ((file : List ℕ) → P file → Q file) → IfErr r (λ s. Names s P) → IfErr r (λ s. Names s Q)
+names-all (Ok x) P Q f h = tt
+names-all (Err s) P Q f h = names-map s P Q f h
+
+-- the workflow was read, so one of its scans is named
+pub scan-named : {A : Type 0} (r : Result A Stop) (told : Option Named) (name : List ℕ) (flow : List Operator) → Told told (λ files. workflow_in name files ≡ Ok flow)
+    → IfErr r (λ s. Names s (IsScanFile flow)) → Told told (λ files. IfErr r (λ s. Names s (IsLoaded name files)))
+scan-named r told name flow reads h =
+    told-map told (λ files. workflow_in name files ≡ Ok flow) (λ files. IfErr r (λ s. Names s (IsLoaded name files)))
+    (λ files e. names-all r (IsScanFile flow) (IsLoaded name files) (λ file is. inr (flow, e, is)) h) reads
+
+-- the workflow was not read, so its file is named
+pub flow-named : (s : Stop) (told : Option Named) (name : List ℕ) → Names s (λ file. file ≡ name) → Told told (λ files. Names s (IsLoaded name files))
+flow-named s told name h =
+    told-all told (λ files. Names s (IsLoaded name files)) (λ files. names-map s (λ file. file ≡ name) (IsLoaded name files) (λ file is. inl is) h)
