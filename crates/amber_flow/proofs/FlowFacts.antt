@@ -1,5 +1,5 @@
 -- The workflow that a JSON value means.
-use Rattle.std.proofs.Common.{◌≡◌, ℕ, List, [], length, codes, Option, Some, Result, Ok, Err, true, false, refl, sym, ap, ◌∙◌}
+use Rattle.std.proofs.Common.{◌≡◌, List, [], length, codes, Some, Result, Err, true, false, sym, ap, ◌∙◌}
 use Rattle.serde_json.proofs.Views.{items_len-items_view}
 use Rattle.serde_json.specs.Data.{Data}
 use Rattle.serde_json.specs.View.{items_view}

@@ -1,5 +1,5 @@
 -- Operators that are read one after the other.
-use Rattle.std.proofs.Common.{◌≡◌, ℕ, suc, ◌+◌, ◌<◌, ◌≤◌, ◌==◌, ◌||◌, ◌&&◌, not, List, [], ◌∷◌, ◌++◌, length, get_or, drop, All, Bool, true, false, bytes_eq, Result, Ok, Err, refl, sym, ap, ◌∙◌, subst, append_assoc, append-nil, length-append, zero-add, arith, eq-eqb}
+use Rattle.std.proofs.Common.{◌≡◌, ℕ, suc, ◌+◌, ◌<◌, ◌≤◌, ◌==◌, ◌||◌, List, [], ◌∷◌, ◌++◌, length, get_or, drop, All, true, false, bytes_eq, Ok, Err, refl, sym, ap, ◌∙◌, subst, append_assoc, append-nil, length-append, zero-add, arith, eq-eqb}
 use Rattle.std.proofs.lemmas.Bool.Decides.{nat_tests}
 use Rattle.std.proofs.lemmas.List.{drop_all}
 use Rattle.std.proofs.lemmas.List.Elements.{All-push}
@@ -8,6 +8,7 @@ use Rattle.serde_json.specs.View.{items_view, view}
 use Rattle.serde_json.specs.declared.value.Value.{Value}
 use Rattle.amber_rows.specs.FlowRules.{AreNext, IsNext, ends_in_sink, is_among, is_sink}
 use Rattle.amber_rows.specs.declared.flow.Operator.{Operator}
+use Rattle.amber_flow.specs.Built.{AreBuilt, IsBuilt}
 use Rattle.amber_flow.specs.Operators.{IsNarrow, ids_of, operator_of}
 use Rattle.amber_flow.specs.Workflow.{fault_at, operators_from}
 use Rattle.amber_flow.specs.declared.error.FlowWhy.{FlowWhy}
@@ -54,6 +55,7 @@ pub record IsRead (trees : List Value) (i : ℕ) (operators : List Operator) : T
   pub next : AreNext [] operators
   pub placed : IsPlaced (length trees) 0 operators
   pub narrow : All IsNarrow operators
+  pub built : AreBuilt operators
 
 operators-more : (count : ℕ) (trees : List Value) (i : ℕ) (tree : Value) (before : List Operator) (operator : Operator) → i < length trees → tree ≡ get_or trees i tree → Ok operator ≡ operator_of count before (view tree)
     → operators_from count before (items_view (drop i trees)) ≡ operators_from count (before ++ operator ∷ []) (items_view (drop (i + 1) trees))
@@ -71,16 +73,17 @@ operators-end count trees i before h = rw (drop_all i trees h)
 
 pub read-none : (trees : List Value) → IsRead trees 0 []
 unfolding AreNext
-read-none trees = record { meant = refl; count = refl; next = tt; placed = tt; narrow = λ k d h. absurd (omega arith) }
+read-none trees = record { meant = refl; count = refl; next = tt; placed = tt; narrow = λ k d h. absurd (omega arith); built = λ k d h. absurd (omega arith) }
 
 pub read-more : (trees : List Value) (i : ℕ) (tree : Value) (before : List Operator) (operator : Operator) → IsRead trees i before → i < length trees → tree ≡ get_or trees i tree → Ok operator ≡ operator_of (length trees) before (view tree)
-    → IsNext before operator → is_sink operator.what ≡ (length before + 1 == length trees) → IsRead trees (i + 1) (before ++ operator ∷ [])
-read-more trees i tree before operator done h is read next placed = record {
+    → IsNext before operator → is_sink operator.what ≡ (length before + 1 == length trees) → IsBuilt operator → IsRead trees (i + 1) (before ++ operator ∷ [])
+read-more trees i tree before operator done h is read next placed built = record {
   meant = done.meant ∙ operators-more (length trees) trees i tree before operator h is read;
   count = simp length-append (omega (arith, done.count));
   next = AreNext-push [] before operator done.next next;
   placed = placed-push (length trees) 0 before operator done.placed (placed ∙ ap (λ n. n + 1 == length trees) (sym (zero-add (length before))));
   narrow = All-push IsNarrow before operator done.narrow next.columns.few;
+  built = All-push IsBuilt before operator done.built built;
 }
 
 pub read-stop : (trees : List Value) (i : ℕ) (tree : Value) (before : List Operator) (why : FlowWhy) → IsRead trees i before → i < length trees → tree ≡ get_or trees i tree → Err why ≡ operator_of (length trees) before (view tree)

@@ -1,4 +1,5 @@
 pub mod Answers
+pub mod Built
 pub mod Chain
 pub mod Columns
 pub mod Fields

@@ -1,6 +1,7 @@
-ghost use Rattle.std.specs.Prelude.{All, ◌≡◌, ◌+◌, ◌<◌, ◌≤◌, ◌==◌, length, IfOk};
+ghost use Rattle.std.specs.Prelude.{All, true, ◌≡◌, ◌+◌, ◌<◌, ◌≤◌, ◌==◌, length, IfOk};
 ghost use Rattle.serde_json.specs.View.{view};
 ghost use Rattle.amber_rows.specs.FlowRules.{IsNext, is_sink};
+ghost use Rattle.amber_flow.specs.Built.{is_built};
 ghost use Rattle.amber_flow.specs.Operators.{IsNarrow, operator_of};
 
 use crate::error::FlowWhy;
@@ -23,6 +24,7 @@ pub fn read_operator(
     ensures operator { IfOk result (λ read. read ≡ operator_of count before.now (view tree.now)) }
     ensures next { IfOk result (λ read. IfOk read (λ operator. IsNext before.now operator)) }
     ensures placed { IfOk result (λ read. IfOk read (λ operator. is_sink operator.what ≡ (length before.now + 1 == count))) }
+    ensures built { IfOk result (λ read. IfOk read (λ operator. is_built operator.what ≡ true)) }
 {
     let Some(id) = text_field(tree, "id") else {
         return Ok(Err(FlowWhy::Shape));

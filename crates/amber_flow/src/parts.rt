@@ -6,6 +6,7 @@ ghost use Rattle.amber_rows.specs.Columns.{names_of};
 ghost use Rattle.amber_rows.specs.Cond.{numbered};
 ghost use Rattle.amber_rows.specs.declared.flow.Operator.{Operator as OneOperator};
 ghost use Rattle.amber_rows.specs.FlowRules.{AreColumns, HasInput, IsCondOn, IsKind, is_among, is_id, is_sink, kind_of};
+ghost use Rattle.amber_flow.specs.Built.{is_built};
 ghost use Rattle.amber_flow.specs.Operators.{IsNarrow, check_columns, columns_at, cond_of, constant_of, filter_of, head_of, ids_of, is_placed, new_id, operator_number, parts_of, scan_of, sink_of, workers_from};
 ghost use Rattle.amber_flow.specs.Names.{is_sink_kind};
 
@@ -137,6 +138,7 @@ fn read_scan(alloc: Global, tree: &Value) -> Result<Result<Parts, FlowWhy>, Allo
     ensures parts { IfOk result (λ read. read ≡ scan_of (view tree.now)) }
     ensures kind { IfOk result (λ read. IfOk read (λ parts. (before : List OneOperator) → IsKind before parts.what parts.schema)) }
     ensures sink { IfOk result (λ read. IfOk read (λ parts. is_sink parts.what ≡ false)) }
+    ensures built { IfOk result (λ read. IfOk read (λ parts. is_built parts.what ≡ true)) }
 {
     let Some(file) = text_field(tree, "file") else {
         return Ok(Err(FlowWhy::Shape));
@@ -215,6 +217,7 @@ fn read_filter(
     ensures parts { IfOk result (λ read. read ≡ filter_of before.now (view tree.now)) }
     ensures kind { IfOk result (λ read. IfOk read (λ parts. IsKind before.now parts.what parts.schema)) }
     ensures sink { IfOk result (λ read. IfOk read (λ parts. is_sink parts.what ≡ false)) }
+    ensures built { IfOk result (λ read. IfOk read (λ parts. is_built parts.what ≡ true)) }
 {
     let Some(id) = text_field(tree, "input") else {
         return Ok(Err(FlowWhy::Shape));
@@ -255,6 +258,7 @@ fn read_sink(
     ensures parts { IfOk result (λ read. read ≡ sink_of before.now (view tree.now)) }
     ensures kind { IfOk result (λ read. IfOk read (λ parts. IsKind before.now parts.what parts.schema)) }
     ensures sink { IfOk result (λ read. IfOk read (λ parts. is_sink parts.what ≡ true)) }
+    ensures built { IfOk result (λ read. IfOk read (λ parts. is_built parts.what ≡ true)) }
 {
     let Some(id) = text_field(tree, "input") else {
         return Ok(Err(FlowWhy::Shape));
@@ -281,6 +285,7 @@ pub fn read_parts(
     ensures parts { IfOk result (λ read. read ≡ parts_of kind before.now (view tree.now)) }
     ensures kind { IfOk result (λ read. IfOk read (λ parts. IsKind before.now parts.what parts.schema)) }
     ensures sink { IfOk result (λ read. IfOk read (λ parts. is_sink parts.what ≡ is_sink_kind kind)) }
+    ensures built { IfOk result (λ read. IfOk read (λ parts. is_built parts.what ≡ true)) }
 {
     match kind {
         Kind::Scan => read_scan(alloc, tree),

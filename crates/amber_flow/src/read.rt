@@ -2,6 +2,7 @@ ghost use Rattle.std.specs.Prelude.{◌≡◌, ◌==◌, ◌<◌, ◌≤◌, ◌
 ghost use Rattle.serde_json.specs.View.{items_view, view};
 ghost use Rattle.amber_rows.specs.FlowRules.{AreNext, ends_in_sink};
 ghost use Rattle.amber_flow.specs.Answers.{AnswersExactly, AnswersFlow, AnswersTree};
+ghost use Rattle.amber_flow.specs.Built.{AreBuilt};
 ghost use Rattle.amber_flow.specs.Workflow.{check_whole, flow_of, is_flow_length, operators_from, tree_of, workflow_of};
 
 use crate::error::{Fault, FlowErr, FlowWhy};
@@ -40,6 +41,7 @@ fn read_operators(
     ensures count { IfOk result (λ read. IfOk read (λ operators. length operators.items ≡ length trees.now)) }
     ensures next { IfOk result (λ read. IfOk read (λ operators. AreNext [] operators.items)) }
     ensures ends { IfOk result (λ read. IfOk read (λ operators. 0 < length trees.now → ends_in_sink operators.items ≡ true)) }
+    ensures built { IfOk result (λ read. IfOk read (λ operators. AreBuilt operators.items)) }
 {
     let mut operators = Vec::new(alloc);
     for tree in trees {
@@ -60,7 +62,9 @@ fn make_flow(operators: Vec<Operator>) -> Result<Flow, Fault>
     requires few { length operators.items ≤ 32 }
     requires next { AreNext [] operators.items }
     requires ends { ends_in_sink operators.items ≡ true }
-    ensures { result ≡ check_whole operators.items }
+    requires built { AreBuilt operators.items }
+    ensures checked { result ≡ check_whole operators.items }
+    ensures built { IfOk result (λ flow. AreBuilt flow) }
 {
     if 128 < count_workers(operators.as_slice()) {
         return Err(Fault {
@@ -87,7 +91,8 @@ fn may_be_flow(count: usize) -> bool
 /// The workflow that a JSON value means, or its first reason and the operator at fault.
 #[tactic(auto, unfolding(crate::specs::Workflow::flow_of))]
 fn read_whole(alloc: Global, tree: &Value) -> Result<Result<Flow, Fault>, AllocError>
-    ensures { IfOk result (λ read. read ≡ flow_of (view tree.now)) }
+    ensures flow { IfOk result (λ read. read ≡ flow_of (view tree.now)) }
+    ensures built { IfOk result (λ read. IfOk read (λ flow. AreBuilt flow)) }
 {
     let Some(trees) = list_field(tree, "operators") else {
         return Ok(Err(Fault {
@@ -111,7 +116,8 @@ fn read_whole(alloc: Global, tree: &Value) -> Result<Result<Flow, Fault>, AllocE
 /// The workflow that bytes mean, or its first reason and the operator at fault.
 #[tactic(auto, unfolding(crate::specs::Workflow::workflow_of))]
 pub(crate) fn read_exact_flow(alloc: Global, bytes: &[u8]) -> Result<Flow, FlowErr>
-    ensures { AnswersExactly result (workflow_of bytes.now) }
+    ensures answer { AnswersExactly result (workflow_of bytes.now) }
+    ensures built { IfOk result (λ flow. AreBuilt flow) }
 {
     let tree = read_tree(alloc, bytes)?;
     match read_whole(alloc, &tree) {
@@ -125,6 +131,7 @@ pub(crate) fn read_exact_flow(alloc: Global, bytes: &[u8]) -> Result<Flow, FlowE
 /// `specs/` has it. Every reason is answered as `Shape` of the whole.
 pub fn read_flow(alloc: Global, bytes: &[u8]) -> Result<Flow, FlowErr>
     ensures answer { AnswersFlow result (workflow_of bytes.now) }
+    ensures built { IfOk result (λ flow. AreBuilt flow) }
 {
     match read_exact_flow(alloc, bytes) {
         Err(FlowErr::Bad { .. }) => Err(FlowErr::Bad {

@@ -19,11 +19,14 @@ pub fn count_workers(operators: &[Operator]) -> u64
 /// How often an operator names another as an input.
 fn count_reads(what: &What, op: u32) -> u32
     ensures reads { result ≡ count_by (λ input. input == op) (inputs_of what.now) }
-    ensures few { result ≤ 1 }
+    ensures few { result ≤ 2 }
 {
     match what {
         What::Scan { .. } => 0,
         What::Filter { input, .. } => u32::from(*input == op),
+        What::Project { input, .. } => u32::from(*input == op),
+        What::Join { build, probe, .. } => u32::from(*build == op) + u32::from(*probe == op),
+        What::Group { input, .. } => u32::from(*input == op),
         What::Sink { input } => u32::from(*input == op),
     }
 }

@@ -1,3 +1,4 @@
+pub mod Fits
 pub mod Grammar
 pub mod Laws
 pub mod LogText

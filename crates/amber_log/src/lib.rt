@@ -8,6 +8,7 @@
 
 pub mod command;
 pub mod entry;
+pub mod fitting;
 pub mod laws;
 pub mod leg;
 pub mod line;
@@ -16,6 +17,7 @@ pub mod reading;
 
 pub use command::{Command, Commands};
 pub use entry::{Entries, Entry};
+pub use fitting::fits;
 pub use leg::{Close, Leg, Part, Parts};
 pub use line::Line;
 pub use log::{Item, Items, Log};

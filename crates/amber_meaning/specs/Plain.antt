@@ -1,10 +1,12 @@
 -- The sequential answer of a workflow: what each operator gives, as lists over whole files.
-use Rattle.std.specs.Prelude.{◌≡◌, ℕ, ◌+◌, List, [], ◌∷◌, ◌++◌, length, filter, count_by, Option, Some, None, unwrap_or, Result, Ok, Err, Bool, true, false, if◌then◌else◌, ⊤}
+use Rattle.std.specs.Prelude.{◌≡◌, ℕ, ◌+◌, ◌<◌, ◌≤◌, ⊤, List, [], ◌∷◌, ◌++◌, length, filter, map, count_by, sum_by, Option, Some, None, unwrap_or, Result, Ok, Err, Bool, true, false, if◌then◌else◌}
+use Rattle.std.specs.List.{filter_map}
 use Rattle.amber_rows.specs.Cond.{holds_of, numbered}
+use Rattle.amber_rows.specs.FlowRules.{columns_at}
+use Rattle.amber_rows.specs.Operators.{grouped, joined, projected, refused_keys}
 use Rattle.amber_rows.specs.Order.{sort_rows}
-use Rattle.amber_rows.specs.Record.{has_header, scan_rows, typed_records}
+use Rattle.amber_rows.specs.Record.{has_header, ok_of, typed_records}
 use Rattle.amber_rows.specs.declared.value.Value.{Value}
-use Rattle.amber_rows.specs.declared.column.Column.{Column}
 use Rattle.amber_rows.specs.declared.record.RowFault.{RowFault}
 use Rattle.amber_rows.specs.declared.flow.What.{What}
 use Rattle.amber_rows.specs.declared.flow.What.TheVariants as what
@@ -20,6 +22,9 @@ use Rattle.amber_meaning.specs.declared.evaluator.PlainErr.TheVariants as plain_
 abbrev pub is_scan : What → Bool
 is_scan (what.Scan file) = true
 is_scan (what.Filter input cond) = false
+is_scan (what.Project input from) = false
+is_scan (what.Join build probe build_keys probe_keys) = false
+is_scan (what.Group input keys aggs) = false
 is_scan (what.Sink input) = false
 
 -- how many operators are scans: each has a file, in their order
@@ -31,85 +36,108 @@ abbrev pub next_file : List (List ℕ) → List ℕ
 next_file [] = []
 next_file (file ∷ files) = file
 
+-- the files behind it
+abbrev pub later_files : List (List ℕ) → List (List ℕ)
+later_files [] = []
+later_files (file ∷ files) = files
+
 -- the files that an operator leaves to those behind it
 abbrev pub files_after : What → List (List ℕ) → List (List ℕ)
-files_after (what.Scan file) [] = []
-files_after (what.Scan file) (taken ∷ files) = files
-files_after (what.Filter input cond) files = files
-files_after (what.Sink input) files = files
+files_after kind files = if is_scan kind then later_files files else files
+
+-- for each operator the typed records of its file; none where it is no scan
+unfoldable pub records_of : List (List ℕ) → List Operator → List (List (Result (List Value) RowFault))
+records_of files [] = []
+records_of files (operator ∷ more) =
+    (if is_scan operator.what then typed_records operator.schema (next_file files) else []) ∷ records_of (files_after operator.what files) more
 
 -- ---- rows
 
--- the rows of the operator with this number, of which `done` are those of the first operators in order
-abbrev pub rows_at : List (List (List Value)) → ℕ → List (List Value)
-rows_at done op = unwrap_or (numbered done op) []
+-- the list with this number, of lists numbered from 1; none where there is none
+abbrev pub list_at : {A : Type 0} → List (List A) → ℕ → List A
+list_at lists op = unwrap_or (numbered lists op) []
 
--- the rows of one operator: a scan gives the typed records of its file that have no fault, a filter the rows of its
--- input for which its condition holds, and the sink those of its input in the order of rows
-abbrev pub rows_of : What → List Column → List ℕ → List (List (List Value)) → List (List Value)
-rows_of (what.Scan name) columns file done = scan_rows columns file
-rows_of (what.Filter input cond) columns file done = filter (holds_of cond) (rows_at done input)
-rows_of (what.Sink input) columns file done = sort_rows (rows_at done input)
+-- the rows of one operator, from its typed records and the rows of the operators before it: a scan gives the records that have no
+-- fault, a filter the rows for which its condition holds, a project the named columns, a join the matches of its probe rows in
+-- the build rows, a group a row for each key, and the sink its rows in the order of rows
+abbrev pub rows_of : What → List (Result (List Value) RowFault) → List (List (List Value)) → List (List Value)
+rows_of (what.Scan file) records done = filter_map ok_of records
+rows_of (what.Filter input cond) records done = filter (holds_of cond) (list_at done input)
+rows_of (what.Project input from) records done = projected from (list_at done input)
+rows_of (what.Join build probe build_keys probe_keys) records done = joined build_keys probe_keys (list_at done build) (list_at done probe)
+rows_of (what.Group input keys aggs) records done = grouped keys aggs (list_at done input)
+rows_of (what.Sink input) records done = sort_rows (list_at done input)
+
+abbrev pub first_list : {A : Type 0} → List (List A) → List A
+first_list [] = []
+first_list (xs ∷ more) = xs
+
+abbrev pub later_lists : {A : Type 0} → List (List A) → List (List A)
+later_lists [] = []
+later_lists (xs ∷ more) = more
 
 -- the rows of the operators so far, and then of each of these in order
-unfoldable pub outputs : List (List ℕ) → List (List (List Value)) → List Operator → List (List (List Value))
-outputs files done [] = done
-outputs files done (operator ∷ more) =
-    outputs (files_after operator.what files) (done ++ rows_of operator.what operator.schema (next_file files) done ∷ []) more
+unfoldable pub outputs : List (List (Result (List Value) RowFault)) → List (List (List Value)) → List Operator → List (List (List Value))
+outputs records done [] = done
+outputs records done (operator ∷ more) = outputs (later_lists records) (done ++ rows_of operator.what (first_list records) done ∷ []) more
 
--- ---- refused records
+-- ---- what is refused
 
--- the records of a scan that have a fault, by their numbers
+-- the records that have a fault, by their numbers from this one on
 unfoldable pub refused_records : ℕ → ℕ → List (Result (List Value) RowFault) → List Refusal
 refused_records op number [] = []
 refused_records op number (Ok row ∷ more) = refused_records op (number + 1) more
 refused_records op number (Err why ∷ more) = refusal.Record op number why ∷ refused_records op (number + 1) more
 
--- what an operator refuses
-abbrev pub refused_by : ℕ → What → List Column → List ℕ → List Refusal
-refused_by op (what.Scan name) columns file = refused_records op 1 (typed_records columns file)
-refused_by op (what.Filter input cond) columns file = []
-refused_by op (what.Sink input) columns file = []
+-- the keys of groups that have no row, in the order of rows
+abbrev pub refused_groups : ℕ → List (List Value) → List Refusal
+refused_groups op keys = map (refusal.Group op) (sort_rows keys)
 
--- what the operators from this number on refuse, in order
-unfoldable pub refusals : ℕ → List (List ℕ) → List Operator → List Refusal
-refusals op files [] = []
-refusals op files (operator ∷ more) =
-    refused_by op operator.what operator.schema (next_file files) ++ refusals (op + 1) (files_after operator.what files) more
+-- what an operator refuses
+abbrev pub refused_by : ℕ → What → List (Result (List Value) RowFault) → List (List (List Value)) → List Refusal
+refused_by op (what.Scan file) records done = refused_records op 1 records
+refused_by op (what.Filter input cond) records done = []
+refused_by op (what.Project input from) records done = []
+refused_by op (what.Join build probe build_keys probe_keys) records done = []
+refused_by op (what.Group input keys aggs) records done = refused_groups op (refused_keys keys aggs (list_at done input))
+refused_by op (what.Sink input) records done = []
+
+-- what the operators from this number on refuse, where these are the rows of all operators
+unfoldable pub refusals : ℕ → List (List (Result (List Value) RowFault)) → List (List (List Value)) → List Operator → List Refusal
+refusals op records done [] = []
+refusals op records done (operator ∷ more) = refused_by op operator.what (first_list records) done ++ refusals (op + 1) (later_lists records) done more
 
 -- ---- headers
-
--- whether an operator is no scan, or its file begins with the names of its columns
-abbrev pub is_headed : What → List Column → List ℕ → Bool
-is_headed (what.Scan name) columns file = has_header columns file
-is_headed (what.Filter input cond) columns file = true
-is_headed (what.Sink input) columns file = true
 
 -- the first scan, of the operators from this number on, whose file does not begin with the names of its columns
 unfoldable pub wrong_header : ℕ → List (List ℕ) → List Operator → Option ℕ
 wrong_header op files [] = None
 wrong_header op files (operator ∷ more) =
-    if is_headed operator.what operator.schema (next_file files) then wrong_header (op + 1) (files_after operator.what files) more else Some op
+    if is_scan operator.what then (if has_header operator.schema (next_file files) then wrong_header (op + 1) (later_files files) more else Some op)
+    else wrong_header (op + 1) files more
 
 -- ---- the answer
 
-abbrev pub columns_at : List Operator → ℕ → List Column
-columns_at flow op = columns_of (numbered flow op)
-  where
-    columns_of : Option Operator → List Column
-    columns_of None = []
-    columns_of (Some operator) = operator.schema
-
--- the sequential answer: what was refused, and the rows of the last operator, the sink
-unfoldable pub answer_of : List Operator → List (List ℕ) → Answer
-answer_of flow files = record {
-  refused = refusals 1 files flow;
+-- the sequential answer from the typed records of the scans: what was refused, and the columns and rows of the last operator, the sink
+unfoldable pub answer_from : List Operator → List (List (Result (List Value) RowFault)) → Answer
+answer_from flow records = record {
+  refused = refusals 1 records (outputs records [] flow) flow;
   columns = columns_at flow (length flow);
-  rows = rows_at (outputs files [] flow) (length flow);
+  rows = list_at (outputs records [] flow) (length flow);
 }
 
--- what `plain` answers: the sequential answer where all headers are as they should be, else the first scan with another one
-abbrev pub IsPlain : Result Answer PlainErr → List Operator → List (List ℕ) → Type 0
-IsPlain (Ok answer) flow files = (wrong_header 1 files flow ≡ None) × (answer ≡ answer_of flow files)
-IsPlain (Err (plain_err.Header op)) flow files = wrong_header 1 files flow ≡ Some op
-IsPlain (Err plain_err.NoMemory) flow files = ⊤
+-- the sequential answer over the files of the scans
+unfoldable pub answer_of : List Operator → List (List ℕ) → Answer
+answer_of flow files = answer_from flow (records_of files flow)
+
+-- how many rows all operators give together
+unfoldable pub row_total : List Operator → List (List ℕ) → ℕ
+row_total flow files = sum_by length (outputs (records_of files flow) [] flow)
+
+-- what `plain` answers, where so many rows may be: the sequential answer; else the first scan with another header, or that there are
+-- more rows
+abbrev pub IsPlain : Result Answer PlainErr → List Operator → List (List ℕ) → ℕ → Type 0
+IsPlain (Ok answer) flow files most = (wrong_header 1 files flow ≡ None) × (row_total flow files ≤ most) × (answer ≡ answer_of flow files)
+IsPlain (Err (plain_err.Header op)) flow files most = wrong_header 1 files flow ≡ Some op
+IsPlain (Err plain_err.Long) flow files most = (wrong_header 1 files flow ≡ None) × (most < row_total flow files)
+IsPlain (Err plain_err.NoMemory) flow files most = ⊤

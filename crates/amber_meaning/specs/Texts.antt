@@ -1,36 +1,225 @@
--- The printed text of an answer.
-use Rattle.std.specs.Prelude.{ℕ, List, [], ◌∷◌, ◌++◌, length, codes, Option, Some, None}
-use Rattle.std.specs.List.{flat_map}
-use Rattle.std.specs.Fmt.{decimal}
+-- The printed texts. Every line ends with a line feed.
+use Rattle.std.specs.Prelude.{ℕ, ◌+◌, ◌==◌, ◌&&◌, nat_le, not, List, [], ◌∷◌, ◌++◌, length, codes, Option, Some, None, Bool, false, if◌then◌else◌}
+use Rattle.std.specs.List.{flat_map, list_all}
+use Rattle.std.specs.Fmt.{decimal, signed_decimal}
 use Rattle.amber_rows.specs.Columns.{names_of}
 use Rattle.amber_rows.specs.Cond.{numbered}
-use Rattle.amber_rows.specs.RowText.{fields_text_of, rows_text_of}
+use Rattle.amber_rows.specs.FlowRules.{columns_at}
+use Rattle.amber_rows.specs.RowText.{fields_text_of, row_text_of, rows_text_of}
+use Rattle.amber_rows.specs.declared.value.Value.{Value}
+use Rattle.amber_rows.specs.declared.value.Value.TheVariants as value
+use Rattle.amber_rows.specs.declared.column.Column.{Column}
+use Rattle.amber_rows.specs.declared.cond.Cmp.{Cmp}
+use Rattle.amber_rows.specs.declared.cond.Cmp.TheVariants as cmp
+use Rattle.amber_rows.specs.declared.cond.Cond.{Cond}
 use Rattle.amber_rows.specs.declared.record.RowFault.{RowFault}
 use Rattle.amber_rows.specs.declared.record.RowFault.TheVariants as fault
+use Rattle.amber_rows.specs.declared.flow.What.{What}
+use Rattle.amber_rows.specs.declared.flow.What.TheVariants as what
 use Rattle.amber_rows.specs.declared.flow.Operator.{Operator}
+use Rattle.amber_log.specs.declared.command.Command.{Command}
+use Rattle.amber_log.specs.declared.command.Command.TheVariants as command
 use Rattle.amber_meaning.specs.declared.answer.Answer.{Answer}
 use Rattle.amber_meaning.specs.declared.answer.Refusal.{Refusal}
 use Rattle.amber_meaning.specs.declared.answer.Refusal.TheVariants as refusal
+use Rattle.amber_meaning.specs.declared.view.Counted.{Counted}
+use Rattle.amber_meaning.specs.declared.view.Extra.{Extra}
+use Rattle.amber_meaning.specs.declared.view.Extra.TheVariants as extra
+use Rattle.amber_meaning.specs.declared.view.Inspected.{Inspected}
+use Rattle.amber_meaning.specs.declared.view.Stand.{Stand}
+use Rattle.amber_meaning.specs.declared.view.Stand.TheVariants as stand
+use Rattle.amber_meaning.specs.declared.view.Stop.{Stop}
+use Rattle.amber_meaning.specs.declared.view.Stop.TheVariants as stop
+use Rattle.amber_meaning.specs.declared.view.WorkerView.{WorkerView}
 
--- the id of the operator with this number
+-- ---- words
+
+-- a blank before a word
+abbrev pub after_blank : List ℕ → List ℕ
+after_blank word = 32 ∷ word
+
+-- 0x21 to 0x7E without the quote
+abbrev pub is_bare_byte : ℕ → Bool
+is_bare_byte b = nat_le 33 b && nat_le b 126 && not (b == 34)
+
+-- not empty, no `#` at its front, and only such bytes
+abbrev pub is_bare : List ℕ → Bool
+is_bare [] = false
+is_bare (b ∷ bs) = not (b == 35) && list_all is_bare_byte (b ∷ bs)
+
+-- a byte between quotes: a quote, a backslash, a line feed and a carriage return have an escape
+abbrev pub escaped_byte : ℕ → List ℕ
+escaped_byte b =
+    if b == 34 then 92 ∷ 34 ∷ [] else (if b == 92 then 92 ∷ 92 ∷ [] else (if b == 10 then 92 ∷ 110 ∷ [] else (if b == 13 then 92 ∷ 114 ∷ [] else b ∷ [])))
+
+-- a text as one word: bare where it can be, else in quotes
+unfoldable pub word_of : List ℕ → List ℕ
+word_of text = if is_bare text then text else 34 ∷ (flat_map escaped_byte text ++ 34 ∷ [])
+
+-- a value as a word
+abbrev pub value_word : Value → List ℕ
+value_word (value.Int n) = signed_decimal n
+value_word (value.Text t) = word_of t
+
+abbrev pub sign_word : Cmp → List ℕ
+sign_word cmp.Eq = codes "="
+sign_word cmp.Ne = codes "!="
+sign_word cmp.Lt = codes "<"
+sign_word cmp.Le = codes "<="
+sign_word cmp.Gt = codes ">"
+sign_word cmp.Ge = codes ">="
+
+-- words with blanks between them, as a line
+unfoldable pub words_line : List (List ℕ) → List ℕ
+words_line [] = 10 ∷ []
+words_line (word ∷ []) = word ++ 10 ∷ []
+words_line (word ∷ next ∷ more) = word ++ after_blank (words_line (next ∷ more))
+
+-- words with blanks between them, and behind one more blank what ends the line
+unfoldable pub words_before : List (List ℕ) → List ℕ → List ℕ
+words_before [] end = end
+words_before (word ∷ more) end = word ++ after_blank (words_before more end)
+
+-- ---- names
+
+abbrev pub id_in : Option Operator → List ℕ
+id_in None = []
+id_in (Some operator) = operator.id
+
+-- the id of an operator
 abbrev pub id_at : List Operator → ℕ → List ℕ
-id_at flow op = id_of (numbered flow op)
-  where
-    id_of : Option Operator → List ℕ
-    id_of None = []
-    id_of (Some operator) = operator.id
+id_at flow op = id_in (numbered flow op)
+
+abbrev pub name_in : Option Column → List ℕ
+name_in None = []
+name_in (Some column) = column.name
+
+-- the name of an operator's column
+abbrev pub column_name_at : List Operator → ℕ → ℕ → List ℕ
+column_name_at flow op column = name_in (numbered (columns_at flow op) column)
+
+-- column, sign and constant
+abbrev pub cond_words : List Operator → ℕ → Cond → List (List ℕ)
+cond_words flow op cond = word_of (column_name_at flow op cond.column) ∷ sign_word cond.op ∷ value_word cond.constant ∷ []
+
+-- ---- replies to commands
+
+-- a command as it stands in a script
+abbrev pub command_words : List Operator → Command → List (List ℕ)
+command_words flow command.Run = codes "run" ∷ []
+command_words flow command.End = codes "end" ∷ []
+command_words flow (command.Pause op n) = codes "pause" ∷ id_at flow op ∷ decimal n ∷ []
+command_words flow (command.Count op n) = codes "break" ∷ codes "count" ∷ id_at flow op ∷ decimal n ∷ []
+command_words flow (command.When op cond) = codes "break" ∷ codes "when" ∷ id_at flow op ∷ cond_words flow op cond
+command_words flow (command.Clear op) = codes "clear" ∷ id_at flow op ∷ []
+command_words flow (command.Set op constant) = codes "set" ∷ id_at flow op ∷ value_word constant ∷ []
+command_words flow (command.Drop op worker) = codes "drop" ∷ id_at flow op ∷ decimal worker ∷ []
+command_words flow (command.Inspect op) = codes "inspect" ∷ id_at flow op ∷ []
+command_words flow (command.Lose op worker) = codes "lose" ∷ id_at flow op ∷ decimal worker ∷ []
+
+-- that a command was done
+unfoldable pub ok_text : List Operator → Command → List ℕ
+ok_text flow done = words_line (codes "ok" ∷ command_words flow done)
+
+-- the row that was dropped, or that there was none
+unfoldable pub drop_text : List Operator → ℕ → ℕ → Option (List Value) → List ℕ
+drop_text flow op worker None = words_line (codes "none" ∷ codes "drop" ∷ id_at flow op ∷ decimal worker ∷ [])
+drop_text flow op worker (Some row) = words_before (codes "ok" ∷ codes "drop" ∷ id_at flow op ∷ decimal worker ∷ []) (row_text_of row)
+
+-- ---- stops
+
+abbrev pub stop_text : List Operator → Stop → List ℕ
+stop_text flow (stop.Held op worker row) = words_before (codes "stop" ∷ codes "held" ∷ id_at flow op ∷ decimal worker ∷ []) (row_text_of row)
+stop_text flow (stop.Count op target) = words_line (codes "stop" ∷ codes "count" ∷ id_at flow op ∷ decimal target ∷ [])
+stop_text flow (stop.Pause op n emitted) = words_line (codes "stop" ∷ codes "pause" ∷ id_at flow op ∷ decimal n ∷ decimal emitted ∷ [])
+stop_text flow stop.End = words_line (codes "stop" ∷ codes "end" ∷ [])
+
+unfoldable pub stops_text : List Operator → List Stop → List ℕ
+stops_text flow stops = flat_map (stop_text flow) stops
+
+-- ---- inspections
+
+abbrev pub kind_word : What → List ℕ
+kind_word (what.Scan file) = codes "scan"
+kind_word (what.Filter input cond) = codes "filter"
+kind_word (what.Project input from) = codes "project"
+kind_word (what.Join build probe build_keys probe_keys) = codes "join"
+kind_word (what.Group input keys aggs) = codes "group"
+kind_word (what.Sink input) = codes "sink"
+
+abbrev pub stand_word : Stand → List ℕ
+stand_word stand.Ready = codes "ready"
+stand_word stand.Held = codes "held"
+stand_word stand.Finished = codes "finished"
+
+abbrev pub extra_words : Extra → List (List ℕ)
+extra_words extra.Nothing = []
+extra_words (extra.Scan refused) = codes "refused" ∷ decimal refused ∷ []
+extra_words (extra.Join keys built) = codes "keys" ∷ decimal keys ∷ codes "built" ∷ decimal built ∷ []
+extra_words (extra.Group groups) = codes "groups" ∷ decimal groups ∷ []
+extra_words (extra.Sink kept) = codes "kept" ∷ decimal kept ∷ []
+
+-- the first pending row
+abbrev pub next_text : Option (List Value) → List ℕ
+next_text None = []
+next_text (Some row) = words_before (codes "next" ∷ []) (row_text_of row)
+
+abbrev pub view_words : ℕ → WorkerView → List (List ℕ)
+view_words worker view =
+    codes "worker" ∷ decimal worker ∷ codes "taken" ∷ decimal view.taken ∷ codes "rest" ∷ decimal view.rest ∷ codes "out" ∷ decimal view.out
+    ∷ codes "pending" ∷ decimal view.pending ∷ stand_word view.stand ∷ extra_words view.extra
+
+-- the workers from this number on
+unfoldable pub views_text : ℕ → List WorkerView → List ℕ
+views_text worker [] = []
+views_text worker (view ∷ more) = words_line (view_words worker view) ++ (next_text view.next ++ views_text (worker + 1) more)
+
+abbrev pub constant_text : Option Value → List ℕ
+constant_text None = []
+constant_text (Some constant) = words_line (codes "constant" ∷ value_word constant ∷ [])
+
+abbrev pub pause_text : Option ℕ → List ℕ
+pause_text None = []
+pause_text (Some n) = words_line (codes "pause" ∷ decimal n ∷ [])
+
+abbrev pub count_text : Option Counted → List ℕ
+count_text None = []
+count_text (Some count) = words_line (codes "count" ∷ decimal count.counted ∷ codes "of" ∷ decimal count.target ∷ [])
+
+abbrev pub when_text : List Operator → ℕ → Option Cond → List ℕ
+when_text flow op None = []
+when_text flow op (Some cond) = words_line (codes "when" ∷ cond_words flow op cond)
+
+abbrev pub kind_in : Option Operator → List ℕ
+kind_in None = []
+kind_in (Some operator) = kind_word operator.what
+
+-- what an operator shows
+unfoldable pub inspected_text : List Operator → Inspected → List ℕ
+inspected_text flow seen =
+    words_line (codes "inspect" ∷ id_at flow seen.op ∷ kind_in (numbered flow seen.op) ∷ [])
+    ++ (constant_text seen.constant ++ (pause_text seen.pause ++ (count_text seen.count ++ (when_text flow seen.op seen.when ++ views_text 0 seen.workers))))
+
+-- ---- the answer
 
 -- why a record was refused
-abbrev pub fault_words : RowFault → List ℕ
-fault_words fault.Width = codes "width"
-fault_words (fault.Int column) = codes "int " ++ decimal column
-fault_words (fault.Utf8 column) = codes "utf8 " ++ decimal column
+abbrev pub fault_words : RowFault → List (List ℕ)
+fault_words fault.Width = codes "width" ∷ []
+fault_words (fault.Int column) = codes "int" ∷ decimal column ∷ []
+fault_words (fault.Utf8 column) = codes "utf8" ∷ decimal column ∷ []
 
--- `refused record ID NUMBER WHY`, a line
-abbrev pub refusal_line : List Operator → Refusal → List ℕ
-refusal_line flow (refusal.Record op number why) = codes "refused record " ++ id_at flow op ++ codes " " ++ decimal number ++ codes " " ++ fault_words why ++ 10 ∷ []
+-- a key as a record, where it has a column
+abbrev pub key_text : List (List ℕ) → List Value → List ℕ
+key_text words [] = words_line words
+key_text words (cell ∷ cells) = words_before words (row_text_of (cell ∷ cells))
+
+abbrev pub refusal_text : List Operator → Refusal → List ℕ
+refusal_text flow (refusal.Record op number why) =
+    words_line (codes "refused" ∷ codes "record" ∷ id_at flow op ∷ decimal number ∷ fault_words why)
+refusal_text flow (refusal.Group op key) = key_text (codes "refused" ∷ codes "group" ∷ id_at flow op ∷ []) key
 
 -- what was refused, a line each; `rows K`; the columns' names as a record; the rows as records
 unfoldable pub answer_text : List Operator → Answer → List ℕ
 answer_text flow answer =
-    flat_map (refusal_line flow) answer.refused ++ codes "rows " ++ decimal (length answer.rows) ++ 10 ∷ [] ++ fields_text_of (names_of answer.columns) ++ rows_text_of answer.rows
+    flat_map (refusal_text flow) answer.refused
+    ++ (words_line (codes "rows" ∷ decimal (length answer.rows) ∷ []) ++ (fields_text_of (names_of answer.columns) ++ rows_text_of answer.rows))

@@ -1,10 +1,10 @@
 ghost use Rattle.std.specs.Prelude.{◌≡◌};
 
-use amber_rows::{RowFault, Rows, Schema};
+use amber_rows::{Row, RowFault, Rows, Schema};
 use std::marker::Model;
 
 /// Something that gave no row.
-#[derive(Clone, Copy, Debug, PartialEq, Eq)]
+#[derive(Debug, Drop)]
 pub enum Refusal {
     /// A record of a scan: the operator's number, the record's number in its file (from 1, after the header), and
     /// why it is no row.
@@ -12,6 +12,11 @@ pub enum Refusal {
         op: u32,
         number: u64,
         fault: RowFault,
+    },
+    /// A group of which a sum leaves 64 bits: the operator's number, and the key.
+    Group {
+        op: u32,
+        key: Row,
     },
 }
 

@@ -3,8 +3,8 @@ ghost use Rattle.std.specs.Cmp.Lexicographic.{pointwise};
 ghost use Rattle.csv.specs.Records.{fields_of};
 ghost use Rattle.amber_rows.specs.Columns.{names_of};
 ghost use Rattle.amber_rows.specs.Record.{has_header};
-ghost use Rattle.amber_meaning.specs.Plain.{is_headed, is_scan, next_file, wrong_header};
-ghost use Rattle.amber_meaning.specs.Pipes.{files_left};
+ghost use Rattle.amber_meaning.specs.Plain.{is_scan, next_file, wrong_header};
+ghost use Rattle.amber_meaning.specs.Evaluator.{files_left, is_headed};
 
 use amber_rows::{Files, Flow, Operator, RecordReader, Schema, What};
 use csv::ByteRecord;
@@ -16,7 +16,11 @@ fn is_scan(what: &What) -> bool
 {
     match what {
         What::Scan { .. } => true,
-        What::Filter { .. } | What::Sink { .. } => false,
+        What::Filter { .. }
+        | What::Project { .. }
+        | What::Join { .. }
+        | What::Group { .. }
+        | What::Sink { .. } => false,
     }
 }
 
@@ -79,10 +83,10 @@ fn has_header(alloc: Global, schema: &Schema, file: &[u8]) -> Result<bool, Alloc
 fn is_headed(alloc: Global, operator: &Operator, file: &[u8]) -> Result<bool, AllocError>
     ensures { IfOk result (λ headed. headed ≡ is_headed operator.now.what operator.now.schema file.now) }
 {
-    match &operator.what {
-        What::Scan { .. } => has_header(alloc, &operator.schema, file),
-        What::Filter { .. } | What::Sink { .. } => Ok(true),
+    if !is_scan(&operator.what) {
+        return Ok(true);
     }
+    has_header(alloc, &operator.schema, file)
 }
 
 /// The number of the first scan whose file does not begin with the names of its columns, if there is one.

@@ -1,18 +1,24 @@
-//! What a query means: the sequential answer of a workflow over the files of its scans.
+//! What a query and a run mean.
 //!
-//! The definitions in `specs/Plain.antt` say it over whole lists: the rows of each operator, what is
-//! refused, and the answer. `plain` computes it.
+//! The sequential answer of a workflow over the files of its scans is stated over whole lists, and `plain` computes it.
+//! What a legal log of a run is and leads to is stated too; the laws about it are in `laws`.
 #![tactic(auto)]
 
+mod aggregate;
 pub mod answer;
 pub mod evaluator;
+mod group;
 mod header;
-mod pipe;
+mod join;
+pub mod laws;
+mod project;
 mod scan;
+pub mod view;
 
 pub use answer::{Answer, Refusal, Refusals};
 pub use evaluator::{PlainErr, plain};
 pub use std::alloc::AllocError as NoMemory;
+pub use view::{Counted, Extra, Inspected, Stand, Stop, Stops, Views, WorkerView};
 
 #[cfg(test)]
 mod tests;

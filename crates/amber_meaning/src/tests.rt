@@ -4,7 +4,7 @@ ghost use Rattle.amber_meaning.specs.Plain.{scan_count};
 
 use super::*;
 use amber_rows::{
-    Bytes, Cmp, ColKind, Column, Cond, Files, Flow, Operator, Schema, Text, Value, What,
+    Bytes, Cmp, ColKind, Column, Cond, Files, Flow, Operator, Row, Schema, Text, Value, What,
 };
 use std::alloc::Global;
 use std::test::Fail;
@@ -54,28 +54,47 @@ fn query(alloc: Global) -> Result<Flow, NoMemory>
     Ok(Flow::new(vec![in alloc; scan, filter, sink]?))
 }
 
-// What was refused, and the rows.
-fn printed(alloc: Global, answer: &Answer) -> Result<String, Fail> {
-    let mut text = String::new(alloc);
-    for refusal in answer.refused.get() {
-        let Refusal::Record { op, number, fault } = *refusal;
-        text.push_str(&format!(in alloc; "({op} {number} {fault:?}) ")?)?;
+fn print_row(alloc: Global, row: &Row, told: &mut String) -> Result<(), Fail> {
+    for cell in row.get() {
+        told.push_str(&format!(in alloc; "{cell} ")?)?;
     }
-    for row in answer.rows.get() {
-        for cell in row.get() {
-            text.push_str(&format!(in alloc; "{cell} ")?)?;
-        }
-    }
-    Ok(text)
+    Ok(())
 }
 
-fn answered(alloc: Global, file: &str) -> Result<String, Fail> {
+fn print_refusal(alloc: Global, refusal: &Refusal, told: &mut String) -> Result<(), Fail> {
+    match refusal {
+        Refusal::Record { op, number, fault } => {
+            told.push_str(&format!(in alloc; "({op} {number} {fault:?}) ")?)?;
+        }
+        Refusal::Group { op, key } => {
+            told.push_str(&format!(in alloc; "({op}: ")?)?;
+            print_row(alloc, key, told)?;
+            told.push_str(") ")?;
+        }
+    }
+    Ok(())
+}
+
+// What was refused, and the rows.
+fn printed(alloc: Global, answer: &Answer) -> Result<String, Fail> {
+    let mut told = String::new(alloc);
+    for refusal in answer.refused.get() {
+        print_refusal(alloc, refusal, &mut told)?;
+    }
+    for row in answer.rows.get() {
+        print_row(alloc, row, &mut told)?;
+    }
+    Ok(told)
+}
+
+fn answered(alloc: Global, file: &str, most: u64) -> Result<String, Fail> {
     let flow = query(alloc)?;
     let bytes = Vec::from_slice(alloc, file.as_bytes())?;
     let files = Files::new(vec![in alloc; Bytes::new(bytes)]?);
-    match plain(alloc, &flow, &files) {
+    match plain(alloc, &flow, &files, most) {
         Ok(answer) => printed(alloc, &answer),
         Err(PlainErr::Header(op)) => Ok(format!(in alloc; "header {op}")?),
+        Err(PlainErr::Long) => Ok(format!(in alloc; "long")?),
         Err(PlainErr::NoMemory) => Ok(format!(in alloc; "no memory")?),
     }
 }
@@ -88,7 +107,11 @@ fn an_answer_has_sorted_rows_and_refused_records(rt: HostRuntime) -> Result<(), 
         ("n\r\n\"2\"", "2 "),
         ("n\n", ""),
     ] {
-        assert_eq!(rt; answered(rt.alloc(), file)?.as_str(), want, "at {file:?}");
+        assert_eq!(rt;
+            answered(rt.alloc(), file, 100)?.as_str(),
+            want,
+            "at {file:?}"
+        );
     }
     Ok(())
 }
@@ -97,9 +120,22 @@ fn an_answer_has_sorted_rows_and_refused_records(rt: HostRuntime) -> Result<(), 
 fn a_file_without_its_header_has_no_answer(rt: HostRuntime) -> Result<(), Fail> {
     for file in ["", "m\n3\n", "n,n\n3,3\n", "N\n3\n", "n \n3\n"] {
         assert_eq!(rt;
-            answered(rt.alloc(), file)?.as_str(),
+            answered(rt.alloc(), file, 100)?.as_str(),
             "header 1",
             "at {file:?}"
+        );
+    }
+    Ok(())
+}
+
+#[test]
+fn an_answer_has_no_more_rows_than_may_be(rt: HostRuntime) -> Result<(), Fail> {
+    // Two rows of the scan, one of the filter, one of the sink.
+    for (most, want) in [(4, "2 "), (3, "long"), (0, "long")] {
+        assert_eq!(rt;
+            answered(rt.alloc(), "n\n1\n2\n", most)?.as_str(),
+            want,
+            "at {most}"
         );
     }
     Ok(())

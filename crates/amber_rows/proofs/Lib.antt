@@ -1,7 +1,9 @@
+pub mod CrewFacts
 pub mod FileRecords
 pub mod FlowFacts
 pub mod Keys
 pub mod Numerals
 pub mod RowTexts
 pub mod Sorting
+pub mod SuitsFacts
 pub mod TypedCells

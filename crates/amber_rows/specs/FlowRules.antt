@@ -1,6 +1,6 @@
 -- When a list of operators is a workflow.
-use Rattle.std.specs.Prelude.{◌≡◌, ℕ, ◌<◌, ◌≤◌, ◌==◌, ◌&&◌, ◌||◌, not, nat_lt, nat_le, List, [], ◌∷◌, ◌++◌, length, map, sum_by, count_by, Bool, true, false, IsSomeAnd, bytes_eq}
-use Rattle.std.specs.List.{list_all, list_any, flat_map}
+use Rattle.std.specs.Prelude.{◌≡◌, ℕ, ◌+◌, ◌<◌, ◌≤◌, ◌==◌, ◌&&◌, ◌||◌, not, nat_lt, nat_le, List, [], ◌∷◌, ◌++◌, length, map, sum_by, count_by, Bool, true, false, IsSomeAnd, All, bytes_eq, Option, Some, None, option_map}
+use Rattle.std.specs.List.{list_all, list_any, flat_map, filter_map}
 use Rattle.amber_rows.specs.Cond.{numbered}
 use Rattle.amber_rows.specs.Columns.{names_of}
 use Rattle.amber_rows.specs.declared.value.Value.{Value}
@@ -9,6 +9,8 @@ use Rattle.amber_rows.specs.declared.column.ColKind.{ColKind}
 use Rattle.amber_rows.specs.declared.column.ColKind.TheVariants as kind
 use Rattle.amber_rows.specs.declared.column.Column.{Column}
 use Rattle.amber_rows.specs.declared.cond.Cond.{Cond}
+use Rattle.amber_rows.specs.declared.agg.Agg.{Agg}
+use Rattle.amber_rows.specs.declared.agg.Agg.TheVariants as agg
 use Rattle.amber_rows.specs.declared.flow.What.{What}
 use Rattle.amber_rows.specs.declared.flow.What.TheVariants as what
 use Rattle.amber_rows.specs.declared.flow.Operator.{Operator}
@@ -64,21 +66,71 @@ IsCondOn columns cond = IsSomeAnd (numbered columns cond.column) (λ column. col
 abbrev pub inputs_of : What → List ℕ
 inputs_of (what.Scan file) = []
 inputs_of (what.Filter input cond) = input ∷ []
+inputs_of (what.Project input from) = input ∷ []
+inputs_of (what.Join build probe build_keys probe_keys) = build ∷ probe ∷ []
+inputs_of (what.Group input keys aggs) = input ∷ []
 inputs_of (what.Sink input) = input ∷ []
 
 abbrev pub is_sink : What → Bool
 is_sink (what.Scan file) = false
 is_sink (what.Filter input cond) = false
+is_sink (what.Project input from) = false
+is_sink (what.Join build probe build_keys probe_keys) = false
+is_sink (what.Group input keys aggs) = false
 is_sink (what.Sink input) = true
+
+abbrev pub schema_of : Option Operator → List Column
+schema_of None = []
+schema_of (Some operator) = operator.schema
+
+-- the columns of an earlier operator
+abbrev pub columns_at : List Operator → ℕ → List Column
+columns_at before op = schema_of (numbered before op)
 
 -- the input is one of the earlier operators, and has these columns
 abbrev pub HasInput : List Operator → ℕ → List Column → Type 0
 HasInput before input columns = IsSomeAnd (numbered before input) (λ earlier. earlier.schema ≡ columns)
 
+-- the input is one of the earlier operators
+abbrev pub IsEarlier : List Operator → ℕ → Type 0
+IsEarlier before input = (0 < input) × (input ≤ length before)
+
+-- each of these numbers names a column
+abbrev pub AreIn : List Column → List ℕ → Type 0
+AreIn columns numbers = All (λ number. (0 < number) × (number ≤ length columns)) numbers
+
+-- the kinds of the columns with these numbers
+abbrev pub kinds_at : List Column → List ℕ → List ColKind
+kinds_at columns numbers = map (λ column. column.kind) (filter_map (numbered columns) numbers)
+
+-- the kind of an aggregate's column, where the aggregate may stand over these columns
+abbrev pub agg_kind : List Column → Agg → Option ColKind
+agg_kind columns agg.Count = Some kind.Int
+agg_kind columns (agg.Sum column) = int_kind (option_map (λ c. c.kind) (numbered columns column))
+  where
+    int_kind : Option ColKind → Option ColKind
+    int_kind None = None
+    int_kind (Some kind.Int) = Some kind.Int
+    int_kind (Some kind.Text) = None
+agg_kind columns (agg.Min column) = option_map (λ c. c.kind) (numbered columns column)
+agg_kind columns (agg.Max column) = option_map (λ c. c.kind) (numbered columns column)
+
+-- the kinds of columns
+abbrev pub column_kinds : List Column → List ColKind
+column_kinds columns = map (λ column. column.kind) columns
+
 -- what each kind asks of an operator with these columns, where these stand before it
 abbrev pub IsKind : List Operator → What → List Column → Type 0
 IsKind before (what.Scan file) columns = (0 < length file) × (length file ≤ 255) × (list_all is_column_name (names_of columns) ≡ true)
 IsKind before (what.Filter input cond) columns = HasInput before input columns × IsCondOn columns cond
+IsKind before (what.Project input from) columns = IsEarlier before input × AreIn (columns_at before input) from
+    × (column_kinds columns ≡ kinds_at (columns_at before input) from) × (list_all is_column_name (names_of columns) ≡ true)
+IsKind before (what.Join build probe build_keys probe_keys) columns = IsEarlier before build × IsEarlier before probe
+    × AreIn (columns_at before build) build_keys × AreIn (columns_at before probe) probe_keys × (0 < length build_keys)
+    × (kinds_at (columns_at before build) build_keys ≡ kinds_at (columns_at before probe) probe_keys)
+    × (columns ≡ columns_at before probe ++ columns_at before build)
+IsKind before (what.Group input keys aggs) columns = IsEarlier before input × AreIn (columns_at before input) keys
+    × (map Some (column_kinds columns) ≡ map Some (kinds_at (columns_at before input) keys) ++ map (agg_kind (columns_at before input)) aggs)
 IsKind before (what.Sink input) columns = HasInput before input columns
 
 -- an operator that may follow these

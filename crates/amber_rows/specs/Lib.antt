@@ -1,10 +1,15 @@
+pub mod Chunks
 pub mod Columns
 pub mod Cond
+pub mod Crew
 pub mod FlowRules
 pub mod Key
 pub mod Number
+pub mod Operators
 pub mod Order
 pub mod OrderLaws
 pub mod Reading
 pub mod Record
+pub mod Routing
 pub mod RowText
+pub mod Suits

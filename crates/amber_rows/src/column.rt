@@ -79,3 +79,33 @@ impl Schema {
         Ok(Schema { inner: columns })
     }
 }
+
+/// Numbers of columns, seen as a list.
+#[derive(Debug, Drop)]
+pub struct Cols {
+    inner: Vec<u32>,
+}
+
+impl Model for Cols {
+    ghost use Rattle.std.specs.Prelude.{List, ℕ};
+
+    ghost Value = { List ℕ };
+
+    ghost view = { λ a. a.inner.items };
+}
+
+impl Cols {
+    /// The numbers of a `Vec`, in its order.
+    pub fn new(inner: Vec<u32>) -> Self
+        ensures { result ≡ inner.items }
+    {
+        Cols { inner }
+    }
+
+    /// The numbers as a slice.
+    pub fn get(&self) -> &[u32]
+        ensures { result.now ≡ self.now }
+    {
+        self.inner.as_slice()
+    }
+}

@@ -2,7 +2,8 @@ ghost use Rattle.std.specs.Prelude.{◌≡◌, length, option_map};
 ghost use Rattle.amber_rows.specs.Cond.{numbered};
 ghost use Rattle.amber_rows.specs.FlowRules.{IsFlow};
 
-use crate::column::Schema;
+use crate::agg::Aggs;
+use crate::column::{Cols, Schema};
 use crate::cond::Cond;
 use crate::text::{Bytes, Text};
 use std::marker::Model;
@@ -11,11 +12,36 @@ use std::marker::Model;
 #[derive(Debug, Drop)]
 pub enum What {
     /// Gives the typed records of a file.
-    Scan { file: Text },
+    Scan {
+        file: Text,
+    },
     /// Gives the rows for which the condition holds.
-    Filter { input: u32, cond: Cond },
+    Filter {
+        input: u32,
+        cond: Cond,
+    },
+    /// Gives these columns of its input's rows.
+    Project {
+        input: u32,
+        from: Cols,
+    },
+    /// Gives each row of the probe side before each row of the build side with equal keys.
+    Join {
+        build: u32,
+        probe: u32,
+        build_keys: Cols,
+        probe_keys: Cols,
+    },
+    /// Gives a row for each key: the key, and then the aggregates of the rows that have it.
+    Group {
+        input: u32,
+        keys: Cols,
+        aggs: Aggs,
+    },
     /// Keeps the rows for the answer, which has them in their order.
-    Sink { input: u32 },
+    Sink {
+        input: u32,
+    },
 }
 
 /// One operator of a workflow: its id, what it does, the columns that it gives, and how many workers do it.

@@ -6,8 +6,11 @@
 //! than these words.
 #![tactic(auto)]
 
+pub mod agg;
+pub mod batch;
 pub mod column;
 pub mod cond;
+pub mod crew;
 pub mod flow;
 mod key;
 pub mod order;
@@ -15,10 +18,13 @@ pub mod record;
 pub mod record_reader;
 pub mod record_writer;
 pub mod row;
+pub mod suiting;
 pub mod text;
 pub mod value;
 
-pub use column::{ColKind, Column, Schema};
+pub use agg::{Agg, Aggs};
+pub use batch::Batch;
+pub use column::{ColKind, Cols, Column, Schema};
 pub use cond::{Cmp, Cond, holds};
 pub use flow::{Files, Flow, Operator, What};
 pub use order::{compare, sort};
@@ -27,6 +33,7 @@ pub use record_reader::RecordReader;
 pub use record_writer::{append_names, append_rows, row_text};
 pub use row::{Row, Rows};
 pub use std::alloc::AllocError as NoMemory;
+pub use suiting::suits;
 pub use text::{Bytes, Text};
 pub use value::Value;
 

@@ -69,6 +69,7 @@ pub run-stop : (words : List (List ℕ)) (name : List ℕ) (told : Option Named)
     → Follows {A = List ℕ} (Err s) told (λ files. printed (course_plain name files)) a b → Runs {A = Unit {0}} (Err s) words told got got a b
 run-stop words name told got stop.Usage a b e h = absurd h
 run-stop words name told got (stop.BadFlow op why) a b e h = (cause-of words name told (stop.BadFlow op why) a b e h, keeps-all got)
+run-stop words name told got stop.Long a b e h = (cause-of words name told stop.Long a b e h, keeps-all got)
 run-stop words name told got (stop.ReadFault file) a b e h = (cause-of words name told (stop.ReadFault file) a b e h, keeps-all got)
 run-stop words name told got stop.OutFault a b e h = absurd h
 run-stop words name told got stop.NoMemory a b e h = keeps-all got
@@ -95,6 +96,7 @@ run-sent (Err stop.OutFault) words name told before got text a b c d e h sent = 
 run-sent (Err stop.NoMemory) words name told before got text a b c d e h sent = sent.1
 run-sent (Err stop.Usage) words name told before got text a b c d e h sent = absurd sent
 run-sent (Err (stop.BadFlow op why)) words name told before got text a b c d e h sent = absurd sent
+run-sent (Err stop.Long) words name told before got text a b c d e h sent = absurd sent
 run-sent (Err (stop.ReadFault file)) words name told before got text a b c d e h sent = absurd sent
 
 pub sent-counts : (r : Result (Unit {0}) Stop) (before got : Option (List ℕ)) (text : List ℕ) (c d : ℕ) → Sent r before got c d text → Counts r c d
@@ -103,6 +105,7 @@ sent-counts (Err stop.OutFault) before got text c d sent = (sent.0, sent.1)
 sent-counts (Err stop.NoMemory) before got text c d sent = sent.0
 sent-counts (Err stop.Usage) before got text c d sent = absurd sent
 sent-counts (Err (stop.BadFlow op why)) before got text c d sent = absurd sent
+sent-counts (Err stop.Long) before got text c d sent = absurd sent
 sent-counts (Err (stop.ReadFault file)) before got text c d sent = absurd sent
 
 pub reached-stop : (s : Stop) (words : List (List ℕ)) (name : List ℕ) (told : Option Named) → workflow_word words ≡ Some name
@@ -117,6 +120,7 @@ pub reached-sent : (r : Result (Unit {0}) Stop) (words : List (List ℕ)) (told 
 reached-sent (Ok u) words told before got text c d h = told-all told (λ files. ⊤) (λ files. tt)
 reached-sent (Err stop.Usage) words told before got text c d h = absurd h
 reached-sent (Err (stop.BadFlow op why)) words told before got text c d h = absurd h
+reached-sent (Err stop.Long) words told before got text c d h = absurd h
 reached-sent (Err (stop.ReadFault file)) words told before got text c d h = absurd h
 reached-sent (Err stop.OutFault) words told before got text c d h = told-all told (λ files. ⊤) (λ files. tt)
 reached-sent (Err stop.NoMemory) words told before got text c d h = told-all told (λ files. ⊤) (λ files. tt)
@@ -125,6 +129,7 @@ pub worded-stop : (s : Stop) (words : List (List ℕ)) (name : List ℕ) (told :
     → Follows (Err s) told meant a b → Worded {A = Unit {0}} (Err s) words
 worded-stop stop.Usage words name told meant a b e h = absurd h
 worded-stop (stop.BadFlow op why) words name told meant a b e h = rw e refl
+worded-stop stop.Long words name told meant a b e h = rw e refl
 worded-stop (stop.ReadFault file) words name told meant a b e h = rw e refl
 worded-stop stop.OutFault words name told meant a b e h = absurd h
 worded-stop stop.NoMemory words name told meant a b e h = rw e refl
@@ -136,6 +141,7 @@ worded-sent (Err stop.OutFault) words name before got text c d e sent = rw e ref
 worded-sent (Err stop.NoMemory) words name before got text c d e sent = rw e refl
 worded-sent (Err stop.Usage) words name before got text c d e sent = absurd sent
 worded-sent (Err (stop.BadFlow op why)) words name before got text c d e sent = absurd sent
+worded-sent (Err stop.Long) words name before got text c d e sent = absurd sent
 worded-sent (Err (stop.ReadFault file)) words name before got text c d e sent = absurd sent
 
 -- ---- the error line behind it
@@ -170,6 +176,7 @@ pub not-ok : (result : Status) (s : Stop) → (result ≡ status_of s) ⊎ (resu
 not-ok result s (inr none) e = cc
 not-ok result stop.Usage (inl is) e = cc
 not-ok result (stop.BadFlow op why) (inl is) e = cc
+not-ok result stop.Long (inl is) e = cc
 not-ok result (stop.ReadFault name) (inl is) e = cc
 not-ok result stop.OutFault (inl is) e = cc
 not-ok result stop.NoMemory (inl is) e = cc
@@ -179,6 +186,7 @@ pub stops : (s : Stop) (words : List (List ℕ)) (told : Option Named) (before m
     → Runs {A = Unit {0}} (Err s) words told before mid a b → Begins mid got (line_of s) → Stops words told s before got a b
 stops stop.Usage words told before mid got a b r p = (r.0, r.1, keeps-begins before mid got (line_of stop.Usage) r.2 p)
 stops (stop.BadFlow op why) words told before mid got a b r p = (r.0, keeps-begins before mid got (line_of (stop.BadFlow op why)) r.1 p)
+stops stop.Long words told before mid got a b r p = (r.0, keeps-begins before mid got (line_of stop.Long) r.1 p)
 stops (stop.ReadFault name) words told before mid got a b r p = (r.0, keeps-begins before mid got (line_of (stop.ReadFault name)) r.1 p)
 stops stop.NoMemory words told before mid got a b r p = keeps-begins before mid got (line_of stop.NoMemory) r p
 stops stop.OutFault words told before mid got a b r p = (
@@ -204,6 +212,7 @@ pub whole : (s : Stop) (words : List (List ℕ)) (told : Option Named) (before m
     → result ≢ status.OutFault → result ≢ status.NoMemory → e ≡ c → c < 2 ^ 64 - 1 → Appends before got (line_of s)
 whole stop.Usage words told before mid got a b c d e result r n f out some quiet small = line-whole result stop.Usage before mid got c d e r.2 n f some quiet small
 whole (stop.BadFlow op why) words told before mid got a b c d e result r n f out some quiet small = line-whole result (stop.BadFlow op why) before mid got c d e r.1 n f some quiet small
+whole stop.Long words told before mid got a b c d e result r n f out some quiet small = line-whole result stop.Long before mid got c d e r.1 n f some quiet small
 whole (stop.ReadFault name) words told before mid got a b c d e result r n f out some quiet small = line-whole result (stop.ReadFault name) before mid got c d e r.1 n f some quiet small
 whole stop.NoMemory words told before mid got a b c d e result r n f out some quiet small = line-whole result stop.NoMemory before mid got c d e r n f some quiet small
 whole stop.OutFault words told before mid got a b c d e result r n f out some quiet small =
@@ -252,6 +261,9 @@ answers stop.Usage words told before mid a b result r (inl is) =
 answers (stop.BadFlow op why) words told before mid a b result r (inl is) =
     told-map told (λ files. course_of words files ≡ Err (stop.BadFlow op why)) (λ files. Answers (course_of words files) result a b)
     (λ files p. answers-stop (course_of words files) (stop.BadFlow op why) result a b p is) r.0.1
+answers stop.Long words told before mid a b result r (inl is) =
+    told-map told (λ files. course_of words files ≡ Err stop.Long) (λ files. Answers (course_of words files) result a b)
+    (λ files p. answers-stop (course_of words files) stop.Long result a b p is) r.0.1
 answers (stop.ReadFault name) words told before mid a b result r (inl is) =
     elim r.0 [
       | inl lacks ↦ told-map told (λ files. course_of words files ≡ Err (stop.ReadFault name)) (λ files. Answers (course_of words files) result a b)
@@ -287,6 +299,9 @@ sinks stop.Usage words told before mid a b c d e result r n le (inl is) =
 sinks (stop.BadFlow op why) words told before mid a b c d e result r n le (inl is) =
     told-map told (λ files. course_of words files ≡ Err (stop.BadFlow op why)) (λ files. IsOk (course_of words files) → ¬ (Rose a b) → IsSink result c e)
     (λ files p ok quiet. absurd (not-both (course_of words files) (stop.BadFlow op why) ok p)) r.0.1
+sinks stop.Long words told before mid a b c d e result r n le (inl is) =
+    told-map told (λ files. course_of words files ≡ Err stop.Long) (λ files. IsOk (course_of words files) → ¬ (Rose a b) → IsSink result c e)
+    (λ files p ok quiet. absurd (not-both (course_of words files) stop.Long ok p)) r.0.1
 sinks (stop.ReadFault name) words told before mid a b c d e result r n le (inl is) =
     elim r.0 [
       | inl lacks ↦ told-map told (λ files. course_of words files ≡ Err (stop.ReadFault name)) (λ files. IsOk (course_of words files) → ¬ (Rose a b) → IsSink result c e)
@@ -314,6 +329,7 @@ pub usage-is : (s : Stop) (words : List (List ℕ)) (told : Option Named) (befor
 usage-is s words told before mid a b result r (inr none) e = cc
 usage-is stop.Usage words told before mid a b result r (inl is) e = r.1
 usage-is (stop.BadFlow op why) words told before mid a b result r (inl is) e = cc
+usage-is stop.Long words told before mid a b result r (inl is) e = cc
 usage-is (stop.ReadFault name) words told before mid a b result r (inl is) e = cc
 usage-is stop.OutFault words told before mid a b result r (inl is) e = cc
 usage-is stop.NoMemory words told before mid a b result r (inl is) e = cc
@@ -326,6 +342,7 @@ pub words-bad : (s : Stop) (words : List (List ℕ)) (result : Status) → Worde
 words-bad s words result h (inr none) e = inr none
 words-bad stop.Usage words result h (inl is) e = inl is
 words-bad (stop.BadFlow op why) words result h (inl is) e = absurd (no-word words h e)
+words-bad stop.Long words result h (inl is) e = absurd (no-word words h e)
 words-bad (stop.ReadFault name) words result h (inl is) e = absurd (no-word words h e)
 words-bad stop.OutFault words result h (inl is) e = absurd (no-word words h e)
 words-bad stop.NoMemory words result h (inl is) e = inr is
@@ -339,6 +356,7 @@ pub read-is : (s : Stop) (words : List (List ℕ)) (told : Option Named) (before
 read-is s words told before mid a b result r (inr none) e = cc
 read-is stop.Usage words told before mid a b result r (inl is) e = cc
 read-is (stop.BadFlow op why) words told before mid a b result r (inl is) e = cc
+read-is stop.Long words told before mid a b result r (inl is) e = cc
 read-is (stop.ReadFault name) words told before mid a b result r (inl is) e =
     elim r.0 [
       | inl lacks ↦ inr (tells-map told (λ files. course_of words files ≡ Err (stop.ReadFault name)) (λ files. (name : List ℕ) × (course_of words files ≡ Err (stop.ReadFault name)))
@@ -353,6 +371,7 @@ pub loads-grow : (s : Stop) (words : List (List ℕ)) (told : Option Named) (bef
 loads-grow s words told before mid a b result r (inr none) h = inr none
 loads-grow stop.Usage words told before mid a b result r (inl is) h = absurd (omega (arith, r.0, h))
 loads-grow (stop.BadFlow op why) words told before mid a b result r (inl is) h = absurd (omega (arith, r.0.0, h))
+loads-grow stop.Long words told before mid a b result r (inl is) h = absurd (omega (arith, r.0.0, h))
 loads-grow (stop.ReadFault name) words told before mid a b result r (inl is) h = inl is
 loads-grow stop.OutFault words told before mid a b result r (inl is) h = absurd (omega (arith, r.0, h))
 loads-grow stop.NoMemory words told before mid a b result r (inl is) h = inr is
@@ -362,6 +381,7 @@ pub out-rose : (s : Stop) (c d e : ℕ) (result : Status) → Counts {A = Unit {
 out-rose s c d e result n le (inr none) is-out = cc
 out-rose stop.Usage c d e result n le (inl is) is-out = cc
 out-rose (stop.BadFlow op why) c d e result n le (inl is) is-out = cc
+out-rose stop.Long c d e result n le (inl is) is-out = cc
 out-rose (stop.ReadFault name) c d e result n le (inl is) is-out = cc
 out-rose stop.OutFault c d e result n le (inl is) is-out = later-rose c d e n.1 le
 out-rose stop.NoMemory c d e result n le (inl is) is-out = cc

@@ -37,6 +37,7 @@ tells-both (Some files) P Q R h p q = h files p q
 pub stopped-map : (s : Stop) (a b : ℕ) (M N T U : Type 0) → (M → N) → (T → U) → Stopped s a b M T → Stopped s a b N U
 stopped-map stop.Usage a b M N T U m t h = h
 stopped-map (stop.BadFlow op why) a b M N T U m t h = (h.0, m h.1)
+stopped-map stop.Long a b M N T U m t h = (h.0, m h.1)
 stopped-map (stop.ReadFault name) a b M N T U m t h = elim h [ inl p ↦ inl (p.0, t p.1) | inr r ↦ inr r ]
 stopped-map stop.OutFault a b M N T U m t h = h
 stopped-map stop.NoMemory a b M N T U m t h = tt
@@ -91,6 +92,7 @@ pub follows-judged : {A : Type 0} (r meant : Result A Stop) (told : Option Named
 follows-judged (Ok x) meant told a h = (refl, told-all told (λ files. meant ≡ Ok x) (λ files. h))
 follows-judged (Err stop.Usage) meant told a h = h
 follows-judged (Err (stop.BadFlow op why)) meant told a h = (refl, told-all told (λ files. meant ≡ Err (stop.BadFlow op why)) (λ files. h))
+follows-judged (Err stop.Long) meant told a h = (refl, told-all told (λ files. meant ≡ Err stop.Long) (λ files. h))
 follows-judged (Err (stop.ReadFault name)) meant told a h = absurd h
 follows-judged (Err stop.OutFault) meant told a h = h
 follows-judged (Err stop.NoMemory) meant told a h = tt
@@ -120,6 +122,7 @@ pub load-err : (s : Stop) (told : Option Named) (name : List ℕ) (a b : ℕ) �
     → Follows {A = List ℕ} (Err s) told (load_of name) a b
 load-err stop.Usage told name a b m h same = absurd m
 load-err (stop.BadFlow op why) told name a b m h same = absurd m
+load-err stop.Long told name a b m h same = absurd m
 load-err (stop.ReadFault file) told name a b m h same =
     elim h [
       | inl lacks ↦ inl (same lacks, rw m (lacks-tells told name lacks))
@@ -133,6 +136,7 @@ load-err stop.NoMemory told name a b m h same = tt
 pub missing-named : (s : Stop) (name : List ℕ) → IsMissing s name → Names s (λ file. file ≡ name)
 missing-named stop.Usage name h = tt
 missing-named (stop.BadFlow op why) name h = tt
+missing-named stop.Long name h = tt
 missing-named (stop.ReadFault file) name h = h
 missing-named stop.OutFault name h = tt
 missing-named stop.NoMemory name h = tt
@@ -142,6 +146,7 @@ pub judged-named : {A : Type 0} (r meant : Result A Stop) (P : List ℕ → Type
 judged-named (Ok x) meant P h = tt
 judged-named (Err stop.Usage) meant P h = tt
 judged-named (Err (stop.BadFlow op why)) meant P h = tt
+judged-named (Err stop.Long) meant P h = tt
 judged-named (Err (stop.ReadFault file)) meant P h = absurd h
 judged-named (Err stop.OutFault) meant P h = tt
 judged-named (Err stop.NoMemory) meant P h = tt
@@ -149,6 +154,7 @@ judged-named (Err stop.NoMemory) meant P h = tt
 pub names-map : (s : Stop) (P Q : List ℕ → Type 0) → ((file : List ℕ) → P file → Q file) → Names s P → Names s Q
 names-map stop.Usage P Q f h = tt
 names-map (stop.BadFlow op why) P Q f h = tt
+names-map stop.Long P Q f h = tt
 names-map (stop.ReadFault file) P Q f h = f file h
 names-map stop.OutFault P Q f h = tt
 names-map stop.NoMemory P Q f h = tt

@@ -1,13 +1,15 @@
--- A workflow has one scan at most: each operator but the last is read once, and every operator but a scan reads one.
+-- A workflow of what can be built has one scan at most: each operator but the last is read once, and every operator but a scan reads one.
 use Rattle.std.proofs.Common.{◌≡◌, ℕ, zero, suc, ◌+◌, ◌<◌, ◌≤◌, ◌==◌, List, [], ◌∷◌, length, Bool, true, false, cond, nat_eq, refl, arith}
 use Rattle.std.specs.List.{count_by, flat_map}
 use Rattle.std.proofs.lemmas.List.{length-append}
+use Rattle.std.proofs.lemmas.List.Elements.{All-head, All-tail}
 use Rattle.std.proofs.lemmas.List.Sums.{sum_by-cons}
 use Rattle.std.proofs.lemmas.Bool.Decides.{nat_tests}
 use Rattle.amber_rows.specs.FlowRules.{IsFlow, inputs_of, reader_count}
 use Rattle.amber_rows.specs.declared.flow.What.{What}
 use Rattle.amber_rows.specs.declared.flow.What.TheVariants as what
 use Rattle.amber_rows.specs.declared.flow.Operator.{Operator}
+use Rattle.amber_flow.specs.Built.{AreBuilt, IsBuilt, is_built}
 use Rattle.amber_meaning.specs.Plain.{is_scan, scan_count}
 
 -- 1 where the operator is a scan
@@ -19,17 +21,20 @@ unfolding scan_count
 scan_count-cons operator more = sum_by-cons scans_in operator more
 
 -- what every operator but a scan reads
-read-once : (w : What) → length (inputs_of w) + cond (is_scan w) 1 0 ≡ 1
-read-once (what.Scan file) = refl
-read-once (what.Filter input condition) = refl
-read-once (what.Sink input) = refl
+read-once : (w : What) → is_built w ≡ true → length (inputs_of w) + cond (is_scan w) 1 0 ≡ 1
+read-once (what.Scan file) h = refl
+read-once (what.Filter input condition) h = refl
+read-once (what.Project input from) h = cc
+read-once (what.Join build probe build_keys probe_keys) h = cc
+read-once (what.Group input keys aggs) h = cc
+read-once (what.Sink input) h = refl
 
-reads : (ops : List Operator) → length (flat_map (λ o. inputs_of o.what) ops) + scan_count ops ≡ length ops
+reads : (ops : List Operator) → AreBuilt ops → length (flat_map (λ o. inputs_of o.what) ops) + scan_count ops ≡ length ops
 unfolding scan_count
-reads [] = refl
-reads (o ∷ os) =
-    let one = read-once o.what in
-    let more = reads os in
+reads [] built = refl
+reads (o ∷ os) built =
+    let one = read-once o.what (All-head IsBuilt o os built) in
+    let more = reads os (All-tail IsBuilt o os built) in
     let count = scan_count-cons o os in
     let size = length-append (inputs_of o.what) (flat_map (λ o. inputs_of o.what) os) in
     omega (arith, one, more, count, size)
@@ -105,8 +110,8 @@ enough : (n : ℕ) (xs : List ℕ) → 2 ≤ n → ((op : ℕ) → 0 < op → op
 enough (suc k) xs big h = omega (arith, all-there k xs h, all-le k xs)
 enough zero xs big h = absurd (omega arith)
 
-pub one-scan : (flow : List Operator) → IsFlow flow → scan_count flow ≤ 1
+pub one-scan : (flow : List Operator) → IsFlow flow → AreBuilt flow → scan_count flow ≤ 1
 unfolding reader_count
-one-scan flow f =
+one-scan flow f built =
     let reading = enough (length flow) (flat_map (λ o. inputs_of o.what) flow) f.some f.read_once in
-    omega (arith, reading, reads flow)
+    omega (arith, reading, reads flow built)

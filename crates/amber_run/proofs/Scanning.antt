@@ -68,6 +68,9 @@ scan-stop ops i o name done s told a b h is w sofar =
 load-skips : (w : What) (files : Named) (later : Result (List (List ℕ)) Stop) → is_scan w ≡ false → load_before w files later ≡ later
 load-skips (what.Scan name) files later h = cc
 load-skips (what.Filter input condition) files later h = refl
+load-skips (what.Project input from) files later h = refl
+load-skips (what.Join build probe build_keys probe_keys) files later h = refl
+load-skips (what.Group input keys aggs) files later h = refl
 load-skips (what.Sink input) files later h = refl
 
 -- an operator that is no scan
@@ -101,4 +104,7 @@ scans-none o e = rw e refl
 pub not-scan : (w : What) → ((name : List ℕ) → w ≡ what.Scan name → ⊥) → is_scan w ≡ false
 not-scan (what.Scan name) h = absurd (h name refl)
 not-scan (what.Filter input condition) h = refl
+not-scan (what.Project input from) h = refl
+not-scan (what.Join build probe build_keys probe_keys) h = refl
+not-scan (what.Group input keys aggs) h = refl
 not-scan (what.Sink input) h = refl

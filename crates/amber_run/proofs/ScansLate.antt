@@ -7,8 +7,9 @@ use Rattle.amber_rows.specs.declared.column.Column.{Column}
 use Rattle.amber_rows.specs.declared.flow.What.{What}
 use Rattle.amber_rows.specs.declared.flow.What.TheVariants as what
 use Rattle.amber_rows.specs.declared.flow.Operator.{Operator}
-use Rattle.amber_meaning.specs.Plain.{files_after, is_headed, is_scan, next_file, scan_count, wrong_header}
-use Rattle.amber_run.specs.Course.{Job, course_records, course_scans, file_before, headed, load_of, scan_before, scans_of, then_on}
+use Rattle.amber_flow.specs.Built.{AreBuilt}
+use Rattle.amber_meaning.specs.Plain.{is_scan, later_files, next_file, scan_count, wrong_header}
+use Rattle.amber_run.specs.Course.{Job, course_rows, course_scans, file_before, headed, load_of, scan_before, scans_of, then_on}
 use Rattle.amber_run.specs.Loading.{load_before, loads_of, printed, right_headers, text_of}
 use Rattle.amber_run.specs.declared.stop.Reason.TheVariants as reason
 use Rattle.amber_run.specs.declared.stop.Stop.{Stop}
@@ -20,17 +21,18 @@ use Rattle.amber_run.proofs.OneScan.{one-scan, scan_count-cons}
 no-loads : (w : What) (files : Named) (L : Result (List (List ℕ)) Stop) → is_scan w ≡ false → load_before w files L ≡ L
 no-loads (what.Scan name) files L h = cc
 no-loads (what.Filter input condition) files L h = refl
+no-loads (what.Project input from) files L h = refl
+no-loads (what.Join build probe build_keys probe_keys) files L h = refl
+no-loads (what.Group input keys aggs) files L h = refl
 no-loads (what.Sink input) files L h = refl
 
 no-scans : (op : ℕ) (w : What) (columns : List Column) (files : Named) (S : Result (List (List ℕ)) Stop) → is_scan w ≡ false → scan_before op w columns files S ≡ S
 no-scans op (what.Scan name) columns files S h = cc
 no-scans op (what.Filter input condition) columns files S h = refl
+no-scans op (what.Project input from) columns files S h = refl
+no-scans op (what.Join build probe build_keys probe_keys) columns files S h = refl
+no-scans op (what.Group input keys aggs) columns files S h = refl
 no-scans op (what.Sink input) columns files S h = refl
-
-all-headed : (w : What) (columns : List Column) (file : List ℕ) → is_scan w ≡ false → is_headed w columns file ≡ true
-all-headed (what.Scan name) columns file h = cc
-all-headed (what.Filter input condition) columns file h = refl
-all-headed (what.Sink input) columns file h = refl
 
 no-scan-in : (b : Bool) (n : ℕ) → cond b 1 0 + n ≡ 0 → (b ≡ false) × (n ≡ 0)
 no-scan-in true n h = absurd (omega arith)
@@ -55,13 +57,13 @@ unfolding wrong_header
 none-wrong [] op inputs h = refl
 none-wrong (o ∷ os) op inputs h =
     let none = no-scan-in (is_scan o.what) (scan_count os) (sym (scan_count-cons o os) ∙ h) in
-    rw (all-headed o.what o.schema (next_file inputs) none.0) (none-wrong os (op + 1) (files_after o.what inputs) none.1)
+    rw none.0 (none-wrong os (op + 1) inputs none.1)
 
 -- ---- one scan
 
 -- what is wrong with the files of an operator and of those behind it
 abbrev wrong_from : ℕ → What → List Column → (List (List ℕ) → Option ℕ) → List (List ℕ) → Option ℕ
-wrong_from op w columns W inputs = cond (is_headed w columns (next_file inputs)) (W (files_after w inputs)) (Some op)
+wrong_from op w columns W inputs = cond (is_scan w) (cond (has_header columns (next_file inputs)) (W (later_files inputs)) (Some op)) (W inputs)
 
 headed-late : (op : ℕ) (columns : List Column) (bytes : List ℕ) (name : List ℕ) (W : List (List ℕ) → Option ℕ) (b : Bool) → W [] ≡ None
     → then_on (cond b (Ok bytes) (Err (stop.BadFlow op reason.Header))) (file_before (Ok [])) ≡ right_headers (cond b (W []) (Some op)) (bytes ∷ [])
@@ -80,6 +82,9 @@ step-late : (w : What) (op : ℕ) (columns : List Column) (files : Named) (S L :
     → scan_before op w columns files S ≡ then_on (load_before w files L) (λ inputs. right_headers (wrong_from op w columns W inputs) inputs)
 step-late (what.Scan name) op columns files S L W one more = rw ((one refl).0, (one refl).1) (file-late op columns name W (load_of name files) (one refl).2)
 step-late (what.Filter input condition) op columns files S L W one more = more refl
+step-late (what.Project input from) op columns files S L W one more = more refl
+step-late (what.Join build probe build_keys probe_keys) op columns files S L W one more = more refl
+step-late (what.Group input keys aggs) op columns files S L W one more = more refl
 step-late (what.Sink input) op columns files S L W one more = more refl
 
 one-left : (b : Bool) (n : ℕ) → cond b 1 0 + n ≤ 1 → b ≡ true → n ≡ 0
@@ -107,8 +112,8 @@ printed-late : (L : Result (List (List ℕ)) Stop) (H : List (List ℕ) → Resu
 printed-late (Ok inputs) H R = refl
 printed-late (Err s) H R = refl
 
-pub scans-late : (flow : List Operator) → IsFlow flow → (files : Named) → then_on (loads_of flow files) (text_of flow) ≡ printed (course_scans flow files)
+pub scans-late : (flow : List Operator) → IsFlow flow → AreBuilt flow → (files : Named) → then_on (loads_of flow files) (text_of flow) ≡ printed (course_scans flow files)
 unfolding course_scans text_of
-scans-late flow f files =
-    rw (late flow 1 files (one-scan flow f))
-    (printed-late (loads_of flow files) (λ inputs. right_headers (wrong_header 1 inputs flow) inputs) (course_records flow))
+scans-late flow f built files =
+    rw (late flow 1 files (one-scan flow f built))
+    (printed-late (loads_of flow files) (λ inputs. right_headers (wrong_header 1 inputs flow) inputs) (course_rows flow))

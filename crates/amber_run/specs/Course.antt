@@ -1,5 +1,5 @@
 -- The course of a call: its first refusal in the order of work, or the job to do. It is judged over the words and the files alone.
-use Rattle.std.specs.Prelude.{◌≡◌, ℕ, ◌+◌, ◌⊎◌, Contains, List, [], ◌∷◌, codes, bytes_eq, Option, Some, None, Result, Ok, Err, if◌then◌else◌}
+use Rattle.std.specs.Prelude.{◌≡◌, ℕ, ◌+◌, ◌^◌, ◌⊎◌, nat_le, Contains, List, [], ◌∷◌, codes, bytes_eq, Option, Some, None, Result, Ok, Err, if◌then◌else◌}
 use Rattle.std.specs.FinMap as finmap
 use Rattle.amber_io.specs.Folder.{Named}
 use Rattle.amber_rows.specs.Record.{has_header}
@@ -10,7 +10,7 @@ use Rattle.amber_rows.specs.declared.flow.Operator.{Operator}
 use Rattle.amber_flow.specs.Workflow.{workflow_of}
 use Rattle.amber_flow.specs.declared.error.Fault.{Fault}
 use Rattle.amber_flow.specs.declared.error.FlowWhy.TheVariants.{Shape}
-use Rattle.amber_meaning.specs.Plain.{answer_of, refusals}
+use Rattle.amber_meaning.specs.Plain.{answer_of, row_total}
 use Rattle.amber_meaning.specs.Texts.{answer_text}
 use Rattle.amber_meaning.specs.declared.answer.Refusal.{Refusal}
 use Rattle.amber_meaning.specs.declared.answer.Refusal.TheVariants as refusal
@@ -73,6 +73,9 @@ file_before (Err s) bytes = Err s
 abbrev pub scan_before : ℕ → What → List Column → Named → Result (List (List ℕ)) Stop → Result (List (List ℕ)) Stop
 scan_before op (what.Scan name) columns files later = then_on (load_of name files) (λ bytes. then_on (headed op columns bytes) (file_before later))
 scan_before op (what.Filter input cond) columns files later = later
+scan_before op (what.Project input from) columns files later = later
+scan_before op (what.Join build probe build_keys probe_keys) columns files later = later
+scan_before op (what.Group input keys aggs) columns files later = later
 scan_before op (what.Sink input) columns files later = later
 
 -- the files of the scans among the operators from this number on
@@ -80,20 +83,27 @@ unfoldable pub scans_of : ℕ → List Operator → Named → Result (List (List
 scans_of op [] files = Ok []
 scans_of op (operator ∷ more) files = scan_before op operator.what operator.schema files (scans_of (op + 1) more files)
 
--- ---- records
+-- ---- rows and records
+
+-- how many rows all operators of a call may give together
+abbrev pub most_rows : ℕ
+most_rows = 2 ^ 40
 
 -- so far a record that is no row refuses the workflow, as a wrong header of its scan does
 abbrev pub without_faults : List Refusal → Job → Result Job Stop
 without_faults [] job = Ok job
 without_faults (refusal.Record op number fault ∷ more) job = Err (stop.BadFlow op reason.Header)
+without_faults (refusal.Group op key ∷ more) job = without_faults more job
 
-abbrev pub course_records : List Operator → List (List ℕ) → Result Job Stop
-course_records flow inputs = without_faults (refusals 1 inputs flow) (record { flow = flow; files = inputs })
+-- the rows are few enough, and every record of a scan is a row
+abbrev pub course_rows : List Operator → List (List ℕ) → Result Job Stop
+course_rows flow inputs =
+    if nat_le (row_total flow inputs) most_rows then without_faults (answer_of flow inputs).refused (record { flow = flow; files = inputs }) else Err stop.Long
 
 -- ---- the order of work
 
 unfoldable pub course_scans : List Operator → Named → Result Job Stop
-course_scans flow files = then_on (scans_of 1 flow files) (course_records flow)
+course_scans flow files = then_on (scans_of 1 flow files) (course_rows flow)
 
 unfoldable pub workflow_in : List ℕ → Named → Result (List Operator) Stop
 workflow_in name files = then_on (load_of name files) (λ bytes. flow_read (workflow_of bytes))
@@ -101,7 +111,8 @@ workflow_in name files = then_on (load_of name files) (λ bytes. flow_read (work
 unfoldable pub course_plain : List ℕ → Named → Result Job Stop
 course_plain name files = then_on (workflow_in name files) (λ flow. course_scans flow files)
 
--- the words are read; the workflow is loaded and read; each scan's file is loaded and its header compared; the records are typed
+-- the words are read; the workflow is loaded and read; each scan's file is loaded and its header compared; the
+-- rows of all operators are counted; the records are typed
 unfoldable pub course_of : List (List ℕ) → Named → Result Job Stop
 course_of words files = then_on (words_read (workflow_word words)) (λ name. course_plain name files)
 

@@ -53,6 +53,7 @@ Stops words told stop.OutFault before got old new = (new ≡ old) × Told told (
 Stops words told stop.Usage before got old new = (new ≡ old) × (workflow_word words ≡ None) × Begins before got (line_of stop.Usage)
 Stops words told (stop.BadFlow op why) before got old new = IsCause words told (stop.BadFlow op why) old new × Begins before got (line_of (stop.BadFlow op why))
 Stops words told (stop.ReadFault name) before got old new = IsCause words told (stop.ReadFault name) old new × Begins before got (line_of (stop.ReadFault name))
+Stops words told stop.Long before got old new = IsCause words told stop.Long old new × Begins before got (line_of stop.Long)
 Stops words told stop.NoMemory before got old new = Begins before got (line_of stop.NoMemory)
 
 -- why a call did not end with `Ok`, and what it printed; a file in the line is one that the order of work loads, and the line is
@@ -73,6 +74,7 @@ Runs (Err stop.OutFault) words told before got old new = (new ≡ old) × Told t
 Runs (Err stop.Usage) words told before got old new = (new ≡ old) × (workflow_word words ≡ None) × Keeps before got
 Runs (Err (stop.BadFlow op why)) words told before got old new = IsCause words told (stop.BadFlow op why) old new × Keeps before got
 Runs (Err (stop.ReadFault name)) words told before got old new = IsCause words told (stop.ReadFault name) old new × Keeps before got
+Runs (Err stop.Long) words told before got old new = IsCause words told stop.Long old new × Keeps before got
 Runs (Err stop.NoMemory) words told before got old new = Keeps before got
 
 -- the count of failed puts stands, unless the sink failed
@@ -82,6 +84,7 @@ Counts (Err stop.OutFault) old new = (old ≤ new) × Rose old new
 Counts (Err stop.Usage) old new = new ≡ old
 Counts (Err (stop.BadFlow op why)) old new = new ≡ old
 Counts (Err (stop.ReadFault name)) old new = new ≡ old
+Counts (Err stop.Long) old new = new ≡ old
 Counts (Err stop.NoMemory) old new = new ≡ old
 
 -- the words are refused where they name no workflow, and only there
@@ -91,6 +94,7 @@ Worded (Err stop.Usage) words = workflow_word words ≡ None
 Worded (Err (stop.BadFlow op why)) words = IsSome (workflow_word words)
 Worded (Err (stop.ReadFault name)) words = IsSome (workflow_word words)
 Worded (Err stop.OutFault) words = IsSome (workflow_word words)
+Worded (Err stop.Long) words = IsSome (workflow_word words)
 Worded (Err stop.NoMemory) words = IsSome (workflow_word words)
 
 -- a refusal was told: its line, or for want of memory a front part of it

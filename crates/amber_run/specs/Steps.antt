@@ -21,6 +21,7 @@ Stopped stop.Usage old new meant told = ⊥
 Stopped (stop.BadFlow op why) old new meant told = (new ≡ old) × meant
 Stopped (stop.ReadFault name) old new meant told = ((new ≡ old) × told) ⊎ Rose old new
 Stopped stop.OutFault old new meant told = ⊥
+Stopped stop.Long old new meant told = (new ≡ old) × meant
 Stopped stop.NoMemory old new meant told = ⊤
 
 -- a step that reads answers as `meant` says over told files
@@ -35,6 +36,7 @@ Judges (Err stop.Usage) meant = ⊥
 Judges (Err (stop.BadFlow op why)) meant = meant ≡ Err (stop.BadFlow op why)
 Judges (Err (stop.ReadFault name)) meant = ⊥
 Judges (Err stop.OutFault) meant = ⊥
+Judges (Err stop.Long) meant = meant ≡ Err stop.Long
 Judges (Err stop.NoMemory) meant = ⊤
 
 -- the output was put: the whole of it, or a front part where the count of failed puts rose
@@ -45,6 +47,7 @@ Sent (Err stop.NoMemory) before got old new text = (new ≡ old) × Keeps before
 Sent (Err stop.Usage) before got old new text = ⊥
 Sent (Err (stop.BadFlow op why)) before got old new text = ⊥
 Sent (Err (stop.ReadFault name)) before got old new text = ⊥
+Sent (Err stop.Long) before got old new text = ⊥
 
 -- a line was put piece by piece: the whole of it, or a front part where a put was refused
 abbrev pub Lined : {A : Type 0} → Result A IoErr → Option (List ℕ) → Option (List ℕ) → ℕ → ℕ → List ℕ → Type 0
@@ -58,6 +61,7 @@ Names stop.Usage IsName = ⊤
 Names (stop.BadFlow op why) IsName = ⊤
 Names (stop.ReadFault name) IsName = IsName name
 Names stop.OutFault IsName = ⊤
+Names stop.Long IsName = ⊤
 Names stop.NoMemory IsName = ⊤
 
 -- a file of this name could not be read, or there was no memory for the name
@@ -66,4 +70,5 @@ IsMissing stop.Usage file = ⊥
 IsMissing (stop.BadFlow op why) file = ⊥
 IsMissing (stop.ReadFault name) file = name ≡ file
 IsMissing stop.OutFault file = ⊥
+IsMissing stop.Long file = ⊥
 IsMissing stop.NoMemory file = ⊤

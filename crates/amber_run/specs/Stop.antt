@@ -15,6 +15,7 @@ status_of stop.Usage = status.Usage
 status_of (stop.BadFlow op why) = status.BadFlow
 status_of (stop.ReadFault name) = status.ReadFault
 status_of stop.OutFault = status.OutFault
+status_of stop.Long = status.Long
 status_of stop.NoMemory = status.NoMemory
 
 -- ---- error lines
@@ -44,4 +45,5 @@ line_of stop.Usage = codes "error 1 usage\n"
 line_of (stop.BadFlow op why) = codes "error 2 flow " ++ (decimal op ++ (codes " " ++ (reason_word why ++ codes "\n")))
 line_of (stop.ReadFault name) = codes "error 4 read " ++ (name ++ codes "\n")
 line_of stop.OutFault = []
+line_of stop.Long = codes "error 8 long\n"
 line_of stop.NoMemory = codes "error 10 memory\n"

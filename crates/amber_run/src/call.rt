@@ -1,6 +1,7 @@
 ghost use Rattle.std.specs.Prelude.{◌≡◌, ◌≢◌, ◌<◌, ◌⊎◌, map, None, IfErr, IsOk, Ok, Err, string_bytes, ℕ, List};
 ghost use Rattle.amber_io.specs.Counts.{Rose};
 ghost use Rattle.amber_io.specs.Folder.{Told};
+ghost use Rattle.amber_flow.specs.Built.{AreBuilt};
 ghost use Rattle.amber_run.specs.Course.{IsLoaded, IsReached, IsScanFile, course_of, course_plain, course_scans, workflow_word};
 ghost use Rattle.amber_run.specs.Loading.{printed};
 ghost use Rattle.amber_run.specs.Outcome.{Answers, Counts, Ended, Prints, Runs, Worded};
@@ -18,6 +19,7 @@ use std::alloc::Global;
 
 // What `plain` prints for a workflow.
 fn flow_text<F: Folder>(alloc: Global, flow: &Flow, folder: &mut F) -> Result<Bytes, Stop>
+    requires { AreBuilt flow.now }
     ensures course { Follows result (F.files folder.old) (λ files. printed (course_scans flow.now files))
         (F.load_faults folder.old) (F.load_faults folder.new) }
     ensures named { IfErr result (λ stop. Names stop (IsScanFile flow.now)) }
@@ -65,9 +67,9 @@ fn run<F: Folder, O: Sink>(
 /// that file over the files of its scans.
 ///
 /// The words are read, the workflow is loaded and read, and each scan's file is loaded and its header
-/// compared; then the answer is computed and put in one call. The first refusal ends the call. After one
-/// other than `OutFault` a line is put that tells it, in pieces and without taking memory; after a put that
-/// was refused nothing more is put. No file is changed.
+/// compared; then the answer is computed, over at most 2^40 rows of all operators, and put in one call. The
+/// first refusal ends the call. After one other than `OutFault` a line is put that tells it, in pieces and
+/// without taking memory; after a put that was refused nothing more is put. No file is changed.
 ///
 /// # Errors
 ///

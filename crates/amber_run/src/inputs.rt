@@ -3,6 +3,7 @@ ghost use Rattle.amber_meaning.specs.Plain.{scan_count};
 ghost use Rattle.amber_run.specs.Course.{IsScanFile, flow_read, load_of, workflow_in};
 ghost use Rattle.amber_run.specs.Loading.{loads_of};
 ghost use Rattle.amber_run.specs.Steps.{Follows, IsMissing, Judges, Names};
+ghost use Rattle.amber_flow.specs.Built.{AreBuilt};
 ghost use Rattle.amber_flow.specs.Workflow.{workflow_of};
 
 use crate::stop::{Reason, Stop};
@@ -39,7 +40,8 @@ fn load<F: Folder>(alloc: Global, name: &str, folder: &mut F) -> Result<Bytes, S
 
 // The workflow that the bytes of a file are.
 fn read(alloc: Global, bytes: &Bytes) -> Result<Flow, Stop>
-    ensures { Judges result (flow_read (workflow_of bytes.now)) }
+    ensures flow { Judges result (flow_read (workflow_of bytes.now)) }
+    ensures built { IfOk result (λ flow. AreBuilt flow) }
 {
     match read_flow(alloc, bytes.get()) {
         Ok(flow) => Ok(flow),
@@ -55,6 +57,7 @@ fn read(alloc: Global, bytes: &Bytes) -> Result<Flow, Stop>
 pub(crate) fn load_flow<F: Folder>(alloc: Global, name: &str, folder: &mut F) -> Result<Flow, Stop>
     ensures course { Follows result (F.files folder.old) (workflow_in name.now) (F.load_faults folder.old) (F.load_faults folder.new) }
     ensures named { IfErr result (λ stop. Names stop (λ file. file ≡ name.now)) }
+    ensures built { IfOk result (λ flow. AreBuilt flow) }
     ensures same { F.files folder.new ≡ F.files folder.old }
     ensures writes { F.write_faults folder.new ≡ F.write_faults folder.old }
 {

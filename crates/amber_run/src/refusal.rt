@@ -50,6 +50,7 @@ fn put_line<O: Sink>(out: &mut O, stop: &Stop) -> Result<(), IoErr>
         Stop::BadFlow { op, why } => put_flow_line(out, *op, *why),
         Stop::ReadFault { name } => put_read_line(out, name.get()),
         Stop::OutFault => Ok(()),
+        Stop::Long => put_piece(out, b"error 8 long\n"),
         Stop::NoMemory => put_piece(out, b"error 10 memory\n"),
     }
 }

@@ -27,6 +27,8 @@ pub enum Stop {
     ReadFault { name: Text },
     /// The output could not be written.
     OutFault,
+    /// All operators together give more rows than a call may compute.
+    Long,
     /// Memory ran out.
     NoMemory,
 }
@@ -41,6 +43,7 @@ impl Stop {
             Stop::BadFlow { .. } => Status::BadFlow,
             Stop::ReadFault { .. } => Status::ReadFault,
             Stop::OutFault => Status::OutFault,
+            Stop::Long => Status::Long,
             Stop::NoMemory => Status::NoMemory,
         }
     }

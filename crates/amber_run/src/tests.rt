@@ -1,4 +1,5 @@
 use super::*;
+use crate::refusal::refuse;
 use amber_io::{Fails, MemFolder, MemSink, NamedFiles, Numbers};
 use std::alloc::{AllocError, Global};
 use std::test::Fail;
@@ -375,6 +376,15 @@ fn nothing_is_put_behind_a_put_that_failed(rt: HostRuntime) -> Result<(), Fail> 
             }
         }
     }
+    Ok(())
+}
+
+#[test]
+fn too_many_rows_are_told(rt: HostRuntime) -> Result<(), Fail> {
+    let mut out = MemSink::new(rt.alloc(), fails(rt.alloc(), &[], &[], 0)?);
+    let status = refuse(&mut out, &Stop::Long);
+    assert_eq!(rt; out.bytes(), b"error 8 long\n".as_slice());
+    assert_eq!(rt; status, Status::Long);
     Ok(())
 }
 

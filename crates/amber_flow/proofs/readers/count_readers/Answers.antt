@@ -1,4 +1,4 @@
-use Rattle.std.proofs.Common.{sym, ◌∙◌, arith}
+use Rattle.std.proofs.Common.{sym, arith}
 use Rattle.amber_flow.proofs.ReaderFacts.{readers-more, readers-none}
 use Rattle.amber_flow.proofs.readers.count_readers.Goals as goal
 

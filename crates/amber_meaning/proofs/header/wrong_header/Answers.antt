@@ -1,7 +1,7 @@
 -- From each operator to the next.
 use Rattle.std.proofs.Common.{◌≡◌, ◌<◌, ◌≤◌, true, false, length, get_or, take, refl, sym, ◌∙◌, rules}
-use Rattle.amber_meaning.specs.Plain.{is_headed, next_file, wrong_header}
-use Rattle.amber_meaning.specs.Pipes.{files_left}
+use Rattle.amber_meaning.specs.Plain.{next_file, wrong_header}
+use Rattle.amber_meaning.specs.Evaluator.{files_left, is_headed}
 use Rattle.amber_meaning.proofs.Operators.{wrong_header-more, wrong_header-here, wrong_header-end}
 use Rattle.amber_meaning.proofs.header.wrong_header.Goals as goal
 

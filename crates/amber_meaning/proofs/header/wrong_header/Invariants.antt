@@ -1,7 +1,7 @@
 -- The first wrong header is that of the operators which are left.
 use Rattle.std.proofs.Common.{◌≡◌, ◌+◌, drop, take}
 use Rattle.amber_meaning.specs.Plain.{wrong_header}
-use Rattle.amber_meaning.specs.Pipes.{files_left}
+use Rattle.amber_meaning.specs.Evaluator.{files_left}
 use Rattle.amber_meaning.proofs.header.wrong_header.Given as goal
 
 abbrev pub invariant-loop-i : goal.invariant-loop-i

@@ -15,5 +15,5 @@ returns-in_err-without_faults c =
 
 pub returns : goal.returns
 returns c =
-    text-ok c.in_ok-answer.answer c.args.flow.now c.args.files.now c.in_ok-answer.ensures c.in_ok-without_faults.ensures
+    text-ok c.in_ok-answer.answer c.args.flow.now c.args.files.now c.requires.built c.in_ok-answer.ensures c.in_ok-without_faults.ensures
     ∙ ap (λ text. Ok text) (sym c.in_ok-text.ensures ∙ sym c.new.ensures)

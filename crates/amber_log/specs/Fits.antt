@@ -1,0 +1,67 @@
+-- Which commands a workflow takes.
+use Rattle.std.specs.Prelude.{ℕ, ◌^◌, ◌&&◌, nat_lt, nat_le, not, List, Option, Some, None, Bool, true, false}
+use Rattle.amber_rows.specs.Cond.{numbered}
+use Rattle.amber_rows.specs.FlowRules.{is_sink, kind_of}
+use Rattle.amber_rows.specs.Suits.{same_kind}
+use Rattle.amber_rows.specs.declared.value.Value.{Value}
+use Rattle.amber_rows.specs.declared.column.Column.{Column}
+use Rattle.amber_rows.specs.declared.cond.Cond.{Cond}
+use Rattle.amber_rows.specs.declared.flow.What.TheVariants as what
+use Rattle.amber_rows.specs.declared.flow.What.{What}
+use Rattle.amber_rows.specs.declared.flow.Operator.{Operator}
+use Rattle.amber_log.specs.declared.command.Command.{Command}
+use Rattle.amber_log.specs.declared.command.Command.TheVariants as command
+
+-- 1 to 2^40
+abbrev pub is_target : ℕ → Bool
+is_target n = nat_lt 0 n && nat_le n (2 ^ 40)
+
+-- the operator is there, and not the sink
+abbrev pub is_source : Option Operator → Bool
+is_source None = false
+is_source (Some operator) = not (is_sink operator.what)
+
+abbrev pub is_there : Option Operator → Bool
+is_there None = false
+is_there (Some operator) = true
+
+-- the operator is there and has a worker of this number
+abbrev pub has_worker : Option Operator → ℕ → Bool
+has_worker None worker = false
+has_worker (Some operator) worker = nat_lt worker operator.workers
+
+-- a value may stand in a column
+abbrev pub is_cell_of : Option Column → Value → Bool
+is_cell_of None value = false
+is_cell_of (Some column) value = same_kind column.kind (kind_of value)
+
+-- the operator is there and not the sink, and the condition speaks of one of its columns
+abbrev pub takes_cond : Option Operator → Cond → Bool
+takes_cond None cond = false
+takes_cond (Some operator) cond = not (is_sink operator.what) && is_cell_of (numbered operator.schema cond.column) cond.constant
+
+-- the operator is a filter, of whose column the value may be the constant
+abbrev pub constant_of : What → List Column → Value → Bool
+constant_of (what.Scan file) columns value = false
+constant_of (what.Filter input cond) columns value = is_cell_of (numbered columns cond.column) value
+constant_of (what.Project input from) columns value = false
+constant_of (what.Join build probe build_keys probe_keys) columns value = false
+constant_of (what.Group input keys aggs) columns value = false
+constant_of (what.Sink input) columns value = false
+
+abbrev pub takes_constant : Option Operator → Value → Bool
+takes_constant None value = false
+takes_constant (Some operator) value = constant_of operator.what operator.schema value
+
+-- whether a workflow takes a command
+unfoldable pub fits_of : List Operator → Command → Bool
+fits_of flow command.Run = true
+fits_of flow command.End = true
+fits_of flow (command.Pause op n) = is_source (numbered flow op) && is_target n
+fits_of flow (command.Count op n) = is_source (numbered flow op) && is_target n
+fits_of flow (command.When op cond) = takes_cond (numbered flow op) cond
+fits_of flow (command.Clear op) = is_there (numbered flow op)
+fits_of flow (command.Set op value) = takes_constant (numbered flow op) value
+fits_of flow (command.Drop op worker) = has_worker (numbered flow op) worker
+fits_of flow (command.Inspect op) = is_there (numbered flow op)
+fits_of flow (command.Lose op worker) = has_worker (numbered flow op) worker

@@ -1,0 +1,134 @@
+//! Which commands a workflow takes.
+
+ghost use Rattle.std.specs.Prelude.{◌≡◌};
+ghost use Rattle.amber_rows.specs.Cond.{numbered};
+ghost use Rattle.amber_rows.specs.FlowRules.{is_sink, kind_of};
+ghost use Rattle.amber_rows.specs.Suits.{same_kind};
+ghost use Rattle.amber_log.specs.Fits.{constant_of, fits_of, has_worker, is_cell_of, is_source, is_target, is_there, takes_cond, takes_constant};
+
+use crate::command::Command;
+use amber_rows::{ColKind, Column, Cond, Flow, Schema, Value, What};
+
+// The most rows that a pause or a count may ask for.
+const MOST: u64 = 1 << 40;
+
+fn is_target(n: u64) -> bool
+    ensures { result ≡ is_target n }
+{
+    0 < n && n <= MOST
+}
+
+fn is_sink(what: &What) -> bool
+    ensures { result ≡ is_sink what.now }
+{
+    match what {
+        What::Sink { .. } => true,
+        What::Scan { .. }
+        | What::Filter { .. }
+        | What::Project { .. }
+        | What::Join { .. }
+        | What::Group { .. } => false,
+    }
+}
+
+// Whether a value may stand in a column.
+fn is_kind(kind: ColKind, value: &Value) -> bool
+    ensures { result ≡ same_kind kind (kind_of value.now) }
+{
+    match (kind, value) {
+        (ColKind::Int, Value::Int(_)) | (ColKind::Text, Value::Text(_)) => true,
+        (ColKind::Int, Value::Text(_)) | (ColKind::Text, Value::Int(_)) => false,
+    }
+}
+
+// Whether a value may stand in the column with this number.
+fn is_cell_of(schema: &Schema, column: u32, value: &Value) -> bool
+    ensures { result ≡ is_cell_of (numbered schema.now column) value.now }
+{
+    if column == 0 {
+        return false;
+    }
+    match schema.get().get(column as usize - 1) {
+        None => false,
+        Some(column) => is_kind(column.kind, value),
+    }
+}
+
+// Whether an operator is there, and not the sink.
+fn is_source(flow: &Flow, op: u32) -> bool
+    ensures { result ≡ is_source (numbered flow.now op) }
+{
+    match flow.operator(op) {
+        None => false,
+        Some(operator) => !is_sink(&operator.what),
+    }
+}
+
+fn is_there(flow: &Flow, op: u32) -> bool
+    ensures { result ≡ is_there (numbered flow.now op) }
+{
+    flow.operator(op).is_some()
+}
+
+fn has_worker(flow: &Flow, op: u32, worker: u32) -> bool
+    ensures { result ≡ has_worker (numbered flow.now op) worker }
+{
+    match flow.operator(op) {
+        None => false,
+        Some(operator) => worker < operator.workers,
+    }
+}
+
+fn takes_cond(flow: &Flow, op: u32, cond: &Cond) -> bool
+    ensures { result ≡ takes_cond (numbered flow.now op) cond.now }
+{
+    match flow.operator(op) {
+        None => false,
+        Some(operator) => {
+            !is_sink(&operator.what) && is_cell_of(&operator.schema, cond.column, &cond.constant)
+        }
+    }
+}
+
+// Whether a value may be the constant of an operator, a filter with these columns.
+fn is_constant_of(what: &What, schema: &Schema, value: &Value) -> bool
+    ensures { result ≡ constant_of what.now schema.now value.now }
+{
+    match what {
+        What::Filter { cond, .. } => is_cell_of(schema, cond.column, value),
+        What::Scan { .. }
+        | What::Project { .. }
+        | What::Join { .. }
+        | What::Group { .. }
+        | What::Sink { .. } => false,
+    }
+}
+
+fn takes_constant(flow: &Flow, op: u32, value: &Value) -> bool
+    ensures { result ≡ takes_constant (numbered flow.now op) value.now }
+{
+    match flow.operator(op) {
+        None => false,
+        Some(operator) => is_constant_of(&operator.what, &operator.schema, value),
+    }
+}
+
+/// Whether a workflow takes a command: the operator, its worker and its column are there, the operator is of a kind
+/// that takes it, and numbers of rows are 1 to 2^40.
+#[tactic(auto, unfolding(crate::specs::Fits::fits_of))]
+pub fn fits(flow: &Flow, command: &Command) -> bool
+    ensures { result ≡ fits_of flow.now command.now }
+{
+    match command {
+        Command::Run | Command::End => true,
+        Command::Pause { op, n } | Command::Count { op, n } => {
+            is_source(flow, *op) && is_target(*n)
+        }
+        Command::When { op, cond } => takes_cond(flow, *op, cond),
+        Command::Set { op, value } => takes_constant(flow, *op, value),
+        Command::Clear { op } | Command::Inspect { op } => is_there(flow, *op),
+        Command::Drop { op, worker } | Command::Lose { op, worker } => {
+            has_worker(flow, *op, *worker)
+        }
+    }
+}

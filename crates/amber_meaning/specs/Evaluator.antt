@@ -1,0 +1,55 @@
+-- The lists of rows that stand while the operators of a workflow are evaluated in order, and rows each where it stands first.
+use Rattle.std.specs.Prelude.{◌≢◌, ℕ, ◌-◌, ◌<◌, ◌≤◌, not, List, [], ◌∷◌, length, filter, slice_set, Bool, true, if◌then◌else◌, Result}
+use Rattle.amber_rows.specs.Operators.{same_row}
+use Rattle.amber_rows.specs.Record.{has_header, typed_records}
+use Rattle.amber_rows.specs.declared.value.Value.{Value}
+use Rattle.amber_rows.specs.declared.column.Column.{Column}
+use Rattle.amber_rows.specs.declared.record.RowFault.{RowFault}
+use Rattle.amber_rows.specs.declared.flow.What.{What}
+use Rattle.amber_rows.specs.declared.flow.What.TheVariants as what
+use Rattle.amber_rows.specs.declared.flow.Operator.{Operator}
+use Rattle.amber_meaning.specs.Plain.{files_after, is_scan}
+
+-- the files that these operators leave to those behind them
+unfoldable pub files_left : List (List ℕ) → List Operator → List (List ℕ)
+files_left files [] = files
+files_left files (operator ∷ more) = files_left (files_after operator.what files) more
+
+-- whether an operator is no scan, or its file begins with the names of its columns
+abbrev pub is_headed : What → List Column → List ℕ → Bool
+is_headed kind columns file = if is_scan kind then has_header columns file else true
+
+-- the typed records of an operator's file; none where it is no scan
+abbrev pub records_at : What → List Column → List ℕ → List (Result (List Value) RowFault)
+records_at kind columns file = if is_scan kind then typed_records columns file else []
+
+-- rows, each where it stands first
+unfoldable pub distinct : List (List Value) → List (List Value)
+distinct [] = []
+distinct (row ∷ rows) = row ∷ filter (λ other. not (same_row other row)) (distinct rows)
+
+-- there is a list with this number
+abbrev pub HasList : List (List (List Value)) → ℕ → Type 0
+HasList lists op = (0 < op) × (op ≤ length lists)
+
+-- there are lists for the inputs of an operator, no two of which are one
+abbrev pub HasInputs : List (List (List Value)) → What → Type 0
+HasInputs lists (what.Scan file) = Unit {0}
+HasInputs lists (what.Filter input cond) = HasList lists input
+HasInputs lists (what.Project input from) = HasList lists input
+HasInputs lists (what.Join build probe build_keys probe_keys) = HasList lists build × HasList lists probe × (build ≢ probe)
+HasInputs lists (what.Group input keys aggs) = HasList lists input
+HasInputs lists (what.Sink input) = HasList lists input
+
+-- the lists without the rows of the one with this number
+abbrev pub without : List (List (List Value)) → ℕ → List (List (List Value))
+without lists op = slice_set lists (op - 1) []
+
+-- the lists without the rows that an operator has taken
+abbrev pub lists_after : What → List (List (List Value)) → List (List (List Value))
+lists_after (what.Scan file) lists = lists
+lists_after (what.Filter input cond) lists = without lists input
+lists_after (what.Project input from) lists = without lists input
+lists_after (what.Join build probe build_keys probe_keys) lists = without (without lists build) probe
+lists_after (what.Group input keys aggs) lists = without lists input
+lists_after (what.Sink input) lists = without lists input

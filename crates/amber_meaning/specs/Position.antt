@@ -1,0 +1,112 @@
+-- How far a worker has come. Whatever tables and queues it keeps, this is all that a run says of it.
+use Rattle.std.specs.Prelude.{ℕ, ◌+◌, ◌==◌, ◌&&◌, List, [], ◌∷◌, ◌++◌, length, map, filter, drop, count_by, Ok, Bool, true, false, if◌then◌else◌}
+use Rattle.std.specs.List.{flat_map, list_all, list_any}
+use Rattle.amber_rows.specs.declared.value.Value.{Value}
+use Rattle.amber_rows.specs.declared.batch.Batch.{Batch}
+use Rattle.amber_rows.specs.declared.flow.What.{What}
+use Rattle.amber_rows.specs.declared.flow.What.TheVariants as what
+use Rattle.amber_meaning.specs.Task.{Handed, Role, closing, produce}
+
+-- a batch that was taken, and its sender
+pub record Taken : Type 0 where
+  pub from : ℕ
+  pub batch : Batch
+
+pub record Position : Type 0 where
+  -- the batches that were taken, in order
+  pub taken : List Taken
+  -- for each row that was taken the constants that were in force then; so its length is how many were taken
+  pub constants : List (List Value)
+  -- for each produced row that is gone whether it was emitted, and not dropped; so its length is how many are gone
+  pub fates : List Bool
+  -- units of an armed count that were claimed and not used
+  pub hand : ℕ
+  -- stands before a row that meets the operator's condition
+  pub held : Bool
+  -- may emit the next row although it meets the condition
+  pub waved : Bool
+  pub paused : Bool
+  pub finished : Bool
+
+-- before anything was done
+abbrev pub origin : Position
+origin = record { taken = []; constants = []; fates = []; hand = 0; held = false; waved = false; paused = false; finished = false }
+
+-- ---- what was handed
+
+abbrev pub handed_by : Taken → List Handed
+handed_by taken = map (λ row. record { from = taken.from; what = Ok row }) taken.batch.rows
+
+abbrev pub share_or : What → List Handed → List Handed → List Handed
+share_or (what.Scan file) share handed = share
+share_or (what.Filter input cond) share handed = handed
+share_or (what.Project input columns) share handed = handed
+share_or (what.Join build probe build_keys probe_keys) share handed = handed
+share_or (what.Group input keys aggs) share handed = handed
+share_or (what.Sink input) share handed = handed
+
+-- all that a worker was handed: the rows of the batches that it took, one after the other, or a scan's share
+unfoldable pub fed : Role → List Taken → List Handed
+fed role taken = share_or role.task.kind role.share (flat_map handed_by taken)
+
+-- the batches taken from one sender
+unfoldable pub taken_from : List Taken → ℕ → List Batch
+taken_from taken sender = map (λ one. one.batch) (filter (λ one. one.from == sender) taken)
+
+-- the last batch of a sender was taken
+abbrev pub has_last : List Taken → ℕ → Bool
+has_last taken sender = list_any (λ batch. batch.last) (taken_from taken sender)
+
+-- the last batch of each of these was taken
+unfoldable pub have_ended : List ℕ → List Taken → Bool
+have_ended senders taken = list_all (has_last taken) senders
+
+-- ---- what was produced
+
+-- all batches of all senders were taken, and so many rows of them that none is left
+abbrev pub is_complete : Role → List Taken → ℕ → Bool
+is_complete role taken rows = have_ended role.senders taken && (rows == length (fed role taken))
+
+-- what a worker has produced that took these batches, and rows of them under these constants
+unfoldable pub product : Role → List Taken → List (List Value) → List (List Value)
+product role taken constants =
+    produce role.task [] (fed role taken) constants ++ (if is_complete role taken (length constants) then closing role.task (fed role taken) else [])
+
+abbrev pub produced_rows : Role → Position → List (List Value)
+produced_rows role p = product role p.taken p.constants
+
+-- what was handed and not yet taken
+abbrev pub rest_of : Role → Position → List Handed
+rest_of role p = drop (length p.constants) (fed role p.taken)
+
+-- the rows that were produced and are not gone
+abbrev pub pending_rows : Role → Position → List (List Value)
+pending_rows role p = drop (length p.fates) (produced_rows role p)
+
+-- of a list's first elements those with the fate true
+unfoldable pub kept : {A : Type 0} → List A → List Bool → List A
+kept [] fates = []
+kept (x ∷ xs) [] = []
+kept (x ∷ xs) (true ∷ fates) = x ∷ kept xs fates
+kept (x ∷ xs) (false ∷ fates) = kept xs fates
+
+-- the rows that were emitted
+abbrev pub emitted_rows : Role → Position → List (List Value)
+emitted_rows role p = kept (produced_rows role p) p.fates
+
+-- ---- numbers
+
+abbrev pub is_emitted : Bool → Bool
+is_emitted fate = fate
+
+-- how many rows were emitted
+abbrev pub emitted_count : List Bool → ℕ
+emitted_count fates = count_by is_emitted fates
+
+abbrev pub one_if : Bool → ℕ
+one_if true = 1
+one_if false = 0
+
+-- the steps so far: rows taken, rows emitted, batches taken, and the end
+abbrev pub steps_of : Position → ℕ
+steps_of p = length p.constants + emitted_count p.fates + length p.taken + one_if p.finished

@@ -1,0 +1,139 @@
+-- When a worker may make a step, and where it stands afterwards: one rule for each entry of a journal.
+use Rattle.std.specs.Prelude.{◌≡◌, ℕ, ◌+◌, ◌-◌, ◌==◌, ◌<◌, ◌≤◌, ◌&&◌, not, List, [], ◌∷◌, ◌++◌, length, take, drop, replicate, Option, Some, None, Bool, true, false, if◌then◌else◌}
+use Rattle.std.specs.List.{list_all, list_any}
+use Rattle.amber_rows.specs.Cond.{holds_of}
+use Rattle.amber_rows.specs.declared.value.Value.{Value}
+use Rattle.amber_rows.specs.declared.batch.Batch.{Batch}
+use Rattle.amber_rows.specs.declared.cond.Cond.{Cond}
+use Rattle.amber_log.specs.declared.entry.Entry.{Entry}
+use Rattle.amber_log.specs.declared.entry.Entry.TheVariants as entry
+use Rattle.amber_meaning.specs.Task.{Role, is_builder}
+use Rattle.amber_meaning.specs.Position.{Position, Taken, fed, have_ended, pending_rows, product, rest_of, taken_from}
+
+-- what commands have put in force for a leg: a filter's constants, the operator's condition, and whether a count is armed
+pub record Orders : Type 0 where
+  pub constants : List Value
+  pub watch : Option Cond
+  pub counted : Bool
+
+-- ---- the parts of the rules
+
+-- neither paused nor held nor finished
+pub record IsFree (p : Position) : Type 0 where
+  pub running : p.paused ≡ false
+  pub loose : p.held ≡ false
+  pub unfinished : p.finished ≡ false
+
+-- the rows that the worker has produced once it took so many more under the orders
+abbrev pub product_with : Role → Orders → Position → ℕ → List (List Value)
+product_with role orders p rows = product role p.taken (p.constants ++ replicate rows orders.constants)
+
+-- how many these are
+abbrev pub produced_with : Role → Orders → Position → ℕ → ℕ
+produced_with role orders p rows = length (product_with role orders p rows)
+
+-- whether a row meets the operator's condition
+abbrev pub is_watched : Option Cond → List Value → Bool
+is_watched None row = false
+is_watched (Some cond) row = holds_of cond row
+
+-- no row meets the condition, but perhaps the first, where that one is waved on
+abbrev pub pass_by : Option Cond → Bool → List (List Value) → Bool
+pass_by watch waved [] = true
+pass_by watch true (row ∷ rows) = list_all (λ other. not (is_watched watch other)) rows
+pass_by watch false (row ∷ rows) = list_all (λ other. not (is_watched watch other)) (row ∷ rows)
+
+-- the first row meets the condition
+abbrev pub first_is_watched : Option Cond → List (List Value) → Bool
+first_is_watched watch [] = false
+first_is_watched watch (row ∷ rows) = is_watched watch row
+
+-- the batch's side may be taken: of a join the probe side only once the build side has ended
+abbrev pub may_take_from : Role → List Taken → ℕ → Bool
+may_take_from role taken from = if is_builder role.task from then true else have_ended role.task.builders taken
+
+-- ---- the rules
+
+-- taking the batch with this number of a sender
+pub record MayTake (role : Role) (p : Position) (from number : ℕ) : Type 0 where
+  pub free : IsFree p
+  pub sender : list_any (λ sender. sender == from) role.senders ≡ true
+  pub next : number ≡ length (taken_from p.taken from)
+  pub no_rest : rest_of role p ≡ []
+  pub no_pending : pending_rows role p ≡ []
+  pub side : may_take_from role p.taken from ≡ true
+
+-- taking rows and emitting rows
+pub record MayGo (role : Role) (orders : Orders) (p : Position) (rows outs : ℕ) : Type 0 where
+  pub free : IsFree p
+  pub within : length p.constants + rows ≤ length (fed role p.taken)
+  pub produced : length p.fates + outs ≤ produced_with role orders p rows
+  -- a row is taken only where all that was produced before it is gone
+  pub drained : 0 < rows → produced_with role orders p (rows - 1) ≤ length p.fates + outs
+  -- under a count each row is emitted with a unit, and each is taken while there is one
+  pub in_hand : orders.counted ≡ true → outs ≤ p.hand
+  pub before_taking : orders.counted ≡ true → 0 < rows → produced_with role orders p (rows - 1) < length p.fates + p.hand
+  pub no_stop : pass_by orders.watch p.waved (take outs (drop (length p.fates) (product_with role orders p rows))) ≡ true
+
+-- claiming units of a count
+pub record MayGrant (orders : Orders) (p : Position) : Type 0 where
+  pub counted : orders.counted ≡ true
+  pub unfinished : p.finished ≡ false
+
+-- giving the whole hand back
+pub record MayGiveBack (orders : Orders) (p : Position) (n : ℕ) : Type 0 where
+  pub counted : orders.counted ≡ true
+  pub whole : n ≡ p.hand
+
+pub record MayPause (p : Position) : Type 0 where
+  pub running : p.paused ≡ false
+  pub unfinished : p.finished ≡ false
+
+pub record MayResume (p : Position) : Type 0 where
+  pub paused : p.paused ≡ true
+  pub loose : p.held ≡ false
+  pub unfinished : p.finished ≡ false
+
+-- stopping before a row that meets the condition
+pub record MayHold (role : Role) (orders : Orders) (p : Position) : Type 0 where
+  pub free : IsFree p
+  pub watched : first_is_watched orders.watch (pending_rows role p) ≡ true
+  pub not_waved : p.waved ≡ false
+  pub in_hand : orders.counted ≡ true → 0 < p.hand
+
+pub record MayFinish (role : Role) (p : Position) : Type 0 where
+  pub free : IsFree p
+  pub no_rest : rest_of role p ≡ []
+  pub no_pending : pending_rows role p ≡ []
+  pub ended : have_ended role.senders p.taken ≡ true
+
+-- ---- the position afterwards
+
+abbrev pub took : ℕ → Batch → Position → Position
+took from batch p = record p { taken = p.taken ++ record { from = from; batch = batch } ∷ [] }
+
+abbrev pub went : Orders → ℕ → ℕ → Position → Position
+went orders rows outs p = record p {
+  constants = p.constants ++ replicate rows orders.constants;
+  fates = p.fates ++ replicate outs true;
+  hand = if orders.counted then p.hand - outs else p.hand;
+  waved = p.waved && (outs == 0);
+}
+
+-- ---- one entry, and a journal
+
+-- an entry leads from one position to another
+abbrev pub Moves : Role → Orders → Position → Entry → Position → Type 0
+Moves role orders p (entry.Take from number) q = (batch : Batch) × MayTake role p from number × (q ≡ took from batch p)
+Moves role orders p (entry.Go rows outs) q = MayGo role orders p rows outs × (q ≡ went orders rows outs p)
+Moves role orders p (entry.Grant n) q = MayGrant orders p × (q ≡ record p { hand = p.hand + n })
+Moves role orders p (entry.Back n) q = MayGiveBack orders p n × (q ≡ record p { hand = 0 })
+Moves role orders p entry.Pause q = MayPause p × (q ≡ record p { paused = true })
+Moves role orders p entry.Resume q = MayResume p × (q ≡ record p { paused = false })
+Moves role orders p entry.Hold q = MayHold role orders p × (q ≡ record p { held = true })
+Moves role orders p entry.Finish q = MayFinish role p × (q ≡ record p { finished = true })
+
+-- entries lead from one position to another, one after the other
+unfoldable pub Leads : Role → Orders → Position → List Entry → Position → Type 0
+Leads role orders p [] q = p ≡ q
+Leads role orders p (one ∷ more) q = (m : Position) × Moves role orders p one m × Leads role orders m more q

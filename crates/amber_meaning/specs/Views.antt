@@ -1,0 +1,136 @@
+-- What an inspection shows, and the answer in a state.
+use Rattle.std.specs.Prelude.{ℕ, nat_lt, List, [], ◌∷◌, ◌++◌, length, map, take, Option, Some, None, option_map, Result, Ok, Err, if◌then◌else◌}
+use Rattle.std.specs.List.{filter_map, flat_map}
+use Rattle.amber_rows.specs.Crew.{workers_of}
+use Rattle.amber_rows.specs.FlowRules.{columns_at}
+use Rattle.amber_rows.specs.Operators.{first_keys, refused_keys}
+use Rattle.amber_rows.specs.Order.{sort_rows}
+use Rattle.amber_rows.specs.declared.value.Value.{Value}
+use Rattle.amber_rows.specs.declared.record.RowFault.{RowFault}
+use Rattle.amber_rows.specs.declared.flow.What.{What}
+use Rattle.amber_rows.specs.declared.flow.What.TheVariants as what
+use Rattle.amber_meaning.specs.declared.answer.Answer.{Answer}
+use Rattle.amber_meaning.specs.declared.answer.Refusal.{Refusal}
+use Rattle.amber_meaning.specs.declared.answer.Refusal.TheVariants as refusal
+use Rattle.amber_meaning.specs.declared.view.Counted.{Counted}
+use Rattle.amber_meaning.specs.declared.view.Extra.{Extra}
+use Rattle.amber_meaning.specs.declared.view.Extra.TheVariants as extra
+use Rattle.amber_meaning.specs.declared.view.Inspected.{Inspected}
+use Rattle.amber_meaning.specs.declared.view.Stand.{Stand}
+use Rattle.amber_meaning.specs.declared.view.Stand.TheVariants as stand
+use Rattle.amber_meaning.specs.declared.view.WorkerView.{WorkerView}
+use Rattle.amber_meaning.specs.Legal.{Query, role_in}
+use Rattle.amber_meaning.specs.Plain.{refused_groups}
+use Rattle.amber_meaning.specs.Position.{Position, emitted_count, fed, pending_rows, rest_of}
+use Rattle.amber_meaning.specs.Stops.{op_numbers}
+use Rattle.amber_meaning.specs.State.{Counting, State, arms_at, counted_at, position_at}
+use Rattle.amber_meaning.specs.Task.{Handed, Role, Task, built_of, suiting}
+
+-- ---- one worker
+
+-- what a worker has taken of what it was handed
+abbrev pub taken_of : Role → Position → List Handed
+taken_of role p = take (length p.constants) (fed role p.taken)
+
+abbrev pub stand_of : Position → Stand
+stand_of p = if p.finished then stand.Finished else (if p.held then stand.Held else stand.Ready)
+
+-- the records that have a fault, as refused by an operator
+abbrev pub refusal_in : ℕ → ℕ → Result (List Value) RowFault → List Refusal
+refusal_in op number (Ok row) = []
+refusal_in op number (Err why) = refusal.Record op number why ∷ []
+
+abbrev pub refused_in : ℕ → List Handed → List Refusal
+refused_in op handed = flat_map (λ one. refusal_in op one.from one.what) handed
+
+-- the rows that a worker took and that suit
+abbrev pub rows_in : Task → List Handed → List (List Value)
+rows_in task handed = filter_map (suiting task) handed
+
+-- what a worker shows by its kind, that took these
+abbrev pub extra_of : Task → What → List Handed → Extra
+extra_of task (what.Scan file) handed = extra.Scan (length (refused_in 0 handed))
+extra_of task (what.Filter input cond) handed = extra.Nothing
+extra_of task (what.Project input columns) handed = extra.Nothing
+extra_of task (what.Join build probe build_keys probe_keys) handed =
+    extra.Join (length (first_keys build_keys (built_of task handed))) (length (built_of task handed))
+extra_of task (what.Group input keys aggs) handed = extra.Group (length (first_keys keys (rows_in task handed)))
+extra_of task (what.Sink input) handed = extra.Sink (length (rows_in task handed))
+
+abbrev pub first_of : {A : Type 0} → List A → Option A
+first_of [] = None
+first_of (x ∷ xs) = Some x
+
+unfoldable pub view_of : Role → Position → WorkerView
+view_of role p = record {
+  taken = length p.constants;
+  rest = length (rest_of role p);
+  out = emitted_count p.fates;
+  pending = length (pending_rows role p);
+  stand = stand_of p;
+  next = first_of (pending_rows role p);
+  extra = extra_of role.task role.task.kind (taken_of role p);
+}
+
+-- ---- one operator
+
+abbrev pub counted_view : Query → State → ℕ → Counting → Counted
+counted_view query state op counting = record { counted = counted_at query.flow state op counting; target = counting.target }
+
+-- what an operator shows
+unfoldable pub inspected_of : Query → State → ℕ → Inspected
+inspected_of query state op = record {
+  op = op;
+  constant = first_of (arms_at state op).constants;
+  pause = (arms_at state op).pause;
+  count = option_map (counted_view query state op) (arms_at state op).count;
+  when = (arms_at state op).watch;
+  workers = map (λ worker. view_of (role_in query worker) (position_at state.positions worker)) (workers_of query.flow op);
+}
+
+-- ---- the answer in a state
+
+-- what the workers of an operator took, one worker after the other
+unfoldable pub taken_by : Query → State → ℕ → List Handed
+taken_by query state op = flat_map (λ worker. taken_of (role_in query worker) (position_at state.positions worker)) (workers_of query.flow op)
+
+-- the keys of a worker's groups that have no row, once all was taken
+abbrev pub keys_refused : What → Task → List Handed → List (List Value)
+keys_refused (what.Scan file) task handed = []
+keys_refused (what.Filter input cond) task handed = []
+keys_refused (what.Project input columns) task handed = []
+keys_refused (what.Join build probe build_keys probe_keys) task handed = []
+keys_refused (what.Group input keys aggs) task handed = refused_keys keys aggs (rows_in task handed)
+keys_refused (what.Sink input) task handed = []
+
+abbrev pub worker_refuses : Role → Position → List (List Value)
+worker_refuses role p = keys_refused role.task.kind role.task (taken_of role p)
+
+-- a record put before the first with a greater number
+unfoldable pub insert_numbered : Handed → List Handed → List Handed
+insert_numbered one [] = one ∷ []
+insert_numbered one (other ∷ more) = if nat_lt other.from one.from then other ∷ insert_numbered one more else one ∷ other ∷ more
+
+-- records in the order of their numbers
+unfoldable pub by_number : List Handed → List Handed
+by_number [] = []
+by_number (one ∷ more) = insert_numbered one (by_number more)
+
+-- what an operator has refused: a scan its records, by their numbers, a group its keys, in the order of rows
+abbrev pub op_refuses : Query → State → ℕ → List Refusal
+op_refuses query state op = refused_in op (by_number (taken_by query state op))
+    ++ refused_groups op (flat_map (λ worker. worker_refuses (role_in query worker) (position_at state.positions worker)) (workers_of query.flow op))
+
+-- what the sink's workers took, in the order of rows
+abbrev pub sink_rows : Query → State → List (List Value)
+sink_rows query state =
+    sort_rows (flat_map (λ worker. rows_in (role_in query worker).task (taken_of (role_in query worker) (position_at state.positions worker)))
+    (workers_of query.flow (length query.flow)))
+
+-- the answer in a state: what the operators have refused, and the rows that the sink took, in their order
+unfoldable pub answer_in : Query → State → Answer
+answer_in query state = record {
+  refused = flat_map (op_refuses query state) (op_numbers query.flow);
+  columns = columns_at query.flow (length query.flow);
+  rows = sink_rows query state;
+}

@@ -1,0 +1,132 @@
+ghost use Rattle.std.specs.Prelude.{◌≡◌};
+
+use amber_rows::{Cond, Row, Value};
+use std::marker::Model;
+
+/// Why a run has stopped. Operators are numbered from 1, an operator's workers from 0.
+#[derive(Debug, Drop)]
+pub enum Stop {
+    /// A worker stands before this row, which meets the operator's condition.
+    Held { op: u32, worker: u32, row: Row },
+    /// An operator has emitted as many rows as its count asked for.
+    Count { op: u32, target: u64 },
+    /// An operator has emitted at least as many rows as its pause asked for.
+    Pause { op: u32, n: u64, emitted: u64 },
+    /// All workers have finished.
+    End,
+}
+
+/// The stops of a run, seen as a list.
+#[derive(Debug, Drop)]
+pub struct Stops {
+    inner: Vec<Stop>,
+}
+
+impl Model for Stops {
+    ghost use Rattle.std.specs.Prelude.{List};
+    ghost use Rattle.amber_meaning.specs.declared.view.Stop.{Stop as OneStop};
+
+    ghost Value = { List OneStop };
+
+    ghost view = { λ a. a.inner.items };
+}
+
+impl Stops {
+    /// The stops of a `Vec`, in its order.
+    pub fn new(inner: Vec<Stop>) -> Self
+        ensures { result ≡ inner.items }
+    {
+        Stops { inner }
+    }
+
+    /// The stops as a slice.
+    pub fn get(&self) -> &[Stop]
+        ensures { result.now ≡ self.now }
+    {
+        self.inner.as_slice()
+    }
+}
+
+/// How a worker stands.
+#[derive(Clone, Copy, Debug, PartialEq, Eq)]
+pub enum Stand {
+    Ready,
+    Held,
+    Finished,
+}
+
+/// What a worker shows by the kind of its operator.
+#[derive(Clone, Copy, Debug, PartialEq, Eq)]
+pub enum Extra {
+    Nothing,
+    /// How many of the records taken were refused.
+    Scan { refused: u64 },
+    /// How many keys the build side has, and how many rows.
+    Join { keys: u64, built: u64 },
+    /// How many groups there are.
+    Group { groups: u64 },
+    /// How many rows were kept.
+    Sink { kept: u64 },
+}
+
+/// What one worker shows: rows taken, rows of its batches not yet taken, rows emitted, rows produced and not yet
+/// emitted, how it stands, and its first pending row.
+#[derive(Debug, Drop)]
+pub struct WorkerView {
+    pub taken: u64,
+    pub rest: u64,
+    pub out: u64,
+    pub pending: u64,
+    pub stand: Stand,
+    pub next: Option<Row>,
+    pub extra: Extra,
+}
+
+/// The views of an operator's workers, seen as a list.
+#[derive(Debug, Drop)]
+pub struct Views {
+    inner: Vec<WorkerView>,
+}
+
+impl Model for Views {
+    ghost use Rattle.std.specs.Prelude.{List};
+    ghost use Rattle.amber_meaning.specs.declared.view.WorkerView.{WorkerView as OneView};
+
+    ghost Value = { List OneView };
+
+    ghost view = { λ a. a.inner.items };
+}
+
+impl Views {
+    /// The views of a `Vec`, in its order.
+    pub fn new(inner: Vec<WorkerView>) -> Self
+        ensures { result ≡ inner.items }
+    {
+        Views { inner }
+    }
+
+    /// The views as a slice.
+    pub fn get(&self) -> &[WorkerView]
+        ensures { result.now ≡ self.now }
+    {
+        self.inner.as_slice()
+    }
+}
+
+/// An armed count: how many rows have been counted, and how many it asks for.
+#[derive(Clone, Copy, Debug, PartialEq, Eq)]
+pub struct Counted {
+    pub counted: u64,
+    pub target: u64,
+}
+
+/// What an operator shows: a filter's constant, what is armed, and its workers.
+#[derive(Debug, Drop)]
+pub struct Inspected {
+    pub op: u32,
+    pub constant: Option<Value>,
+    pub pause: Option<u64>,
+    pub count: Option<Counted>,
+    pub when: Option<Cond>,
+    pub workers: Views,
+}

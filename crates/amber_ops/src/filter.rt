@@ -1,0 +1,71 @@
+ghost use Rattle.std.specs.Prelude.{◌≡◌, IfOk, if◌then◌else◌};
+ghost use Rattle.amber_rows.specs.Cond.{holds_of};
+ghost use Rattle.amber_rows.specs.FlowRules.{kind_of};
+
+use amber_rows::{Cond, Row, Value, holds};
+use std::alloc::AllocError;
+use std::marker::Model;
+
+/// What a filter keeps: its condition. The state is seen as that condition.
+#[derive(Debug, Drop)]
+pub struct FilterState {
+    cond: Cond,
+}
+
+impl Model for FilterState {
+    ghost use Rattle.amber_rows.specs.declared.cond.Cond.{Cond as Condition};
+
+    ghost Value = { Condition };
+
+    ghost view = { λ a. a.cond };
+}
+
+impl FilterState {
+    /// The state of a filter with this condition.
+    pub fn new(cond: Cond) -> Self
+        ensures { result ≡ cond }
+    {
+        FilterState { cond }
+    }
+
+    /// The row exactly where the condition holds of it. It does not hold of a row without the condition's
+    /// column.
+    pub fn feed(&mut self, row: Row) -> Option<Row>
+        ensures row { result ≡ (if holds_of self.old row then Some row else None) }
+        ensures same { self.new ≡ self.old }
+    {
+        if holds(&self.cond, &row) {
+            Some(row)
+        } else {
+            None
+        }
+    }
+
+    /// Puts a value of the same kind in place of the condition's constant.
+    pub fn set(&mut self, value: Value)
+        requires { kind_of value ≡ kind_of self.old.constant }
+        ensures { self.new ≡ record self.old { constant = value } }
+    {
+        self.cond.constant = value;
+    }
+
+    /// Another state with an equal condition.
+    pub fn copy(&self) -> Result<Self, AllocError>
+        ensures { IfOk result (λ copy. copy ≡ self.now) }
+    {
+        Ok(FilterState {
+            cond: copied(&self.cond)?,
+        })
+    }
+}
+
+// A condition equal to this one.
+fn copied(cond: &Cond) -> Result<Cond, AllocError>
+    ensures { IfOk result (λ copy. copy ≡ cond.now) }
+{
+    Ok(Cond {
+        column: cond.column,
+        op: cond.op,
+        constant: cond.constant.copy()?,
+    })
+}

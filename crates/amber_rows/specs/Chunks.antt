@@ -1,0 +1,19 @@
+-- The batches in which a stream of rows is sent.
+use Rattle.std.specs.Prelude.{ℕ, zero, suc, ◌+◌, ◌*◌, ◌/◌, List, [], ◌∷◌, ◌++◌, length, map, take, drop, Bool, true, false, if◌then◌else◌}
+use Rattle.amber_rows.specs.declared.value.Value.{Value}
+use Rattle.amber_rows.specs.declared.batch.Batch.{Batch}
+
+-- the numbers from 0 up to this one
+unfoldable pub numbers_below : ℕ → List ℕ
+numbers_below zero = []
+numbers_below (suc n) = numbers_below n ++ n ∷ []
+
+-- the piece of a stream with this number: `size` rows, or those that are left
+abbrev pub piece_of : ℕ → List (List Value) → ℕ → List (List Value)
+piece_of size stream number = take size (drop (number * size) stream)
+
+-- a stream in pieces of `size` rows, numbered from 0, and where it has ended the rest, fewer rows, as the last one
+unfoldable pub chunks_of : ℕ → List (List Value) → Bool → List Batch
+chunks_of size stream ended =
+    map (λ number. record { seq = number; rows = piece_of size stream number; last = false }) (numbers_below (length stream / size))
+    ++ (if ended then record { seq = length stream / size; rows = piece_of size stream (length stream / size); last = true } ∷ [] else [])

@@ -1,0 +1,47 @@
+ghost use Rattle.std.specs.Prelude.{◌≡◌, IfOk, length};
+
+use std::marker::Model;
+
+/// What a group says of the rows with one key. A column is a number from 1.
+#[derive(Clone, Copy, Debug, PartialEq, Eq)]
+pub enum Agg {
+    /// How many rows there are.
+    Count,
+    /// The sum of a column of numbers.
+    Sum(u32),
+    /// The least value of a column.
+    Min(u32),
+    /// The greatest value of a column.
+    Max(u32),
+}
+
+/// The aggregates of a group, seen as a list.
+#[derive(Debug, Drop)]
+pub struct Aggs {
+    inner: Vec<Agg>,
+}
+
+impl Model for Aggs {
+    ghost use Rattle.std.specs.Prelude.{List};
+    ghost use Rattle.amber_rows.specs.declared.agg.Agg.{Agg as OneAgg};
+
+    ghost Value = { List OneAgg };
+
+    ghost view = { λ a. a.inner.items };
+}
+
+impl Aggs {
+    /// The aggregates of a `Vec`, in its order.
+    pub fn new(inner: Vec<Agg>) -> Self
+        ensures { result ≡ inner.items }
+    {
+        Aggs { inner }
+    }
+
+    /// The aggregates as a slice.
+    pub fn get(&self) -> &[Agg]
+        ensures { result.now ≡ self.now }
+    {
+        self.inner.as_slice()
+    }
+}
