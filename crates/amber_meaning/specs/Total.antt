@@ -1,4 +1,4 @@
--- The rows that each worker is dealt, and the steps of a whole query: no run makes more.
+-- The rows that each worker is dealt, and the steps of a whole query.
 use Rattle.std.specs.Prelude.{ℕ, zero, suc, ◌+◌, ◌/◌, ◌==◌, List, [], ◌∷◌, ◌++◌, length, map, filter, sum_by, Ok}
 use Rattle.std.specs.List.{flat_map}
 use Rattle.amber_rows.specs.Chunks.{numbers_below}
