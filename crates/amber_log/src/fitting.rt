@@ -2,12 +2,11 @@
 
 ghost use Rattle.std.specs.Prelude.{◌≡◌};
 ghost use Rattle.amber_rows.specs.Cond.{numbered};
-ghost use Rattle.amber_rows.specs.FlowRules.{is_sink, kind_of};
-ghost use Rattle.amber_rows.specs.Suits.{same_kind};
+ghost use Rattle.amber_rows.specs.FlowRules.{is_sink};
 ghost use Rattle.amber_log.specs.Fits.{constant_of, fits_of, has_worker, is_cell_of, is_source, is_target, is_there, takes_cond, takes_constant};
 
 use crate::command::Command;
-use amber_rows::{ColKind, Column, Cond, Flow, Schema, Value, What};
+use amber_rows::{Cond, Flow, Schema, Value, What};
 
 // The most rows that a pause or a count may ask for.
 const MOST: u64 = 1 << 40;
@@ -31,16 +30,6 @@ fn is_sink(what: &What) -> bool
     }
 }
 
-// Whether a value may stand in a column.
-fn is_kind(kind: ColKind, value: &Value) -> bool
-    ensures { result ≡ same_kind kind (kind_of value.now) }
-{
-    match (kind, value) {
-        (ColKind::Int, Value::Int(_)) | (ColKind::Text, Value::Text(_)) => true,
-        (ColKind::Int, Value::Text(_)) | (ColKind::Text, Value::Int(_)) => false,
-    }
-}
-
 // Whether a value may stand in the column with this number.
 fn is_cell_of(schema: &Schema, column: u32, value: &Value) -> bool
     ensures { result ≡ is_cell_of (numbered schema.now column) value.now }
@@ -50,7 +39,7 @@ fn is_cell_of(schema: &Schema, column: u32, value: &Value) -> bool
     }
     match schema.get().get(column as usize - 1) {
         None => false,
-        Some(column) => is_kind(column.kind, value),
+        Some(column) => column.kind.takes(value),
     }
 }
 

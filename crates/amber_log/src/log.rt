@@ -1,7 +1,8 @@
-ghost use Rattle.std.specs.Prelude.{◌≡◌};
+ghost use Rattle.std.specs.Prelude.{◌≡◌, ◌++◌, ◌∷◌, [], OnErr, OnOk};
 
 use crate::command::Command;
 use crate::leg::Leg;
+use std::alloc::AllocError;
 use std::marker::Model;
 
 /// An item of a log: a command, or a leg that a command to run began.
@@ -43,6 +44,15 @@ impl Items {
         ensures { result.now ≡ self.now }
     {
         self.inner.as_slice()
+    }
+
+    /// Puts an item behind the others.
+    pub fn push(&mut self, item: Item) -> Result<(), AllocError>
+        ensures ok { OnOk result (self.new ≡ self.old ++ item ∷ []) }
+        ensures err { OnErr result (self.new ≡ self.old) }
+    {
+        self.inner.push(item)?;
+        Ok(())
     }
 
     /// The items as the `Vec` of which they were made.

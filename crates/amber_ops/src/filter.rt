@@ -41,6 +41,13 @@ impl FilterState {
         }
     }
 
+    /// Whether the condition holds of a row, which stays where it is.
+    pub fn passes(&self, row: &Row) -> bool
+        ensures { result ≡ holds_of self.now row.now }
+    {
+        holds(&self.cond, row)
+    }
+
     /// Puts a value of the same kind in place of the condition's constant.
     pub fn set(&mut self, value: Value)
         requires { kind_of value ≡ kind_of self.old.constant }

@@ -1,9 +1,7 @@
-ghost use Rattle.std.specs.Prelude.{◌≡◌, ◌++◌, ◌∷◌, [], IfOk, OnOk, option_map};
-ghost use Rattle.std.specs.List.{filter_map};
-ghost use Rattle.amber_rows.specs.Cond.{numbered};
+ghost use Rattle.std.specs.Prelude.{◌≡◌, IfOk};
 ghost use Rattle.amber_rows.specs.Operators.{picked};
 
-use amber_rows::{Cols, Row, Value};
+use amber_rows::{Cols, Row};
 use std::alloc::{AllocError, Global};
 use std::marker::Model;
 
@@ -37,7 +35,14 @@ impl ProjectState {
         ensures ok { IfOk result (λ cells. cells ≡ picked self.old row.now) }
         ensures same { self.new ≡ self.old }
     {
-        pick(self.alloc, self.from.get(), row)
+        self.pick(row)
+    }
+
+    /// The same row, where the state is only looked at.
+    pub fn pick(&self, row: &Row) -> Result<Row, AllocError>
+        ensures { IfOk result (λ cells. cells ≡ picked self.now row.now) }
+    {
+        row.pick(self.alloc, &self.from)
     }
 
     /// Another state with the same columns.
@@ -50,36 +55,4 @@ impl ProjectState {
             from: Cols::new(from),
         })
     }
-}
-
-// The cell of the column with this number, if there is one.
-fn cell_at(row: &Row, column: u32) -> Option<&Value>
-    ensures { option_map (λ cell. cell.now) result ≡ numbered row.now column }
-{
-    if column == 0 {
-        return None;
-    }
-    row.get().get(column as usize - 1)
-}
-
-// Puts the cell of a column behind the others, if there is one.
-fn add_cell(row: &Row, column: u32, cells: &mut Vec<Value>) -> Result<(), AllocError>
-    ensures { OnOk result (cells.new.items ≡ cells.old.items ++ filter_map (numbered row.now) (column ∷ [])) }
-{
-    let found = cell_at(row, column);
-    if let Some(cell) = found {
-        cells.push(cell.copy()?)?;
-    }
-    Ok(())
-}
-
-// The cells of these columns, in this order.
-fn pick(alloc: Global, columns: &[u32], row: &Row) -> Result<Row, AllocError>
-    ensures { IfOk result (λ cells. cells ≡ picked columns.now row.now) }
-{
-    let mut cells = Vec::with_capacity(alloc, columns.len())?;
-    for column in columns {
-        add_cell(row, *column, &mut cells)?;
-    }
-    Ok(Row::new(cells))
 }

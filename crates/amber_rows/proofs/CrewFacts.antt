@@ -1,8 +1,8 @@
 -- Numbers of workers along the operators.
-use Rattle.std.proofs.Common.{◌≡◌, ◌<◌, ◌≤◌, ◌-◌, ◌+◌, ℕ, suc, List, [], ◌∷◌, length, drop, take, get_or, refl, sym, ◌∙◌, ap, arith, add-one, drop-cons, true, false}
+use Rattle.std.proofs.Common.{◌≡◌, ◌<◌, ◌≤◌, ◌-◌, ◌+◌, ℕ, suc, List, [], ◌∷◌, length, drop, take, get_or, refl, sym, ◌∙◌, ap, add-one, drop-cons}
 use Rattle.std.proofs.lemmas.List.Sums.{sum_by-take-le}
 use Rattle.std.proofs.lemmas.Bool.{lt-ltb, le-ltb}
-use Rattle.amber_rows.specs.Crew.{crew_of, first_worker_of, op_of}
+use Rattle.amber_rows.specs.Crew.{crew_of, op_of}
 use Rattle.amber_rows.specs.declared.flow.Operator.{Operator}
 
 pub crew-take : (n : ℕ) (flow : List Operator) → crew_of (take n flow) ≤ crew_of flow

@@ -1,5 +1,5 @@
--- The records that a reader has read are the first ones of its file.
-use Rattle.std.proofs.Common.{◌≡◌, ◌<◌, ◌+◌, ◌⊎◌, ℕ, zero, suc, List, [], ◌∷◌, ◌++◌, length, Some, None, inl, inr, refl, arith}
+-- The records that a reader has read are the first ones of its file, and the typed records are those behind the header.
+use Rattle.std.proofs.Common.{◌≡◌, ◌<◌, ◌+◌, ◌⊎◌, ℕ, zero, suc, List, [], ◌∷◌, ◌++◌, length, map, Some, None, inl, inr, refl, arith}
 use Rattle.std.proofs.lemmas.Bool.{cases_Bool}
 use Rattle.std.proofs.lemmas.List.{append-nil}
 use Rattle.csv.specs.Machine.{Read, ends_at_end, is_end, next_record, step}
@@ -8,7 +8,8 @@ use Rattle.csv.specs.declared.parser.Config.{Config}
 use Rattle.csv.specs.declared.parser.State.{State}
 use Rattle.csv.specs.declared.parser.State.TheVariants as st
 use Rattle.amber_rows.specs.Reading.{HasRead}
-use Rattle.amber_rows.specs.Record.{file_records}
+use Rattle.amber_rows.specs.Record.{file_records, row_of, typed_records}
+use Rattle.amber_rows.specs.declared.column.Column.{Column}
 use Rattle.amber_rows.specs.declared.record_reader.RecordReader.{RecordReader}
 
 -- a number of turns is enough for all records from here on
@@ -77,3 +78,15 @@ HasRead-all {bytes} {r} {done} h none =
     let enough : Enough (length xs + 1) st.StartRecord xs = inl (omega arith) in
     let front = reached-front default_config st.StartRecord r.reader.state xs h.rest done (length xs + 1) h.reached enough in
     rw (records-none default_config r.reader.state h.rest front.0 none, append-nil done) at front.1
+
+-- ---- the typed records of a file
+
+pub typed-none : (columns : List Column) (file : List ℕ) → file_records file ≡ [] → typed_records columns file ≡ []
+unfolding typed_records
+typed-none columns file e = rw e refl
+
+-- all records behind the header
+pub typed-all : (columns : List Column) (file : List ℕ) (header : List (List ℕ)) (done : List (List (List ℕ))) → file_records file ≡ header ∷ done
+    → typed_records columns file ≡ map (row_of columns) done
+unfolding typed_records
+typed-all columns file header done e = rw e refl

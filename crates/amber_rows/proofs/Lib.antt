@@ -1,6 +1,7 @@
 pub mod CrewFacts
 pub mod FileRecords
 pub mod FlowFacts
+pub mod Headers
 pub mod Keys
 pub mod Numerals
 pub mod RowTexts

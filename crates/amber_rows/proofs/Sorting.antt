@@ -131,7 +131,7 @@ not_equal Less h k = cc
 not_equal Equal h k = refl
 not_equal Greater h k = cc
 
-equal_from : (o : Ordering) → is_eq o ≡ true → o ≡ Equal
+pub equal_from : (o : Ordering) → is_eq o ≡ true → o ≡ Equal
 equal_from Less h = cc
 equal_from Equal h = refl
 equal_from Greater h = cc

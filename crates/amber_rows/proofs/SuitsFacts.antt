@@ -1,5 +1,5 @@
 -- Whether a row fits columns, one column after the other.
-use Rattle.std.proofs.Common.{◌≡◌, ◌≢◌, ◌<◌, ◌≤◌, ◌+◌, ◌&&◌, ℕ, zero, suc, List, [], ◌∷◌, length, drop, get_or, refl, sym, ◌∙◌, ap, arith, add-one, drop-cons, true, false, Bool}
+use Rattle.std.proofs.Common.{◌≡◌, ◌≢◌, ◌<◌, ◌≤◌, ◌+◌, ◌&&◌, ℕ, suc, List, [], ◌∷◌, length, drop, get_or, refl, sym, ◌∙◌, ap, add-one, drop-cons, true, false, Bool}
 use Rattle.std.proofs.lemmas.List.{drop_all}
 use Rattle.amber_rows.specs.FlowRules.{kind_of}
 use Rattle.amber_rows.specs.Suits.{same_kind, suits_of}

@@ -1,5 +1,5 @@
 -- When a list of operators is a workflow.
-use Rattle.std.specs.Prelude.{◌≡◌, ℕ, ◌+◌, ◌<◌, ◌≤◌, ◌==◌, ◌&&◌, ◌||◌, not, nat_lt, nat_le, List, [], ◌∷◌, ◌++◌, length, map, sum_by, count_by, Bool, true, false, IsSomeAnd, All, bytes_eq, Option, Some, None, option_map}
+use Rattle.std.specs.Prelude.{◌≡◌, ℕ, ◌<◌, ◌≤◌, ◌==◌, ◌&&◌, ◌||◌, not, nat_lt, nat_le, List, [], ◌∷◌, ◌++◌, length, map, sum_by, count_by, Bool, true, false, IsSomeAnd, All, bytes_eq, codes, Option, Some, None, option_map, unwrap_or}
 use Rattle.std.specs.List.{list_all, list_any, flat_map, filter_map}
 use Rattle.amber_rows.specs.Cond.{numbered}
 use Rattle.amber_rows.specs.Columns.{names_of}
@@ -103,6 +103,10 @@ AreIn columns numbers = All (λ number. (0 < number) × (number ≤ length colum
 abbrev pub kinds_at : List Column → List ℕ → List ColKind
 kinds_at columns numbers = map (λ column. column.kind) (filter_map (numbered columns) numbers)
 
+-- the names of the columns with these numbers
+abbrev pub names_at : List Column → List ℕ → List (List ℕ)
+names_at columns numbers = map (λ column. column.name) (filter_map (numbered columns) numbers)
+
 -- the kind of an aggregate's column, where the aggregate may stand over these columns
 abbrev pub agg_kind : List Column → Agg → Option ColKind
 agg_kind columns agg.Count = Some kind.Int
@@ -114,6 +118,17 @@ agg_kind columns (agg.Sum column) = int_kind (option_map (λ c. c.kind) (numbere
     int_kind (Some kind.Text) = None
 agg_kind columns (agg.Min column) = option_map (λ c. c.kind) (numbered columns column)
 agg_kind columns (agg.Max column) = option_map (λ c. c.kind) (numbered columns column)
+
+-- the name of the column with a number
+abbrev pub name_at : List Column → ℕ → List ℕ
+name_at columns number = unwrap_or (option_map (λ column. column.name) (numbered columns number)) []
+
+-- the text of an aggregate, which is the name of its column: `count`, or what it takes of a column, a colon and the column's name
+abbrev pub agg_name : List Column → Agg → List ℕ
+agg_name columns agg.Count = codes "count"
+agg_name columns (agg.Sum column) = codes "sum:" ++ name_at columns column
+agg_name columns (agg.Min column) = codes "min:" ++ name_at columns column
+agg_name columns (agg.Max column) = codes "max:" ++ name_at columns column
 
 -- the kinds of columns
 abbrev pub column_kinds : List Column → List ColKind
@@ -131,6 +146,7 @@ IsKind before (what.Join build probe build_keys probe_keys) columns = IsEarlier 
     × (columns ≡ columns_at before probe ++ columns_at before build)
 IsKind before (what.Group input keys aggs) columns = IsEarlier before input × AreIn (columns_at before input) keys
     × (map Some (column_kinds columns) ≡ map Some (kinds_at (columns_at before input) keys) ++ map (agg_kind (columns_at before input)) aggs)
+    × (names_of columns ≡ names_at (columns_at before input) keys ++ map (agg_name (columns_at before input)) aggs)
 IsKind before (what.Sink input) columns = HasInput before input columns
 
 -- an operator that may follow these

@@ -1,10 +1,10 @@
 -- What each kind of operator makes of lists of rows.
-use Rattle.std.specs.Prelude.{ℕ, ◌+◌, ◌==◌, ◌+ℤ◌, ℤ, pos, negsuc, not, List, [], ◌∷◌, ◌++◌, length, map, filter, Option, Some, None, unwrap_or, option_map, option_and_then, Bool, true, false, if◌then◌else◌}
+use Rattle.std.specs.Prelude.{ℕ, ◌+ℤ◌, ℤ, pos, not, List, [], ◌∷◌, ◌++◌, length, map, filter, Option, Some, None, option_map, option_and_then, Bool, if◌then◌else◌}
 use Rattle.std.specs.List.{filter_map, flat_map}
 use Rattle.std.specs.Ordering.{is_eq, is_gt, is_lt}
 use Rattle.amber_rows.specs.Cond.{numbered}
 use Rattle.amber_rows.specs.Number.{fits_i64}
-use Rattle.amber_rows.specs.Order.{row_cmp, sort_rows, value_cmp}
+use Rattle.amber_rows.specs.Order.{row_cmp, value_cmp}
 use Rattle.amber_rows.specs.declared.value.Value.{Value}
 use Rattle.amber_rows.specs.declared.value.Value.TheVariants.{Int, Text}
 use Rattle.amber_rows.specs.declared.agg.Agg.{Agg}

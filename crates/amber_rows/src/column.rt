@@ -1,6 +1,9 @@
 ghost use Rattle.std.specs.Prelude.{◌≡◌, IfOk, length};
+ghost use Rattle.amber_rows.specs.FlowRules.{kind_of};
+ghost use Rattle.amber_rows.specs.Suits.{same_kind};
 
 use crate::text::Text;
+use crate::value::Value;
 use std::alloc::{AllocError, Global};
 use std::marker::Model;
 
@@ -9,6 +12,18 @@ use std::marker::Model;
 pub enum ColKind {
     Int,
     Text,
+}
+
+impl ColKind {
+    /// Whether a cell may stand in a column of this kind.
+    pub fn takes(self, cell: &Value) -> bool
+        ensures { result ≡ same_kind self (kind_of cell.now) }
+    {
+        match (self, cell) {
+            (ColKind::Int, Value::Int(_)) | (ColKind::Text, Value::Text(_)) => true,
+            (ColKind::Int, Value::Text(_)) | (ColKind::Text, Value::Int(_)) => false,
+        }
+    }
 }
 
 /// A column: its name, and what its cells are.

@@ -1,13 +1,17 @@
-ghost use Rattle.std.specs.Prelude.{◌≡◌, ◌==◌, IfOk, length};
+ghost use Rattle.std.specs.Prelude.{◌≡◌, ◌==◌, ◌++◌, ◌∷◌, [], IfOk, OnOk, length, option_map};
+ghost use Rattle.std.specs.List.{filter_map};
+ghost use Rattle.amber_rows.specs.Cond.{numbered};
+ghost use Rattle.amber_rows.specs.Operators.{picked};
 ghost use Rattle.amber_rows.specs.Order.{row_cmp};
 ghost use Rattle.std.specs.Ordering.{as_partial_cmp, eq_by_cmp};
 ghost use Rattle.std.specs.Cmp.{eq_by_cmp_equiv, partial_equiv_from_equiv, partial_order_from_total};
 ghost use Rattle.std.specs.Prelude.{refl};
 ghost use Rattle.amber_rows.specs.OrderLaws.{row-total};
 
+use crate::column::Cols;
 use crate::key::key_of;
 use crate::value::Value;
-use std::alloc::AllocError;
+use std::alloc::{AllocError, Global};
 use std::cmp::Ordering;
 use std::marker::Model;
 
@@ -67,6 +71,39 @@ impl Row {
         ensures { result ≡ (length self.now == 0) }
     {
         self.inner.is_empty()
+    }
+
+    /// The cell of the column with this number, if there is one. Columns are numbered from 1.
+    pub fn cell(&self, column: u32) -> Option<&Value>
+        ensures { option_map (λ cell. cell.now) result ≡ numbered self.now column }
+    {
+        if column == 0 {
+            return None;
+        }
+        self.inner.get(column as usize - 1)
+    }
+
+    // Puts the cell of a column behind the others, if there is one.
+    fn add_cell(&self, column: u32, cells: &mut Vec<Value>) -> Result<(), AllocError>
+        ensures { OnOk result (cells.new.items ≡ cells.old.items ++ filter_map (numbered self.now) (column ∷ [])) }
+    {
+        let found = self.cell(column);
+        if let Some(cell) = found {
+            cells.push(cell.copy()?)?;
+        }
+        Ok(())
+    }
+
+    /// A row of the cells of these columns, in the order of `columns`. A column that the row does not have gives no cell.
+    pub fn pick(&self, alloc: Global, columns: &Cols) -> Result<Self, AllocError>
+        ensures { IfOk result (λ row. row ≡ picked columns.now self.now) }
+    {
+        let numbers = columns.get();
+        let mut cells = Vec::with_capacity(alloc, numbers.len())?;
+        for column in numbers {
+            self.add_cell(*column, &mut cells)?;
+        }
+        Ok(Row::new(cells))
     }
 
     /// Another row of equal cells.

@@ -131,6 +131,17 @@ fn rows_copy_and_give_their_cells(rt: HostRuntime) -> Result<(), Fail> {
 }
 
 #[test]
+fn a_row_gives_its_cells_by_column(rt: HostRuntime) -> Result<(), Fail> {
+    let row = row(rt.alloc(), "7 'pear")?;
+    let columns = Cols::new(Vec::from_slice(rt.alloc(), &[2, 3, 1, 0, 2])?);
+    let want = self::row(rt.alloc(), "'pear 7 'pear")?;
+    assert_eq!(rt; row.pick(rt.alloc(), &columns)?, want);
+    assert!(rt; row.cell(2) == want.get().first());
+    assert!(rt; row.cell(0).is_none() && row.cell(3).is_none());
+    Ok(())
+}
+
+#[test]
 fn schemas_copy(rt: HostRuntime) -> Result<(), Fail> {
     let mut columns = Vec::new(rt.alloc());
     columns.push(Column {

@@ -1,10 +1,12 @@
 ghost use Rattle.std.specs.Prelude.{◌≡◌, IfOk, length};
 
 use crate::column::{ColKind, Column, Schema};
+use crate::header::{are_names, has_header};
 use crate::record::{RowFault, read_int, type_record};
 use crate::record_reader::RecordReader;
 use crate::record_writer::{append_names, append_rows, row_text};
 use crate::row::Row;
+use crate::suiting::suits;
 use crate::text::Text;
 use crate::value::Value;
 use csv::ByteRecord;
@@ -97,6 +99,20 @@ fn types_a_record_or_tells_its_first_fault(rt: HostRuntime) -> Result<(), Fail> 
 }
 
 #[test]
+fn a_row_suits_columns_where_each_takes_its_cell(rt: HostRuntime) -> Result<(), Fail> {
+    let alloc = rt.alloc();
+    let schema = two_columns(alloc)?;
+    let one = [Value::Int(1)];
+    let both = [Value::Int(1), text_cell(alloc, "1")?];
+    let turned = [text_cell(alloc, "1")?, Value::Int(1)];
+    assert!(rt; !suits(&Row::new(Vec::from_array(alloc, one)?), &schema));
+    assert!(rt; suits(&Row::new(Vec::from_array(alloc, both)?), &schema));
+    assert!(rt; !suits(&Row::new(Vec::from_array(alloc, turned)?), &schema));
+    assert!(rt; ColKind::Int.takes(&Value::Int(1)) && !ColKind::Text.takes(&Value::Int(1)));
+    Ok(())
+}
+
+#[test]
 fn quotes_fields_where_they_need_it(rt: HostRuntime) -> Result<(), Fail> {
     let alloc = rt.alloc();
     let cases = [
@@ -179,5 +195,27 @@ fn reads_records_as_csv_files_have_them(rt: HostRuntime) -> Result<(), Fail> {
         }
         assert!(rt; !reader.next(&mut fields)?);
     }
+    Ok(())
+}
+
+#[test]
+fn a_header_has_the_names_of_the_columns_in_their_order(rt: HostRuntime) -> Result<(), Fail> {
+    let alloc = rt.alloc();
+    let schema = two_columns(alloc)?;
+    let files: [(&[u8], bool); 8] = [
+        (b"number,word\n1,x\n", true),
+        (b"\xEF\xBB\xBF\"number\",word", true),
+        (b"", false),
+        (b"number\n", false),
+        (b"number,word,word\n", false),
+        (b"word,number\n", false),
+        (b"Number,word\n", false),
+        (b"number,word \n", false),
+    ];
+    for (file, want) in files {
+        assert!(rt; has_header(alloc, &schema, file)? == want);
+    }
+    let fields = ByteRecord::from_fields(alloc, &[b"number".as_slice(), b"word".as_slice()])?;
+    assert!(rt; are_names(&fields, &schema));
     Ok(())
 }

@@ -3,6 +3,7 @@ use Rattle.std.proofs.Common.{◌≡◌, ℕ, suc, ◌+◌, ◌<◌, ◌==◌, c
 use Rattle.std.proofs.lemmas.Bool.{cases_eq, ne_eqb}
 use Rattle.std.proofs.lemmas.List.{append-nil, get_or-replicate, get_or-set_other, get_or-set_same, length-map, length-replicate, length-set, map-append}
 use Rattle.std.proofs.lemmas.List.Elements.{filter-append}
+use Rattle.amber_rows.proofs.FileRecords.{typed-all}
 use Rattle.amber_rows.specs.Reading.{HasRead}
 use Rattle.amber_rows.specs.Record.{file_records, row_of, typed_records}
 use Rattle.amber_rows.specs.declared.value.Value.{Value}
@@ -106,10 +107,6 @@ dealt-more workers columns done fields shares new one turn d n t at h is =
     rw grown (AreDealt-more workers (with_numbers 1 old) shares new one turn d at h is)
 
 -- all records of a file behind its header
-pub typed-all : (columns : List Column) (file : List ℕ) (header : Fields) (done : List Fields) → file_records file ≡ header ∷ done → typed_records columns file ≡ map (row_of columns) done
-unfolding typed_records
-typed-all columns file header done e = rw e refl
-
 pub dealt-all : (workers : ℕ) (columns : List Column) (file : List ℕ) (header : Fields) (done : List Fields) (shares : Shares) → AreDealt workers (with_numbers 1 (map (row_of columns) done)) shares
     → file_records file ≡ header ∷ done → (worker : ℕ) → worker < workers → get_or shares worker [] ≡ share_of workers worker (with_numbers 1 (typed_records columns file))
 dealt-all workers columns file header done shares d e worker h =

@@ -3,9 +3,8 @@ ghost use Rattle.amber_rows.specs.Record.{has_header, typed_records};
 ghost use Rattle.amber_scan.specs.Shares.{share_of, turn_of, with_numbers};
 ghost use Rattle.amber_scan.specs.declared.dealing.ScanErr.TheVariants as scan_err;
 
-use crate::header::are_names;
 use crate::share::{Scanned, Share};
-use amber_rows::{RecordReader, Schema, type_record};
+use amber_rows::{RecordReader, Schema, are_names, type_record};
 use csv::ByteRecord;
 use std::alloc::{AllocError, Global};
 

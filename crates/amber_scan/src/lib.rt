@@ -9,7 +9,6 @@
 #![tactic(auto)]
 
 mod dealing;
-mod header;
 pub mod share;
 
 pub use dealing::{ScanErr, deal};

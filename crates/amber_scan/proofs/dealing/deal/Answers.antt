@@ -2,9 +2,9 @@
 use Rattle.std.proofs.Common.{◌≡◌, ◌<◌, [], ◌∷◌, ◌++◌, false, true, length, get_or, set, refl, sym, ap, ◌∙◌, arith, rules}
 use Rattle.std.proofs.lemmas.List.{length_push, length-set, with_items_is}
 use Rattle.csv.specs.Records.{fields_of}
+use Rattle.amber_rows.proofs.Headers.{header-none, header-some}
 use Rattle.amber_scan.specs.Shares.{turn_of}
 use Rattle.amber_scan.proofs.Dealt.{AreDealt-none, dealt-all, dealt-more}
-use Rattle.amber_scan.proofs.Headers.{header-none, header-some}
 use Rattle.amber_scan.proofs.dealing.deal.Goals as goal
 
 pub returns-then-not-found-clause-header : goal.returns-then-not-found-clause-header

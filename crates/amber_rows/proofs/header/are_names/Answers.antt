@@ -4,8 +4,8 @@ use Rattle.std.specs.Cmp.Lexicographic.{pointwise}
 use Rattle.csv.proofs.RecordFacts.{field-there}
 use Rattle.csv.specs.Records.{fields_of}
 use Rattle.amber_rows.specs.Columns.{names_of}
-use Rattle.amber_scan.proofs.Headers.{names-more, names-end, not_false, not_true}
-use Rattle.amber_scan.proofs.header.are_names.Goals as goal
+use Rattle.amber_rows.proofs.Headers.{names-more, names-end, not_false, not_true}
+use Rattle.amber_rows.proofs.header.are_names.Goals as goal
 
 pub returns-in_default : goal.returns-in_default
 returns-in_default c = absurd (field-there (fields_of c.args.fields.now) c.loop-i.i (omega arith) (sym c.in_default.ensures.value))

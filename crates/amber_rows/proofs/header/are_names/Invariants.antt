@@ -3,7 +3,7 @@ use Rattle.std.proofs.Common.{◌≡◌, drop, length, bytes_eq}
 use Rattle.std.specs.Cmp.Lexicographic.{pointwise}
 use Rattle.csv.specs.Records.{fields_of}
 use Rattle.amber_rows.specs.Columns.{names_of}
-use Rattle.amber_scan.proofs.header.are_names.Given as goal
+use Rattle.amber_rows.proofs.header.are_names.Given as goal
 
 abbrev pub invariant-loop-i : goal.invariant-loop-i
 invariant-loop-i l = record {

@@ -2,7 +2,7 @@
 use Rattle.std.proofs.Common.{◌≡◌, take}
 use Rattle.std.specs.List.{filter_map}
 use Rattle.amber_rows.specs.Cond.{numbered}
-use Rattle.amber_ops.proofs.project.pick.Given as goal
+use Rattle.amber_rows.proofs.row.Row.pick.Given as goal
 
 abbrev pub invariant-loop-column : goal.invariant-loop-column
-invariant-loop-column l = l.cells.items ≡ filter_map (numbered l.row) (take l.column-index l.columns)
+invariant-loop-column l = l.cells.items ≡ filter_map (numbered l.self) (take l.column-index l.numbers)
