@@ -1,9 +1,8 @@
 -- Columns that are read one after the other.
-use Rattle.std.proofs.Common.{◌≡◌, ℕ, ◌+◌, ◌<◌, ◌≤◌, ◌&&◌, List, [], ◌∷◌, ◌++◌, length, get_or, drop, Result, Ok, Err, Bool, true, false, ◌||◌, bytes_eq, refl, sym, ap, append_assoc, append-nil, arith, drop-cons, suc}
+use Rattle.std.proofs.Common.{◌≡◌, ℕ, ◌+◌, ◌<◌, ◌≤◌, List, [], ◌∷◌, ◌++◌, length, map, get_or, drop, Result, Ok, Err, true, false, ◌||◌, bytes_eq, refl, sym, ap, append_assoc, append-nil, arith, drop-cons, suc}
 use Rattle.std.proofs.lemmas.List.{drop_all}
 use Rattle.std.specs.List.{list_all, list_any}
-use Rattle.serde_json.specs.Data.{item}
-use Rattle.serde_json.specs.View.{items_view, view}
+use Rattle.serde_json.specs.View.{view}
 use Rattle.serde_json.specs.declared.value.Value.{Value}
 use Rattle.amber_rows.specs.Columns.{names_of}
 use Rattle.amber_rows.specs.FlowRules.{are_apart, is_among, is_column_name}
@@ -11,6 +10,7 @@ use Rattle.amber_rows.specs.declared.column.Column.{Column}
 use Rattle.amber_flow.specs.Chain.{◌>>=◌}
 use Rattle.amber_flow.specs.Columns.{column_of, columns_of}
 use Rattle.amber_flow.specs.declared.error.FlowWhy.{FlowWhy}
+use Rattle.amber_flow.proofs.ListFacts.{and-true}
 
 -- these columns before the others, or the reason why there are none
 abbrev pub columns_after : List Column → Result (List Column) FlowWhy → Result (List Column) FlowWhy
@@ -21,25 +21,21 @@ columns_after-push : (done : List Column) (x : Column) (rest : Result (List Colu
 columns_after-push done x (Ok more) = ap Ok (sym (append_assoc done (x ∷ []) more))
 columns_after-push done x (Err why) = refl
 
-pub items-drop : (trees : List Value) (i : ℕ) (x : Value) → i < length trees → x ≡ get_or trees i x → items_view (drop i trees) ≡ item (view x) (items_view (drop (i + 1) trees))
-items-drop trees i x h is =
+pub trees-drop : (trees : List Value) (i : ℕ) (x : Value) → i < length trees → x ≡ get_or trees i x → map view (drop i trees) ≡ view x ∷ map view (drop (i + 1) trees)
+trees-drop trees i x h is =
     let next : i + 1 ≡ suc i = omega arith in
     rw (next, drop-cons trees i x, ← is)
 
 pub columns-more : (trees : List Value) (i : ℕ) (tree : Value) (done : List Column) (x : Column) → i < length trees → tree ≡ get_or trees i tree → Ok x ≡ column_of (view tree)
-    → columns_after done (columns_of (items_view (drop i trees))) ≡ columns_after (done ++ x ∷ []) (columns_of (items_view (drop (i + 1) trees)))
+    → columns_after done (columns_of (map view (drop i trees))) ≡ columns_after (done ++ x ∷ []) (columns_of (map view (drop (i + 1) trees)))
 unfolding columns_of
 columns-more trees i tree done x h is read =
-    rw (items-drop trees i tree h is, ← read) (columns_after-push done x (columns_of (items_view (drop (i + 1) trees))))
+    rw (trees-drop trees i tree h is, ← read) (columns_after-push done x (columns_of (map view (drop (i + 1) trees))))
 
 pub columns-stop : (trees : List Value) (i : ℕ) (tree : Value) (done : List Column) (why : FlowWhy) → i < length trees → tree ≡ get_or trees i tree → Err why ≡ column_of (view tree)
-    → columns_after done (columns_of (items_view (drop i trees))) ≡ Err why
+    → columns_after done (columns_of (map view (drop i trees))) ≡ Err why
 unfolding columns_of
-columns-stop trees i tree done why h is read = rw (items-drop trees i tree h is, ← read)
-
-and-true : (a b : Bool) → (a && b) ≡ true → (a ≡ true) × (b ≡ true)
-and-true true b h = (refl, h)
-and-true false b h = absurd (cc)
+columns-stop trees i tree done why h is read = rw (trees-drop trees i tree h is, ← read)
 
 pub names-push : (done : List Column) (x : Column) → list_all is_column_name (names_of done) ≡ true → is_column_name x.name ≡ true → list_all is_column_name (names_of (done ++ x ∷ [])) ≡ true
 names-push [] x all named = rw named
@@ -47,7 +43,7 @@ names-push (first ∷ done) x all named =
     let parts = and-true (is_column_name first.name) (list_all is_column_name (names_of done)) all in
     rw (parts.0, names-push done x parts.1 named)
 
-pub columns-end : (trees : List Value) (i : ℕ) (done : List Column) → length trees ≤ i → columns_after done (columns_of (items_view (drop i trees))) ≡ Ok done
+pub columns-end : (trees : List Value) (i : ℕ) (done : List Column) → length trees ≤ i → columns_after done (columns_of (map view (drop i trees))) ≡ Ok done
 unfolding columns_of
 columns-end trees i done h = rw (drop_all i trees h, append-nil done)
 

@@ -1,5 +1,10 @@
+mod ListFacts
 mod ColumnFacts
 mod OperatorFacts
 mod ReaderFacts
 mod TreeFacts
 mod FlowFacts
+mod NameFacts
+mod AggFacts
+mod JoinFacts
+mod GroupFacts

@@ -1,18 +1,19 @@
 -- Operators that are read one after the other.
-use Rattle.std.proofs.Common.{◌≡◌, ℕ, suc, ◌+◌, ◌<◌, ◌≤◌, ◌==◌, ◌||◌, List, [], ◌∷◌, ◌++◌, length, get_or, drop, All, true, false, bytes_eq, Ok, Err, refl, sym, ap, ◌∙◌, subst, append_assoc, append-nil, length-append, zero-add, arith, eq-eqb}
+use Rattle.std.proofs.Common.{◌≡◌, ℕ, suc, ◌+◌, ◌<◌, ◌≤◌, ◌==◌, ◌||◌, List, [], ◌∷◌, ◌++◌, length, map, get_or, drop, All, true, false, bytes_eq, Ok, Err, refl, sym, ap, ◌∙◌, subst, append_assoc, append-nil, length-append, zero-add, arith, eq-eqb}
 use Rattle.std.proofs.lemmas.Bool.Decides.{nat_tests}
 use Rattle.std.proofs.lemmas.List.{drop_all}
 use Rattle.std.proofs.lemmas.List.Elements.{All-push}
 use Rattle.std.specs.List.{list_any}
-use Rattle.serde_json.specs.View.{items_view, view}
+use Rattle.serde_json.specs.View.{view}
 use Rattle.serde_json.specs.declared.value.Value.{Value}
 use Rattle.amber_rows.specs.FlowRules.{AreNext, IsNext, ends_in_sink, is_among, is_sink}
 use Rattle.amber_rows.specs.declared.flow.Operator.{Operator}
-use Rattle.amber_flow.specs.Built.{AreBuilt, IsBuilt}
-use Rattle.amber_flow.specs.Operators.{IsNarrow, ids_of, operator_of}
+use Rattle.amber_flow.specs.Alone.{AreAlone}
+use Rattle.amber_flow.specs.Inputs.{IsNarrow}
+use Rattle.amber_flow.specs.Operators.{ids_of, operator_of}
 use Rattle.amber_flow.specs.Workflow.{fault_at, operators_from}
 use Rattle.amber_flow.specs.declared.error.FlowWhy.{FlowWhy}
-use Rattle.amber_flow.proofs.ColumnFacts.{items-drop}
+use Rattle.amber_flow.proofs.ColumnFacts.{trees-drop}
 
 -- a test of each operator's id
 pub ids-any : (id : List ℕ) (operators : List Operator) → list_any (λ operator. bytes_eq operator.id id) operators ≡ is_among id (ids_of operators)
@@ -50,47 +51,47 @@ placed-ends count i (operator ∷ next ∷ operators) placed all some =
 
 -- the operators of the first values, as far as they have been read
 pub record IsRead (trees : List Value) (i : ℕ) (operators : List Operator) : Type 0 where
-  pub meant : operators_from (length trees) [] (items_view trees) ≡ operators_from (length trees) operators (items_view (drop i trees))
+  pub meant : operators_from (length trees) [] (map view trees) ≡ operators_from (length trees) operators (map view (drop i trees))
   pub count : length operators ≡ i
   pub next : AreNext [] operators
   pub placed : IsPlaced (length trees) 0 operators
   pub narrow : All IsNarrow operators
-  pub built : AreBuilt operators
+  pub alone : AreAlone operators
 
 operators-more : (count : ℕ) (trees : List Value) (i : ℕ) (tree : Value) (before : List Operator) (operator : Operator) → i < length trees → tree ≡ get_or trees i tree → Ok operator ≡ operator_of count before (view tree)
-    → operators_from count before (items_view (drop i trees)) ≡ operators_from count (before ++ operator ∷ []) (items_view (drop (i + 1) trees))
+    → operators_from count before (map view (drop i trees)) ≡ operators_from count (before ++ operator ∷ []) (map view (drop (i + 1) trees))
 unfolding operators_from
-operators-more count trees i tree before operator h is read = rw (items-drop trees i tree h is, ← read)
+operators-more count trees i tree before operator h is read = rw (trees-drop trees i tree h is, ← read)
 
 operators-stop : (count : ℕ) (trees : List Value) (i : ℕ) (tree : Value) (before : List Operator) (why : FlowWhy) → i < length trees → tree ≡ get_or trees i tree → Err why ≡ operator_of count before (view tree)
-    → operators_from count before (items_view (drop i trees)) ≡ Err (fault_at (length before + 1) why)
+    → operators_from count before (map view (drop i trees)) ≡ Err (fault_at (length before + 1) why)
 unfolding operators_from
-operators-stop count trees i tree before why h is read = rw (items-drop trees i tree h is, ← read)
+operators-stop count trees i tree before why h is read = rw (trees-drop trees i tree h is, ← read)
 
-operators-end : (count : ℕ) (trees : List Value) (i : ℕ) (before : List Operator) → length trees ≤ i → operators_from count before (items_view (drop i trees)) ≡ Ok before
+operators-end : (count : ℕ) (trees : List Value) (i : ℕ) (before : List Operator) → length trees ≤ i → operators_from count before (map view (drop i trees)) ≡ Ok before
 unfolding operators_from
 operators-end count trees i before h = rw (drop_all i trees h)
 
 pub read-none : (trees : List Value) → IsRead trees 0 []
 unfolding AreNext
-read-none trees = record { meant = refl; count = refl; next = tt; placed = tt; narrow = λ k d h. absurd (omega arith); built = λ k d h. absurd (omega arith) }
+read-none trees = record { meant = refl; count = refl; next = tt; placed = tt; narrow = λ k d h. absurd (omega arith); alone = λ k d h. absurd (omega arith) }
 
 pub read-more : (trees : List Value) (i : ℕ) (tree : Value) (before : List Operator) (operator : Operator) → IsRead trees i before → i < length trees → tree ≡ get_or trees i tree → Ok operator ≡ operator_of (length trees) before (view tree)
-    → IsNext before operator → is_sink operator.what ≡ (length before + 1 == length trees) → IsBuilt operator → IsRead trees (i + 1) (before ++ operator ∷ [])
-read-more trees i tree before operator done h is read next placed built = record {
+    → IsNext before operator → is_sink operator.what ≡ (length before + 1 == length trees) → operator.workers ≡ 1 → IsRead trees (i + 1) (before ++ operator ∷ [])
+read-more trees i tree before operator done h is read next placed alone = record {
   meant = done.meant ∙ operators-more (length trees) trees i tree before operator h is read;
   count = simp length-append (omega (arith, done.count));
   next = AreNext-push [] before operator done.next next;
   placed = placed-push (length trees) 0 before operator done.placed (placed ∙ ap (λ n. n + 1 == length trees) (sym (zero-add (length before))));
   narrow = All-push IsNarrow before operator done.narrow next.columns.few;
-  built = All-push IsBuilt before operator done.built built;
+  alone = All-push (λ operator. operator.workers ≡ 1) before operator done.alone alone;
 }
 
 pub read-stop : (trees : List Value) (i : ℕ) (tree : Value) (before : List Operator) (why : FlowWhy) → IsRead trees i before → i < length trees → tree ≡ get_or trees i tree → Err why ≡ operator_of (length trees) before (view tree)
-    → operators_from (length trees) [] (items_view trees) ≡ Err (fault_at (length before + 1) why)
+    → operators_from (length trees) [] (map view trees) ≡ Err (fault_at (length before + 1) why)
 read-stop trees i tree before why done h is read = done.meant ∙ operators-stop (length trees) trees i tree before why h is read
 
-pub read-all : (trees : List Value) (i : ℕ) (before : List Operator) → IsRead trees i before → length trees ≤ i → operators_from (length trees) [] (items_view trees) ≡ Ok before
+pub read-all : (trees : List Value) (i : ℕ) (before : List Operator) → IsRead trees i before → length trees ≤ i → operators_from (length trees) [] (map view trees) ≡ Ok before
 read-all trees i before done h = done.meant ∙ operators-end (length trees) trees i before h
 
 pub read-ends : (trees : List Value) (i : ℕ) (before : List Operator) → IsRead trees i before → i ≡ length trees → 0 < length trees → ends_in_sink before ≡ true

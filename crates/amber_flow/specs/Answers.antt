@@ -1,5 +1,5 @@
 -- What the readers answer.
-use Rattle.std.specs.Prelude.{◌≡◌, List, Option, Some, None, Result, Ok, Err, IsErr, ⊤}
+use Rattle.std.specs.Prelude.{◌≡◌, List, Option, Some, None, Result, Ok, Err, ⊤}
 use Rattle.serde_json.specs.Data.{Data}
 use Rattle.serde_json.specs.View.{view}
 use Rattle.serde_json.specs.declared.value.Value.{Value}
@@ -17,13 +17,7 @@ AnswersTree (Err (Bad op reason)) meant = (op ≡ 0) × (reason ≡ why.Json) ×
 AnswersTree (Err NoMemory) meant = ⊤
 
 -- the workflow that was meant; its first reason and the operator at fault; or nothing, for want of memory
-abbrev pub AnswersExactly : Result (List Operator) FlowErr → Result (List Operator) Fault → Type 0
-AnswersExactly (Ok flow) meant = meant ≡ Ok flow
-AnswersExactly (Err (Bad op reason)) meant = meant ≡ Err (fault_at op reason)
-AnswersExactly (Err NoMemory) meant = ⊤
-
--- the workflow that was meant; `Shape` of the whole where none was; or nothing, for want of memory
-abbrev pub AnswersFlow : Result (List Operator) FlowErr → Result (List Operator) Fault → Type 0
-AnswersFlow (Ok flow) meant = meant ≡ Ok flow
-AnswersFlow (Err (Bad op reason)) meant = (op ≡ 0) × (reason ≡ why.Shape) × IsErr meant
-AnswersFlow (Err NoMemory) meant = ⊤
+abbrev pub Answers : Result (List Operator) FlowErr → Result (List Operator) Fault → Type 0
+Answers (Ok flow) meant = meant ≡ Ok flow
+Answers (Err (Bad op reason)) meant = meant ≡ Err (fault_at op reason)
+Answers (Err NoMemory) meant = ⊤

@@ -1,8 +1,10 @@
--- The columns of a scan.
-use Rattle.std.specs.Prelude.{ℕ, ◌+◌, List, [], ◌∷◌, Option, ok_or, is_none, option_map, position, Result, Ok, bytes_eq}
-use Rattle.serde_json.specs.Data.{Data, Items, no_items, item}
+-- The columns of a scan, and those of an input by their names.
+use Rattle.std.specs.Prelude.{ℕ, ◌+◌, ◌&&◌, List, [], ◌∷◌, Option, Some, None, ok_or, is_none, if◌then◌else◌, option_map, option_and_then, position, Result, Ok, Bool, false, bytes_eq}
+use Rattle.serde_json.specs.Data.{Data}
 use Rattle.serde_json.specs.Find.{at}
+use Rattle.amber_rows.specs.Cond.{numbered}
 use Rattle.amber_rows.specs.FlowRules.{is_column_name}
+use Rattle.amber_rows.specs.declared.column.ColKind.{ColKind}
 use Rattle.amber_rows.specs.declared.column.Column.{Column}
 use Rattle.amber_flow.specs.Chain.{◌>>=◌, require}
 use Rattle.amber_flow.specs.Fields.{text_in}
@@ -21,10 +23,35 @@ column_of tree = do
   Ok (record { name = name; kind = kind })
 
 -- a list of such pairs
-unfoldable pub columns_of : Items → Result (List Column) FlowWhy
-columns_of no_items = Ok []
-columns_of (item tree trees) = column_of tree >>= (λ column. columns_of trees >>= (λ columns. Ok (column ∷ columns)))
+unfoldable pub columns_of : List Data → Result (List Column) FlowWhy
+columns_of [] = Ok []
+columns_of (tree ∷ trees) = column_of tree >>= (λ column. columns_of trees >>= (λ columns. Ok (column ∷ columns)))
 
 -- the number of the column with this name
 abbrev pub column_number : List Column → List ℕ → Option ℕ
 column_number columns name = option_map (λ index. index + 1) (position (λ column. bytes_eq column.name name) columns)
+
+-- the column with this name
+abbrev pub column_named : List Column → List ℕ → Option Column
+column_named columns name = option_and_then (numbered columns) (column_number columns name)
+
+-- the kind of the column with a number
+abbrev pub kind_at : List Column → ℕ → Option ColKind
+kind_at columns number = option_map (λ column. column.kind) (numbered columns number)
+
+-- whether there is a text, and it may name a column
+abbrev pub is_new_name : Option (List ℕ) → Bool
+is_new_name None = false
+is_new_name (Some name) = is_column_name name
+
+-- the name of the column that a pair of texts renames, where its other text may name a column
+abbrev pub source_of : Data → Option (List ℕ)
+source_of pair = if is_none (at 2 pair) && is_new_name (text_in 1 pair) then text_in 0 pair else None
+
+-- a column under another name
+abbrev pub under : List ℕ → Column → Column
+under name column = record { name = name; kind = column.kind }
+
+-- the column that a pair renames, under its new name
+abbrev pub renamed : List Column → Data → Option Column
+renamed columns pair = option_and_then (λ name. option_map (under name) (option_and_then (column_named columns) (text_in 0 pair))) (text_in 1 pair)

@@ -1,8 +1,12 @@
+pub mod Aggregates
+pub mod Alone
 pub mod Answers
-pub mod Built
 pub mod Chain
 pub mod Columns
 pub mod Fields
+pub mod Groups
+pub mod Inputs
+pub mod Joins
 pub mod Names
 pub mod Operators
 pub mod Words

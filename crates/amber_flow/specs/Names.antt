@@ -5,19 +5,25 @@ use Rattle.amber_rows.specs.declared.column.ColKind.TheVariants as column
 use Rattle.amber_rows.specs.declared.cond.Cmp.{Cmp}
 use Rattle.amber_rows.specs.declared.cond.Cmp.TheVariants as sign
 use Rattle.amber_flow.specs.declared.names.Kind.{Kind}
-use Rattle.amber_flow.specs.declared.names.Kind.TheVariants.{Scan, Filter, Sink}
+use Rattle.amber_flow.specs.declared.names.Kind.TheVariants.{Scan, Filter, Project, Join, Group, Sink}
 
--- the kinds of operator that can be built
+-- the six kinds of operator
 abbrev pub kind_named : List ℕ → Option Kind
 kind_named name =
     if bytes_eq name (codes "scan") then Some Scan
     else (if bytes_eq name (codes "filter") then Some Filter
+    else (if bytes_eq name (codes "project") then Some Project
+    else (if bytes_eq name (codes "join") then Some Join
+    else (if bytes_eq name (codes "group") then Some Group
     else (if bytes_eq name (codes "sink") then Some Sink
-    else None))
+    else None)))))
 
 abbrev pub is_sink_kind : Kind → Bool
 is_sink_kind Scan = false
 is_sink_kind Filter = false
+is_sink_kind Project = false
+is_sink_kind Join = false
+is_sink_kind Group = false
 is_sink_kind Sink = true
 
 -- the kinds of column

@@ -1,5 +1,6 @@
 -- The operators of a workflow.
-use Rattle.std.specs.Prelude.{◌≤◌, ℕ, ◌+◌, ◌==◌, ◌&&◌, not, nat_lt, nat_le, List, length, map, position, bytes_eq, codes, Option, Some, None, ok_or, option_map, option_and_then, Result, Ok, Bool, if◌then◌else◌, ⊤}
+use Rattle.std.specs.Prelude.{ℕ, ◌+◌, ◌==◌, ◌&&◌, not, nat_lt, nat_le, List, length, map, codes, Option, Some, None, ok_or, option_map, option_and_then, Result, Ok, Bool, if◌then◌else◌, ⊤}
+use Rattle.std.specs.List.{filter_map}
 use Rattle.serde_json.specs.Data.{Data}
 use Rattle.serde_json.specs.Find.{as_i64, as_number, as_str, as_u64, get}
 use Rattle.amber_rows.specs.Columns.{names_of}
@@ -14,15 +15,18 @@ use Rattle.amber_rows.specs.declared.cond.Cmp.{Cmp}
 use Rattle.amber_rows.specs.declared.cond.Cond.{Cond}
 use Rattle.amber_rows.specs.declared.flow.What.TheVariants as what
 use Rattle.amber_rows.specs.declared.flow.Operator.{Operator}
-use Rattle.amber_flow.specs.Chain.{◌>>=◌, require}
-use Rattle.amber_flow.specs.Columns.{column_number, columns_of}
+use Rattle.amber_flow.specs.Chain.{◌>>=◌, each, require}
+use Rattle.amber_flow.specs.Columns.{column_number, columns_of, renamed, source_of}
+use Rattle.amber_flow.specs.Inputs.{columns_at, operator_number}
+use Rattle.amber_flow.specs.Groups.{group_of}
+use Rattle.amber_flow.specs.Joins.{join_of}
 use Rattle.amber_flow.specs.Fields.{list_at, text_at}
 use Rattle.amber_flow.specs.Names.{is_sink_kind, kind_named, sign_named}
 use Rattle.amber_flow.specs.declared.error.FlowWhy.{FlowWhy}
 use Rattle.amber_flow.specs.declared.error.FlowWhy.TheVariants as why
 use Rattle.amber_flow.specs.declared.names.Kind.{Kind}
 use Rattle.amber_flow.specs.declared.names.Kind.TheVariants as kind
-use Rattle.amber_flow.specs.declared.parts.Head.{Head}
+use Rattle.amber_flow.specs.declared.head.Head.{Head}
 use Rattle.amber_flow.specs.declared.parts.Parts.{Parts}
 
 -- ---- what every operator has
@@ -36,10 +40,18 @@ new_id before id = do
   named ← require (is_id id) why.Name
   require (not (is_among id (ids_of before))) why.Duplicate
 
--- the number of workers: one, written or not
-abbrev pub workers_from : Option Data → Option ℕ
-workers_from None = Some 1
-workers_from (Some tree) = option_and_then (λ n. if n == 1 then Some n else None) (option_and_then as_u64 (as_number tree))
+-- the most workers that an operator other than a sink may have: one, until several can run
+abbrev pub worker_limit : ℕ
+worker_limit = 1
+
+-- the most workers that an operator of a kind may have
+abbrev pub most_workers : Kind → ℕ
+most_workers kind = if is_sink_kind kind then 1 else worker_limit
+
+-- the number of workers, where an operator has at most so many: one, where it is not written
+abbrev pub workers_from : ℕ → Option Data → Option ℕ
+workers_from most None = Some 1
+workers_from most (Some tree) = option_and_then (λ n. if nat_le 1 n && nat_le n most then Some n else None) (option_and_then as_u64 (as_number tree))
 
 -- a sink stands last, and nothing else does
 abbrev pub is_placed : Kind → Bool → Bool
@@ -48,19 +60,11 @@ is_placed kind is_last = if is_last then is_sink_kind kind else not (is_sink_kin
 unfoldable pub head_of : Bool → List ℕ → Data → Result Head FlowWhy
 head_of is_last word tree = do
   kind ← ok_or (kind_named word) why.Kind
-  workers ← ok_or (workers_from (get (codes "workers") tree)) why.Workers
+  workers ← ok_or (workers_from (most_workers kind) (get (codes "workers") tree)) why.Workers
   placed ← require (is_placed kind is_last) why.SinkPlace
   Ok (record { kind = kind; workers = workers })
 
 -- ---- what each kind has
-
--- the number of the operator with this id
-abbrev pub operator_number : List Operator → List ℕ → Option ℕ
-operator_number before id = option_map (λ index. index + 1) (position (λ operator. bytes_eq operator.id id) before)
-
--- the columns of the operator with a number
-abbrev pub columns_at : List Operator → ℕ → Option (List Column)
-columns_at before number = option_map (λ operator. operator.schema) (numbered before number)
 
 abbrev pub is_file_name : List ℕ → Bool
 is_file_name file = nat_lt 0 (length file) && nat_le (length file) 255
@@ -99,6 +103,16 @@ filter_of before tree = do
   cond ← cond_of columns name sign constant
   Ok (record { what = what.Filter input cond; schema = columns })
 
+unfoldable pub project_of : List Operator → Data → Result Parts FlowWhy
+project_of before tree = do
+  id ← ok_or (text_at (codes "input") tree) why.Shape
+  pairs ← ok_or (list_at (codes "columns") tree) why.Shape
+  sources ← ok_or (each source_of pairs) why.Shape
+  input ← ok_or (operator_number before id) why.Forward
+  columns ← ok_or (columns_at before input) why.Forward
+  from ← ok_or (each (column_number columns) sources) why.Column
+  Ok (record { what = what.Project input from; schema = filter_map (renamed columns) pairs })
+
 unfoldable pub sink_of : List Operator → Data → Result Parts FlowWhy
 sink_of before tree = do
   id ← ok_or (text_at (codes "input") tree) why.Shape
@@ -109,6 +123,9 @@ sink_of before tree = do
 abbrev pub parts_of : Kind → List Operator → Data → Result Parts FlowWhy
 parts_of kind.Scan before tree = scan_of tree
 parts_of kind.Filter before tree = filter_of before tree
+parts_of kind.Project before tree = project_of before tree
+parts_of kind.Join before tree = join_of before tree
+parts_of kind.Group before tree = group_of before tree
 parts_of kind.Sink before tree = sink_of before tree
 
 -- an operator gives 1 to 64 columns, none of a name twice
@@ -116,10 +133,6 @@ unfoldable pub check_columns : List Column → Result ⊤ FlowWhy
 check_columns columns = do
   wide ← require (nat_lt 0 (length columns) && nat_le (length columns) 64) why.Wide
   require (are_apart (names_of columns)) why.Duplicate
-
--- no more columns than an operator may give
-abbrev pub IsNarrow : Operator → Type 0
-IsNarrow operator = length operator.schema ≤ 64
 
 -- ---- an operator
 

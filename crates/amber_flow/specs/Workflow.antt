@@ -1,8 +1,7 @@
 -- The workflow that a byte list means, or the first reason why it means none.
 use Rattle.std.specs.Prelude.{ℕ, zero, suc, ◌+◌, ◌-◌, ◌==◌, ◌&&◌, nat_le, List, [], ◌∷◌, ◌++◌, length, sum_by, codes, Option, Some, None, ok_or, Result, Ok, Err, Bool, if◌then◌else◌, ⊤}
 use Rattle.std.specs.Str.{is_utf8}
-use Rattle.serde_json.specs.Data.{Data, Items, no_items, item}
-use Rattle.serde_json.specs.Events.{items_len}
+use Rattle.serde_json.specs.Data.{Data}
 use Rattle.serde_json.specs.Read.{read}
 use Rattle.amber_rows.specs.FlowRules.{reader_count}
 use Rattle.amber_rows.specs.declared.flow.Operator.{Operator}
@@ -26,9 +25,9 @@ at_operator op (Ok operator) = Ok operator
 at_operator op (Err reason) = Err (fault_at op reason)
 
 -- the operators that come after these, where there are `count` in all
-unfoldable pub operators_from : ℕ → List Operator → Items → Result (List Operator) Fault
-operators_from count before no_items = Ok before
-operators_from count before (item tree trees) =
+unfoldable pub operators_from : ℕ → List Operator → List Data → Result (List Operator) Fault
+operators_from count before [] = Ok before
+operators_from count before (tree ∷ trees) =
     at_operator (length before + 1) (operator_of count before tree) >>= (λ operator. operators_from count (before ++ operator ∷ []) trees)
 
 -- a workflow has 2 to 32 operators
@@ -62,8 +61,8 @@ check_whole flow = do
 unfoldable pub flow_of : Data → Result (List Operator) Fault
 flow_of tree = do
   trees ← ok_or (list_at (codes "operators") tree) (fault_at 0 why.Shape)
-  sized ← require (is_flow_length (items_len trees)) (fault_at 0 why.Count)
-  flow ← operators_from (items_len trees) [] trees
+  sized ← require (is_flow_length (length trees)) (fault_at 0 why.Count)
+  flow ← operators_from (length trees) [] trees
   check_whole flow
 
 -- the workflow that bytes mean

@@ -1,14 +1,15 @@
-ghost use Rattle.std.specs.Prelude.{◌≡◌, ◌+◌, ◌^◌, ◌≤◌, ◌<◌, true, length, position, bytes_eq, IfOk, IfSome, MatchResult, Ok, Err};
-ghost use Rattle.std.specs.List.{list_all, list_any};
-ghost use Rattle.serde_json.specs.View.{items_view, view};
+ghost use Rattle.std.specs.Prelude.{◌≡◌, ◌++◌, [], OnOk, ◌+◌, ◌^◌, ◌≤◌, ◌<◌, true, length, map, option_map, position, bytes_eq, IfOk, IfSome, MatchResult, Ok, Err};
+ghost use Rattle.std.specs.List.{cons_option, filter_map, list_all, list_any};
+ghost use Rattle.serde_json.specs.View.{view};
 ghost use Rattle.amber_rows.specs.Columns.{names_of};
 ghost use Rattle.amber_rows.specs.FlowRules.{are_apart, is_among, is_column_name};
-ghost use Rattle.amber_flow.specs.Columns.{column_number, column_of, columns_of};
+ghost use Rattle.amber_flow.specs.Chain.{each};
+ghost use Rattle.amber_flow.specs.Columns.{column_named, column_number, column_of, columns_of, kind_at};
 
 use crate::error::FlowWhy;
 use crate::fields::text_item;
 use crate::names::{column_kind, may_name_column};
-use amber_rows::{Column, Text};
+use amber_rows::{ColKind, Column, Text};
 use serde_json::Value;
 use std::alloc::{AllocError, Global};
 
@@ -43,8 +44,8 @@ pub fn read_columns(
     trees: &[Value],
 ) -> Result<Result<Vec<Column>, FlowWhy>, AllocError>
     ensures columns { IfOk result (λ read. MatchResult read
-        (λ columns. columns_of (items_view trees.now) ≡ Ok columns.items)
-        (λ why. columns_of (items_view trees.now) ≡ Err why)) }
+        (λ columns. columns_of (map view trees.now) ≡ Ok columns.items)
+        (λ why. columns_of (map view trees.now) ≡ Err why)) }
     ensures named { IfOk result (λ read. IfOk read (λ columns. list_all is_column_name (names_of columns.items) ≡ true)) }
 {
     let mut columns = Vec::new(alloc);
@@ -73,6 +74,96 @@ pub fn find_column(columns: &[Column], name: &str) -> Option<u32>
         None => None,
         Some(index) => Some(index as u32 + 1),
     }
+}
+
+/// The column with this name.
+pub fn column_with<'c>(columns: &'c [Column], name: &str) -> Option<&'c Column>
+    requires { length columns.now ≤ 64 }
+    ensures { option_map (λ column. column.now) result ≡ column_named columns.now name.now }
+{
+    match find_column(columns, name) {
+        None => None,
+        Some(number) => columns.get(number as usize - 1),
+    }
+}
+
+/// The numbers of the columns with these names, if each is a column's.
+pub fn find_columns(
+    alloc: Global,
+    columns: &[Column],
+    names: &[&str],
+) -> Result<Option<Vec<u32>>, AllocError>
+    requires { length columns.now ≤ 64 }
+    ensures { IfOk result (λ found. option_map (λ numbers. numbers.items) found
+        ≡ each (column_number columns.now) (map (λ name. name.now) names.now)) }
+{
+    let mut numbers = Vec::new(alloc);
+    for name in names {
+        match find_column(columns, name) {
+            Some(number) => numbers.push(number)?,
+            None => return Ok(None),
+        }
+    }
+    Ok(Some(numbers))
+}
+
+/// Puts a column behind the others, if there is one.
+pub fn add_column(columns: &mut Vec<Column>, found: Option<Column>) -> Result<(), AllocError>
+    ensures { OnOk result (columns.new.items ≡ columns.old.items ++ cons_option found []) }
+{
+    if let Some(column) = found {
+        columns.push(column)?;
+    }
+    Ok(())
+}
+
+/// The kind of the column with this number.
+pub fn kind_of_column(columns: &[Column], number: u32) -> Option<ColKind>
+    ensures { result ≡ kind_at columns.now number }
+{
+    if number == 0 {
+        return None;
+    }
+    match columns.get(number as usize - 1) {
+        None => None,
+        Some(column) => Some(column.kind),
+    }
+}
+
+/// Puts copies of columns behind the others.
+pub fn add_columns(made: &mut Vec<Column>, columns: &[Column]) -> Result<(), AllocError>
+    ensures { OnOk result (made.new.items ≡ made.old.items ++ columns.now) }
+{
+    for column in columns {
+        made.push(column.copy()?)?;
+    }
+    Ok(())
+}
+
+fn copy_named(columns: &[Column], name: &str) -> Result<Option<Column>, AllocError>
+    requires { length columns.now ≤ 64 }
+    ensures { IfOk result (λ found. found ≡ column_named columns.now name.now) }
+{
+    match column_with(columns, name) {
+        None => Ok(None),
+        Some(column) => Ok(Some(column.copy()?)),
+    }
+}
+
+/// Puts copies of the columns with these names behind the others.
+pub fn add_named(
+    made: &mut Vec<Column>,
+    columns: &[Column],
+    names: &[&str],
+) -> Result<(), AllocError>
+    requires { length columns.now ≤ 64 }
+    ensures { OnOk result (made.new.items ≡ made.old.items ++ filter_map (column_named columns.now) (map (λ name. name.now) names.now)) }
+{
+    for name in names {
+        let column = copy_named(columns, name)?;
+        add_column(made, column)?;
+    }
+    Ok(())
 }
 
 fn has_named(columns: &[Column], name: &str) -> bool

@@ -4,14 +4,23 @@
 //! which workflow a byte list means, or the first reason why it means none.
 #![tactic(auto)]
 
+mod aggregates;
 mod columns;
 mod error;
 mod fields;
+mod filter;
+mod group;
+mod head;
+mod inputs;
+mod join;
 mod names;
 mod operator;
 mod parts;
+mod project;
 mod read;
 mod readers;
+mod scan;
+mod sink;
 #[cfg(test)]
 mod tests;
 

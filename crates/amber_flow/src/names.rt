@@ -5,11 +5,14 @@ ghost use Rattle.amber_flow.specs.Names.{column_kind_named, is_sink_kind, kind_n
 
 use amber_rows::{Cmp, ColKind};
 
-/// The kinds of operator that can be built.
+/// The kinds of operator.
 #[derive(Clone, Copy, Debug, PartialEq, Eq)]
 pub enum Kind {
     Scan,
     Filter,
+    Project,
+    Join,
+    Group,
     Sink,
 }
 
@@ -21,6 +24,9 @@ impl Kind {
         match name {
             "scan" => Some(Kind::Scan),
             "filter" => Some(Kind::Filter),
+            "project" => Some(Kind::Project),
+            "join" => Some(Kind::Join),
+            "group" => Some(Kind::Group),
             "sink" => Some(Kind::Sink),
             _ => None,
         }
@@ -31,7 +37,7 @@ impl Kind {
     {
         match self {
             Kind::Sink => true,
-            Kind::Scan | Kind::Filter => false,
+            Kind::Scan | Kind::Filter | Kind::Project | Kind::Join | Kind::Group => false,
         }
     }
 }

@@ -1,12 +1,13 @@
 ghost use Rattle.std.specs.Prelude.{All, true, ◌≡◌, ◌+◌, ◌<◌, ◌≤◌, ◌==◌, length, IfOk};
 ghost use Rattle.serde_json.specs.View.{view};
 ghost use Rattle.amber_rows.specs.FlowRules.{IsNext, is_sink};
-ghost use Rattle.amber_flow.specs.Built.{is_built};
-ghost use Rattle.amber_flow.specs.Operators.{IsNarrow, operator_of};
+ghost use Rattle.amber_flow.specs.Inputs.{IsNarrow};
+ghost use Rattle.amber_flow.specs.Operators.{operator_of};
 
 use crate::error::FlowWhy;
 use crate::fields::text_field;
-use crate::parts::{check_id, check_schema, read_head, read_parts};
+use crate::head::{check_id, read_head};
+use crate::parts::{check_schema, read_parts};
 use amber_rows::{Operator, Text};
 use serde_json::Value;
 use std::alloc::{AllocError, Global};
@@ -24,7 +25,7 @@ pub fn read_operator(
     ensures operator { IfOk result (λ read. read ≡ operator_of count before.now (view tree.now)) }
     ensures next { IfOk result (λ read. IfOk read (λ operator. IsNext before.now operator)) }
     ensures placed { IfOk result (λ read. IfOk read (λ operator. is_sink operator.what ≡ (length before.now + 1 == count))) }
-    ensures built { IfOk result (λ read. IfOk read (λ operator. is_built operator.what ≡ true)) }
+    ensures alone { IfOk result (λ read. IfOk read (λ operator. operator.workers ≡ 1)) }
 {
     let Some(id) = text_field(tree, "id") else {
         return Ok(Err(FlowWhy::Shape));

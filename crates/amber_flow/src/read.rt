@@ -1,8 +1,8 @@
-ghost use Rattle.std.specs.Prelude.{◌≡◌, ◌==◌, ◌<◌, ◌≤◌, ◌⊎◌, [], true, length, MatchResult, IfOk, Ok, Err};
-ghost use Rattle.serde_json.specs.View.{items_view, view};
+ghost use Rattle.std.specs.Prelude.{◌≡◌, ◌==◌, ◌<◌, ◌≤◌, ◌⊎◌, [], true, length, map, MatchResult, IfOk, Ok, Err};
+ghost use Rattle.serde_json.specs.View.{view};
 ghost use Rattle.amber_rows.specs.FlowRules.{AreNext, ends_in_sink};
-ghost use Rattle.amber_flow.specs.Answers.{AnswersExactly, AnswersFlow, AnswersTree};
-ghost use Rattle.amber_flow.specs.Built.{AreBuilt};
+ghost use Rattle.amber_flow.specs.Alone.{AreAlone};
+ghost use Rattle.amber_flow.specs.Answers.{Answers, AnswersTree};
 ghost use Rattle.amber_flow.specs.Workflow.{check_whole, flow_of, is_flow_length, operators_from, tree_of, workflow_of};
 
 use crate::error::{Fault, FlowErr, FlowWhy};
@@ -36,12 +36,12 @@ fn read_operators(
 ) -> Result<Result<Vec<Operator>, Fault>, AllocError>
     requires { length trees.now ≤ 32 }
     ensures operators { IfOk result (λ read. MatchResult read
-        (λ operators. operators_from (length trees.now) [] (items_view trees.now) ≡ Ok operators.items)
-        (λ fault. operators_from (length trees.now) [] (items_view trees.now) ≡ Err fault)) }
+        (λ operators. operators_from (length trees.now) [] (map view trees.now) ≡ Ok operators.items)
+        (λ fault. operators_from (length trees.now) [] (map view trees.now) ≡ Err fault)) }
     ensures count { IfOk result (λ read. IfOk read (λ operators. length operators.items ≡ length trees.now)) }
     ensures next { IfOk result (λ read. IfOk read (λ operators. AreNext [] operators.items)) }
     ensures ends { IfOk result (λ read. IfOk read (λ operators. 0 < length trees.now → ends_in_sink operators.items ≡ true)) }
-    ensures built { IfOk result (λ read. IfOk read (λ operators. AreBuilt operators.items)) }
+    ensures alone { IfOk result (λ read. IfOk read (λ operators. AreAlone operators.items)) }
 {
     let mut operators = Vec::new(alloc);
     for tree in trees {
@@ -62,9 +62,8 @@ fn make_flow(operators: Vec<Operator>) -> Result<Flow, Fault>
     requires few { length operators.items ≤ 32 }
     requires next { AreNext [] operators.items }
     requires ends { ends_in_sink operators.items ≡ true }
-    requires built { AreBuilt operators.items }
     ensures checked { result ≡ check_whole operators.items }
-    ensures built { IfOk result (λ flow. AreBuilt flow) }
+    ensures same { IfOk result (λ flow. flow ≡ operators.items) }
 {
     if 128 < count_workers(operators.as_slice()) {
         return Err(Fault {
@@ -91,8 +90,8 @@ fn may_be_flow(count: usize) -> bool
 /// The workflow that a JSON value means, or its first reason and the operator at fault.
 #[tactic(auto, unfolding(crate::specs::Workflow::flow_of))]
 fn read_whole(alloc: Global, tree: &Value) -> Result<Result<Flow, Fault>, AllocError>
-    ensures flow { IfOk result (λ read. read ≡ flow_of (view tree.now)) }
-    ensures built { IfOk result (λ read. IfOk read (λ flow. AreBuilt flow)) }
+    ensures meant { IfOk result (λ read. read ≡ flow_of (view tree.now)) }
+    ensures alone { IfOk result (λ read. IfOk read (λ flow. AreAlone flow)) }
 {
     let Some(trees) = list_field(tree, "operators") else {
         return Ok(Err(Fault {
@@ -113,31 +112,17 @@ fn read_whole(alloc: Global, tree: &Value) -> Result<Result<Flow, Fault>, AllocE
     }
 }
 
-/// The workflow that bytes mean, or its first reason and the operator at fault.
+/// Reads a workflow from JSON: an object with a list `operators`. The definition `workflow_of` in `specs/`
+/// says which workflow the bytes mean, or the first reason why they mean none, and the operator at fault.
 #[tactic(auto, unfolding(crate::specs::Workflow::workflow_of))]
-pub(crate) fn read_exact_flow(alloc: Global, bytes: &[u8]) -> Result<Flow, FlowErr>
-    ensures answer { AnswersExactly result (workflow_of bytes.now) }
-    ensures built { IfOk result (λ flow. AreBuilt flow) }
+pub fn read_flow(alloc: Global, bytes: &[u8]) -> Result<Flow, FlowErr>
+    ensures answer { Answers result (workflow_of bytes.now) }
+    ensures alone { IfOk result (λ flow. AreAlone flow) }
 {
     let tree = read_tree(alloc, bytes)?;
     match read_whole(alloc, &tree) {
         Ok(Ok(flow)) => Ok(flow),
         Ok(Err(Fault { op, why })) => Err(FlowErr::Bad { op, why }),
         Err(_) => Err(FlowErr::NoMemory),
-    }
-}
-
-/// Reads a workflow from JSON: an object with a list `operators`, as the definition `workflow_of` in
-/// `specs/` has it. Every reason is answered as `Shape` of the whole.
-pub fn read_flow(alloc: Global, bytes: &[u8]) -> Result<Flow, FlowErr>
-    ensures answer { AnswersFlow result (workflow_of bytes.now) }
-    ensures built { IfOk result (λ flow. AreBuilt flow) }
-{
-    match read_exact_flow(alloc, bytes) {
-        Err(FlowErr::Bad { .. }) => Err(FlowErr::Bad {
-            op: 0,
-            why: FlowWhy::Shape,
-        }),
-        answer => answer,
     }
 }

@@ -1,35 +1,22 @@
-mod refused;
+mod tables;
 
-use crate::error::{Fault, FlowErr, FlowWhy};
-use crate::read::{read_exact_flow, read_flow};
-use crate::tests::refused::{FILTER, FILTERS, HEADS, Refused, SCAN, SCANS, SINK};
+use crate::error::{FlowErr, FlowWhy};
+use crate::read::read_flow;
+use crate::tests::tables::{
+    ACCEPTED, FILTER, FILTERS, GROUPS, HEADS, JOINS, PRICES, PROJECTS, READ, SCAN, SCANS, SINK,
+    WHOLES, WORKFLOW,
+};
 use std::alloc::{AllocError, Global};
 use std::process::Abort;
 use std::test::Fail;
 
-/// The first reason why bytes are no workflow, if they are none.
-fn exact(alloc: Global, bytes: &[u8]) -> Result<Option<Fault>, AllocError> {
-    match read_exact_flow(alloc, bytes) {
-        Ok(_) => Ok(None),
-        Err(FlowErr::Bad { op, why }) => Ok(Some(Fault { op, why })),
-        Err(FlowErr::NoMemory) => Err(AllocError),
-    }
-}
-
-/// What `read_flow` answers in its place.
-fn answered(alloc: Global, bytes: &[u8]) -> Result<Option<Fault>, AllocError> {
+/// The operator at fault and the reason, or `read`.
+fn answer(alloc: Global, bytes: &[u8]) -> Result<String, AllocError> {
     match read_flow(alloc, bytes) {
-        Ok(_) => Ok(None),
-        Err(FlowErr::Bad { op, why }) => Ok(Some(Fault { op, why })),
+        Ok(_) => String::from_str(alloc, "read"),
+        Err(FlowErr::Bad { op, why }) => format!(in alloc; "{op} {why}"),
         Err(FlowErr::NoMemory) => Err(AllocError),
     }
-}
-
-fn shown(fault: Option<Fault>) -> Option<Fault> {
-    fault.map(|_| Fault {
-        op: 0,
-        why: FlowWhy::Shape,
-    })
 }
 
 fn check(
@@ -37,212 +24,92 @@ fn check(
     alloc: Global,
     name: &str,
     bytes: &[u8],
-    fault: Option<Fault>,
+    wanted: &str,
 ) -> Result<(), AllocError> {
-    assert_eq!(rt; exact(alloc, bytes)?, fault, "{name}");
-    assert_eq!(rt; answered(alloc, bytes)?, shown(fault), "{name}");
+    assert_eq!(rt; answer(alloc, bytes)?.as_str(), wanted, "{name}");
     Ok(())
 }
 
-/// The text of a workflow of these operators.
-fn flow_text(alloc: Global, operators: &[&str]) -> Result<String, AllocError> {
+/// The name of a table's line, the answer, and what follows.
+fn row_of(line: &str) -> (&str, &str, &str) {
+    let (name, row) = line.split_once(" | ").unwrap_or((line, ""));
+    let (wanted, rest) = row.split_once(" |").unwrap_or((row, ""));
+    (name, wanted, rest.trim_start())
+}
+
+/// The operator for which a letter of the tables stands, or the operator that it is.
+fn operator_text(word: &str) -> &str {
+    match word {
+        "o" => SCAN,
+        "p" => PRICES,
+        "f" => FILTER,
+        "s" => SINK,
+        operator => operator,
+    }
+}
+
+/// The text of a workflow whose operators are parted by ` | `.
+fn flow_text(alloc: Global, operators: &str) -> Result<String, AllocError> {
     let mut text = String::from_str(alloc, r#"{"operators":["#)?;
     let mut is_first = true;
-    for operator in operators {
+    for operator in operators.split(" | ") {
         if !is_first {
             text.push_str(",")?;
         }
         is_first = false;
-        text.push_str(operator)?;
+        text.push_str(operator_text(operator))?;
     }
     text.push_str("]}")?;
     Ok(text)
 }
 
 #[test]
-fn a_scan_a_filter_and_a_sink_are_read_whole(rt: HostRuntime) -> Result<(), Fail> {
-    let columns =
-        r#"Schema { inner: [Column { name: Text { inner: "id" }, kind: Int }, Column { name: Text { inner: "item" }, kind: Text }, Column { name: Text { inner: "qty" }, kind: Int }] }"#;
-    let text = flow_text(rt.alloc(), &[SCAN, FILTER, SINK])?;
-    let flow = read_flow(rt.alloc(), text.as_bytes())?;
-    let scan = format!(in rt.alloc();
-        r#"Operator {{ id: Text {{ inner: "o" }}, what: Scan {{ file: Text {{ inner: "o.csv" }} }}, schema: {columns}, workers: 1 }}"#
-    )?;
-    let filter = format!(in rt.alloc();
-        r#"Operator {{ id: Text {{ inner: "f" }}, what: Filter {{ input: 1, cond: Cond {{ column: 3, op: Ge, constant: Int(0) }} }}, schema: {columns}, workers: 1 }}"#
-    )?;
-    let sink = format!(in rt.alloc();
-        r#"Operator {{ id: Text {{ inner: "s" }}, what: Sink {{ input: 2 }}, schema: {columns}, workers: 1 }}"#
-    )?;
-    let wanted = format!(in rt.alloc(); "Flow {{ inner: [{scan}, {filter}, {sink}] }}")?;
-    assert_eq!(rt; format!(in rt.alloc(); "{flow:?}")?, wanted);
-    Ok(())
-}
-
-fn check_refused(rt: &impl Abort, alloc: Global, rows: &[Refused]) -> Result<(), AllocError> {
-    for row in rows {
-        let text = flow_text(alloc, &row.operators)?;
-        let fault = Fault {
-            op: row.op,
-            why: row.why,
-        };
-        check(rt, alloc, row.name, text.as_bytes(), Some(fault))?;
+fn each_workflow_has_its_answer(rt: HostRuntime) -> Result<(), Fail> {
+    let tables = [HEADS, SCANS, FILTERS, PROJECTS, JOINS, GROUPS, ACCEPTED];
+    for table in tables {
+        for line in table.lines() {
+            let (name, wanted, operators) = row_of(line);
+            let text = flow_text(rt.alloc(), operators)?;
+            check(&rt, rt.alloc(), name, text.as_bytes(), wanted)?;
+        }
     }
     Ok(())
 }
-
-#[test]
-fn each_operator_has_its_first_reason(rt: HostRuntime) -> Result<(), Fail> {
-    check_refused(&rt, rt.alloc(), &HEADS)?;
-    check_refused(&rt, rt.alloc(), &SCANS)?;
-    check_refused(&rt, rt.alloc(), &FILTERS)?;
-    Ok(())
-}
-
-/// Bytes that are refused as a whole.
-struct Whole {
-    name: &'static str,
-    text: &'static str,
-    why: FlowWhy,
-}
-
-static WHOLES: [Whole; 10] = [
-    Whole {
-        name: "no bytes",
-        text: "",
-        why: FlowWhy::Json,
-    },
-    Whole {
-        name: "no JSON",
-        text: r#"{"operators":[}"#,
-        why: FlowWhy::Json,
-    },
-    Whole {
-        name: "bytes behind the value",
-        text: r#"{"operators":[]} 1"#,
-        why: FlowWhy::Json,
-    },
-    Whole {
-        name: "a byte order mark",
-        text: "\u{feff}{\"operators\":[]}",
-        why: FlowWhy::Json,
-    },
-    Whole {
-        name: "a number that no float holds",
-        text: r#"{"x":1e999,"operators":[]}"#,
-        why: FlowWhy::Json,
-    },
-    Whole {
-        name: "a list",
-        text: r#"[]"#,
-        why: FlowWhy::Shape,
-    },
-    Whole {
-        name: "no operators",
-        text: r#"{"operator":[]}"#,
-        why: FlowWhy::Shape,
-    },
-    Whole {
-        name: "operators that are no list",
-        text: r#"{"operators":{}}"#,
-        why: FlowWhy::Shape,
-    },
-    Whole {
-        name: "a list without operators",
-        text: r#"{"operators":[]}"#,
-        why: FlowWhy::Count,
-    },
-    Whole {
-        name: "one operator, which is no operator",
-        text: r#"{"operators":[1]}"#,
-        why: FlowWhy::Count,
-    },
-];
 
 #[test]
 fn the_whole_has_its_first_reason(rt: HostRuntime) -> Result<(), Fail> {
-    for row in &WHOLES {
-        let fault = Fault {
-            op: 0,
-            why: row.why,
-        };
-        check(&rt, rt.alloc(), row.name, row.text.as_bytes(), Some(fault))?;
+    for line in WHOLES.lines() {
+        let (name, wanted, text) = row_of(line);
+        check(&rt, rt.alloc(), name, text.as_bytes(), wanted)?;
     }
-    let fault = Fault {
-        op: 0,
-        why: FlowWhy::Json,
-    };
+    let mark = "\u{feff}{\"operators\":[]}";
     check(
         &rt,
         rt.alloc(),
-        "bytes that are no text",
+        "a byte order mark",
+        mark.as_bytes(),
+        "0 Json",
+    )?;
+    check(&rt, rt.alloc(), "a byte that is no text", b"\xff", "0 Json")?;
+    check(
+        &rt,
+        rt.alloc(),
+        "a text that is none",
         b"\"\xff\"",
-        Some(fault),
+        "0 Json",
     )?;
     Ok(())
 }
 
-/// A workflow that is read.
-struct Accepted {
-    name: &'static str,
-    operators: &'static [&'static str],
-}
-
-static ACCEPTED: [Accepted; 7] = [
-    Accepted {
-        name: "a scan and a sink",
-        operators: &[SCAN, r#"{"id":"s","kind":"sink","input":"o"}"#],
-    },
-    Accepted {
-        name: "a scan, a filter and a sink",
-        operators: &[SCAN, FILTER, SINK],
-    },
-    Accepted {
-        name: "three filters",
-        operators: &[
-            SCAN,
-            FILTER,
-            r#"{"id":"g","kind":"filter","input":"f","column":"item","op":"!=","constant":"nut"}"#,
-            r#"{"id":"h","kind":"filter","input":"g","column":"qty","op":"<","constant":-9223372036854775808}"#,
-            r#"{"id":"s","kind":"sink","input":"h"}"#,
-        ],
-    },
-    Accepted {
-        name: "keys that are not looked at",
-        operators: &[
-            r#"{"x":[],"id":"o","kind":"scan","input":7,"file":"o.csv","columns":[["qty","int"]]}"#,
-            r#"{"id":"s","kind":"sink","input":"o","columns":0}"#,
-        ],
-    },
-    Accepted {
-        name: "one worker each",
-        operators: &[
-            r#"{"id":"o","kind":"scan","file":"o.csv","columns":[["qty","int"]],"workers":1}"#,
-            r#"{"id":"f","kind":"filter","input":"o","column":"qty","op":">=","constant":0,"workers":1}"#,
-            r#"{"id":"s","kind":"sink","input":"f","workers":1}"#,
-        ],
-    },
-    Accepted {
-        name: "a key that stands twice",
-        operators: &[
-            r#"{"id":"x","kind":"scan","file":"o.csv","columns":[["qty","int"]],"id":"o"}"#,
-            r#"{"id":"s","kind":"sink","input":"o"}"#,
-        ],
-    },
-    Accepted {
-        name: "an id of 32 bytes",
-        operators: &[
-            r#"{"id":"a23456789_123456789_123456789_12","kind":"scan","file":"o.csv","columns":[["qty","int"]]}"#,
-            r#"{"id":"s","kind":"sink","input":"a23456789_123456789_123456789_12"}"#,
-        ],
-    },
-];
-
 #[test]
-fn workflows_are_read(rt: HostRuntime) -> Result<(), Fail> {
-    for row in &ACCEPTED {
-        let text = flow_text(rt.alloc(), row.operators)?;
-        check(&rt, rt.alloc(), row.name, text.as_bytes(), None)?;
+fn each_kind_is_read_whole(rt: HostRuntime) -> Result<(), Fail> {
+    let text = flow_text(rt.alloc(), WORKFLOW)?;
+    let flow = read_flow(rt.alloc(), text.as_bytes())?;
+    let mut op = 1;
+    for wanted in READ.lines() {
+        let operator = flow.operator(op);
+        assert_eq!(rt; format!(in rt.alloc(); "{operator:?}")?.as_str(), wanted);
+        op = op.saturating_add(1);
     }
     Ok(())
 }
@@ -256,35 +123,27 @@ fn letters(alloc: Global, count: usize) -> Result<String, AllocError> {
     Ok(text)
 }
 
-/// The text of a scan of one column and a sink.
+/// The text of a scan of one column, and of a sum of it.
 fn short_flow(alloc: Global, file: usize, column: usize) -> Result<String, AllocError> {
     let file = letters(alloc, file)?;
     let column = letters(alloc, column)?;
-    let scan = format!(in alloc;
-        r#"{{"id":"o","kind":"scan","file":"{file}","columns":[["{column}","int"]]}}"#
-    )?;
-    flow_text(
-        alloc,
-        &[scan.as_str(), r#"{"id":"s","kind":"sink","input":"o"}"#],
+    format!(in alloc;
+        r#"{{"operators":[{{"id":"o","kind":"scan","file":"{file}","columns":[["{column}","int"]]}},{{"id":"g","kind":"group","input":"o","keys":[],"aggregates":["sum:{column}"]}},{{"id":"s","kind":"sink","input":"g"}}]}}"#
     )
 }
 
 #[test]
 fn names_have_their_lengths(rt: HostRuntime) -> Result<(), Fail> {
-    let refused = Some(Fault {
-        op: 1,
-        why: FlowWhy::Shape,
-    });
     let rows = [
-        (0, 1, refused),
-        (1, 0, refused),
-        (255, 64, None),
-        (256, 64, refused),
-        (255, 65, refused),
+        (0, 1, "1 Shape"),
+        (1, 0, "1 Shape"),
+        (255, 64, "read"),
+        (256, 64, "1 Shape"),
+        (255, 65, "1 Shape"),
     ];
-    for (file, column, fault) in rows {
+    for (file, column, wanted) in rows {
         let text = short_flow(rt.alloc(), file, column)?;
-        check(&rt, rt.alloc(), "a name's length", text.as_bytes(), fault)?;
+        check(&rt, rt.alloc(), "lengths", text.as_bytes(), wanted)?;
     }
     Ok(())
 }
@@ -311,47 +170,51 @@ fn long_flow(alloc: Global, count: u32) -> Result<String, AllocError> {
 
 #[test]
 fn there_are_at_most_32_operators(rt: HostRuntime) -> Result<(), Fail> {
-    let most = long_flow(rt.alloc(), 32)?;
-    check(&rt, rt.alloc(), "32 operators", most.as_bytes(), None)?;
-    let more = long_flow(rt.alloc(), 33)?;
-    let fault = Fault {
-        op: 0,
-        why: FlowWhy::Count,
-    };
-    check(
-        &rt,
-        rt.alloc(),
-        "33 operators",
-        more.as_bytes(),
-        Some(fault),
-    )?;
+    for (count, wanted) in [(32, "read"), (33, "0 Count")] {
+        let text = long_flow(rt.alloc(), count)?;
+        check(&rt, rt.alloc(), "operators", text.as_bytes(), wanted)?;
+    }
     Ok(())
 }
 
-/// The text of a scan of so many columns and a sink.
-fn wide_flow(alloc: Global, columns: u32) -> Result<String, AllocError> {
-    let mut text = String::from_str(
-        alloc,
-        r#"{"operators":[{"id":"o","kind":"scan","file":"o.csv","columns":[["c","int"]"#,
+/// The text of a scan of so many columns.
+fn wide_scan(alloc: Global, id: &str, columns: u32) -> Result<String, AllocError> {
+    let mut text = format!(in alloc;
+        r#"{{"id":"{id}","kind":"scan","file":"o.csv","columns":[["c","int"]"#
     )?;
     for column in 1..columns {
         let pair = format!(in alloc; r#",["c{column}","text"]"#)?;
         text.push_str(pair.as_str())?;
     }
-    text.push_str(r#"]},{"id":"s","kind":"sink","input":"o"}]}"#)?;
+    text.push_str("]}")?;
     Ok(text)
+}
+
+/// The text of a scan of so many columns and a sink.
+fn wide_flow(alloc: Global, columns: u32) -> Result<String, AllocError> {
+    let scan = wide_scan(alloc, "o", columns)?;
+    format!(in alloc; r#"{{"operators":[{scan},{{"id":"s","kind":"sink","input":"o"}}]}}"#)
+}
+
+/// The text of a join of two scans of so many columns with the same names.
+fn wide_join(alloc: Global, columns: u32) -> Result<String, AllocError> {
+    let build = wide_scan(alloc, "b", columns)?;
+    let probe = wide_scan(alloc, "o", columns)?;
+    format!(in alloc;
+        r#"{{"operators":[{build},{probe},{{"id":"j","kind":"join","build":"b","probe":"o","build_keys":["c"],"probe_keys":["c"]}},{{"id":"s","kind":"sink","input":"j"}}]}}"#
+    )
 }
 
 #[test]
 fn an_operator_gives_at_most_64_columns(rt: HostRuntime) -> Result<(), Fail> {
-    let most = wide_flow(rt.alloc(), 64)?;
-    check(&rt, rt.alloc(), "64 columns", most.as_bytes(), None)?;
-    let more = wide_flow(rt.alloc(), 65)?;
-    let fault = Fault {
-        op: 1,
-        why: FlowWhy::Wide,
-    };
-    check(&rt, rt.alloc(), "65 columns", more.as_bytes(), Some(fault))?;
+    for (columns, wanted) in [(64, "read"), (65, "1 Wide")] {
+        let text = wide_flow(rt.alloc(), columns)?;
+        check(&rt, rt.alloc(), "columns", text.as_bytes(), wanted)?;
+    }
+    for (columns, wanted) in [(32, "3 Duplicate"), (33, "3 Wide")] {
+        let text = wide_join(rt.alloc(), columns)?;
+        check(&rt, rt.alloc(), "joined columns", text.as_bytes(), wanted)?;
+    }
     Ok(())
 }
 
@@ -365,16 +228,12 @@ fn deep_nesting_is_refused(rt: HostRuntime) -> Result<(), Fail> {
         text.push(']')?;
     }
     text.push_str("}")?;
-    let fault = Fault {
-        op: 0,
-        why: FlowWhy::Json,
-    };
     check(
         &rt,
         rt.alloc(),
         "10,000 lists deep",
         text.as_bytes(),
-        Some(fault),
+        "0 Json",
     )?;
     Ok(())
 }

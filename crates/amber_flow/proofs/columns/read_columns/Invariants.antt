@@ -1,6 +1,6 @@
-use Rattle.std.proofs.Common.{◌≡◌, drop, true}
+use Rattle.std.proofs.Common.{◌≡◌, drop, map, true}
 use Rattle.std.specs.List.{list_all}
-use Rattle.serde_json.specs.View.{items_view}
+use Rattle.serde_json.specs.View.{view}
 use Rattle.amber_rows.specs.Columns.{names_of}
 use Rattle.amber_rows.specs.FlowRules.{is_column_name}
 use Rattle.amber_flow.specs.Columns.{columns_of}
@@ -9,5 +9,5 @@ use Rattle.amber_flow.proofs.columns.read_columns.Given as goal
 
 abbrev pub invariant-loop-tree : goal.invariant-loop-tree
 invariant-loop-tree l =
-    (columns_of (items_view l.trees) ≡ columns_after l.columns.items (columns_of (items_view (drop l.tree-index l.trees))))
+    (columns_of (map view l.trees) ≡ columns_after l.columns.items (columns_of (map view (drop l.tree-index l.trees))))
     × (list_all is_column_name (names_of l.columns.items) ≡ true)

@@ -1,0 +1,35 @@
+ghost use Rattle.std.specs.Prelude.{◌≡◌, ◌<◌, ◌≤◌, All, IfSome, Some, bytes_eq, length, option_map, position};
+ghost use Rattle.amber_rows.specs.FlowRules.{HasInput};
+ghost use Rattle.amber_flow.specs.Inputs.{IsNarrow, columns_at, operator_number};
+
+use amber_rows::{Operator, Schema};
+
+fn index_of_operator(before: &[Operator], id: &str) -> Option<usize>
+    ensures { result ≡ position (λ operator. bytes_eq operator.id id.now) before.now }
+{
+    before.iter().position(|operator| operator.id.get() == id)
+}
+
+/// The number of the earlier operator with this id, from 1.
+pub fn find_operator(before: &[Operator], id: &str) -> Option<u32>
+    requires { length before.now < 32 }
+    ensures number { result ≡ operator_number before.now id.now }
+    ensures there { IfSome result (λ number. (0 < number) × (number ≤ length before.now)) }
+{
+    match index_of_operator(before, id) {
+        None => None,
+        Some(index) => Some(index as u32 + 1),
+    }
+}
+
+/// The columns of an earlier operator.
+pub fn schema_at(before: &[Operator], number: u32) -> &Schema
+    requires from_one { 0 < number }
+    requires there { number ≤ length before.now }
+    requires narrow { All IsNarrow before.now }
+    ensures columns { columns_at before.now number ≡ Some result.now }
+    ensures input { HasInput before.now number result.now }
+    ensures few { length result.now ≤ 64 }
+{
+    &before[number as usize - 1].schema
+}

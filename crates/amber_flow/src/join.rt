@@ -1,0 +1,167 @@
+ghost use Rattle.std.specs.Prelude.{◌≡◌, ◌++◌, ◌<◌, ◌≤◌, All, IfOk, OnOk, false, length, map, true};
+ghost use Rattle.std.specs.List.{filter_map};
+ghost use Rattle.serde_json.specs.View.{view};
+ghost use Rattle.amber_rows.specs.FlowRules.{IsKind, is_sink};
+ghost use Rattle.amber_flow.specs.Columns.{kind_at};
+ghost use Rattle.amber_flow.specs.Inputs.{IsNarrow};
+ghost use Rattle.amber_flow.specs.Joins.{AreKeys, are_alike, are_paired, join_of, keys_of, same_kind};
+
+use crate::columns::{add_columns, find_columns, kind_of_column};
+use crate::error::FlowWhy;
+use crate::fields::{text_field, texts_field};
+use crate::inputs::{find_operator, schema_at};
+use crate::parts::Parts;
+use amber_rows::{ColKind, Cols, Column, Operator, Schema, What};
+use serde_json::Value;
+use std::alloc::{AllocError, Global};
+
+/// The keys of a join: columns of its two sides, in pairs.
+#[derive(Drop)]
+pub struct JoinKeys {
+    pub build: Cols,
+    pub probe: Cols,
+}
+
+/// Whether there is a key, and as many on each side.
+fn may_be_keys(build: &[&str], probe: &[&str]) -> bool
+    ensures paired { result ≡ are_paired (map (λ name. name.now) build.now) (map (λ name. name.now) probe.now) }
+    ensures some { result ≡ true → 0 < length build.now }
+{
+    !build.is_empty() && build.len() == probe.len()
+}
+
+fn is_same(kind: ColKind, other: ColKind) -> bool
+    ensures { result ≡ same_kind kind other }
+{
+    match (kind, other) {
+        (ColKind::Int, ColKind::Int) => true,
+        (ColKind::Int, ColKind::Text) => false,
+        (ColKind::Text, ColKind::Int) => false,
+        (ColKind::Text, ColKind::Text) => true,
+    }
+}
+
+/// The kinds of the columns with these numbers.
+fn kinds_of(alloc: Global, columns: &[Column], numbers: &[u32]) -> Result<Vec<ColKind>, AllocError>
+    ensures { IfOk result (λ kinds. kinds.items ≡ filter_map (kind_at columns.now) numbers.now) }
+{
+    numbers
+        .iter()
+        .filter_map(|number| kind_of_column(columns, *number))
+        .collect(alloc)
+}
+
+/// Whether the same kinds stand at the same places.
+fn are_same(kinds: &[ColKind], others: &[ColKind]) -> bool
+    ensures { result ≡ are_alike kinds.now others.now }
+{
+    if kinds.len() != others.len() {
+        return false;
+    }
+    for index in 0..kinds.len() {
+        if !is_same(kinds[index], others[index]) {
+            return false;
+        }
+    }
+    true
+}
+
+/// The columns with these names on the two sides.
+#[tactic(auto, unfolding(crate::specs::Joins::keys_of))]
+fn read_keys(
+    alloc: Global,
+    build: &[Column],
+    probe: &[Column],
+    build_names: &[&str],
+    probe_names: &[&str],
+) -> Result<Result<JoinKeys, FlowWhy>, AllocError>
+    requires narrow_build { length build.now ≤ 64 }
+    requires narrow_probe { length probe.now ≤ 64 }
+    ensures keys { IfOk result (λ read. read ≡ keys_of build.now probe.now
+        (map (λ name. name.now) build_names.now) (map (λ name. name.now) probe_names.now)) }
+    ensures fit { IfOk result (λ read. IfOk read (λ keys. AreKeys build.now probe.now (map (λ name. name.now) build_names.now) keys)) }
+{
+    let Some(build_keys) = find_columns(alloc, build, build_names)? else {
+        return Ok(Err(FlowWhy::Column));
+    };
+    let Some(probe_keys) = find_columns(alloc, probe, probe_names)? else {
+        return Ok(Err(FlowWhy::Column));
+    };
+    let build_kinds = kinds_of(alloc, build, build_keys.as_slice())?;
+    let probe_kinds = kinds_of(alloc, probe, probe_keys.as_slice())?;
+    if !are_same(build_kinds.as_slice(), probe_kinds.as_slice()) {
+        return Ok(Err(FlowWhy::Mismatch));
+    }
+    Ok(Ok(JoinKeys {
+        build: Cols::new(build_keys),
+        probe: Cols::new(probe_keys),
+    }))
+}
+
+/// The columns of the probe side, and then those of the build side.
+fn join_columns(alloc: Global, probe: &[Column], build: &[Column]) -> Result<Schema, AllocError>
+    ensures { IfOk result (λ schema. schema ≡ probe.now ++ build.now) }
+{
+    let mut columns = Vec::new(alloc);
+    add_columns(&mut columns, probe)?;
+    add_columns(&mut columns, build)?;
+    Ok(Schema::new(columns))
+}
+
+/// What a join does.
+#[tactic(auto, unfolding(crate::specs::Joins::join_of))]
+pub fn read_join(
+    alloc: Global,
+    before: &[Operator],
+    tree: &Value,
+) -> Result<Result<Parts, FlowWhy>, AllocError>
+    requires few { length before.now < 32 }
+    requires narrow { All IsNarrow before.now }
+    ensures parts { IfOk result (λ read. read ≡ join_of before.now (view tree.now)) }
+    ensures kind { IfOk result (λ read. IfOk read (λ parts. IsKind before.now parts.what parts.schema)) }
+    ensures sink { IfOk result (λ read. IfOk read (λ parts. is_sink parts.what ≡ false)) }
+{
+    let Some(build_id) = text_field(tree, "build") else {
+        return Ok(Err(FlowWhy::Shape));
+    };
+    let Some(probe_id) = text_field(tree, "probe") else {
+        return Ok(Err(FlowWhy::Shape));
+    };
+    let Some(build_names) = texts_field(alloc, tree, "build_keys")? else {
+        return Ok(Err(FlowWhy::Shape));
+    };
+    let Some(probe_names) = texts_field(alloc, tree, "probe_keys")? else {
+        return Ok(Err(FlowWhy::Shape));
+    };
+    if !may_be_keys(build_names.as_slice(), probe_names.as_slice()) {
+        return Ok(Err(FlowWhy::Shape));
+    }
+    let Some(build) = find_operator(before, build_id) else {
+        return Ok(Err(FlowWhy::Forward));
+    };
+    let Some(probe) = find_operator(before, probe_id) else {
+        return Ok(Err(FlowWhy::Forward));
+    };
+    let built = schema_at(before, build).get();
+    let probed = schema_at(before, probe).get();
+    let keys = match read_keys(
+        alloc,
+        built,
+        probed,
+        build_names.as_slice(),
+        probe_names.as_slice(),
+    )? {
+        Ok(keys) => keys,
+        Err(why) => return Ok(Err(why)),
+    };
+    let schema = join_columns(alloc, probed, built)?;
+    Ok(Ok(Parts {
+        what: What::Join {
+            build,
+            probe,
+            build_keys: keys.build,
+            probe_keys: keys.probe,
+        },
+        schema,
+    }))
+}

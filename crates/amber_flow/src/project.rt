@@ -1,0 +1,126 @@
+ghost use Rattle.std.specs.Prelude.{◌≡◌, ◌<◌, ◌≤◌, All, IfOk, false, length, map, option_map, true};
+ghost use Rattle.std.specs.List.{filter_map};
+ghost use Rattle.serde_json.specs.View.{view};
+ghost use Rattle.amber_rows.specs.FlowRules.{IsKind, is_sink};
+ghost use Rattle.amber_flow.specs.Chain.{each};
+ghost use Rattle.amber_flow.specs.Columns.{is_new_name, renamed, source_of};
+ghost use Rattle.amber_flow.specs.Fields.{text_in};
+ghost use Rattle.amber_flow.specs.Inputs.{IsNarrow};
+ghost use Rattle.amber_flow.specs.Operators.{project_of};
+
+use crate::columns::{add_column, column_with, find_columns};
+use crate::error::FlowWhy;
+use crate::fields::{list_field, text_field, text_item};
+use crate::inputs::{find_operator, schema_at};
+use crate::names::may_name_column;
+use crate::parts::Parts;
+use amber_rows::{Cols, Column, Operator, Schema, Text, What};
+use serde_json::Value;
+use std::alloc::{AllocError, Global};
+
+fn has_new_name(tree: &Value) -> bool
+    ensures { result ≡ is_new_name (text_in 1 (view tree.now)) }
+{
+    match text_item(tree, 1) {
+        None => false,
+        Some(name) => may_name_column(name),
+    }
+}
+
+/// The name of the column that a pair of texts renames, if its other text may name a column.
+fn source(pair: &Value) -> Option<&str>
+    ensures { option_map (λ name. name.now) result ≡ source_of (view pair.now) }
+{
+    if pair.get(2).is_none() && has_new_name(pair) {
+        text_item(pair, 0)
+    } else {
+        None
+    }
+}
+
+/// The names of the columns that pairs rename, if each value is such a pair.
+fn read_sources(alloc: Global, pairs: &[Value]) -> Result<Option<Vec<&str>>, AllocError>
+    ensures { IfOk result (λ read. option_map (λ names. map (λ name. name.now) names.items) read ≡ each source_of (map view pairs.now)) }
+{
+    let mut names = Vec::new(alloc);
+    for pair in pairs {
+        match source(pair) {
+            Some(name) => names.push(name)?,
+            None => return Ok(None),
+        }
+    }
+    Ok(Some(names))
+}
+
+/// The column that a pair renames, under its new name.
+fn rename(alloc: Global, columns: &[Column], pair: &Value) -> Result<Option<Column>, AllocError>
+    requires { length columns.now ≤ 64 }
+    ensures { IfOk result (λ made. made ≡ renamed columns.now (view pair.now)) }
+{
+    let Some(name) = text_item(pair, 1) else {
+        return Ok(None);
+    };
+    let Some(source) = text_item(pair, 0) else {
+        return Ok(None);
+    };
+    let Some(column) = column_with(columns, source) else {
+        return Ok(None);
+    };
+    Ok(Some(Column {
+        name: Text::new(String::from_str(alloc, name)?),
+        kind: column.kind,
+    }))
+}
+
+/// The columns that pairs name, under their new names.
+fn rename_all(alloc: Global, columns: &[Column], pairs: &[Value]) -> Result<Vec<Column>, AllocError>
+    requires { length columns.now ≤ 64 }
+    ensures { IfOk result (λ made. made.items ≡ filter_map (renamed columns.now) (map view pairs.now)) }
+{
+    let mut made = Vec::new(alloc);
+    for pair in pairs {
+        let column = rename(alloc, columns, pair)?;
+        add_column(&mut made, column)?;
+    }
+    Ok(made)
+}
+
+/// What a projection does.
+#[tactic(auto, unfolding(crate::specs::Operators::project_of))]
+pub fn read_project(
+    alloc: Global,
+    before: &[Operator],
+    tree: &Value,
+) -> Result<Result<Parts, FlowWhy>, AllocError>
+    requires few { length before.now < 32 }
+    requires narrow { All IsNarrow before.now }
+    ensures parts { IfOk result (λ read. read ≡ project_of before.now (view tree.now)) }
+    ensures kind { IfOk result (λ read. IfOk read (λ parts. IsKind before.now parts.what parts.schema)) }
+    ensures sink { IfOk result (λ read. IfOk read (λ parts. is_sink parts.what ≡ false)) }
+{
+    let Some(id) = text_field(tree, "input") else {
+        return Ok(Err(FlowWhy::Shape));
+    };
+    let Some(pairs) = list_field(tree, "columns") else {
+        return Ok(Err(FlowWhy::Shape));
+    };
+    let pairs = pairs.as_slice();
+    let Some(sources) = read_sources(alloc, pairs)? else {
+        return Ok(Err(FlowWhy::Shape));
+    };
+    let Some(input) = find_operator(before, id) else {
+        return Ok(Err(FlowWhy::Forward));
+    };
+    let columns = schema_at(before, input).get();
+    let Some(from) = find_columns(alloc, columns, sources.as_slice())? else {
+        return Ok(Err(FlowWhy::Column));
+    };
+    let schema = rename_all(alloc, columns, pairs)?;
+    Ok(Ok(Parts {
+        what: What::Project {
+            input,
+            from: Cols::new(from),
+        },
+        schema: Schema::new(schema),
+    }))
+}
