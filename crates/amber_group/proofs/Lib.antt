@@ -1,0 +1,6 @@
+pub mod Answers
+pub mod Finishing
+pub mod GroupTables
+pub mod Stepping
+pub mod Settling
+pub mod Within

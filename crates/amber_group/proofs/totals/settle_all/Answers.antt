@@ -1,0 +1,65 @@
+-- One after the other.
+use Rattle.std.proofs.Common.{◌≡◌, ◌∙◌, ◌+◌, ◌<◌, ◌≤◌, Option, ap, arith, get_or, length, map, refl, rules, set, subst, sym, take_all}
+use Rattle.std.proofs.lemmas.List.{length-map, length-set}
+use Rattle.amber_rows.specs.declared.value.Value.{Value}
+use Rattle.amber_group.specs.Steps.{AreWithin, change_of, step}
+use Rattle.amber_group.proofs.Settling.{Settled, settled-next}
+use Rattle.amber_group.proofs.Within.{within-at, within-more}
+use Rattle.amber_group.proofs.totals.settle_all.Goals as goal
+
+pub loop-i-init : goal.loop-i-init
+loop-i-init c = record {
+  count = refl;
+  room = ap length c.requires.changes ∙ length-map c.args.runnings.now.items (change_of c.args.row.now);
+  settled = record { done = refl; rest = refl; left = c.requires.changes };
+  within = λ rows h. tt;
+}
+
+pub settle-requires : goal.settle-requires
+settle-requires c =
+    let inv = c.loop-i.invariant in
+    let less : c.loop-i.i < length c.loop-i.runnings.items = search rules in (
+      c.requires.within.0,
+      c.requires.within.1,
+      within-at c.requires.within.0 c.loop-i.i c.args.runnings.now.items c.loop-i.runnings.items c.index_mut-in-loop-i.result.now c.requires.within.2 inv.settled.rest less
+          c.index_mut-in-loop-i.ensures.value,
+    )
+
+pub loop-i-preserved : goal.loop-i-preserved
+loop-i-preserved c =
+    let inv = c.loop-i.invariant in
+    let i = c.loop-i.i in
+    let first = c.args.runnings.now.items in
+    let runnings = c.loop-i.runnings.items in
+    let changes = c.loop-i.changes.items in
+    let running = c.index_mut-in-loop-i.result.now in
+    let new = c.settle.new.self in
+    let change = c.take-change.result in
+    let less : i < length runnings = search rules in
+    let in_first : i < length first = omega (arith, inv.count, less) in
+    let in_changes : i < length changes = omega (arith, inv.room, in_first) in
+    let change_is : change ≡ get_or changes i change =
+    c.take-change.ensures.value ∙ c.index_mut.ensures.value ∙ ap (get_or changes i) (sym c.take-change.ensures.value) in
+    record {
+      count = length-set runnings i new ∙ inv.count;
+      room = length-set changes i c.take-change.new.self ∙ inv.room;
+      settled =
+          subst (λ (cell : Option Value). Settled c.args.row.now (i + 1) first (set runnings i new) (set changes i cell)) (sym c.take-change.ensures.after)
+          (settled-next c.args.row.now i first runnings changes running new change in_first less in_changes c.index_mut-in-loop-i.ensures.value change_is inv.settled c.settle.ensures.value);
+      within = λ rows h.
+          within-more (rows + 1) i runnings new less (inv.within rows h)
+          (c.settle.ensures.within rows (within-at rows i first runnings running h inv.settled.rest less c.index_mut-in-loop-i.ensures.value));
+    }
+
+pub returns : goal.returns
+returns c =
+    let inv = c.loop-i.invariant in
+    let i = c.loop-i.i in
+    let first = c.args.runnings.now.items in
+    let runnings = c.loop-i.runnings.items in
+    let all : length first ≤ i = search rules in
+    let done : length runnings ≤ i = omega (arith, inv.count, all) in
+    record {
+      value = sym (take_all i runnings done) ∙ inv.settled.done ∙ ap (map (step c.args.row.now)) (take_all i first all);
+      within = λ rows h. subst (AreWithin (rows + 1)) (take_all i runnings done) (inv.within rows h);
+    }

@@ -1,0 +1,13 @@
+-- The first ones have the row, the others are as they were, and so are their changes.
+use Rattle.std.proofs.Common.{◌≡◌, ◌+◌, ℕ, length, take}
+use Rattle.amber_group.specs.Steps.{AreWithin}
+use Rattle.amber_group.proofs.Settling.{Settled}
+use Rattle.amber_group.proofs.totals.settle_all.Given as goal
+
+abbrev pub invariant-loop-i : goal.invariant-loop-i
+invariant-loop-i l = record {
+  count : length l.runnings.items ≡ length l.fn.runnings.items;
+  room : length l.changes.items ≡ length l.fn.runnings.items;
+  settled : Settled l.row l.i l.fn.runnings.items l.runnings.items l.changes.items;
+  within : (rows : ℕ) → AreWithin rows l.fn.runnings.items → AreWithin (rows + 1) (take l.i l.runnings.items);
+}

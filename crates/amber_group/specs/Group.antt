@@ -1,0 +1,23 @@
+-- What the state of a group is seen as, and the rows that it stands for.
+use Rattle.std.specs.Prelude.{◌≡◌, ℕ, List, length, map}
+use Rattle.amber_rows.specs.Operators.{first_keys, rows_with}
+use Rattle.amber_rows.specs.declared.value.Value.{Value}
+use Rattle.amber_rows.specs.declared.agg.Agg.{Agg}
+use Rattle.amber_keys.specs.Tables.{entries_of}
+use Rattle.amber_group.specs.Running.{running_of}
+use Rattle.amber_group.specs.declared.running.Running.{Running}
+
+-- the columns of the key, the aggregates, how many rows came, and each group's key beside what is kept for each aggregate
+pub record Group : Type 0 where
+  pub keys : List ℕ
+  pub aggs : List Agg
+  pub fed : ℕ
+  pub groups : List (List Value × List Running)
+
+-- the groups of rows, in the order in which their keys stand first
+unfoldable pub groups_of : List ℕ → List Agg → List (List Value) → List (List Value × List Running)
+groups_of keys aggs rows = entries_of (λ key. map (running_of (rows_with keys rows key)) aggs) (first_keys keys rows)
+
+-- a state that was fed these rows, in this order
+abbrev pub Stands : Group → List (List Value) → Type 0
+Stands state rows = (state.fed ≡ length rows) × (state.groups ≡ groups_of state.keys state.aggs rows)

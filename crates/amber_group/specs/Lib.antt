@@ -1,0 +1,4 @@
+pub mod Finished
+pub mod Group
+pub mod Running
+pub mod Steps

@@ -1,0 +1,87 @@
+ghost use Rattle.std.specs.Prelude.{◌≡◌, ◌++◌, ◌∷◌, [], IfOk, OnOk, option_map, slice_get};
+ghost use Rattle.std.specs.Option.{option_to_list};
+ghost use Rattle.amber_group.specs.Finished.{refused_of, rows_of, values_of};
+
+use crate::running::Running;
+use crate::totals::Totals;
+use amber_keys::Key;
+use amber_rows::{Row, Rows, Value};
+use indexmap::IndexMap;
+use std::alloc::{AllocError, Global};
+
+/// What a group gives at the end. Both parts stand in the order in which the keys came first.
+#[derive(Debug, Drop)]
+pub struct Grouped {
+    /// A row for each group whose numbers 64 bits hold: its key, and then its aggregates.
+    pub rows: Rows,
+    /// The keys of the other groups.
+    pub refused: Rows,
+}
+
+// These cells, and then a value for each aggregate; nothing where one has none.
+fn with_values(
+    mut cells: Vec<Value>,
+    runnings: &[Running],
+) -> Result<Option<Vec<Value>>, AllocError>
+    ensures { IfOk result (λ found. option_map (λ all. all.items) found ≡ option_map (λ values. cells.items ++ values) (values_of runnings.now)) }
+{
+    for running in runnings {
+        let value = running.value()?;
+        let Some(value) = value else {
+            return Ok(None);
+        };
+        cells.push(value)?;
+    }
+    Ok(Some(cells))
+}
+
+// Puts the row of a group behind the others, or its key behind those that have none.
+fn add_group(
+    key: &Row,
+    runnings: &[Running],
+    rows: &mut Vec<Row>,
+    refused: &mut Vec<Row>,
+) -> Result<(), AllocError>
+    ensures rows { OnOk result (rows.new.items ≡ rows.old.items ++ rows_of ((key.now, runnings.now) ∷ [])) }
+    ensures refused { OnOk result (refused.new.items ≡ refused.old.items ++ refused_of ((key.now, runnings.now) ∷ [])) }
+{
+    let cells = key.copy()?.into_inner();
+    let values = with_values(cells, runnings)?;
+    match values {
+        Some(cells) => rows.push(Row::new(cells))?,
+        None => refused.push(key.copy()?)?,
+    }
+    Ok(())
+}
+
+// The same for the group at a place.
+fn add_group_at(
+    groups: &IndexMap<Key, Totals>,
+    place: usize,
+    rows: &mut Vec<Row>,
+    refused: &mut Vec<Row>,
+) -> Result<(), AllocError>
+    ensures rows { OnOk result (rows.new.items ≡ rows.old.items ++ rows_of (option_to_list (slice_get groups.now.entries place))) }
+    ensures refused { OnOk result (refused.new.items ≡ refused.old.items ++ refused_of (option_to_list (slice_get groups.now.entries place))) }
+{
+    match groups.get_index(place) {
+        Some((key, totals)) => add_group(key.row(), totals.get(), rows, refused),
+        None => Ok(()),
+    }
+}
+
+/// The rows of the groups, and the keys of those that have none.
+pub fn finish(alloc: Global, groups: &IndexMap<Key, Totals>) -> Result<Grouped, AllocError>
+    ensures rows { IfOk result (λ grouped. grouped.rows ≡ rows_of groups.now.entries) }
+    ensures refused { IfOk result (λ grouped. grouped.refused ≡ refused_of groups.now.entries) }
+{
+    let mut rows = Vec::with_capacity(alloc, groups.len())?;
+    let mut refused = Vec::new(alloc);
+    for place in 0..groups.len() {
+        add_group_at(groups, place, &mut rows, &mut refused)?;
+    }
+    Ok(Grouped {
+        rows: Rows::new(rows),
+        refused: Rows::new(refused),
+    })
+}

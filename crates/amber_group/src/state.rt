@@ -1,0 +1,117 @@
+ghost use Rattle.std.specs.Prelude.{◌≡◌, ◌+◌, ◌^◌, ◌<◌, ◌++◌, ◌∷◌, [], List, IfOk, OnErr, OnOk, length};
+ghost use Rattle.amber_rows.specs.Operators.{first_keys, grouped, refused_keys};
+ghost use Rattle.amber_rows.specs.declared.value.Value.{Value as Cell};
+ghost use Rattle.amber_group.specs.Group.{Stands};
+
+use crate::finish::{Grouped, finish};
+use crate::totals::{Totals, take_in};
+use amber_keys::Key;
+use amber_rows::{Aggs, Cols, Row, Value};
+use indexmap::IndexMap;
+use std::alloc::{AllocError, Global};
+use std::marker::Model;
+
+/// What a group keeps: the columns of its key, its aggregates, how many rows it was fed, and what it needs of
+/// these. `Stands` says which rows a state stands for.
+#[derive(Debug, Drop)]
+pub struct GroupState {
+    alloc: Global,
+    keys: Cols,
+    aggs: Aggs,
+    fed: u64,
+    groups: IndexMap<Key, Totals>,
+    // Room that each feed uses anew.
+    changes: Vec<Option<Value>>,
+}
+
+impl Model for GroupState {
+    ghost use Rattle.amber_group.specs.Group.{Group};
+    ghost use Rattle.amber_group.specs.Steps.{GroupsWithin};
+
+    ghost Value = { Group };
+
+    ghost view = { λ a. record { keys = a.keys; aggs = a.aggs; fed = a.fed; groups = a.groups.entries } };
+
+    ghost invariant = { λ a. GroupsWithin a.fed a.groups.entries };
+}
+
+impl GroupState {
+    /// The state of a group by these columns with these aggregates, which was fed no row. Columns are numbered
+    /// from 1.
+    pub fn new(alloc: Global, keys: Cols, aggs: Aggs) -> Self
+        ensures keys { result.keys ≡ keys }
+        ensures aggs { result.aggs ≡ aggs }
+        ensures rows { Stands result [] }
+    {
+        GroupState {
+            alloc,
+            keys,
+            aggs,
+            fed: 0,
+            groups: IndexMap::new(alloc),
+            changes: Vec::new(alloc),
+        }
+    }
+
+    /// Takes in a row. A column that it does not have adds nothing to an aggregate, nor does a text to a sum.
+    pub fn feed(&mut self, row: &Row) -> Result<(), AllocError>
+        requires { self.old.fed < 2 ^ 40 }
+        ensures ok { OnOk result ((rows : List (List Cell)) → Stands self.old rows → Stands self.new (rows ++ row.now ∷ [])) }
+        ensures fed { OnOk result (self.new.fed ≡ self.old.fed + 1) }
+        ensures same_keys { self.new.keys ≡ self.old.keys }
+        ensures same_aggs { self.new.aggs ≡ self.old.aggs }
+        ensures same_on_err { OnErr result (self.new ≡ self.old) }
+    {
+        let key = Key::of(self.alloc, row, &self.keys)?;
+        take_in(
+            self.alloc,
+            &mut self.groups,
+            key,
+            &self.aggs,
+            row,
+            &mut self.changes,
+        )?;
+        self.fed += 1;
+        Ok(())
+    }
+
+    /// A row for each key of the rows that it was fed: the key, and then its aggregates. A key with a sum that 64
+    /// bits do not hold, or with an aggregate of a column that none of its rows has, stands in `refused` instead.
+    /// Keys stand in the order in which they came first.
+    pub fn finish(&self) -> Result<Grouped, AllocError>
+        ensures rows { IfOk result (λ groups. (rows : List (List Cell)) → Stands self.now rows → groups.rows ≡ grouped self.now.keys self.now.aggs rows) }
+        ensures refused { IfOk result (λ groups. (rows : List (List Cell)) → Stands self.now rows → groups.refused ≡ refused_keys self.now.keys self.now.aggs rows) }
+    {
+        finish(self.alloc, &self.groups)
+    }
+
+    /// How many rows it was fed.
+    pub fn fed(&self) -> u64
+        ensures { result ≡ self.now.fed }
+    {
+        self.fed
+    }
+
+    /// How many groups there are.
+    pub fn groups(&self) -> u64
+        ensures { (rows : List (List Cell)) → Stands self.now rows → result ≡ length (first_keys self.now.keys rows) }
+    {
+        self.groups.len() as u64
+    }
+
+    /// Another state that stands for the same rows, with equal columns and aggregates.
+    pub fn copy(&self) -> Result<Self, AllocError>
+        ensures { IfOk result (λ copy. copy ≡ self.now) }
+    {
+        let keys = Vec::from_slice(self.alloc, self.keys.get())?;
+        let aggs = Vec::from_slice(self.alloc, self.aggs.get())?;
+        Ok(GroupState {
+            alloc: self.alloc,
+            keys: Cols::new(keys),
+            aggs: Aggs::new(aggs),
+            fed: self.fed,
+            groups: self.groups.clone()?,
+            changes: Vec::new(self.alloc),
+        })
+    }
+}

@@ -1,0 +1,137 @@
+ghost use Rattle.std.specs.Prelude.{◌≡◌, ◌+◌, ◌^◌, ◌<◌, ◌++◌, ◌∷◌, [], ℕ, List, IfOk, OnErr, OnOk, map};
+ghost use Rattle.amber_rows.specs.Operators.{picked};
+ghost use Rattle.amber_rows.specs.declared.value.Value.{Value as Cell};
+ghost use Rattle.amber_group.specs.Group.{groups_of};
+ghost use Rattle.amber_group.specs.Running.{running_of};
+ghost use Rattle.amber_group.specs.Steps.{AreWithin, GroupsWithin, change_of, step};
+
+use crate::running::Running;
+use amber_keys::Key;
+use amber_rows::{Agg, Aggs, Row, Value};
+use indexmap::IndexMap;
+use std::alloc::{AllocError, Global};
+use std::marker::Model;
+
+/// What is kept of the rows of a group, for one aggregate after the other. Seen as the list.
+#[derive(Debug, Drop)]
+pub struct Totals {
+    inner: Vec<Running>,
+}
+
+impl Model for Totals {
+    ghost use Rattle.std.specs.Prelude.{List};
+    ghost use Rattle.amber_group.specs.declared.running.Running.{Running as One};
+
+    ghost Value = { List One };
+
+    ghost view = { λ a. a.inner.items };
+}
+
+impl Totals {
+    // What is kept of no row.
+    fn new(alloc: Global, aggs: &[Agg]) -> Result<Self, AllocError>
+        ensures { IfOk result (λ totals. totals ≡ map (running_of []) aggs.now) }
+    {
+        let mut inner = Vec::with_capacity(alloc, aggs.len())?;
+        for agg in aggs {
+            inner.push(Running::new(*agg))?;
+        }
+        Ok(Totals { inner })
+    }
+
+    // What is kept of one row alone.
+    fn of_row(
+        alloc: Global,
+        aggs: &[Agg],
+        row: &Row,
+        changes: &mut Vec<Option<Value>>,
+    ) -> Result<Self, AllocError>
+        ensures value { IfOk result (λ totals. totals ≡ map (step row.now) (map (running_of []) aggs.now)) }
+        ensures within { IfOk result (AreWithin 1) }
+    {
+        let mut totals = Totals::new(alloc, aggs)?;
+        totals.add(row, changes)?;
+        Ok(totals)
+    }
+
+    // Takes in a row more. Its new best cells are made in `changes` first, whose content before does not matter.
+    fn add(&mut self, row: &Row, changes: &mut Vec<Option<Value>>) -> Result<(), AllocError>
+        requires { (rows : ℕ) × (rows < 2 ^ 40) × AreWithin rows self.old }
+        ensures ok { OnOk result (self.new ≡ map (step row.now) self.old) }
+        ensures within { OnOk result ((rows : ℕ) → AreWithin rows self.old → AreWithin (rows + 1) self.new) }
+        ensures same { OnErr result (self.new ≡ self.old) }
+    {
+        find_changes(self.inner.as_slice(), row, changes)?;
+        settle_all(&mut self.inner, row, changes);
+        Ok(())
+    }
+
+    /// For each aggregate what is kept.
+    pub fn get(&self) -> &[Running]
+        ensures { result.now ≡ self.now }
+    {
+        self.inner.as_slice()
+    }
+}
+
+impl Clone for Totals {
+    ghost is_clone = { λ totals copy. copy ≡ totals };
+
+    fn clone(&self) -> Result<Self, AllocError> {
+        Ok(Totals {
+            inner: self.inner.clone()?,
+        })
+    }
+}
+
+// Makes the new best cells of a row, one for each that is kept.
+fn find_changes(
+    runnings: &[Running],
+    row: &Row,
+    changes: &mut Vec<Option<Value>>,
+) -> Result<(), AllocError>
+    ensures { OnOk result (changes.new.items ≡ map (change_of row.now) runnings.now) }
+{
+    changes.clear();
+    for running in runnings {
+        changes.push(running.change(row)?)?;
+    }
+    Ok(())
+}
+
+// Takes in a row more, whose new best cells these are.
+fn settle_all(runnings: &mut Vec<Running>, row: &Row, changes: &mut Vec<Option<Value>>)
+    requires changes { changes.old.items ≡ map (change_of row.now) runnings.old.items }
+    requires within { (rows : ℕ) × (rows < 2 ^ 40) × AreWithin rows runnings.old.items }
+    ensures value { runnings.new.items ≡ map (step row.now) runnings.old.items }
+    ensures within { (rows : ℕ) → AreWithin rows runnings.old.items → AreWithin (rows + 1) runnings.new.items }
+{
+    for i in 0..runnings.len() {
+        let change = changes[i].take();
+        runnings[i].settle(row, change);
+    }
+}
+
+/// Takes a row with this key into the groups. So the groups of some rows become those of these rows and this one.
+pub fn take_in(
+    alloc: Global,
+    groups: &mut IndexMap<Key, Totals>,
+    key: Key,
+    aggs: &Aggs,
+    row: &Row,
+    changes: &mut Vec<Option<Value>>,
+) -> Result<(), AllocError>
+    requires { (fed : ℕ) × (fed < 2 ^ 40) × GroupsWithin fed groups.old.entries }
+    ensures ok { OnOk result ((keys : List ℕ) (rows : List (List Cell)) → groups.old.entries ≡ groups_of keys aggs.now rows → key ≡ picked keys row.now → groups.new.entries ≡ groups_of keys aggs.now (rows ++ row.now ∷ [])) }
+    ensures within { OnOk result ((fed : ℕ) → GroupsWithin fed groups.old.entries → GroupsWithin (fed + 1) groups.new.entries) }
+    ensures same { OnErr result (groups.new.entries ≡ groups.old.entries) }
+{
+    match groups.get_index_of(&key) {
+        Some(i) => groups[i].add(row, changes),
+        None => {
+            let totals = Totals::of_row(alloc, aggs.get(), row, changes)?;
+            groups.insert(key, totals)?;
+            Ok(())
+        }
+    }
+}

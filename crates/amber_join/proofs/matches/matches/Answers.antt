@@ -1,0 +1,19 @@
+-- One place more is one step of `filter_map` more.
+use Rattle.std.proofs.Common.{◌≡◌, ◌+◌, ◌∙◌, ◌++◌, ◌∷◌, [], List, ap, get_or, map, slice_get, sym, take}
+use Rattle.std.specs.List.{filter_map}
+use Rattle.std.proofs.lemmas.List.{map-append, take_more}
+use Rattle.std.proofs.lemmas.List.Elements.{filter_map-append}
+use Rattle.amber_rows.specs.declared.value.Value.{Value}
+use Rattle.amber_join.proofs.matches.matches.Goals as goal
+
+pub loop-place-preserved : goal.loop-place-preserved
+loop-place-preserved c =
+    let put = λ (other : List Value). c.args.probe.now ++ other in
+    let at = slice_get c.args.build.now in
+    let places = c.args.places.now in
+    let i = c.loop-place.place-index in
+    let place = get_or places i 0 in
+    let next : take (i + 1) places ≡ take i places ++ place ∷ [] = take_more places i 0 c.loop-place-test.true in
+    c.in_ok-add_match.ensures
+    ∙ ap (λ before. before ++ map put (filter_map at (place ∷ []))) c.loop-place.invariant
+    ∙ sym (ap (λ ps. map put (filter_map at ps)) next ∙ ap (map put) (filter_map-append at (take i places) (place ∷ [])) ∙ map-append put (filter_map at (take i places)) (filter_map at (place ∷ [])))

@@ -1,0 +1,34 @@
+-- Either the key is there, or it comes last.
+use Rattle.std.proofs.Common.{◌≡◌, ◌∙◌, ◌++◌, ◌∷◌, [], None, ap, position, sym}
+use Rattle.std.specs.Map.{keys_of, lookup}
+use Rattle.indexmap.specs.IndexMap.{set_value_at}
+use Rattle.indexmap.proofs.CallerLemmas.{insert_entry-new}
+use Rattle.amber_rows.specs.Operators.{same_row}
+use Rattle.amber_join.proofs.PlaceTables.{none_is, on_err, on_ok, set-same, table-known, table-new}
+use Rattle.amber_join.proofs.places.note.Goals as goal
+
+pub returns-in-Some-clause-ok : goal.returns-in-Some-clause-ok
+returns-in-Some-clause-ok c =
+    let entries = c.args.table.now.entries in
+    let old = c.index_mut.result.now in
+    on_ok c.add.result _ _ c.add.ensures.ok
+    (λ more keys rows row is key place.
+    table-known keys rows row entries c.in-Some.i old c.add.new.self is
+    (ap (λ k. position (same_row k) (keys_of entries)) (sym key) ∙ sym c.in-Some.ensures.index) c.in-Some.ensures.unique c.index_mut.ensures.value
+    (more ∙ ap (λ n. old ++ n ∷ []) place))
+
+pub returns-in-Some-clause-same : goal.returns-in-Some-clause-same
+returns-in-Some-clause-same c =
+    let entries = c.args.table.now.entries in
+    on_err c.add.result _ _ c.add.ensures.same
+    (λ same. ap (set_value_at entries c.in-Some.i) same ∙ set-same entries c.in-Some.i c.index_mut.result.now c.index_mut.ensures.value)
+
+pub returns-in_ok-insert-in-None-clause-ok : goal.returns-in_ok-insert-in-None-clause-ok
+returns-in_ok-insert-in-None-clause-ok c = λ keys rows row is key place.
+    let entries = c.args.table.now.entries in
+    let new = c.in_ok-places-in-None.places in
+    let none : lookup (same_row c.args.key) entries ≡ None = none_is (lookup (same_row c.args.key) entries) c.in-None.ensures.found in
+    c.in_ok-insert-in-None.ensures.entries
+    ∙ insert_entry-new same_row c.args.table.now c.args.key new none
+    ∙ ap (λ k. entries ++ (k, new) ∷ []) key
+    ∙ table-new keys rows row entries new is (ap (λ k. lookup (same_row k) entries) (sym key) ∙ none) (c.in_ok-places-in-None.ensures ∙ ap (λ n. n ∷ []) place)

@@ -1,0 +1,66 @@
+ghost use Rattle.std.specs.Prelude.{◌≡◌, ◌++◌, ◌∷◌, [], IfOk, OnOk, map, option_map, slice_get};
+ghost use Rattle.std.specs.List.{filter_map};
+
+use amber_rows::{Row, Value};
+use std::alloc::{AllocError, Global};
+
+/// Puts the cells of a row behind other cells.
+fn add_cells(row: &Row, cells: &mut Vec<Value>) -> Result<(), AllocError>
+    ensures { OnOk result (cells.new.items ≡ cells.old.items ++ row.now) }
+{
+    let all = row.get();
+    for cell in all {
+        cells.push(cell.copy()?)?;
+    }
+    Ok(())
+}
+
+/// The cells of a probe row, and then those of a build row.
+fn beside(alloc: Global, probe: &Row, build: &Row) -> Result<Row, AllocError>
+    ensures { IfOk result (λ row. row ≡ probe.now ++ build.now) }
+{
+    let mut cells = Vec::with_capacity(alloc, probe.len().saturating_add(build.len()))?;
+    add_cells(probe, &mut cells)?;
+    add_cells(build, &mut cells)?;
+    Ok(Row::new(cells))
+}
+
+/// The row at a place, if there is one.
+fn row_at(rows: &[Row], place: usize) -> Option<&Row>
+    ensures { option_map (λ row. row.now) result ≡ slice_get rows.now place }
+{
+    rows.get(place)
+}
+
+/// Puts a probe row before the build row at a place behind the other matches.
+fn add_match(
+    alloc: Global,
+    probe: &Row,
+    build: &[Row],
+    place: usize,
+    made: &mut Vec<Row>,
+) -> Result<(), AllocError>
+    ensures { OnOk result (made.new.items ≡ made.old.items ++ map (λ other. probe.now ++ other) (filter_map (slice_get build.now) (place ∷ []))) }
+{
+    let found = row_at(build, place);
+    if let Some(other) = found {
+        made.push(beside(alloc, probe, other)?)?;
+    }
+    Ok(())
+}
+
+/// A probe row before each of the build rows at these places, in their order.
+pub fn matches(
+    alloc: Global,
+    probe: &Row,
+    build: &[Row],
+    places: &[usize],
+) -> Result<Vec<Row>, AllocError>
+    ensures { IfOk result (λ made. made.items ≡ map (λ other. probe.now ++ other) (filter_map (slice_get build.now) places.now)) }
+{
+    let mut made = Vec::with_capacity(alloc, places.len())?;
+    for place in places {
+        add_match(alloc, probe, build, *place, &mut made)?;
+    }
+    Ok(made)
+}

@@ -1,0 +1,81 @@
+ghost use Rattle.std.specs.Prelude.{◌≡◌, ◌++◌, ◌∷◌, [], ℕ, List, IfOk, OnErr, OnOk, length};
+ghost use Rattle.amber_rows.specs.Operators.{picked};
+ghost use Rattle.amber_rows.specs.declared.value.Value.{Value as Cell};
+ghost use Rattle.amber_join.specs.Places.{table_of};
+
+use amber_keys::Key;
+use indexmap::IndexMap;
+use std::alloc::{AllocError, Global};
+use std::marker::Model;
+
+/// Places of build rows in the order in which they came, seen as a list.
+#[derive(Debug, Drop)]
+pub struct Places {
+    inner: Vec<usize>,
+}
+
+impl Model for Places {
+    ghost use Rattle.std.specs.Prelude.{List, ℕ};
+
+    ghost Value = { List ℕ };
+
+    ghost view = { λ a. a.inner.items };
+}
+
+impl Places {
+    /// One place alone.
+    fn one(alloc: Global, place: usize) -> Result<Self, AllocError>
+        ensures { IfOk result (λ places. places ≡ place ∷ []) }
+    {
+        let mut inner = Vec::new(alloc);
+        inner.push(place)?;
+        Ok(Places { inner })
+    }
+
+    /// Puts a place behind the others.
+    fn add(&mut self, place: usize) -> Result<(), AllocError>
+        ensures ok { OnOk result (self.new ≡ self.old ++ place ∷ []) }
+        ensures same { OnErr result (self.new ≡ self.old) }
+    {
+        self.inner.push(place)?;
+        Ok(())
+    }
+
+    /// The places as a slice.
+    pub fn get(&self) -> &[usize]
+        ensures { result.now ≡ self.now }
+    {
+        self.inner.as_slice()
+    }
+}
+
+impl Clone for Places {
+    ghost is_clone = { λ places copy. copy ≡ places };
+
+    fn clone(&self) -> Result<Self, AllocError> {
+        Ok(Places {
+            inner: self.inner.clone()?,
+        })
+    }
+}
+
+/// Notes in a table where the row that comes next stands, which has this key. So a table of some rows becomes that
+/// of these rows and the next one.
+pub fn note(
+    alloc: Global,
+    table: &mut IndexMap<Key, Places>,
+    key: Key,
+    place: usize,
+) -> Result<(), AllocError>
+    ensures ok { OnOk result ((keys : List ℕ) (rows : List (List Cell)) (row : List Cell) → table.old.entries ≡ table_of keys rows → key ≡ picked keys row → place ≡ length rows → table.new.entries ≡ table_of keys (rows ++ row ∷ [])) }
+    ensures same { OnErr result (table.new.entries ≡ table.old.entries) }
+{
+    match table.get_index_of(&key) {
+        Some(i) => table[i].add(place),
+        None => {
+            let places = Places::one(alloc, place)?;
+            table.insert(key, places)?;
+            Ok(())
+        }
+    }
+}

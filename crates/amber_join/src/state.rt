@@ -1,0 +1,143 @@
+ghost use Rattle.std.specs.Prelude.{◌≡◌, ◌++◌, ◌∷◌, [], IfErr, IfOk, OnErr, OnOk, false, length, true};
+ghost use Rattle.amber_rows.specs.Operators.{first_keys, matches_of};
+
+use crate::matches::matches;
+use crate::places::{Places, note};
+use amber_keys::Key;
+use amber_rows::{Cols, Row, Rows};
+use indexmap::IndexMap;
+use std::alloc::{AllocError, Global};
+use std::marker::Model;
+
+/// What a join keeps: the columns by which the rows of both sides are compared, the build rows in the order in
+/// which they came, and whether these are all. The state is seen as just these.
+#[derive(Debug, Drop)]
+pub struct JoinState {
+    alloc: Global,
+    build_keys: Cols,
+    probe_keys: Cols,
+    rows: Vec<Row>,
+    // The places of the rows with each key.
+    table: IndexMap<Key, Places>,
+    sealed: bool,
+}
+
+impl Model for JoinState {
+    ghost use Rattle.std.specs.Prelude.{◌≡◌};
+    ghost use Rattle.amber_join.specs.Join.{Join};
+    ghost use Rattle.amber_join.specs.Places.{table_of};
+
+    ghost Value = { Join };
+
+    ghost view = { λ a. record { build_keys = a.build_keys; probe_keys = a.probe_keys; rows = a.rows.items; sealed = a.sealed } };
+
+    ghost invariant = { λ a. a.table.entries ≡ table_of a.build_keys a.rows.items };
+}
+
+impl JoinState {
+    /// The state of a join on these columns of its two sides, with no build row. Columns are numbered from 1.
+    #[tactic(auto, unfolding(crate::specs::Places::table_of, amber_rows::specs::Operators::first_keys))]
+    pub fn new(alloc: Global, build_keys: Cols, probe_keys: Cols) -> Self
+        ensures { result ≡ record { build_keys = build_keys; probe_keys = probe_keys; rows = []; sealed = false } }
+    {
+        JoinState {
+            alloc,
+            build_keys,
+            probe_keys,
+            rows: Vec::new(alloc),
+            table: IndexMap::new(alloc),
+            sealed: false,
+        }
+    }
+
+    /// Keeps a build row. It gives the row back for want of memory alone.
+    pub fn build(&mut self, row: Row) -> Result<(), Row>
+        requires { self.old.sealed ≡ false }
+        ensures ok { OnOk result (self.new ≡ record self.old { rows = self.old.rows ++ row ∷ [] }) }
+        ensures err { IfErr result (λ back. back ≡ row) }
+        ensures same_on_err { OnErr result (self.new ≡ self.old) }
+    {
+        let Ok(key) = Key::of(self.alloc, &row, &self.build_keys) else {
+            return Err(row);
+        };
+        if self.rows.reserve(1).is_err() {
+            return Err(row);
+        }
+        if note(self.alloc, &mut self.table, key, self.rows.len()).is_err() {
+            return Err(row);
+        }
+        self.rows.push_reserved(row);
+        Ok(())
+    }
+
+    /// Says that the build rows so far are all. From now on the join may be probed.
+    pub fn seal(&mut self)
+        ensures { self.new ≡ record self.old { sealed = true } }
+    {
+        self.sealed = true;
+    }
+
+    /// The probe row followed by each build row whose keys equal its own, in the order in which the build rows
+    /// came. No row where no key is equal.
+    pub fn probe(&self, row: &Row) -> Result<Rows, AllocError>
+        requires { self.now.sealed ≡ true }
+        ensures { IfOk result (λ rows. rows ≡ matches_of self.now.build_keys self.now.probe_keys self.now.rows row.now) }
+    {
+        let key = Key::of(self.alloc, row, &self.probe_keys)?;
+        match self.table.get(&key) {
+            Some(places) => Ok(Rows::new(matches(
+                self.alloc,
+                row,
+                self.rows.as_slice(),
+                places.get(),
+            )?)),
+            None => Ok(Rows::new(Vec::new(self.alloc))),
+        }
+    }
+
+    /// How many different keys the build rows have.
+    pub fn keys(&self) -> u64
+        ensures { result ≡ length (first_keys self.now.build_keys self.now.rows) }
+    {
+        self.table.len() as u64
+    }
+
+    /// How many build rows there are.
+    pub fn rows(&self) -> u64
+        ensures { result ≡ length self.now.rows }
+    {
+        self.rows.len() as u64
+    }
+
+    /// Another state with equal columns, equal build rows in the same order, and sealed where this one is.
+    pub fn copy(&self) -> Result<Self, AllocError>
+        ensures { IfOk result (λ copy. copy ≡ self.now) }
+    {
+        Ok(JoinState {
+            alloc: self.alloc,
+            build_keys: copied_cols(self.alloc, &self.build_keys)?,
+            probe_keys: copied_cols(self.alloc, &self.probe_keys)?,
+            rows: copied_rows(self.alloc, self.rows.as_slice())?,
+            table: self.table.clone()?,
+            sealed: self.sealed,
+        })
+    }
+}
+
+// Columns equal to these.
+fn copied_cols(alloc: Global, cols: &Cols) -> Result<Cols, AllocError>
+    ensures { IfOk result (λ copy. copy ≡ cols.now) }
+{
+    Ok(Cols::new(Vec::from_slice(alloc, cols.get())?))
+}
+
+// Rows equal to these, in their order.
+fn copied_rows(alloc: Global, rows: &[Row]) -> Result<Vec<Row>, AllocError>
+    ensures { IfOk result (λ copies. copies.items ≡ rows.now) }
+{
+    let mut copies = Vec::with_capacity(alloc, rows.len())?;
+    for row in rows {
+        copies.push(row.copy()?)?;
+    }
+    Ok(copies)
+}

@@ -1,0 +1,2 @@
+pub mod FirstKeys
+pub mod Tables
