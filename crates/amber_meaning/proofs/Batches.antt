@@ -1,11 +1,9 @@
 -- The tests that batches are equal, and that some are a beginning of others.
 use Rattle.std.proofs.Common.{◌≡◌, eqb, List, [], ◌∷◌, ◌++◌, Bool, true, false, ◌↔◌, refl, ap}
 use Rattle.std.specs.Ordering.{is_eq}
-use Rattle.std.specs.declared.cmp.Ordering.{Ordering}
-use Rattle.std.specs.declared.cmp.Ordering.TheVariants.{Less, Equal, Greater}
 use Rattle.std.proofs.lemmas.Bool.{and_from, and_parts, eq-eqb, eqb-true, false≢true}
 use Rattle.std.proofs.lemmas.Cmp.{tied_itself}
-use Rattle.amber_rows.proofs.Sorting.{row-same}
+use Rattle.amber_rows.proofs.Sorting.{equal_from, row-same}
 use Rattle.amber_rows.specs.Operators.{same_row}
 use Rattle.amber_rows.specs.Order.{row_cmp}
 use Rattle.amber_rows.specs.OrderLaws.{row-total}
@@ -13,11 +11,6 @@ use Rattle.amber_rows.specs.declared.batch.Batch.{Batch}
 use Rattle.amber_rows.specs.declared.value.Value.{Value}
 use Rattle.amber_meaning.specs.Legal.{Begins}
 use Rattle.amber_meaning.specs.LegalTests.{begins, same_batch, same_flag, same_rows}
-
-equal_from : (o : Ordering) → is_eq o ≡ true → o ≡ Equal
-equal_from Less h = cc
-equal_from Equal h = refl
-equal_from Greater h = cc
 
 row-is : (x y : List Value) → same_row x y ≡ true → x ≡ y
 row-is x y e = row-same x y (equal_from (row_cmp x y) e)

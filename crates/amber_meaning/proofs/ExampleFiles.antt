@@ -29,7 +29,7 @@ orders_are_read = refl
 
 -- ---- records that are no rows
 
-abbrev straight : List Operator
+abbrev pub straight : List Operator
 straight = scan_orders ∷ record { id = codes "s"; what = what.Sink 1; schema = orders; workers = 1 } ∷ []
 
 mixed_csv : List ℕ
@@ -42,13 +42,13 @@ mixed = refl
 
 -- ---- a sum that leaves 64 bits
 
-abbrev pairs : List Column
+abbrev pub pairs : List Column
 pairs = record { name = codes "k"; kind = kind.Text } ∷ record { name = codes "v"; kind = kind.Int } ∷ []
 
-abbrev sums : List Column
+abbrev pub sums : List Column
 sums = record { name = codes "k"; kind = kind.Text } ∷ record { name = codes "sum:v"; kind = kind.Int } ∷ []
 
-abbrev summed : List Operator
+abbrev pub summed : List Operator
 summed =
     record { id = codes "o"; what = what.Scan (codes "o.csv"); schema = pairs; workers = 1 }
     ∷ record { id = codes "g"; what = what.Group 1 (1 ∷ []) (agg.Sum 2 ∷ []); schema = sums; workers = 1 }

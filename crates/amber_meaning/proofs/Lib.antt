@@ -2,6 +2,7 @@ pub mod Batches
 pub mod Evaluated
 pub mod ExampleCases
 pub mod ExampleFiles
+pub mod ExampleFlows
 pub mod ExampleLegal
 pub mod ExampleRefusals
 pub mod ExampleRows
@@ -10,7 +11,6 @@ pub mod ExampleSteps
 pub mod ExampleStops
 pub mod ExampleTexts
 pub mod Fronts
-pub mod Groups
 pub mod LegalFrom
 pub mod LegalTests
 pub mod Lists

@@ -1,14 +1,11 @@
 -- The records of a scan's file one by one: its rows, and what is refused.
-use Rattle.std.proofs.Common.{◌≡◌, ℕ, zero, suc, ◌+◌, ◌<◌, ◌≤◌, Bool, true, false, not, ◌&&◌, List, [], ◌∷◌, ◌++◌, length, get_or, drop, map, Some, Result, Ok, Err, refl, sym, ap, ◌∙◌, arith, add-one, add-zero, append_assoc, bytes_eq}
+use Rattle.std.proofs.Common.{◌≡◌, ℕ, suc, ◌+◌, List, [], ◌∷◌, ◌++◌, length, map, Result, Ok, Err, refl, sym, ap, ◌∙◌, arith, add-zero, append_assoc}
 use Rattle.std.specs.List.{filter_map}
-use Rattle.std.specs.Cmp.Lexicographic.{pointwise}
-use Rattle.std.proofs.lemmas.List.{append-nil, drop_more, drop_all, drop-map, length-map, map-append}
+use Rattle.std.proofs.lemmas.List.{append-nil, length-map, map-append}
 use Rattle.std.proofs.lemmas.List.Elements.{filter_map-append}
-use Rattle.csv.specs.Records.{field_at}
-use Rattle.amber_rows.specs.Columns.{names_of}
+use Rattle.amber_rows.proofs.FileRecords.{typed-all, typed-none}
 use Rattle.amber_rows.specs.Reading.{HasRead}
-use Rattle.amber_rows.specs.Record.{file_records, has_header, ok_of, row_of, typed_records}
-use Rattle.amber_rows.proofs.FileRecords.{HasRead-front}
+use Rattle.amber_rows.specs.Record.{file_records, ok_of, row_of, typed_records}
 use Rattle.amber_rows.specs.declared.value.Value.{Value}
 use Rattle.amber_rows.specs.declared.column.Column.{Column}
 use Rattle.amber_rows.specs.declared.record.RowFault.{RowFault}
@@ -25,50 +22,7 @@ Typed = List (Result (List Value) RowFault)
 abbrev Fields : Type 0
 Fields = List (List ℕ)
 
--- ---- headers
-
-drop_field : (fields : Fields) (i : ℕ) (f : List ℕ) → field_at fields i ≡ Some f → drop i fields ≡ f ∷ drop (suc i) fields
-unfolding field_at
-drop_field [] i f e = absurd (cc)
-drop_field (x ∷ fields) zero f e = cc
-drop_field (x ∷ fields) (suc i) f e = drop_field fields i f e
-
-pub names-more : (fields : Fields) (columns : List Column) (i : ℕ) (f : List ℕ) (column : Column) → i < length columns → column ≡ get_or columns i column → field_at fields i ≡ Some f
-    → pointwise bytes_eq (drop i fields) (drop i (names_of columns)) ≡ (bytes_eq f column.name && pointwise bytes_eq (drop (i + 1) fields) (drop (i + 1) (names_of columns)))
-names-more fields columns i f column h e is =
-    let name : Column → List ℕ = λ c. c.name in
-    let one : drop i fields ≡ f ∷ drop (i + 1) fields = rw add-one (drop_field fields i f is) in
-    let more : drop i columns ≡ column ∷ drop (i + 1) columns = drop_more columns i column h ∙ ap (λ x. x ∷ drop (i + 1) columns) (sym e) in
-    let names : drop i (names_of columns) ≡ column.name ∷ drop (i + 1) (names_of columns) =
-    drop-map name i columns ∙ ap (map name) more ∙ ap (λ xs. column.name ∷ xs) (sym (drop-map name (i + 1) columns)) in
-    rw (one, names) refl
-
-pub names-end : (fields : Fields) (columns : List Column) (i : ℕ) → length fields ≡ length columns → length columns ≤ i
-    → pointwise bytes_eq (drop i fields) (drop i (names_of columns)) ≡ true
-names-end fields columns i same h =
-    let name : Column → List ℕ = λ c. c.name in
-    let none : drop i fields ≡ [] = drop_all i fields (omega arith) in
-    let long : length (names_of columns) ≤ i = omega (arith, length-map columns name) in
-    rw (none, drop_all i (names_of columns) long) refl
-
-pub header-none : (columns : List Column) (file : List ℕ) → file_records file ≡ [] → has_header columns file ≡ false
-unfolding has_header
-header-none columns file e = rw e refl
-
-pub header-some : (columns : List Column) (file : List ℕ) (r : RecordReader) (fields : Fields) → HasRead file r (fields ∷ [])
-    → has_header columns file ≡ pointwise bytes_eq fields (names_of columns)
-unfolding has_header
-header-some columns file r fields h = let front = HasRead-front h in rw front.1 refl
-
 -- ---- records
-
-pub typed-none : (columns : List Column) (file : List ℕ) → file_records file ≡ [] → typed_records columns file ≡ []
-unfolding typed_records
-typed-none columns file e = rw e refl
-
-typed-all : (columns : List Column) (file : List ℕ) (header : Fields) (done : List Fields) → file_records file ≡ header ∷ done → typed_records columns file ≡ map (row_of columns) done
-unfolding typed_records
-typed-all columns file header done e = rw e refl
 
 refused_records-append : (op n : ℕ) (xs ys : Typed) → refused_records op n (xs ++ ys) ≡ refused_records op n xs ++ refused_records op (n + length xs) ys
 unfolding refused_records
@@ -128,13 +82,3 @@ rows-none columns file rows e n = rw (typed-none columns file e) n
 pub refused-none : (op : ℕ) (columns : List Column) (file : List ℕ) (refused : List Refusal) → file_records file ≡ [] → refused ≡ refused ++ refused_records op 1 (typed_records columns file)
 unfolding refused_records
 refused-none op columns file refused e = rw (typed-none columns file e) (sym (append-nil refused))
-
--- ---- tests
-
-pub not_true : (b : Bool) → true ≡ not b → b ≡ false
-not_true true e = absurd (cc)
-not_true false e = refl
-
-pub not_false : (b : Bool) → false ≡ not b → b ≡ true
-not_false true e = refl
-not_false false e = absurd (cc)

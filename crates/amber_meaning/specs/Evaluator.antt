@@ -1,6 +1,5 @@
--- The lists of rows that stand while the operators of a workflow are evaluated in order, and rows each where it stands first.
-use Rattle.std.specs.Prelude.{◌≢◌, ℕ, ◌-◌, ◌<◌, ◌≤◌, not, List, [], ◌∷◌, length, filter, slice_set, Bool, true, if◌then◌else◌, Result}
-use Rattle.amber_rows.specs.Operators.{same_row}
+-- The lists of rows that stand while the operators of a workflow are evaluated in order.
+use Rattle.std.specs.Prelude.{◌≢◌, ℕ, ◌-◌, ◌<◌, ◌≤◌, List, [], ◌∷◌, length, slice_set, Bool, true, if◌then◌else◌, Result}
 use Rattle.amber_rows.specs.Record.{has_header, typed_records}
 use Rattle.amber_rows.specs.declared.value.Value.{Value}
 use Rattle.amber_rows.specs.declared.column.Column.{Column}
@@ -22,11 +21,6 @@ is_headed kind columns file = if is_scan kind then has_header columns file else 
 -- the typed records of an operator's file; none where it is no scan
 abbrev pub records_at : What → List Column → List ℕ → List (Result (List Value) RowFault)
 records_at kind columns file = if is_scan kind then typed_records columns file else []
-
--- rows, each where it stands first
-unfoldable pub distinct : List (List Value) → List (List Value)
-distinct [] = []
-distinct (row ∷ rows) = row ∷ filter (λ other. not (same_row other row)) (distinct rows)
 
 -- there is a list with this number
 abbrev pub HasList : List (List (List Value)) → ℕ → Type 0

@@ -9,14 +9,13 @@ use Rattle.amber_rows.specs.RowText.{fields_text_of, row_text_of, rows_text_of}
 use Rattle.amber_rows.specs.declared.value.Value.{Value}
 use Rattle.amber_rows.specs.declared.value.Value.TheVariants as value
 use Rattle.amber_rows.specs.declared.column.Column.{Column}
-use Rattle.amber_rows.specs.declared.cond.Cmp.{Cmp}
-use Rattle.amber_rows.specs.declared.cond.Cmp.TheVariants as cmp
 use Rattle.amber_rows.specs.declared.cond.Cond.{Cond}
 use Rattle.amber_rows.specs.declared.record.RowFault.{RowFault}
 use Rattle.amber_rows.specs.declared.record.RowFault.TheVariants as fault
 use Rattle.amber_rows.specs.declared.flow.What.{What}
 use Rattle.amber_rows.specs.declared.flow.What.TheVariants as what
 use Rattle.amber_rows.specs.declared.flow.Operator.{Operator}
+use Rattle.amber_log.specs.Words.{sign_of}
 use Rattle.amber_log.specs.declared.command.Command.{Command}
 use Rattle.amber_log.specs.declared.command.Command.TheVariants as command
 use Rattle.amber_meaning.specs.declared.answer.Answer.{Answer}
@@ -61,14 +60,6 @@ abbrev pub value_word : Value → List ℕ
 value_word (value.Int n) = signed_decimal n
 value_word (value.Text t) = word_of t
 
-abbrev pub sign_word : Cmp → List ℕ
-sign_word cmp.Eq = codes "="
-sign_word cmp.Ne = codes "!="
-sign_word cmp.Lt = codes "<"
-sign_word cmp.Le = codes "<="
-sign_word cmp.Gt = codes ">"
-sign_word cmp.Ge = codes ">="
-
 -- words with blanks between them, as a line
 unfoldable pub words_line : List (List ℕ) → List ℕ
 words_line [] = 10 ∷ []
@@ -100,7 +91,7 @@ column_name_at flow op column = name_in (numbered (columns_at flow op) column)
 
 -- column, sign and constant
 abbrev pub cond_words : List Operator → ℕ → Cond → List (List ℕ)
-cond_words flow op cond = word_of (column_name_at flow op cond.column) ∷ sign_word cond.op ∷ value_word cond.constant ∷ []
+cond_words flow op cond = word_of (column_name_at flow op cond.column) ∷ sign_of cond.op ∷ value_word cond.constant ∷ []
 
 -- ---- replies to commands
 

@@ -49,6 +49,14 @@ impl Refusals {
     {
         self.inner.as_slice()
     }
+
+    /// The refusals as the `Vec` of which they were made.
+    pub fn into_vec(self) -> Vec<Refusal>
+        ensures { result.items ≡ self }
+    {
+        let Refusals { inner } = self;
+        inner
+    }
 }
 
 /// The answer of a query: what was refused, and the sink's columns and rows.

@@ -8,11 +8,10 @@ ghost use Rattle.amber_meaning.specs.declared.answer.Refusal.TheVariants as refu
 ghost use Rattle.amber_meaning.specs.declared.evaluator.PlainErr.TheVariants as plain_err;
 
 use crate::answer::{Answer, Refusal, Refusals};
-use crate::group::{Groups, group};
 use crate::header::{file_behind, wrong_header};
-use crate::join::join;
 use crate::project::project;
 use crate::scan::scan;
+use crate::through::{Groups, group_rows, join_rows};
 use amber_rows::{Aggs, Cols, Cond, Files, Flow, Operator, Row, Rows, What, holds, sort};
 use std::alloc::{AllocError, Global};
 use std::mem;
@@ -65,18 +64,18 @@ fn refuse_groups(op: u32, keys: &[Row], refused: &mut Vec<Refusal>) -> Result<()
 }
 
 /// The rows of a group. Its keys that have none are refused, in the order of rows.
-fn group_rows(
+fn group_refused(
     alloc: Global,
     op: u32,
     keys: &Cols,
     aggs: &Aggs,
-    rows: &[Row],
+    rows: Vec<Row>,
     refused: &mut Vec<Refusal>,
 ) -> Result<Vec<Row>, AllocError>
-    ensures rows { IfOk result (λ made. made.items ≡ grouped keys.now aggs.now rows.now) }
-    ensures refused { OnOk result (refused.new.items ≡ refused.old.items ++ refused_groups op (refused_keys keys.now aggs.now rows.now)) }
+    ensures rows { IfOk result (λ made. made.items ≡ grouped keys.now aggs.now rows.items) }
+    ensures refused { OnOk result (refused.new.items ≡ refused.old.items ++ refused_groups op (refused_keys keys.now aggs.now rows.items)) }
 {
-    let groups = group(alloc, keys, aggs, rows)?;
+    let groups = group_rows(alloc, keys, aggs, rows)?;
     let Groups {
         rows: made,
         refused: mut none,
@@ -121,17 +120,11 @@ fn rows_of(
         } => {
             let build_rows = take_rows(alloc, lists, *build);
             let probe_rows = take_rows(alloc, lists, *probe);
-            join(
-                alloc,
-                build_keys,
-                probe_keys,
-                build_rows.as_slice(),
-                probe_rows.as_slice(),
-            )
+            join_rows(alloc, build_keys, probe_keys, build_rows, probe_rows)
         }
         What::Group { input, keys, aggs } => {
             let rows = take_rows(alloc, lists, *input);
-            group_rows(alloc, op, keys, aggs, rows.as_slice(), refused)
+            group_refused(alloc, op, keys, aggs, rows, refused)
         }
         What::Sink { input } => {
             let mut rows = take_rows(alloc, lists, *input);

@@ -1,13 +1,8 @@
-ghost use Rattle.std.specs.Prelude.{◌≡◌, ◌≤◌, count_by, length, take, IfOk, bytes_eq};
-ghost use Rattle.std.specs.Cmp.Lexicographic.{pointwise};
-ghost use Rattle.csv.specs.Records.{fields_of};
-ghost use Rattle.amber_rows.specs.Columns.{names_of};
-ghost use Rattle.amber_rows.specs.Record.{has_header};
+ghost use Rattle.std.specs.Prelude.{◌≡◌, ◌≤◌, count_by, length, take, IfOk};
 ghost use Rattle.amber_meaning.specs.Plain.{is_scan, next_file, wrong_header};
 ghost use Rattle.amber_meaning.specs.Evaluator.{files_left, is_headed};
 
-use amber_rows::{Files, Flow, Operator, RecordReader, Schema, What};
-use csv::ByteRecord;
+use amber_rows::{Files, Flow, Operator, What, has_header};
 use std::alloc::{AllocError, Global};
 
 /// Whether an operator is a scan.
@@ -45,38 +40,6 @@ pub fn file_behind<'a>(flow: &Flow, files: &'a Files, before: usize) -> &'a [u8]
         Some(file) => file.get(),
         None => &[],
     }
-}
-
-/// Whether the fields of a record are the columns' names.
-fn are_names(fields: &ByteRecord, schema: &Schema) -> bool
-    ensures { result ≡ pointwise bytes_eq (fields_of fields.now) (names_of schema.now) }
-{
-    let columns = schema.get();
-    if fields.len() != columns.len() {
-        return false;
-    }
-    for (i, column) in columns.iter().enumerate() {
-        let Some(field) = fields.get(i) else {
-            return false;
-        };
-        if field != column.name.get().as_bytes() {
-            return false;
-        }
-    }
-    true
-}
-
-/// Whether a file begins with the names of its columns.
-fn has_header(alloc: Global, schema: &Schema, file: &[u8]) -> Result<bool, AllocError>
-    ensures { IfOk result (λ right. right ≡ has_header schema.now file.now) }
-{
-    let mut reader = RecordReader::open(alloc, file);
-    let mut fields = ByteRecord::new(alloc);
-    let found = reader.next(&mut fields)?;
-    if !found {
-        return Ok(false);
-    }
-    Ok(are_names(&fields, schema))
 }
 
 /// Whether an operator is no scan, or this file begins with the names of its columns.

@@ -4,19 +4,18 @@
 //! What a legal log of a run is and leads to is stated too; the laws about it are in `laws`.
 #![tactic(auto)]
 
-mod aggregate;
 pub mod answer;
 pub mod evaluator;
-mod group;
 mod header;
-mod join;
 pub mod laws;
 mod project;
 mod scan;
+mod through;
 pub mod view;
 
 pub use answer::{Answer, Refusal, Refusals};
 pub use evaluator::{PlainErr, plain};
+pub use header::file_behind;
 pub use std::alloc::AllocError as NoMemory;
 pub use view::{Counted, Extra, Inspected, Stand, Stop, Stops, Views, WorkerView};
 

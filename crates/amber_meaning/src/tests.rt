@@ -1,142 +1,188 @@
-// One query: the numbers of a file that are 2 or more.
-ghost use Rattle.std.specs.Prelude.{◌≡◌, [], ◌∷◌, codes, IfOk};
+// What is refused, the columns and the rows, over files given as texts.
+ghost use Rattle.std.specs.Prelude.{◌≡◌, length, IfOk};
 ghost use Rattle.amber_meaning.specs.Plain.{scan_count};
 
+mod flows;
+
 use super::*;
-use amber_rows::{
-    Bytes, Cmp, ColKind, Column, Cond, Files, Flow, Operator, Row, Schema, Text, Value, What,
-};
+use amber_rows::{Bytes, Files, Flow, append_names, append_rows, row_text};
 use std::alloc::Global;
+use std::process::Abort;
 use std::test::Fail;
 
-fn text(alloc: Global, written: &str) -> Result<Text, NoMemory>
-    ensures { IfOk result (λ text. text ≡ written.now) }
-{
-    Ok(Text::new(String::from_str(alloc, written)?))
-}
+const ITEMS: &str = "name,price\nnut,3\nbolt,4\nbolt,9\n";
 
-fn numbers(alloc: Global) -> Result<Schema, NoMemory>
-    ensures { IfOk result (λ columns. columns ≡ record { name = codes "n"; kind = ColKind.Int } ∷ []) }
-{
-    let name = text(alloc, "n")?;
-    let kind = ColKind::Int;
-    Ok(Schema::new(vec![in alloc; Column { name, kind }]?))
-}
+const ORDERS: &str = "id,item,qty\n1,nut,5\n2,bolt,12\n3,nut,7\n4,cog,12\n5,bolt,1\n";
 
-fn query(alloc: Global) -> Result<Flow, NoMemory>
-    ensures { IfOk result (λ flow. scan_count flow ≡ 1) }
+fn file_list(alloc: Global, texts: &[&str]) -> Result<Files, NoMemory>
+    ensures { IfOk result (λ files. length files ≡ length texts.now) }
 {
-    let scan = Operator {
-        id: text(alloc, "all")?,
-        what: What::Scan {
-            file: text(alloc, "n.csv")?,
-        },
-        schema: numbers(alloc)?,
-        workers: 1,
-    };
-    let cond = Cond {
-        column: 1,
-        op: Cmp::Ge,
-        constant: Value::Int(2),
-    };
-    let filter = Operator {
-        id: text(alloc, "big")?,
-        what: What::Filter { input: 1, cond },
-        schema: numbers(alloc)?,
-        workers: 1,
-    };
-    let sink = Operator {
-        id: text(alloc, "out")?,
-        what: What::Sink { input: 2 },
-        schema: numbers(alloc)?,
-        workers: 1,
-    };
-    Ok(Flow::new(vec![in alloc; scan, filter, sink]?))
-}
-
-fn print_row(alloc: Global, row: &Row, told: &mut String) -> Result<(), Fail> {
-    for cell in row.get() {
-        told.push_str(&format!(in alloc; "{cell} ")?)?;
+    let mut files = Vec::new(alloc);
+    for text in texts {
+        let bytes = Vec::from_slice(alloc, text.as_bytes())?;
+        files.push(Bytes::new(bytes))?;
     }
-    Ok(())
+    Ok(Files::new(files))
 }
 
-fn print_refusal(alloc: Global, refusal: &Refusal, told: &mut String) -> Result<(), Fail> {
+// A line for each refusal.
+fn add_refusal(alloc: Global, refusal: &Refusal, told: &mut Vec<u8>) -> Result<(), NoMemory> {
     match refusal {
         Refusal::Record { op, number, fault } => {
-            told.push_str(&format!(in alloc; "({op} {number} {fault:?}) ")?)?;
+            let line = format!(in alloc; "operator {op} record {number} {fault:?}\n")?;
+            told.extend_from_slice(line.as_bytes())
         }
         Refusal::Group { op, key } => {
-            told.push_str(&format!(in alloc; "({op}: ")?)?;
-            print_row(alloc, key, told)?;
-            told.push_str(") ")?;
+            let line = format!(in alloc; "operator {op} group ")?;
+            told.extend_from_slice(line.as_bytes())?;
+            told.extend_from_slice(row_text(alloc, key)?.as_slice())
         }
     }
-    Ok(())
 }
 
-// What was refused, and the rows.
-fn printed(alloc: Global, answer: &Answer) -> Result<String, Fail> {
-    let mut told = String::new(alloc);
+// The refusals, the names of the columns, and the rows.
+fn printed(alloc: Global, answer: &Answer) -> Result<Vec<u8>, NoMemory> {
+    let mut told = Vec::new(alloc);
     for refusal in answer.refused.get() {
-        print_refusal(alloc, refusal, &mut told)?;
+        add_refusal(alloc, refusal, &mut told)?;
     }
-    for row in answer.rows.get() {
-        print_row(alloc, row, &mut told)?;
-    }
-    Ok(told)
+    let told = append_names(alloc, told, &answer.columns)?;
+    append_rows(alloc, told, answer.rows.get())
 }
 
-fn answered(alloc: Global, file: &str, most: u64) -> Result<String, Fail> {
-    let flow = query(alloc)?;
-    let bytes = Vec::from_slice(alloc, file.as_bytes())?;
-    let files = Files::new(vec![in alloc; Bytes::new(bytes)]?);
-    match plain(alloc, &flow, &files, most) {
-        Ok(answer) => printed(alloc, &answer),
+// What `plain` answers over these files.
+fn answered(alloc: Global, flow: &Flow, files: &[&str], most: u64) -> Result<String, Fail>
+    requires { length files.now ≡ scan_count flow.now }
+{
+    let files = file_list(alloc, files)?;
+    match plain(alloc, flow, &files, most) {
+        Ok(answer) => Ok(String::from_utf8(printed(alloc, &answer)?)?),
         Err(PlainErr::Header(op)) => Ok(format!(in alloc; "header {op}")?),
         Err(PlainErr::Long) => Ok(format!(in alloc; "long")?),
         Err(PlainErr::NoMemory) => Ok(format!(in alloc; "no memory")?),
     }
 }
 
-#[test]
-fn an_answer_has_sorted_rows_and_refused_records(rt: HostRuntime) -> Result<(), Fail> {
-    for (file, want) in [
-        ("n\n3\nx\n1\n2\n3\n", "(1 2 Int(1)) 2 3 3 "),
-        ("n\n10\n9\n1,1\n", "(1 3 Width) 9 10 "),
-        ("n\r\n\"2\"", "2 "),
-        ("n\n", ""),
-    ] {
-        assert_eq!(rt;
-            answered(rt.alloc(), file, 100)?.as_str(),
-            want,
-            "at {file:?}"
-        );
+// Checks what `plain` answers over each of these files, where there may be a hundred rows.
+fn check(rt: &impl Abort, alloc: Global, flow: &Flow, cases: &[(&str, &str)]) -> Result<(), Fail>
+    requires { scan_count flow.now ≡ 1 }
+{
+    for (file, want) in cases {
+        let told = answered(alloc, flow, &[file], 100)?;
+        assert_eq!(rt; told.as_str(), *want, "at {file:?}");
     }
     Ok(())
+}
+
+#[test]
+fn an_answer_has_sorted_rows_and_refused_records(rt: HostRuntime) -> Result<(), Fail> {
+    let flow = flows::from_two(rt.alloc())?;
+    check(
+        &rt,
+        rt.alloc(),
+        &flow,
+        &[
+            (
+                "n\n3\nx\n1\n2\n3\n",
+                "operator 1 record 2 Int(1)\nn\n2\n3\n3\n",
+            ),
+            ("n\n10\n9\n1,1\n", "operator 1 record 3 Width\nn\n9\n10\n"),
+            ("n\r\n\"2\"", "n\n2\n"),
+            ("n\n", "n\n"),
+        ],
+    )
 }
 
 #[test]
 fn a_file_without_its_header_has_no_answer(rt: HostRuntime) -> Result<(), Fail> {
-    for file in ["", "m\n3\n", "n,n\n3,3\n", "N\n3\n", "n \n3\n"] {
-        assert_eq!(rt;
-            answered(rt.alloc(), file, 100)?.as_str(),
-            "header 1",
-            "at {file:?}"
-        );
-    }
-    Ok(())
+    let flow = flows::from_two(rt.alloc())?;
+    check(
+        &rt,
+        rt.alloc(),
+        &flow,
+        &[
+            ("", "header 1"),
+            ("m\n3\n", "header 1"),
+            ("n,n\n3,3\n", "header 1"),
+            ("N\n3\n", "header 1"),
+            ("n \n3\n", "header 1"),
+        ],
+    )
 }
 
 #[test]
-fn an_answer_has_no_more_rows_than_may_be(rt: HostRuntime) -> Result<(), Fail> {
-    // Two rows of the scan, one of the filter, one of the sink.
-    for (most, want) in [(4, "2 "), (3, "long"), (0, "long")] {
-        assert_eq!(rt;
-            answered(rt.alloc(), "n\n1\n2\n", most)?.as_str(),
-            want,
-            "at {most}"
-        );
+fn refused_records_have_their_numbers_in_the_file(rt: HostRuntime) -> Result<(), Fail> {
+    let flow = flows::orders(rt.alloc())?;
+    check(
+        &rt,
+        rt.alloc(),
+        &flow,
+        &[(
+            "id,item,qty\nx,nut\n+07,nut,5\na,nut,5\n",
+            "operator 1 record 1 Width\noperator 1 record 3 Int(1)\nid,item,qty\n7,nut,5\n",
+        )],
+    )
+}
+
+#[test]
+fn a_project_gives_its_columns_in_its_order(rt: HostRuntime) -> Result<(), Fail> {
+    let flow = flows::things(rt.alloc())?;
+    check(
+        &rt,
+        rt.alloc(),
+        &flow,
+        &[(ORDERS, "thing,n\nbolt,2\nbolt,5\ncog,4\nnut,1\nnut,3\n")],
+    )
+}
+
+#[test]
+fn a_group_refuses_the_key_of_a_sum_that_leaves_64_bits(rt: HostRuntime) -> Result<(), Fail> {
+    let flow = flows::sums(rt.alloc())?;
+    check(
+        &rt,
+        rt.alloc(),
+        &flow,
+        &[
+            (
+                "k,v\na,9223372036854775807\na,1\n",
+                "operator 2 group a\nk,sum:v\n",
+            ),
+            (
+                "k,v\na,9223372036854775807\na,1\na,-1\n",
+                "k,sum:v\na,9223372036854775807\n",
+            ),
+            (
+                "k,v\na,9223372036854775807\na,-1\na,1\n",
+                "k,sum:v\na,9223372036854775807\n",
+            ),
+            (
+                "k,v\na,-1\na,9223372036854775807\na,1\n",
+                "k,sum:v\na,9223372036854775807\n",
+            ),
+        ],
+    )
+}
+
+#[test]
+fn a_group_without_keys_has_no_row_where_there_is_none(rt: HostRuntime) -> Result<(), Fail> {
+    let flow = flows::count(rt.alloc())?;
+    check(
+        &rt,
+        rt.alloc(),
+        &flow,
+        &[("n\n", "count\n"), ("n\n5\n5\n", "count\n2\n")],
+    )
+}
+
+#[test]
+fn a_join_gives_each_probe_row_before_each_match(rt: HostRuntime) -> Result<(), Fail> {
+    let flow = flows::prices(rt.alloc())?;
+    let joined =
+        "id,item,qty,name,price\n1,nut,5,nut,3\n2,bolt,12,bolt,4\n2,bolt,12,bolt,9\n3,nut,7,nut,3\n5,bolt,1,bolt,4\n5,bolt,1,bolt,9\n";
+    // Three prices, five orders, and six rows of the join and of the sink.
+    for (most, want) in [(20, joined), (19, "long"), (0, "long")] {
+        let told = answered(rt.alloc(), &flow, &[ITEMS, ORDERS], most)?;
+        assert_eq!(rt; told.as_str(), want, "at {most}");
     }
     Ok(())
 }

@@ -1,8 +1,0 @@
--- The cells of the columns so far.
-use Rattle.std.proofs.Common.{◌≡◌, take}
-use Rattle.std.specs.List.{filter_map}
-use Rattle.amber_rows.specs.Cond.{numbered}
-use Rattle.amber_meaning.proofs.project.pick.Given as goal
-
-abbrev pub invariant-loop-column : goal.invariant-loop-column
-invariant-loop-column l = l.cells.items ≡ filter_map (numbered l.row) (take l.column-index l.all)
