@@ -1,0 +1,132 @@
+-- The batches of a stream: only the last is marked, their rows are a front of the stream, and how many there are.
+use Rattle.std.proofs.Common.{◌≡◌, ℕ, zero, suc, ◌+◌, ◌*◌, ◌/◌, ◌<◌, ◌≤◌, List, [], ◌∷◌, ◌++◌, length, map, take, drop, Bool, true, false, refl, sym, ap, ◌∙◌, arith, append_assoc, length-append}
+use Rattle.std.specs.List.{flat_map, list_any}
+use Rattle.std.proofs.Math.Nat.{lt-div-mul-add, suc-mul, zero-mul}
+use Rattle.std.proofs.Math.Seq.{take-add}
+use Rattle.std.proofs.lemmas.Bool.{false≢true}
+use Rattle.std.proofs.lemmas.List.{append-nil, length-drop, length-map, take-append-drop, take_all}
+use Rattle.std.proofs.lemmas.List.Concat.{flat_map-append}
+use Rattle.std.proofs.lemmas.List.Folds.{flat_map-map}
+use Rattle.amber_rows.specs.Chunks.{chunks_of, numbers_below, piece_of}
+use Rattle.amber_rows.specs.declared.value.Value.{Value}
+use Rattle.amber_rows.specs.declared.batch.Batch.{Batch}
+use Rattle.amber_meaning.specs.Position.{one_if}
+use Rattle.amber_laws.proofs.Sound.{IsMarkedLast, marked-ends}
+
+abbrev pub batch_rows : Batch → List (List Value)
+batch_rows batch = batch.rows
+
+abbrev pub is_marked : Batch → Bool
+is_marked batch = batch.last
+
+-- a full batch of a stream
+abbrev full : ℕ → List (List Value) → ℕ → Batch
+full size stream number = record { seq = number; rows = piece_of size stream number; last = false }
+
+full-unmarked : (size : ℕ) (stream : List (List Value)) (ns : List ℕ) → list_any is_marked (map (full size stream) ns) ≡ false
+full-unmarked size stream [] = refl
+full-unmarked size stream (n ∷ ns) = full-unmarked size stream ns
+
+marked-behind : (size : ℕ) (stream : List (List Value)) (ns : List ℕ) (b : Batch) → IsMarkedLast (map (full size stream) ns ++ b ∷ [])
+marked-behind size stream [] b = (λ e. refl, tt)
+marked-behind size stream (n ∷ ns) b = (λ e. absurd (false≢true e), marked-behind size stream ns b)
+
+marked-none : (size : ℕ) (stream : List (List Value)) (ns : List ℕ) → IsMarkedLast (map (full size stream) ns ++ [])
+marked-none size stream [] = tt
+marked-none size stream (n ∷ ns) = (λ e. absurd (false≢true e), marked-none size stream ns)
+
+pub chunks-marked : (size : ℕ) (stream : List (List Value)) (ended : Bool) → IsMarkedLast (chunks_of size stream ended)
+unfolding chunks_of
+chunks-marked size stream true = marked-behind size stream _ _
+chunks-marked size stream false = marked-none size stream _
+
+-- ---- the rows
+
+pieces : (size : ℕ) (stream : List (List Value)) (n : ℕ) → flat_map (piece_of size stream) (numbers_below n) ≡ take (n * size) stream
+unfolding numbers_below
+pieces size stream zero = rw (zero-mul size) refl
+pieces size stream (suc n) =
+    flat_map-append (piece_of size stream) (numbers_below n) (n ∷ [])
+    ∙ rw (pieces size stream n, append-nil (piece_of size stream n), suc-mul n size) (sym (take-add (n * size) size stream))
+
+full-rows : (size : ℕ) (stream : List (List Value)) (n : ℕ) → flat_map batch_rows (map (full size stream) (numbers_below n)) ≡ take (n * size) stream
+full-rows size stream n = flat_map-map batch_rows (full size stream) (numbers_below n) ∙ pieces size stream n
+
+-- what is left behind the full batches
+abbrev left_of : ℕ → List (List Value) → List (List Value)
+left_of size stream = drop (length stream / size * size) stream
+
+chunks-whole : (size : ℕ) (stream : List (List Value)) → 0 < size → flat_map batch_rows (chunks_of size stream true) ≡ stream
+unfolding chunks_of
+chunks-whole size stream some =
+    let q = length stream / size in
+    let near : length stream < q * size + size = lt-div-mul-add some in
+    let short : length (drop (q * size) stream) ≤ size = rw (length-drop (q * size) stream) (omega arith) in
+    flat_map-append batch_rows (map (full size stream) (numbers_below q)) _
+    ∙ rw (full-rows size stream q, take_all size (drop (q * size) stream) short, append-nil (drop (q * size) stream)) (take-append-drop (q * size) stream)
+
+chunks-part : (size : ℕ) (stream : List (List Value)) → flat_map batch_rows (chunks_of size stream false) ++ left_of size stream ≡ stream
+unfolding chunks_of
+chunks-part size stream =
+    let q = length stream / size in
+    rw (append-nil (map (full size stream) (numbers_below q)), full-rows size stream q) (take-append-drop (q * size) stream)
+
+-- the first batches have the first rows
+pub front-rows : (size : ℕ) (stream : List (List Value)) (ended : Bool) (xs more : List Batch) → 0 < size → xs ++ more ≡ chunks_of size stream ended
+    → (rest : List (List Value)) × (flat_map batch_rows xs ++ rest ≡ stream)
+front-rows size stream true xs more some e =
+    (flat_map batch_rows more, sym (flat_map-append batch_rows xs more) ∙ ap (flat_map batch_rows) e ∙ chunks-whole size stream some)
+front-rows size stream false xs more some e = (
+  flat_map batch_rows more ++ left_of size stream,
+  sym (append_assoc (flat_map batch_rows xs) (flat_map batch_rows more) (left_of size stream))
+      ∙ ap (λ l. l ++ left_of size stream) (sym (flat_map-append batch_rows xs more) ∙ ap (flat_map batch_rows) e)
+      ∙ chunks-part size stream,
+)
+
+-- with a marked batch they are all
+pub record IsWhole (size : ℕ) (stream : List (List Value)) (ended : Bool) (xs : List Batch) : Type 0 where
+  pub over : ended ≡ true
+  pub rows : flat_map batch_rows xs ≡ stream
+  pub count : length xs ≡ length stream / size + 1
+
+numbers-length : (n : ℕ) → length (numbers_below n) ≡ n
+unfolding numbers_below
+numbers-length zero = refl
+numbers-length (suc n) = omega (arith, length-append (numbers_below n) (n ∷ []), numbers-length n)
+
+pub chunks-count : (size : ℕ) (stream : List (List Value)) (ended : Bool) → length (chunks_of size stream ended) ≡ length stream / size + one_if ended
+unfolding chunks_of
+chunks-count size stream true =
+    length-append (map (full size stream) (numbers_below (length stream / size))) _
+    ∙ rw (length-map (numbers_below (length stream / size)) (full size stream), numbers-length (length stream / size)) refl
+chunks-count size stream false =
+    length-append (map (full size stream) (numbers_below (length stream / size))) []
+    ∙ rw (length-map (numbers_below (length stream / size)) (full size stream), numbers-length (length stream / size)) refl
+
+chunks-unended : (size : ℕ) (stream : List (List Value)) → list_any is_marked (chunks_of size stream false) ≡ false
+unfolding chunks_of
+chunks-unended size stream =
+    ap (list_any is_marked) (append-nil (map (full size stream) (numbers_below (length stream / size)))) ∙ full-unmarked size stream (numbers_below (length stream / size))
+
+pub front-whole : (size : ℕ) (stream : List (List Value)) (ended : Bool) (xs more : List Batch) → 0 < size → xs ++ more ≡ chunks_of size stream ended
+    → list_any is_marked xs ≡ true → IsWhole size stream ended xs
+front-whole size stream ended xs more some e marked =
+    let none : more ≡ [] = marked-ends xs more (rw e (chunks-marked size stream ended)) marked in
+    let all : xs ≡ chunks_of size stream ended = sym (append-nil xs) ∙ ap (λ l. xs ++ l) (sym none) ∙ e in
+    by ended all
+  where
+    by : (b : Bool) → xs ≡ chunks_of size stream b → IsWhole size stream b xs
+    by true all = record { over = refl; rows = ap (flat_map batch_rows) all ∙ chunks-whole size stream some; count = ap length all ∙ chunks-count size stream true }
+    by false all = absurd (false≢true (sym (chunks-unended size stream) ∙ sym (ap (list_any is_marked) all) ∙ marked))
+
+-- never more than one behind the full ones
+pub front-count : (size : ℕ) (stream : List (List Value)) (ended : Bool) (xs more : List Batch) → xs ++ more ≡ chunks_of size stream ended
+    → length xs ≤ length stream / size + 1
+front-count size stream ended xs more e =
+    let all = ap length e ∙ chunks-count size stream ended in
+    let parts = length-append xs more in
+    by ended all
+  where
+    by : (b : Bool) → length (xs ++ more) ≡ length stream / size + one_if b → length xs ≤ length stream / size + 1
+    by true all = let parts = length-append xs more in omega arith
+    by false all = let parts = length-append xs more in omega arith

@@ -1,0 +1,308 @@
+-- What holds of a worker's position all along, where no command alters what comes out.
+use Rattle.std.proofs.Common.{◌≡◌, ℕ, ◌+◌, ◌≤◌, eqb, List, [], ◌∷◌, ◌++◌, length, map, replicate, Bool, true, false, not, if◌then◌else◌, ◌⊎◌, inl, inr, refl, sym, ap, ◌∙◌, arith, length-append}
+use Rattle.std.specs.Prelude.{filter}
+use Rattle.std.specs.List.{flat_map, list_all, list_any}
+use Rattle.std.proofs.lemmas.Bool.{and_from, and_parts, false≢true, false_from_ne_true, or_cases, or_left}
+use Rattle.std.proofs.lemmas.List.{append-nil, length-replicate, replicate-append-replicate}
+use Rattle.std.proofs.lemmas.List.Concat.{flat_map-append}
+use Rattle.std.proofs.lemmas.List.Folds.{list_all-append, list_any-append}
+use Rattle.amber_rows.specs.declared.value.Value.{Value}
+use Rattle.amber_rows.specs.declared.batch.Batch.{Batch}
+use Rattle.amber_rows.specs.declared.flow.What.{What}
+use Rattle.amber_rows.specs.declared.flow.What.TheVariants as what
+use Rattle.amber_log.specs.declared.entry.Entry.{Entry}
+use Rattle.amber_log.specs.declared.entry.Entry.TheVariants as entry
+use Rattle.amber_meaning.specs.Task.{Handed, Role, Task, is_builder, produce, yields}
+use Rattle.amber_meaning.specs.Position.{Position, Taken, fed, handed_by, has_last, have_ended, origin, pending_rows, produced_rows, product, rest_of, share_or, taken_from}
+use Rattle.amber_meaning.specs.Rules.{Leads, MayFinish, MayGo, MayTake, Moves, Orders, took, went}
+use Rattle.amber_meaning.specs.State.{first_constants, let_go}
+use Rattle.amber_meaning.proofs.Lists.{list_all-member}
+use Rattle.amber_meaning.proofs.OneState.{Leads-keeps, taken_from-push}
+
+-- ---- lists of batches of which only the last may be marked
+
+abbrev pub IsMarkedLast : List Batch → Type 0
+IsMarkedLast [] = Unit {0}
+IsMarkedLast (batch ∷ more) = (batch.last ≡ true → more ≡ []) × IsMarkedLast more
+
+-- nothing stands behind a marked batch
+pub marked-ends : (xs ys : List Batch) → IsMarkedLast (xs ++ ys) → list_any (λ batch. batch.last) xs ≡ true → ys ≡ []
+marked-ends [] ys h e = absurd (false≢true e)
+marked-ends (x ∷ []) ys h e = by (or_cases x.last _ e)
+  where
+    by : (x.last ≡ true) ⊎ (list_any (λ (batch : Batch). batch.last) [] ≡ true) → ys ≡ []
+    by (inl here) = h.0 here
+    by (inr there) = absurd (false≢true there)
+marked-ends (x ∷ y ∷ xs) ys h e = by (or_cases x.last _ e) (marked-ends (y ∷ xs) ys h.1)
+  where
+    by : (x.last ≡ true) ⊎ (list_any (λ (batch : Batch). batch.last) (y ∷ xs) ≡ true) → (list_any (λ (batch : Batch). batch.last) (y ∷ xs) ≡ true → ys ≡ []) → ys ≡ []
+    by (inl here) rest = let none = h.0 here in cc
+    by (inr there) rest = rest there
+
+none-before : {A : Type 0} (xs ys : List A) → xs ++ ys ≡ [] → xs ≡ []
+none-before [] ys e = refl
+none-before (x ∷ xs) ys e = cc
+
+pub marked-front : (xs ys : List Batch) → IsMarkedLast (xs ++ ys) → IsMarkedLast xs
+marked-front [] ys h = tt
+marked-front (x ∷ xs) ys h = (λ e. none-before xs ys (h.0 e), marked-front xs ys h.1)
+
+-- ---- what was taken
+
+pub taken_from-append : (xs ys : List Taken) (sender : ℕ) → taken_from (xs ++ ys) sender ≡ taken_from xs sender ++ taken_from ys sender
+unfolding taken_from
+taken_from-append [] ys sender = refl
+taken_from-append (one ∷ more) ys sender = by (eqb one.from sender) (taken_from-append more ys sender)
+  where
+    by : (b : Bool)
+        → map (λ (t : Taken). t.batch) (filter (λ (t : Taken). eqb t.from sender) (more ++ ys))
+        ≡ map (λ (t : Taken). t.batch) (filter (λ (t : Taken). eqb t.from sender) more) ++ map (λ (t : Taken). t.batch) (filter (λ (t : Taken). eqb t.from sender) ys)
+        → map (λ (t : Taken). t.batch) (if b then one ∷ filter (λ (t : Taken). eqb t.from sender) (more ++ ys) else filter (λ (t : Taken). eqb t.from sender) (more ++ ys))
+        ≡ map (λ (t : Taken). t.batch) (if b then one ∷ filter (λ (t : Taken). eqb t.from sender) more else filter (λ (t : Taken). eqb t.from sender) more) ++ map (λ (t : Taken). t.batch) (filter (λ (t : Taken). eqb t.from sender) ys)
+    by true e = ap (λ l. one.batch ∷ l) e
+    by false e = e
+
+has_last-more : (xs ys : List Taken) (sender : ℕ) → has_last xs sender ≡ true → has_last (xs ++ ys) sender ≡ true
+has_last-more xs ys sender e =
+    rw (taken_from-append xs ys sender, list_any-append (λ (batch : Batch). batch.last) (taken_from xs sender) (taken_from ys sender)) (or_left _ _ e)
+
+pub have_ended-more : (senders : List ℕ) (xs ys : List Taken) → have_ended senders xs ≡ true → have_ended senders (xs ++ ys) ≡ true
+unfolding have_ended
+have_ended-more [] xs ys e = refl
+have_ended-more (sender ∷ senders) xs ys e =
+    let parts = and_parts (has_last xs sender) _ e in
+    and_from _ _ (has_last-more xs ys sender parts.0) (have_ended-more senders xs ys parts.1)
+
+-- only the last batch that was taken of a sender may be marked
+abbrev pub IsOrderly : Role → List Taken → Type 0
+IsOrderly role taken = (sender : ℕ) → list_any (λ one. eqb one sender) role.senders ≡ true → IsMarkedLast (taken_from taken sender)
+
+-- whoever is taken from had not ended
+not-ended : (role : Role) (taken : List Taken) (from : ℕ) (batch : Batch) → IsOrderly role (taken ++ record { from = from; batch = batch } ∷ [])
+    → list_any (λ one. eqb one from) role.senders ≡ true → has_last taken from ≡ true → ⊥
+not-ended role taken from batch orderly known e =
+    let none = marked-ends (taken_from taken from) (batch ∷ []) (rw (taken_from-push taken from batch) at (orderly from known)) e in cc
+
+-- ---- what was handed and produced
+
+share_or-more : (kind : What) (share xs ys : List Handed) → (more : List Handed) × (share_or kind share (xs ++ ys) ≡ share_or kind share xs ++ more)
+share_or-more (what.Scan file) share xs ys = ([], sym (append-nil share))
+share_or-more (what.Filter input cond) share xs ys = (ys, refl)
+share_or-more (what.Project input columns) share xs ys = (ys, refl)
+share_or-more (what.Join build probe build_keys probe_keys) share xs ys = (ys, refl)
+share_or-more (what.Group input keys aggs) share xs ys = (ys, refl)
+share_or-more (what.Sink input) share xs ys = (ys, refl)
+
+fed-more : (role : Role) (xs ys : List Taken) → (more : List Handed) × (fed role (xs ++ ys) ≡ fed role xs ++ more)
+unfolding fed
+fed-more role xs ys =
+    let some = share_or-more role.task.kind role.share (flat_map handed_by xs) (flat_map handed_by ys) in
+    (some.0, rw (flat_map-append handed_by xs ys) some.1)
+
+pub produce-more : (task : Task) (before hs more : List Handed) (ks : List (List Value)) → length ks ≤ length hs
+    → produce task before (hs ++ more) ks ≡ produce task before hs ks
+unfolding produce
+produce-more task before [] [] ks h = refl
+produce-more task before [] (m ∷ more) [] h = refl
+produce-more task before [] (m ∷ more) (k ∷ ks) h = absurd (omega arith)
+produce-more task before (x ∷ hs) more [] h = refl
+produce-more task before (x ∷ hs) more (k ∷ ks) h =
+    ap (λ l. yields task before x k ++ l) (produce-more task (before ++ x ∷ []) hs more ks (omega arith))
+
+-- before the senders have ended nothing is produced at the end
+pub product-before : (role : Role) (taken : List Taken) (ks : List (List Value)) → have_ended role.senders taken ≡ false
+    → product role taken ks ≡ produce role.task [] (fed role taken) ks
+unfolding product
+product-before role taken ks e = rw e (append-nil _)
+
+product-grows : (role : Role) (taken : List Taken) (t : Taken) (ks : List (List Value)) → length ks ≤ length (fed role taken)
+    → have_ended role.senders taken ≡ false → length (product role taken ks) ≤ length (product role (taken ++ t ∷ []) ks)
+unfolding product
+product-grows role taken t ks within e =
+    let more = fed-more role taken (t ∷ []) in
+    rw (product-before role taken ks e, more.1, produce-more role.task [] (fed role taken) more.0 ks within)
+    (rw (length-append (produce role.task [] (fed role taken) ks) _) (omega arith))
+
+-- ---- the build side first
+
+abbrev is_other : Task → Taken → Bool
+is_other task t = not (is_builder task t.from)
+
+-- no batch of a join's build side stands behind one of its probe side
+abbrev pub IsBuildFirst : Task → List Taken → Type 0
+IsBuildFirst task [] = Unit {0}
+IsBuildFirst task (t ∷ more) = (is_builder task t.from ≡ false → list_all (λ other. not (is_builder task other.from)) more ≡ true) × IsBuildFirst task more
+
+build_first-other : (task : Task) (xs : List Taken) (t : Taken) → is_builder task t.from ≡ false → IsBuildFirst task xs → IsBuildFirst task (xs ++ t ∷ [])
+build_first-other task [] t e h = (λ f. refl, tt)
+build_first-other task (x ∷ xs) t e h = (
+  λ f. list_all-append (is_other task) xs (t ∷ []) ∙ and_from _ _ (h.0 f) (and_from _ _ (ap not e) refl),
+  build_first-other task xs t e h.1,
+)
+
+build_first-builder : (task : Task) (xs : List Taken) (t : Taken) → list_all (λ (one : Taken). is_builder task one.from) xs ≡ true → IsBuildFirst task (xs ++ t ∷ [])
+build_first-builder task [] t e = (λ f. refl, tt)
+build_first-builder task (x ∷ xs) t e =
+    let parts = and_parts (is_builder task x.from) _ e in
+    (λ f. absurd (false≢true (sym f ∙ parts.0)), build_first-builder task xs t parts.1)
+
+-- ---- a position all along
+
+pub record IsSound (role : Role) (p : Position) : Type 0 where
+  pub within : length p.constants ≤ length (fed role p.taken)
+  pub produced : length p.fates ≤ length (produced_rows role p)
+  pub steady : p.constants ≡ replicate (length p.constants) (first_constants role.task.kind)
+  pub all_kept : p.fates ≡ replicate (length p.fates) true
+  pub known : list_all (λ (t : Taken). list_any (λ one. eqb one t.from) role.senders) p.taken ≡ true
+  pub build_first : IsBuildFirst role.task p.taken
+  pub sides : (list_all (λ (t : Taken). is_builder role.task t.from) p.taken ≡ true) ⊎ (have_ended role.task.builders p.taken ≡ true)
+  pub no_rest : p.finished ≡ true → rest_of role p ≡ []
+  pub no_pending : p.finished ≡ true → pending_rows role p ≡ []
+  pub ended : p.finished ≡ true → have_ended role.senders p.taken ≡ true
+
+pub origin-sound : (role : Role) → IsSound role origin
+origin-sound role = record {
+  within = omega arith;
+  produced = omega arith;
+  steady = refl;
+  all_kept = refl;
+  known = refl;
+  build_first = tt;
+  sides = inl refl;
+  no_rest = λ e. absurd (false≢true e);
+  no_pending = λ e. absurd (false≢true e);
+  ended = λ e. absurd (false≢true e);
+}
+
+flags-sound : (role : Role) (p : Position) (hand : ℕ) (held waved paused : Bool) → IsSound role p
+    → IsSound role (record p { hand = hand; held = held; waved = waved; paused = paused })
+flags-sound role p hand held waved paused s = record {
+  within = s.within;
+  produced = s.produced;
+  steady = s.steady;
+  all_kept = s.all_kept;
+  known = s.known;
+  build_first = s.build_first;
+  sides = s.sides;
+  no_rest = s.no_rest;
+  no_pending = s.no_pending;
+  ended = s.ended;
+}
+
+pub let_go-sound : (role : Role) (p : Position) → IsSound role p → IsSound role (let_go p)
+let_go-sound role p s = by p.held
+  where
+    by : (b : Bool) → IsSound role (if b then record p { paused = false; held = false; waved = true } else record p { paused = false })
+    by true = flags-sound role p p.hand false true false s
+    by false = flags-sound role p p.hand p.held p.waved false s
+
+more-steady : {A : Type 0} (xs : List A) (x : A) (n : ℕ) → xs ≡ replicate (length xs) x → xs ++ replicate n x ≡ replicate (length (xs ++ replicate n x)) x
+more-steady xs x n e =
+    let size : length (xs ++ replicate n x) ≡ length xs + n = length-append xs (replicate n x) ∙ ap (λ m. length xs + m) (length-replicate n x) in
+    rw size (ap (λ l. l ++ replicate n x) e ∙ replicate-append-replicate (length xs) n x)
+
+not_finished : (p : Position) (A : Type 0) → p.finished ≡ false → p.finished ≡ true → A
+not_finished p A e f = absurd (false≢true (sym e ∙ f))
+
+took-sides : (role : Role) (p : Position) (from number : ℕ) (batch : Batch) → IsOrderly role (took from batch p).taken → IsSound role p → MayTake role p from number
+    → IsBuildFirst role.task (took from batch p).taken
+    × ((list_all (λ (t : Taken). is_builder role.task t.from) (took from batch p).taken ≡ true) ⊎ (have_ended role.task.builders (took from batch p).taken ≡ true))
+unfolding have_ended
+took-sides role p from number batch orderly s may = by (is_builder role.task from) refl s.sides may.side
+  where
+    by : (b : Bool) → is_builder role.task from ≡ b
+        → (list_all (λ (t : Taken). is_builder role.task t.from) p.taken ≡ true) ⊎ (have_ended role.task.builders p.taken ≡ true)
+        → (if b then true else have_ended role.task.builders p.taken) ≡ true
+        → IsBuildFirst role.task (took from batch p).taken
+        × ((list_all (λ (t : Taken). is_builder role.task t.from) (took from batch p).taken ≡ true) ⊎ (have_ended role.task.builders (took from batch p).taken ≡ true))
+    by true e (inl all) side = (
+      build_first-builder role.task p.taken (record { from = from; batch = batch }) all,
+      inl (list_all-append (λ (t : Taken). is_builder role.task t.from) p.taken (record { from = from; batch = batch } ∷ []) ∙ and_from _ _ all (and_from _ _ e refl)),
+    )
+    by true e (inr done) side = absurd (not-ended role p.taken from batch orderly may.sender (builders-ended done e))
+      where
+        builders-ended : have_ended role.task.builders p.taken ≡ true → is_builder role.task from ≡ true → has_last p.taken from ≡ true
+        builders-ended done e = list_all-member (has_last p.taken) role.task.builders from done e
+    by false e sides side = (
+      build_first-other role.task p.taken (record { from = from; batch = batch }) e s.build_first,
+      inr (have_ended-more role.task.builders p.taken (record { from = from; batch = batch } ∷ []) side),
+    )
+
+took-sound : (role : Role) (p : Position) (from number : ℕ) (batch : Batch) → IsOrderly role (took from batch p).taken → IsSound role p → MayTake role p from number
+    → IsSound role (took from batch p)
+unfolding have_ended
+took-sound role p from number batch orderly s may =
+    let more = fed-more role p.taken (record { from = from; batch = batch } ∷ []) in
+    let sides = took-sides role p from number batch orderly s may in
+    let early : have_ended role.senders p.taken ≡ false =
+    false_from_ne_true _ (λ e. not-ended role p.taken from batch orderly may.sender (list_all-member (has_last p.taken) role.senders from e may.sender)) in
+    let longer = product-grows role p.taken (record { from = from; batch = batch }) p.constants s.within early in
+    let before = s.produced in
+    record {
+      within = rw (more.1, length-append (fed role p.taken) more.0) (omega (arith, s.within));
+      produced = omega arith;
+      steady = s.steady;
+      all_kept = s.all_kept;
+      known = list_all-append (λ (t : Taken). list_any (λ one. eqb one t.from) role.senders) p.taken (record { from = from; batch = batch } ∷ [])
+          ∙ and_from _ _ s.known (and_from _ _ may.sender refl);
+      build_first = sides.0;
+      sides = sides.1;
+      no_rest = not_finished p _ may.free.unfinished;
+      no_pending = not_finished p _ may.free.unfinished;
+      ended = not_finished p _ may.free.unfinished;
+    }
+
+went-sound : (role : Role) (orders : Orders) (p : Position) (rows outs : ℕ) → orders.constants ≡ first_constants role.task.kind → IsSound role p
+    → MayGo role orders p rows outs → IsSound role (went orders rows outs p)
+went-sound role orders p rows outs e s may =
+    let taken : length (p.constants ++ replicate rows orders.constants) ≡ length p.constants + rows =
+    length-append p.constants _ ∙ ap (λ n. length p.constants + n) (length-replicate rows orders.constants) in
+    let gone : length (p.fates ++ replicate outs true) ≡ length p.fates + outs =
+    length-append p.fates _ ∙ ap (λ n. length p.fates + n) (length-replicate outs true) in
+    record {
+      within = rw taken may.within;
+      produced = rw gone may.produced;
+      steady = rw e (more-steady p.constants (first_constants role.task.kind) rows s.steady);
+      all_kept = more-steady p.fates true outs s.all_kept;
+      known = s.known;
+      build_first = s.build_first;
+      sides = s.sides;
+      no_rest = not_finished p _ may.free.unfinished;
+      no_pending = not_finished p _ may.free.unfinished;
+      ended = not_finished p _ may.free.unfinished;
+    }
+
+finish-sound : (role : Role) (p : Position) → IsSound role p → MayFinish role p → IsSound role (record p { finished = true })
+finish-sound role p s may = record {
+  within = s.within;
+  produced = s.produced;
+  steady = s.steady;
+  all_kept = s.all_kept;
+  known = s.known;
+  build_first = s.build_first;
+  sides = s.sides;
+  no_rest = λ e. may.no_rest;
+  no_pending = λ e. may.no_pending;
+  ended = λ e. may.ended;
+}
+
+moved-sound : (role : Role) (orders : Orders) (p q : Position) (one : Entry) → orders.constants ≡ first_constants role.task.kind → IsOrderly role q.taken
+    → IsSound role p → Moves role orders p one q → IsSound role q
+moved-sound role orders p q (entry.Take from number) e orderly s h = rw h.2 (took-sound role p from number h.0 (rw h.2 at orderly) s h.1)
+moved-sound role orders p q (entry.Go rows outs) e orderly s h = rw h.1 (went-sound role orders p rows outs e s h.0)
+moved-sound role orders p q (entry.Grant n) e orderly s h = rw h.1 (flags-sound role p (p.hand + n) p.held p.waved p.paused s)
+moved-sound role orders p q (entry.Back n) e orderly s h = rw h.1 (flags-sound role p 0 p.held p.waved p.paused s)
+moved-sound role orders p q entry.Pause e orderly s h = rw h.1 (flags-sound role p p.hand p.held p.waved true s)
+moved-sound role orders p q entry.Resume e orderly s h = rw h.1 (flags-sound role p p.hand p.held p.waved false s)
+moved-sound role orders p q entry.Hold e orderly s h = rw h.1 (flags-sound role p p.hand true p.waved p.paused s)
+moved-sound role orders p q entry.Finish e orderly s h = rw h.1 (finish-sound role p s h.0)
+
+pub led-sound : (role : Role) (orders : Orders) (p q : Position) (entries : List Entry) → orders.constants ≡ first_constants role.task.kind → IsOrderly role q.taken
+    → IsSound role p → Leads role orders p entries q → IsSound role q
+unfolding Leads
+led-sound role orders p q [] e orderly s h = rw (← h) s
+led-sound role orders p q (one ∷ more) e orderly s h =
+    let sooner : IsOrderly role h.0.taken = λ sender known.
+    let b = Leads-keeps role orders h.0 q more sender h.2 in
+    marked-front (taken_from h.0.taken sender) b.0 (rw b.1 (orderly sender known)) in
+    led-sound role orders h.0 q more e orderly (moved-sound role orders p h.0 one e sooner s h.1) h.2
