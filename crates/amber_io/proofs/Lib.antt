@@ -1,2 +1,3 @@
 pub mod Lookup
 pub mod Pieces
+pub mod Told

@@ -1,8 +1,10 @@
 -- The files of a folder, where it tells them.
-use Rattle.std.specs.Prelude.{◌≡◌, ℕ, List, take, Option, None, Some, ⊤}
+use Rattle.std.specs.Prelude.{◌≡◌, ℕ, List, [], ◌++◌, ◌⊎◌, take, Option, None, Some, option_map, Result, Ok, Err, ⊤}
 use Rattle.std.specs.Ordering.{nat_cmp}
 use Rattle.std.specs.Cmp.Lexicographic.{slice_cmp}
 use Rattle.std.specs.FinMap as finmap
+use Rattle.amber_io.specs.declared.error.IoErr.{IoErr}
+use Rattle.amber_io.specs.declared.error.IoErr.TheVariants.{Failed, NoMemory}
 
 -- from the bytes of a name to those of its file
 abbrev pub Named : Type 0
@@ -26,3 +28,37 @@ Lacks (Some files) name = finmap.get files name ≡ None
 abbrev pub Gives : Option Named → List ℕ → ℕ → List ℕ → Type 0
 Gives None name most bytes = ⊤
 Gives (Some files) name most bytes = (whole : List ℕ) × (finmap.get files name ≡ Some whole) × (bytes ≡ take most whole)
+
+-- ---- files that change
+
+-- the file of this name holds these bytes, and all others stay
+unfoldable pub with_file : Option Named → List ℕ → List ℕ → Option Named
+with_file told name bytes = option_map (λ files. finmap.insert files name bytes) told
+
+-- there is no file of this name, and all others stay
+unfoldable pub without_file : Option Named → List ℕ → Option Named
+without_file told name = option_map (λ files. finmap.remove files name) told
+
+abbrev pub grown : Named → List ℕ → Option (List ℕ) → List ℕ → Named
+grown files name None more = files
+grown files name (Some bytes) more = finmap.insert files name (bytes ++ more)
+
+-- more bytes behind the end of the file of this name, where there is one, and all others stay
+unfoldable pub with_more : Option Named → List ℕ → List ℕ → Option Named
+with_more told name more = option_map (λ files. grown files name (finmap.get files name) more) told
+
+-- the file of this name is there and empty; after a failure it may also be as it was, or absent
+abbrev pub Creates : {A : Type 0} → Result A IoErr → Option Named → Option Named → List ℕ → Type 0
+Creates (Ok x) old new name = new ≡ with_file old name []
+Creates (Err NoMemory) old new name = new ≡ old
+Creates (Err Failed) old new name = (new ≡ old) ⊎ (new ≡ without_file old name) ⊎ (new ≡ with_file old name [])
+
+-- the file of this name grows by a front part of a piece
+abbrev pub Starts : Option Named → Option Named → List ℕ → List ℕ → Type 0
+Starts old new name piece = (part : List ℕ) × (rest : List ℕ) × (part ++ rest ≡ piece) × (new ≡ with_more old name part)
+
+-- the piece stands behind the old end of the file of this name, or nothing for want of memory, or a front part at a failure
+abbrev pub Extends : {A : Type 0} → Result A IoErr → Option Named → Option Named → List ℕ → List ℕ → Type 0
+Extends (Ok x) old new name piece = new ≡ with_more old name piece
+Extends (Err NoMemory) old new name piece = new ≡ old
+Extends (Err Failed) old new name piece = Starts old new name piece

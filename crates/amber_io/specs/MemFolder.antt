@@ -23,3 +23,7 @@ failed_loads folder = folder.load_faults
 -- how many of its writes failed
 abbrev pub failed_writes : MemFolder → ℕ
 failed_writes folder = folder.write_faults
+
+-- how many creates and appends it has had, up to `u64::MAX`: the number of the last one
+abbrev pub writes_made : MemFolder → ℕ
+writes_made folder = folder.writes_made

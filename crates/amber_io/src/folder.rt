@@ -1,6 +1,6 @@
 ghost use Rattle.std.specs.Prelude.{◌≡◌, ℕ, ◌≤◌, Option, Some, IsErr, IfOk, vec_len};
 ghost use Rattle.amber_io.specs.Counts.{HasCause};
-ghost use Rattle.amber_io.specs.Folder.{Named, Lacks, Gives};
+ghost use Rattle.amber_io.specs.Folder.{Named, Lacks, Gives, Creates, Extends};
 
 use crate::error::IoErr;
 use std::alloc::Global;
@@ -28,4 +28,28 @@ pub trait Folder {
         ensures cause { HasCause result (Lacks (files self.old) name.now) (load_faults self.old) (load_faults self.new) }
         ensures absent { Lacks (files self.old) name.now → IsErr result × (load_faults self.new ≡ load_faults self.old) }
         ensures writes { write_faults self.new ≡ write_faults self.old };
+
+    /// Makes the file of this name empty, or makes an empty one. All other files stay.
+    ///
+    /// # Errors
+    ///
+    /// After `NoMemory` the file is as before. `Failed` comes only where `write_faults` rose in this call;
+    /// then the file is as before, absent or empty.
+    fn create(&mut self, name: &str) -> Result<(), IoErr>
+        ensures creates { Creates result (files self.old) (files self.new) name.now }
+        ensures cause { HasCause result ⊥ (write_faults self.old) (write_faults self.new) }
+        ensures loads { load_faults self.new ≡ load_faults self.old };
+
+    /// Writes a piece behind the end of a file, which has to be there. All other files stay.
+    ///
+    /// # Errors
+    ///
+    /// After `NoMemory` the file is as before. `Failed` comes only where `write_faults` rose in this call;
+    /// then a front part of the piece stands behind the old end, perhaps nothing or all of it. A file that
+    /// is not there is a failure too.
+    fn append(&mut self, name: &str, bytes: &[u8]) -> Result<(), IoErr>
+        ensures extends { Extends result (files self.old) (files self.new) name.now bytes.now }
+        ensures cause { HasCause result ⊥ (write_faults self.old) (write_faults self.new) }
+        ensures loads { load_faults self.new ≡ load_faults self.old }
+        ensures absent { Lacks (files self.old) name.now → IsErr result };
 }

@@ -1,9 +1,10 @@
-ghost use Rattle.std.specs.Prelude.{◌≡◌, ℕ, ◌≤◌, Option, Some, IsErr, IfOk, vec_len, option_map};
+ghost use Rattle.std.specs.Prelude.{◌≡◌, ℕ, ◌≤◌, Option, Some, IsErr, IfOk, take, vec_len, option_map};
 ghost use Rattle.std.specs.FinMap as finmap;
 ghost use Rattle.amber_io.specs.Counts.{HasCause, next_number};
-ghost use Rattle.amber_io.specs.Folder.{Named, Lacks, Gives, named};
-ghost use Rattle.amber_io.specs.Memory.{IsPlanned, is_listed};
-ghost use Rattle.amber_io.specs.MemFolder.{held_files, folder_plan, loads_made, failed_loads, failed_writes};
+ghost use Rattle.amber_io.specs.Folder.{Named, Lacks, Gives, Creates, Extends, named};
+ghost use Rattle.amber_io.specs.Memory.{IsPlanned, EmptiesIf, ExtendsBy, is_listed};
+ghost use Rattle.amber_io.specs.MemFolder.{held_files, folder_plan, loads_made, writes_made, failed_loads, failed_writes};
+ghost use Rattle.amber_io.specs.Real.{IsCounted};
 
 use crate::error::IoErr;
 use crate::fails::{Fails, first_bytes};
@@ -17,6 +18,7 @@ pub struct MemFolder {
     files: NamedFiles,
     fails: Fails,
     loads_made: u64,
+    writes_made: u64,
     load_faults: u64,
     write_faults: u64,
     // The folder grows on it.
@@ -28,7 +30,8 @@ impl MemFolder {
     pub fn new(alloc: Global, files: NamedFiles, fails: Fails) -> MemFolder
         ensures files { held_files result ≡ named files }
         ensures plan { folder_plan result ≡ fails }
-        ensures made { loads_made result ≡ 0 }
+        ensures loads_made { loads_made result ≡ 0 }
+        ensures writes_made { writes_made result ≡ 0 }
         ensures load_faults { failed_loads result ≡ 0 }
         ensures write_faults { failed_writes result ≡ 0 }
     {
@@ -36,9 +39,36 @@ impl MemFolder {
             files,
             fails,
             loads_made: 0,
+            writes_made: 0,
             load_faults: 0,
             write_faults: 0,
             alloc,
+        }
+    }
+
+    // A create that fails.
+    #[tactic(auto, using(crate::proofs::Told::empty_told))]
+    fn fail_create(&mut self, name: &str) -> Result<(), IoErr>
+        ensures fails { IsErr result }
+        ensures cause { HasCause result ⊥ (failed_writes self.old) (failed_writes self.new) }
+        ensures counted { IsCounted result (failed_writes self.old) (failed_writes self.new) }
+        ensures kept { EmptiesIf result (Some (held_files self.old)) (Some (held_files self.new)) name.now (folder_plan self.old).keep }
+        ensures memory { result ≡ Err IoErr.NoMemory → held_files self.new ≡ held_files self.old }
+        ensures loads { failed_loads self.new ≡ failed_loads self.old }
+        ensures plan { folder_plan self.new ≡ folder_plan self.old }
+        ensures loads_made { loads_made self.new ≡ loads_made self.old }
+        ensures made { writes_made self.new ≡ writes_made self.old }
+    {
+        if self.fails.keep == 0 {
+            self.write_faults = self.write_faults.saturating_add(1);
+            return Err(IoErr::Failed);
+        }
+        match self.files.make_empty(self.alloc, name) {
+            Ok(()) => {
+                self.write_faults = self.write_faults.saturating_add(1);
+                Err(IoErr::Failed)
+            }
+            Err(_) => Err(IoErr::NoMemory),
         }
     }
 
@@ -82,5 +112,65 @@ impl Folder for MemFolder {
             Ok(loaded) => Ok(loaded),
             Err(_) => Err(IoErr::NoMemory),
         }
+    }
+
+    /// As the trait says; the create fails where its number is listed. The file is then as before where the
+    /// plan keeps no byte, and else empty.
+    #[tactic(auto, using(crate::proofs::Told::empty_told))]
+    fn create(&mut self, name: &str) -> Result<(), IoErr>
+        ensures creates { Creates result (Some (held_files self.old)) (Some (held_files self.new)) name.now }
+        ensures cause { HasCause result ⊥ (failed_writes self.old) (failed_writes self.new) }
+        ensures loads { failed_loads self.new ≡ failed_loads self.old }
+        ensures plan { folder_plan self.new ≡ folder_plan self.old }
+        ensures loads_made { loads_made self.new ≡ loads_made self.old }
+        ensures made { writes_made self.new ≡ next_number (writes_made self.old) }
+        ensures planned { IsPlanned result ⊥ (is_listed (folder_plan self.old).writes (writes_made self.new))
+            (failed_writes self.old) (failed_writes self.new) }
+        ensures kept { EmptiesIf result (Some (held_files self.old)) (Some (held_files self.new)) name.now (folder_plan self.old).keep }
+    {
+        self.writes_made = self.writes_made.saturating_add(1);
+        if self.fails.writes.contains(self.writes_made) {
+            return self.fail_create(name);
+        }
+        match self.files.make_empty(self.alloc, name) {
+            Ok(()) => Ok(()),
+            Err(_) => Err(IoErr::NoMemory),
+        }
+    }
+
+    /// As the trait says; the append fails where its number is listed, and has then appended the first `keep`
+    /// bytes of its piece, or all of a shorter one. It fails too where the file is not there.
+    #[tactic(auto, using(crate::proofs::Told::more_told, crate::proofs::Told::kept_told))]
+    fn append(&mut self, name: &str, bytes: &[u8]) -> Result<(), IoErr>
+        ensures extends { Extends result (Some (held_files self.old)) (Some (held_files self.new)) name.now bytes.now }
+        ensures cause { HasCause result ⊥ (failed_writes self.old) (failed_writes self.new) }
+        ensures loads { failed_loads self.new ≡ failed_loads self.old }
+        ensures absent { Lacks (Some (held_files self.old)) name.now → IsErr result }
+        ensures plan { folder_plan self.new ≡ folder_plan self.old }
+        ensures loads_made { loads_made self.new ≡ loads_made self.old }
+        ensures made { writes_made self.new ≡ next_number (writes_made self.old) }
+        ensures planned { IsPlanned result (Lacks (Some (held_files self.old)) name.now)
+            (is_listed (folder_plan self.old).writes (writes_made self.new)) (failed_writes self.old) (failed_writes self.new) }
+        ensures counted { IsCounted result (failed_writes self.old) (failed_writes self.new) }
+        ensures kept { ExtendsBy result (Some (held_files self.old)) (Some (held_files self.new)) name.now
+            (take (folder_plan self.old).keep bytes.now) }
+    {
+        self.writes_made = self.writes_made.saturating_add(1);
+        let part = first_bytes(bytes, self.fails.keep);
+        if self.files.find(name).is_none() {
+            self.write_faults = self.write_faults.saturating_add(1);
+            return Err(IoErr::Failed);
+        }
+        if !self.fails.writes.contains(self.writes_made) {
+            return match self.files.grow(name, bytes) {
+                Ok(()) => Ok(()),
+                Err(_) => Err(IoErr::NoMemory),
+            };
+        }
+        if self.files.grow(name, part).is_err() {
+            return Err(IoErr::NoMemory);
+        }
+        self.write_faults = self.write_faults.saturating_add(1);
+        Err(IoErr::Failed)
     }
 }

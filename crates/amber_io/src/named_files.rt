@@ -1,8 +1,9 @@
-ghost use Rattle.std.specs.Prelude.{◌≡◌, map, option_map};
+ghost use Rattle.std.specs.Prelude.{◌≡◌, [], map, MatchOption, OnErr, OnOk, option_map};
 ghost use Rattle.std.specs.FinMap as finmap;
-ghost use Rattle.amber_io.specs.Folder.{named};
-ghost use Rattle.amber_io.specs.Memory.{entry_bytes};
+ghost use Rattle.amber_io.specs.Folder.{grown, named};
+ghost use Rattle.amber_io.specs.Memory.{IsPlace, entry_bytes, lacks_name};
 
+use std::alloc::{AllocError, Global};
 use std::marker::Model;
 
 /// Files with their names, in a list. Of two with one name the first counts.
@@ -35,15 +36,54 @@ impl NamedFiles {
         self.inner.as_slice()
     }
 
+    // The place of the first file of this name.
+    fn place(&self, name: &str) -> Option<usize>
+        ensures { MatchOption result (lacks_name name.now self.now) (IsPlace name.now self.now) }
+    {
+        for (place, file) in self.inner.iter().enumerate() {
+            if name == file.0.as_str() {
+                return Some(place);
+            }
+        }
+        None
+    }
+
     /// The bytes of the first file of this name.
     pub fn find(&self, name: &str) -> Option<&[u8]>
         ensures { option_map (λ bytes. bytes.now) result ≡ finmap.get (named self.now) name.now }
     {
-        for (held, bytes) in &self.inner {
-            if name == held.as_str() {
-                return Some(bytes.as_slice());
+        match self.place(name) {
+            Some(place) => Some(self.inner[place].1.as_slice()),
+            None => None,
+        }
+    }
+
+    // Makes the first file of this name empty, or puts an empty one behind all others.
+    pub(crate) fn make_empty(&mut self, alloc: Global, name: &str) -> Result<(), AllocError>
+        ensures ok { OnOk result (named self.new ≡ finmap.insert (named self.old) name.now []) }
+        ensures err { OnErr result (self.new ≡ self.old) }
+    {
+        match self.place(name) {
+            Some(place) => self.inner[place].1.clear(),
+            None => {
+                let name = String::from_str(alloc, name)?;
+                self.inner.push((name, Vec::new(alloc)))?;
             }
         }
-        None
+        Ok(())
+    }
+
+    // Puts more bytes behind the first file of this name, where there is one.
+    pub(crate) fn grow(&mut self, name: &str, more: &[u8]) -> Result<(), AllocError>
+        ensures ok { OnOk result (named self.new ≡ grown (named self.old) name.now (finmap.get (named self.old) name.now) more.now) }
+        ensures err { OnErr result (self.new ≡ self.old) }
+    {
+        match self.place(name) {
+            Some(place) => {
+                self.inner[place].1.extend_from_slice(more)?;
+                Ok(())
+            }
+            None => Ok(()),
+        }
     }
 }

@@ -1,6 +1,6 @@
 ghost use Rattle.std.specs.Prelude.{◌≡◌, ◌≢◌, ◌≤◌, Option, None, IfOk, IsErr, vec_len};
 ghost use Rattle.amber_io.specs.Counts.{HasCause};
-ghost use Rattle.amber_io.specs.Folder.{Named, Lacks, Gives};
+ghost use Rattle.amber_io.specs.Folder.{Named, Lacks, Gives, Creates, Extends};
 ghost use Rattle.amber_io.specs.Sink.{Leaves};
 ghost use Rattle.amber_io.specs.Real.{failed_loads, failed_writes, failed_puts, IsCounted};
 
@@ -8,6 +8,7 @@ use crate::error::IoErr;
 use crate::folder::Folder;
 use crate::sink::Sink;
 use std::alloc::Global;
+use std::fs::OpenOptions;
 use std::io::{ErrorKind, Read, Write};
 use std::rt::Files;
 use std::{fs, io};
@@ -47,6 +48,17 @@ fn read_file<R: Files>(rt: &R, alloc: Global, name: &str, most: u64) -> io::Resu
     Ok(bytes)
 }
 
+fn create_file<R: Files>(rt: &R, name: &str) -> io::Result<()> {
+    fs::create(rt, name)?;
+    Ok(())
+}
+
+fn append_to_file<R: Files>(rt: &R, name: &str, bytes: &[u8]) -> io::Result<()> {
+    let mut options = OpenOptions::new();
+    options.append(true);
+    options.open(rt, name)?.write_all(bytes)
+}
+
 impl<R: Files> Folder for RealFolder<'_, R> {
     ghost files = { λ _. None };
 
@@ -69,6 +81,46 @@ impl<R: Files> Folder for RealFolder<'_, R> {
             Err(error) if error.kind() == ErrorKind::OutOfMemory => Err(IoErr::NoMemory),
             Err(_) => {
                 self.load_faults = self.load_faults.saturating_add(1);
+                Err(IoErr::Failed)
+            }
+        }
+    }
+
+    /// As the trait says; each failure is counted. The file may have been emptied when memory runs out, so
+    /// that is a failure too.
+    #[tactic(auto, unfolding(crate::specs::Folder::with_file))]
+    fn create(&mut self, name: &str) -> Result<(), IoErr>
+        ensures creates { Creates result None None name.now }
+        ensures cause { HasCause result ⊥ (failed_writes self.old) (failed_writes self.new) }
+        ensures loads { failed_loads self.new ≡ failed_loads self.old }
+        ensures memory { result ≢ Err IoErr.NoMemory }
+        ensures counted { IsCounted result (failed_writes self.old) (failed_writes self.new) }
+    {
+        match create_file(self.rt, name) {
+            Ok(()) => Ok(()),
+            Err(_) => {
+                self.write_faults = self.write_faults.saturating_add(1);
+                Err(IoErr::Failed)
+            }
+        }
+    }
+
+    /// As the trait says; each failure is counted. A part of the piece may have been written when memory
+    /// runs out, so that is a failure too.
+    #[tactic(auto, unfolding(crate::specs::Folder::with_more))]
+    fn append(&mut self, name: &str, bytes: &[u8]) -> Result<(), IoErr>
+        ensures extends { Extends result None None name.now bytes.now }
+        ensures cause { HasCause result ⊥ (failed_writes self.old) (failed_writes self.new) }
+        ensures loads { failed_loads self.new ≡ failed_loads self.old }
+        ensures absent { Lacks None name.now → IsErr result }
+        ensures memory { result ≢ Err IoErr.NoMemory }
+        ensures counted { IsCounted result (failed_writes self.old) (failed_writes self.new) }
+    {
+        // A write that takes nothing of a piece that is not empty is an error of `write_all`.
+        match append_to_file(self.rt, name, bytes) {
+            Ok(()) => Ok(()),
+            Err(_) => {
+                self.write_faults = self.write_faults.saturating_add(1);
                 Err(IoErr::Failed)
             }
         }

@@ -86,6 +86,46 @@ fn listed_puts_write_the_kept_part(rt: HostRuntime) -> Result<(), Fail> {
     Ok(())
 }
 
+// A folder that was to make a file of two pieces, where one of its writes failed.
+fn written(alloc: Global, listed: u64, keep: u64) -> Result<MemFolder, AllocError> {
+    let mut plan = fails(alloc, &[], &[], keep)?;
+    plan.writes = numbers(alloc, &[listed])?;
+    let mut folder = MemFolder::new(alloc, files(alloc)?, plan);
+    let _ = folder.create("o.csv");
+    let _ = folder.append("o.csv", b"head");
+    let _ = folder.append("o.csv", b"+tail");
+    Ok(folder)
+}
+
+#[test]
+fn creates_and_appends_are_counted_together(rt: HostRuntime) -> Result<(), Fail> {
+    for (listed, keep, want) in [
+        (9, 0, "head+tail"),
+        (1, 0, "id,qtyhead+tail"),
+        (1, 1, "head+tail"),
+        (2, 3, "hea+tail"),
+        (3, 0, "head"),
+        (3, 9, "head+tail"),
+    ] {
+        let folder = written(rt.alloc(), listed, keep)?;
+        let held = folder.read("o.csv").unwrap_or(b"");
+        assert_eq!(rt; held, want.as_bytes(), "{listed} {keep}");
+    }
+    Ok(())
+}
+
+#[test]
+fn create_makes_a_file_and_append_wants_one(rt: HostRuntime) -> Result<(), Fail> {
+    let alloc = rt.alloc();
+    let mut folder = MemFolder::new(alloc, files(alloc)?, fails(alloc, &[], &[], 0)?);
+    assert_eq!(rt; folder.append("log", b"a"), Err(IoErr::Failed));
+    assert_eq!(rt; folder.create("log"), Ok(()));
+    assert_eq!(rt; folder.append("log", b"a"), Ok(()));
+    assert_eq!(rt; folder.read("log").map(<[u8]>::len), Some(1));
+    assert_eq!(rt; folder.read("o.csv").map(<[u8]>::len), Some(6));
+    Ok(())
+}
+
 #[test]
 fn each_error_prints_what_it_is(rt: HostRuntime) -> Result<(), Fail> {
     for (error, want) in [

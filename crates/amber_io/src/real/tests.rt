@@ -27,6 +27,23 @@ fn real_folder_loads_what_a_file_holds_and_counts_an_absent_one(
 }
 
 #[test]
+fn real_folder_writes_behind_what_it_made(rt: HostRuntime) -> Result<(), Fail> {
+    let path = env::temp_dir(&rt)?.join(rt.alloc(), "amber_io_real_writes")?;
+    let name = path.as_str();
+    fs::write(&rt, name, "older and longer")?;
+    let mut folder = RealFolder::new(&rt);
+    assert_eq!(rt; folder.create(name), Ok(()));
+    assert_eq!(rt; folder.append(name, b"head"), Ok(()));
+    assert_eq!(rt; folder.append(name, b"+tail"), Ok(()));
+    let held = folder.load(rt.alloc(), name, 99)?;
+    assert_eq!(rt; held.as_slice(), "head+tail".as_bytes());
+    fs::remove_file(&rt, name)?;
+    assert_eq!(rt; folder.append(name, b"x"), Err(IoErr::Failed));
+    assert_eq!(rt; folder.write_faults, 1);
+    Ok(())
+}
+
+#[test]
 fn real_sink_puts_a_piece(rt: HostRuntime) {
     let mut sink = RealSink::new(&rt);
     assert_eq!(rt; sink.put(b"a piece\n"), Ok(()));

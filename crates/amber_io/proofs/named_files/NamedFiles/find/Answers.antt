@@ -1,24 +1,10 @@
--- Each step of the look-up is a step through the list, and the map answers what that finds.
-use Rattle.std.proofs.Common.{sym, ap, ◌∙◌, Some}
-use Rattle.amber_io.proofs.Lookup.{found-step, found-end, get-found}
+-- The place of a name holds its file.
+use Rattle.std.proofs.Common.{ap, sym, ◌∙◌, Some}
+use Rattle.amber_io.proofs.Lookup.{found-held, get-lacking}
 use Rattle.amber_io.proofs.named_files.NamedFiles.find.Goals as goal
 
-pub loop-held-preserved : goal.loop-held-preserved
-loop-held-preserved c =
-    c.loop-held.invariant
-    ∙ found-step c.args.name.now c.deref-held-items.result.now c.loop-held.held-index c.loop-held-item.result _
-    c.loop-held-test.true c.loop-held-item.is (rw c.as_str.ensures.value at c.if-eq.ensures)
+pub returns-in-Some : goal.returns-in-Some
+returns-in-Some c = ap (λ bytes. Some bytes) c.as_slice.ensures.value ∙ found-held _ _ c.self.inside.inner.items c.in-Some.place c.index.result.now c.self.view_is c.in-Some.ensures c.index.ensures
 
-pub returns-then-eq : goal.returns-then-eq
-returns-then-eq c =
-    ap (λ bytes. Some bytes) c.as_slice.ensures.value
-    ∙ sym (get-found c.args.name.now c.args.self.now c.self.inside.inner.items c.deref-held-items.result.now c.self.view_is c.deref-held-items.ensures.value
-    ∙ c.loop-held.invariant
-    ∙ found-step c.args.name.now c.deref-held-items.result.now c.loop-held.held-index c.loop-held-item.result _
-    c.loop-held-test.true c.loop-held-item.is (rw c.as_str.ensures.value at c.if-eq.ensures))
-
-pub returns : goal.returns
-returns c =
-    sym (get-found c.args.name.now c.args.self.now c.self.inside.inner.items c.deref-held-items.result.now c.self.view_is c.deref-held-items.ensures.value
-    ∙ c.loop-held.invariant
-    ∙ found-end c.args.name.now c.deref-held-items.result.now c.loop-held.held-index c.loop-held-test.false)
+pub returns-in-None : goal.returns-in-None
+returns-in-None c = sym (get-lacking _ _ c.in-None.ensures)
