@@ -1,0 +1,232 @@
+-- What a worker counts stays within its steps.
+use Rattle.std.proofs.Common.{◌≡◌, ℕ, suc, ◌+◌, ◌^◌, ◌<◌, ◌≤◌, eqb, List, [], ◌∷◌, ◌++◌, length, map, take, drop, All, Option, Some, None, Bool, true, false, ◌&&◌, if◌then◌else◌, refl, sym, ap, ◌∙◌, arith, length-append, subst}
+use Rattle.std.specs.Option.{IfSome, MatchOption, is_some, option_to_list}
+use Rattle.std.proofs.lemmas.Bool.{false≢true}
+use Rattle.std.proofs.lemmas.List.{nil_from_length, take-append-le, take_all}
+use Rattle.std.proofs.lemmas.List.Elements.{All-cons, All-push}
+use Rattle.amber_rows.specs.declared.value.Value.{Value}
+use Rattle.amber_rows.specs.declared.batch.Batch.{Batch}
+use Rattle.amber_log.specs.declared.entry.Entry.{Entry}
+use Rattle.amber_log.specs.declared.entry.Entry.TheVariants as entry
+use Rattle.amber_meaning.specs.Position.{one_if}
+use Rattle.amber_meaning.specs.Task.{Handed, row_in}
+use Rattle.amber_meaning.specs.Views.{refusal_in}
+use Rattle.amber_scan.specs.declared.share.Scanned.{Scanned}
+use Rattle.amber_worker.specs.Fields.{AreFew, row_from, rows_moved}
+use Rattle.amber_worker.specs.Links.{Incoming, Outgoing}
+use Rattle.amber_worker.specs.Station.{Station, have_all_ended, have_builders_ended}
+use Rattle.amber_worker.specs.Steps.{Becomes, Closes, IsTaken, TakesBatch, TakesRow, columns_at_hand, gives_if, gone_on, keeps_if, turned_to, with_go, with_row}
+use Rattle.amber_worker.proofs.States.{closes-batch, in_order-batch, in_order-row, in_order-settled}
+use Rattle.amber_worker.specs.declared.duty.Duty.{Duty}
+use Rattle.amber_worker.specs.declared.duty.Duty.TheVariants as duty
+
+-- entries that speak of no more rows than this
+abbrev AreWithin : ℕ → List Entry → Type 0
+AreWithin n journal = All (λ one. rows_moved one ≤ n) journal
+
+none-within : (n : ℕ) → AreWithin n []
+none-within n = λ k d less. absurd (omega arith)
+
+one-within : (n : ℕ) (one : Entry) → rows_moved one ≤ n → AreWithin n (one ∷ [])
+one-within n one h = All-cons (λ e. rows_moved e ≤ n) one [] h (none-within n)
+
+two-within : (n rows outs : ℕ) (one : Entry) → rows + outs ≡ 1 → rows_moved one ≤ n → AreWithin (n + 1) (one ∷ entry.Go rows outs ∷ [])
+two-within n rows outs one sum h =
+    All-cons (λ e. rows_moved e ≤ n + 1) one (entry.Go rows outs ∷ []) (omega arith) (one-within (n + 1) (entry.Go rows outs) (omega arith))
+
+within-gone_on : (n : ℕ) (one : Entry) (rows outs : ℕ) → rows + outs ≡ 1 → rows_moved one ≤ n → AreWithin (n + 1) (gone_on one rows outs)
+within-gone_on n (entry.Take sender batch) rows outs sum h = two-within n rows outs (entry.Take sender batch) sum h
+within-gone_on n (entry.Go before given) rows outs sum h = one-within (n + 1) (entry.Go (before + rows) (given + outs)) (omega arith)
+within-gone_on n (entry.Grant m) rows outs sum h = two-within n rows outs (entry.Grant m) sum h
+within-gone_on n (entry.Back m) rows outs sum h = two-within n rows outs (entry.Back m) sum h
+within-gone_on n entry.Pause rows outs sum h = two-within n rows outs entry.Pause sum h
+within-gone_on n entry.Resume rows outs sum h = two-within n rows outs entry.Resume sum h
+within-gone_on n entry.Hold rows outs sum h = two-within n rows outs entry.Hold sum h
+within-gone_on n entry.Finish rows outs sum h = two-within n rows outs entry.Finish sum h
+
+within-with_go : (n : ℕ) (journal : List Entry) (rows outs : ℕ) → rows + outs ≡ 1 → AreWithin n journal → AreWithin (n + 1) (with_go journal rows outs)
+unfolding with_go
+within-with_go n [] rows outs sum h = one-within (n + 1) (entry.Go rows outs) (omega arith)
+within-with_go n (one ∷ []) rows outs sum h = within-gone_on n one rows outs sum (h 0 one (omega arith))
+within-with_go n (one ∷ next ∷ more) rows outs sum h =
+    let here : rows_moved one ≤ n = h 0 one (omega arith) in
+    All-cons (λ e. rows_moved e ≤ n + 1) one (with_go (next ∷ more) rows outs) (omega arith)
+    (within-with_go n (next ∷ more) rows outs sum (λ k d less. h (suc k) d (omega arith)))
+
+-- ---- a row is taken
+
+same-some : {A : Type 0} (P : Type 0) (old new : Option A) → is_some new ≡ is_some old → IfSome old (λ _. P) → IfSome new (λ _. P)
+same-some P None None e h = h
+same-some P None (Some x) e h = absurd (false≢true (sym e))
+same-some P (Some y) None e h = tt
+same-some P (Some y) (Some x) e h = h
+
+-- a scan's worker stays one
+scans-more : (does now : Duty) (builds : Bool) (found : Option (List Value)) → Becomes does builds found now → does ≡ duty.Scan → now ≡ duty.Scan
+scans-more does now builds found becomes scan =
+    let P : Duty → Type 0 = λ d. Becomes d builds found now in
+    subst P scan becomes
+
+scans-so : (does now : Duty) (o : Option (List Scanned)) → (does ≡ duty.Scan → now ≡ duty.Scan) → IfSome o (λ _. does ≡ duty.Scan) → IfSome o (λ _. now ≡ duty.Scan)
+scans-so does now None f h = h
+scans-so does now (Some x) f h = f h
+
+pub few-row : (does now : Duty) (building : Bool) (found : Option (List Value)) (share later : Option (List Scanned)) (taken emitted batches : ℕ) (finished : Bool)
+    (ins : List Incoming) (out : Option Outgoing) (journal : List Entry) → Becomes does building found now
+    → AreFew does building share taken emitted batches finished ins out journal → taken + emitted + batches + one_if finished < 2 ^ 40 → is_some later ≡ is_some share
+    → AreFew now building later (taken + 1) emitted batches finished ins out (with_go journal 1 0)
+few-row does now building found share later taken emitted batches finished ins out journal becomes few less same = record {
+  in_order = in_order-row does now building found taken ins becomes few.in_order;
+  scans = scans-so does now later (scans-more does now building found becomes) (same-some (does ≡ duty.Scan) share later same few.scans);
+  shares = same-some (ins ≡ []) share later same few.shares;
+  steps = omega arith;
+  received = few.received;
+  sizes = few.sizes;
+  sent = few.sent;
+  moved = λ k d below. let within = within-with_go (taken + emitted) journal 1 0 refl few.moved k d below in omega arith;
+}
+
+pub takes-row : (w : Station) (one : Handed) (later : List Handed) (now : Duty) (last : List (List Value)) (rest : List Handed) (pending : List (List Value)) (refused : List _)
+    (kept : List (List Value)) (journal : List Entry) (columns : List _) (over : Bool)
+    → columns ≡ columns_at_hand w → over ≡ (eqb (length w.rest) 1 && have_all_ended w.ins)
+    → w.rest ≡ one ∷ later → rest ≡ later → Becomes w.duty w.building (row_in columns one.what) now → Closes now over last
+    → pending ≡ (w.pending ++ gives_if w.duty w.building (row_in columns one.what)) ++ last → refused ≡ w.refused ++ refusal_in w.op one.from one.what
+    → kept ≡ w.kept ++ keeps_if w.duty (row_in columns one.what) → journal ≡ with_go w.journal 1 0
+    → TakesRow w (record w { duty = now; rest = rest; pending = pending; taken = w.taken + 1; refused = refused; kept = kept; journal = journal })
+takes-row w one later now last rest pending refused kept journal columns over columns_is over_is first rest_is becomes closes pending_is refused_is kept_is journal_is = record {
+  one = one;
+  later = later;
+  now = now;
+  last = last;
+  first = first;
+  becomes = subst (λ columns. Becomes w.duty w.building (row_in columns one.what) now) columns_is becomes;
+  closes = subst (λ b. Closes now b last) over_is closes;
+  after = rw (← columns_is, pending_is, refused_is, kept_is, journal_is, rest_is) refl;
+}
+
+-- ---- a row is emitted
+
+row-sent : (row : List Value) (n : ℕ) (one : Outgoing) → one.made + length one.partial ≤ n → (with_row row one).made + length (with_row row one).partial ≤ n + 1
+row-sent row n one h = by (eqb (length one.partial + 1) one.size)
+  where
+    by : (b : Bool)
+        → (if b then record one { made = one.made + 1; waiting = one.waiting ++ record { seq = one.made; rows = one.partial ++ row ∷ []; last = false } ∷ []; partial = [] }
+        else record one { partial = one.partial ++ row ∷ [] }).made
+        + length (if b then record one { made = one.made + 1; waiting = one.waiting ++ record { seq = one.made; rows = one.partial ++ row ∷ []; last = false } ∷ []; partial = [] }
+        else record one { partial = one.partial ++ row ∷ [] }).partial ≤ n + 1
+    by true = omega arith
+    by false = omega (arith, length-append one.partial (row ∷ []))
+
+row-sized : (row : List Value) (one : Outgoing) → 0 < one.size → 0 < (with_row row one).size
+row-sized row one h = by (eqb (length one.partial + 1) one.size)
+  where
+    by : (b : Bool)
+        → 0 < (if b then record one { made = one.made + 1; waiting = one.waiting ++ record { seq = one.made; rows = one.partial ++ row ∷ []; last = false } ∷ []; partial = [] }
+        else record one { partial = one.partial ++ row ∷ [] }).size
+    by true = h
+    by false = h
+
+each-sent : (row : List Value) (n : ℕ) (out after : Option Outgoing) → option_to_list after ≡ map (with_row row) (option_to_list out)
+    → MatchOption out (Unit {0}) (λ one. one.made + length one.partial ≤ n) → MatchOption after (Unit {0}) (λ one. one.made + length one.partial ≤ n + 1)
+each-sent row n None None e h = tt
+each-sent row n None (Some now) e h = cc
+each-sent row n (Some one) None e h = cc
+each-sent row n (Some one) (Some now) e h = let same : now ≡ with_row row one = cc in rw same (row-sent row n one h)
+
+each-sized : (row : List Value) (out after : Option Outgoing) → option_to_list after ≡ map (with_row row) (option_to_list out)
+    → MatchOption out (Unit {0}) (λ one. 0 < one.size) → MatchOption after (Unit {0}) (λ one. 0 < one.size)
+each-sized row None None e h = tt
+each-sized row None (Some now) e h = cc
+each-sized row (Some one) None e h = cc
+each-sized row (Some one) (Some now) e h = let same : now ≡ with_row row one = cc in rw same (row-sized row one h)
+
+pub few-emitted : (does : Duty) (building : Bool) (share : Option (List Scanned)) (taken emitted batches : ℕ) (finished : Bool) (ins : List Incoming) (out after : Option Outgoing) (journal : List Entry)
+    (row : List Value) → AreFew does building share taken emitted batches finished ins out journal → taken + emitted + batches + one_if finished < 2 ^ 40
+    → option_to_list after ≡ map (with_row row) (option_to_list out) → AreFew does building share taken (emitted + 1) batches finished ins after (with_go journal 0 1)
+few-emitted does building share taken emitted batches finished ins out after journal row few less sent = record {
+  in_order = few.in_order;
+  scans = few.scans;
+  shares = few.shares;
+  steps = omega arith;
+  received = few.received;
+  sizes = each-sized row out after sent few.sizes;
+  sent = more after (each-sent row (emitted + one_if finished) out after sent few.sent);
+  moved = λ k d below. let within = within-with_go (taken + emitted) journal 0 1 refl few.moved k d below in omega arith;
+}
+  where
+    more : (o : Option Outgoing) → MatchOption o (Unit {0}) (λ one. one.made + length one.partial ≤ emitted + one_if finished + 1)
+        → MatchOption o (Unit {0}) (λ one. one.made + length one.partial ≤ emitted + 1 + one_if finished)
+    more None h = tt
+    more (Some one) h = omega arith
+
+-- ---- a batch is taken
+
+-- what a list that was lent comes back as
+pub written-back : {A : Type 0} (n : ℕ) (old new : List A) → n ≡ length old → length new ≡ length old → take n (new ++ drop (length new) old) ≡ new
+written-back n old new e same = take-append-le n new (drop (length new) old) (omega arith) ∙ take_all n new (omega arith)
+
+turned-scan : (does : Duty) (builds : Bool) → does ≡ duty.Scan → turned_to builds does ≡ duty.Scan
+turned-scan does builds scan = ap (turned_to builds) scan
+
+pub few-batch : (does : Duty) (building : Bool) (share : Option (List Scanned)) (taken emitted batches : ℕ) (finished : Bool) (ins later : List Incoming) (out : Option Outgoing)
+    (journal : List Entry) (place from number : ℕ) (builds : Bool) (batch : Batch)
+    → ((one : Incoming) × (one.from ≡ from) × (one.taken ≡ number) × (one.builds ≡ builds) × IsTaken ins one batch later)
+    → AreFew does building share taken emitted batches finished ins out journal → taken + emitted + batches + one_if finished < 2 ^ 40 → place < length ins
+    → All (λ one. one.taken ≤ batches + 1) later
+    → AreFew (turned_to builds does) builds share taken emitted (batches + 1) finished later out (journal ++ entry.Take from number ∷ [])
+few-batch does building share taken emitted batches finished ins later out journal place from number builds batch so few less there received = record {
+  in_order = rw (← so.3) (in_order-batch does building taken ins later so.0 batch so.4 few.in_order);
+  scans = scans-so does (turned_to builds does) share (turned-scan does builds) few.scans;
+  shares = none share few.shares;
+  steps = omega arith;
+  received = received;
+  sizes = few.sizes;
+  sent = few.sent;
+  moved = All-push (λ one. rows_moved one ≤ taken + emitted) journal (entry.Take from number) few.moved (omega arith);
+}
+  where
+    none : (o : Option (List Scanned)) → IfSome o (λ _. ins ≡ []) → IfSome o (λ _. later ≡ [])
+    none None h = tt
+    none (Some x) h = let empty = ap length h in absurd (omega arith)
+
+-- a share stands where there are no senders alone
+pub no-share : (share : Option (List Scanned)) (ins : List Incoming) (place : ℕ) → IfSome share (λ _. ins ≡ []) → place < length ins → share ≡ None
+no-share None ins place h less = refl
+no-share (Some x) ins place h less = let empty = ap length h in absurd (omega arith)
+
+pub takes-batch : (w : Station) (from number : ℕ) (builds : Bool) (batch : Batch) (ins found : List Incoming) (rest : List Handed) (journal : List Entry) (now : Duty)
+    (closing pending : List (List Value)) (empty over : Bool)
+    → ((one : Incoming) × (one.from ≡ from) × (one.taken ≡ number) × (one.builds ≡ builds) × IsTaken w.ins one batch ins) → from < 2 ^ 32 → number < 2 ^ 64
+    → rest ≡ map (row_from from) batch.rows → found ≡ ins → journal ≡ w.journal ++ entry.Take from number ∷ [] → now ≡ turned_to builds w.duty
+    → empty ≡ eqb (length batch.rows) 0 → over ≡ have_all_ended ins → Closes w.duty empty closing → pending ≡ (if over then closing else [])
+    → TakesBatch w (record w { duty = now; building = builds; rest = rest; pending = pending; batches = w.batches + 1; ins = found; journal = journal })
+takes-batch w from number builds batch ins found rest journal now closing pending empty over taken few small rest_is ins_is journal_is now_is empty_is over_is closes pending_is = record {
+  one = taken.0;
+  batch = batch;
+  ins = ins;
+  taken = taken.4;
+  from_small = let same = taken.1 in omega arith;
+  number_small = let same = taken.2 in omega arith;
+  last = pending;
+  closes = rw (← empty_is, ← over_is, pending_is) (closes-batch w.duty empty over closing closes);
+  after = rw (taken.1, taken.2, taken.3, rest_is, ins_is, journal_is, now_is) refl;
+}
+
+-- batches have come
+pub few-settled : (does : Duty) (building : Bool) (share : Option (List Scanned)) (taken emitted batches : ℕ) (finished : Bool) (ins later : List Incoming) (out : Option Outgoing) (journal : List Entry)
+    → AreFew does building share taken emitted batches finished ins out journal → length later ≡ length ins → All (λ one. one.taken ≤ batches) later
+    → have_builders_ended later ≡ have_builders_ended ins → AreFew does building share taken emitted batches finished later out journal
+few-settled does building share taken emitted batches finished ins later out journal few same received built = record {
+  in_order = in_order-settled does building taken ins later built few.in_order;
+  scans = few.scans;
+  shares = none share few.shares;
+  steps = few.steps;
+  received = received;
+  sizes = few.sizes;
+  sent = few.sent;
+  moved = few.moved;
+}
+  where
+    none : (o : Option (List Scanned)) → IfSome o (λ _. ins ≡ []) → IfSome o (λ _. later ≡ [])
+    none None h = tt
+    none (Some x) h = let empty = ap length h in nil_from_length later (omega arith)

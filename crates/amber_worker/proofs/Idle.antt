@@ -1,0 +1,133 @@
+-- When a worker has something to do.
+use Rattle.std.proofs.Common.{◌≡◌, ℕ, suc, arith, ap, All, ◌/◌, eqb, ◌||◌, List, [], ◌∷◌, ◌++◌, length, map, not, ◌&&◌, Bool, true, false, if◌then◌else◌, refl, sym, ◌∙◌}
+use Rattle.std.specs.List.{list_any}
+use Rattle.std.proofs.lemmas.Bool.{and_from, eq-eqb, eqb-true, false≢true, or_left, or_right}
+use Rattle.std.proofs.lemmas.List.{append-nil}
+use Rattle.amber_rows.specs.Chunks.{chunks_of, numbers_below, piece_of}
+use Rattle.amber_rows.specs.declared.value.Value.{Value}
+use Rattle.amber_rows.specs.declared.batch.Batch.{Batch}
+use Rattle.amber_meaning.specs.Position.{Position, Taken, has_last, taken_from}
+use Rattle.amber_meaning.specs.Rules.{Orders}
+use Rattle.amber_meaning.specs.Task.{Task, is_builder}
+use Rattle.amber_worker.specs.Links.{Incoming, waiting_from}
+use Rattle.amber_worker.specs.Stands.{Post, ReceiveAll, Shows}
+use Rattle.amber_worker.specs.Station.{Station, answer_of, has_ready, has_some, have_all_ended, have_builders_ended, is_ready, may_come}
+use Rattle.amber_worker.specs.declared.turn.Turn.TheVariants as turn
+
+-- one of these batches is a last one
+abbrev pub has_marked : List Batch → Bool
+has_marked batches = list_any (λ batch. batch.last) batches
+
+marked_behind : (batches : List Batch) (last : Batch) → last.last ≡ true → has_marked (batches ++ last ∷ []) ≡ true
+marked_behind [] last h = or_left _ _ h
+marked_behind (one ∷ more) last h = or_right _ _ (marked_behind more last h)
+
+-- the batches that an ended stream was cut into have a last one
+pub has_marked-chunks_of : (size : ℕ) (stream : List (List Value)) → has_marked (chunks_of size stream true) ≡ true
+unfolding chunks_of
+has_marked-chunks_of size stream =
+    marked_behind (map (λ number. record { seq = number; rows = piece_of size stream number; last = false }) (numbers_below (length stream / size)))
+    (record { seq = length stream / size; rows = piece_of size stream (length stream / size); last = true }) refl
+
+not_ready : (ended some : Bool) → (not ended && some) ≡ false → ended ≡ false → some ≡ false
+not_ready true some h e = absurd (false≢true (sym e))
+not_ready false some h e = h
+
+none : {A : Type 0} (xs : List A) → has_some xs ≡ false → xs ≡ []
+none [] h = refl
+none (x ∷ xs) h = absurd (false≢true (sym h))
+
+parts_false : (a b : Bool) → list_any (λ c. c) (a ∷ b ∷ []) ≡ false → (a ≡ false) × (b ≡ false)
+parts_false true b h = absurd (false≢true (sym h))
+parts_false false true h = absurd (false≢true (sym h))
+parts_false false false h = (refl, refl)
+
+neither : (ready : Incoming → Bool) (one : Incoming) (more : List Incoming) → list_any ready (one ∷ more) ≡ false → (ready one ≡ false) × (list_any ready more ≡ false)
+neither ready one more h = by (ready one) (list_any ready more) refl refl
+  where
+    by : (a b : Bool) → ready one ≡ a → list_any ready more ≡ b → (ready one ≡ false) × (list_any ready more ≡ false)
+    by true b e f = absurd (false≢true (sym h ∙ or_left _ _ e))
+    by false true e f = absurd (false≢true (sym h ∙ or_right _ _ f))
+    by false false e f = (e, f)
+
+-- where no batch may be taken, none waits of a sender that has not ended and whose side may be taken
+none_waits : (task : Task) (built : Bool) (taken : List Taken) (senders : List ℕ) (ins : List Incoming) (sender : ℕ) → ReceiveAll senders taken ins
+    → All (λ one. one.builds ≡ is_builder task one.from) ins → (is_builder task sender || built) ≡ true → list_any (may_come built) ins ≡ false
+    → has_last taken sender ≡ false → waiting_from sender ins ≡ []
+unfolding ReceiveAll
+none_waits task built taken [] [] sender h sides side ready last = refl
+none_waits task built taken [] (one ∷ ins) sender h sides side ready last = absurd h
+none_waits task built taken (first ∷ more) [] sender h sides side ready last = absurd h
+none_waits task built taken (first ∷ more) (one ∷ ins) sender h sides side ready last =
+    by (eqb one.from sender) refl
+    (none_waits task built taken more ins sender h.2 (λ k d less. sides (suc k) d (omega arith)) side (neither (may_come built) one ins ready).1 last)
+  where
+    own : one.builds ≡ is_builder task one.from
+    own = sides 0 one (omega arith)
+
+    unready : (ready may : Bool) → (ready && may) ≡ false → may ≡ true → ready ≡ false
+    unready true may e so = absurd (false≢true (sym e ∙ so))
+    unready false may e so = refl
+
+    by : (b : Bool) → eqb one.from sender ≡ b → waiting_from sender ins ≡ [] → (if b then one.waiting else waiting_from sender ins) ≡ []
+    by true e rest =
+        let here : one.from ≡ sender = eqb-true one.from sender e in
+        let same : first ≡ sender = sym h.0.from ∙ here in
+        let open_still : one.ended ≡ false = h.0.ended ∙ rw same last in
+        let may : (one.builds || built) ≡ true = ap (λ b. b || built) (own ∙ ap (is_builder task) here) ∙ side in
+        none one.waiting (not_ready one.ended (has_some one.waiting) (unready (is_ready one) (one.builds || built) (neither (may_come built) one ins ready).0 may) open_still)
+    by false e rest = rest
+
+-- where those of the build side have ended, the build side has
+built_so : (task : Task) (taken : List Taken) (senders : List ℕ) (ins : List Incoming) → ReceiveAll senders taken ins → All (λ one. one.builds ≡ is_builder task one.from) ins
+    → ((sender : ℕ) → list_any (λ one. eqb one sender) senders ≡ true → is_builder task sender ≡ true → has_last taken sender ≡ true) → have_builders_ended ins ≡ true
+unfolding ReceiveAll
+built_so task taken [] [] h sides last = refl
+built_so task taken [] (one ∷ ins) h sides last = absurd h
+built_so task taken (first ∷ more) [] h sides last = absurd h
+built_so task taken (first ∷ more) (one ∷ ins) h sides last =
+    and_from _ _ (by one.builds (sides 0 one (omega arith)))
+    (built_so task taken more ins h.2 (λ k d less. sides (suc k) d (omega arith)) (λ sender member. last sender (or_right _ _ member)))
+  where
+    by : (b : Bool) → b ≡ is_builder task one.from → (not b || one.ended) ≡ true
+    by true own = h.0.ended ∙ last first (or_left _ _ (eq-eqb first first refl)) (ap (is_builder task) (sym h.0.from) ∙ sym own)
+    by false own = refl
+
+-- where no batch may be taken and of each sender the last one was taken or waits, all have ended
+all_ended : (taken : List Taken) (senders : List ℕ) (ins : List Incoming) → ReceiveAll senders taken ins
+    → ((sender : ℕ) → list_any (λ one. eqb one sender) senders ≡ true → has_last taken sender ≡ true) → have_all_ended ins ≡ true
+unfolding ReceiveAll
+all_ended taken [] [] h last = refl
+all_ended taken [] (one ∷ ins) h last = absurd h
+all_ended taken (first ∷ more) [] h last = absurd h
+all_ended taken (first ∷ more) (one ∷ ins) h last =
+    and_from _ _ (h.0.ended ∙ last first (or_left _ _ (eq-eqb first first refl))) (all_ended taken more ins h.2 (λ sender member. last sender (or_right _ _ member)))
+
+idle_parts : (a b c d e : Bool)
+    → (if a then turn.Ended else if b then turn.Moved else if c then turn.Moved else if d then turn.Moved else if e then turn.Moved else turn.Idle) ≡ turn.Idle
+    → (d ≡ false) × (e ≡ false)
+idle_parts true b c d e h = cc
+idle_parts false true c d e h = cc
+idle_parts false false true d e h = cc
+idle_parts false false false true e h = cc
+idle_parts false false false false true h = cc
+idle_parts false false false false false h = (refl, refl)
+
+-- a worker of whose senders each last batch was taken or waits is never idle
+pub never_idle : (post : Post) (orders : Orders) (w : Station) (p : Position) (sent : ℕ → List Batch) → Shows post orders w p sent
+    → ((sender : ℕ) → list_any (λ one. eqb one sender) post.role.senders ≡ true → has_marked (taken_from p.taken sender ++ waiting_from sender w.ins) ≡ true)
+    → answer_of w ≡ turn.Idle → ⊥
+never_idle post orders w p sent shows marked idle =
+    let parts = idle_parts w.finished (has_some w.pending) (has_some w.rest) (has_ready w.ins) (have_all_ended w.ins) idle in
+    let built = built_so post.role.task p.taken post.role.senders w.ins shows.ins shows.sides
+    (λ sender member builds. last (have_builders_ended w.ins) parts.0 sender member (or_left _ _ builds) (has_last p.taken sender) refl) in
+    let ended = all_ended p.taken post.role.senders w.ins shows.ins
+    (λ sender member. last (have_builders_ended w.ins) parts.0 sender member (or_right _ _ built) (has_last p.taken sender) refl) in
+    false≢true (sym parts.1 ∙ ended)
+  where
+    last : (built : Bool) → list_any (may_come built) w.ins ≡ false → (sender : ℕ) → list_any (λ one. eqb one sender) post.role.senders ≡ true
+        → (is_builder post.role.task sender || built) ≡ true → (b : Bool) → has_last p.taken sender ≡ b → b ≡ true
+    last built ready sender member side true e = refl
+    last built ready sender member side false e =
+        let waits = none_waits post.role.task built p.taken post.role.senders w.ins sender shows.ins shows.sides side ready e in
+        absurd (false≢true (sym e ∙ rw (waits, append-nil) at (marked sender member)))

@@ -1,0 +1,508 @@
+-- Each step of a worker leads on from where it stands.
+use Rattle.std.proofs.Common.{◌≡◌, ℕ, suc, ◌+◌, ◌-◌, ◌^◌, ◌<◌, ◌≤◌, eqb, ◌&&◌, List, [], ◌∷◌, ◌++◌, length, map, filter, take, drop, All, Option, Some, None, Bool, true, false, if◌then◌else◌, refl, sym, ap, ◌∙◌, arith, append_assoc, length-append, length-drop, subst}
+use Rattle.std.specs.List.{filter_map}
+use Rattle.std.specs.Option.{option_to_list}
+use Rattle.std.proofs.lemmas.Bool.{and_parts, false≢true, eqb-true, eq-eqb}
+use Rattle.std.proofs.lemmas.Grind.{flat_map-append}
+use Rattle.std.proofs.lemmas.List.{append-nil, take_all}
+use Rattle.std.proofs.lemmas.List.Elements.{filter-append}
+use Rattle.std.proofs.lemmas.List.Sums.{sum_by_push}
+use Rattle.amber_rows.specs.declared.value.Value.{Value}
+use Rattle.amber_rows.specs.declared.batch.Batch.{Batch}
+use Rattle.amber_rows.specs.declared.column.Column.{Column}
+use Rattle.amber_rows.specs.declared.flow.What.{What}
+use Rattle.amber_rows.specs.declared.flow.What.TheVariants as what
+use Rattle.amber_log.specs.declared.entry.Entry.TheVariants as entry
+use Rattle.amber_meaning.specs.Position.{Position, Taken, emitted_rows, fed, have_ended, is_complete, is_emitted, product}
+use Rattle.amber_meaning.specs.Rules.{IsFree, MayFinish, MayGo, Orders, product_with, produced_with, went}
+use Rattle.amber_meaning.specs.Task.{Handed, Role, Task, closing, closing_rows, columns_from, is_builder, produce, row_in, suiting, yields, yields_if, yields_row}
+use Rattle.amber_meaning.specs.Views.{refusal_in, refused_in, rows_in, taken_of}
+use Rattle.amber_worker.specs.Fields.{rows_moved}
+use Rattle.amber_worker.specs.Links.{Incoming, Outgoing}
+use Rattle.amber_worker.specs.Stands.{DoesKind, HasTaken, Keeps, Post, ReceiveAll, SendAll, Sends, Shows, kept_of, stream_to}
+use Rattle.amber_worker.specs.Station.{Station, have_all_ended}
+use Rattle.amber_worker.specs.Steps.{Becomes, Closes, all_done, columns_at_hand, gives, gives_if, keeps, keeps_if, row_emitted, row_taken, with_end, with_row}
+use Rattle.amber_worker.specs.declared.duty.Duty.{Duty}
+use Rattle.amber_worker.specs.declared.duty.Duty.TheVariants as duty
+use Rattle.amber_worker.proofs.Chunked.{chunks-end, chunks-full, chunks-more, left_over, left_over-few}
+use Rattle.amber_worker.proofs.Journals.{AreEntries-push, AreEntries-with_go, Leads-out, Leads-push, Leads-row, not_counted, passes}
+use Rattle.amber_worker.proofs.Produced.{and-turned, kept-longer, kept-next, left-behind, left-next, left-nothing, left-within, not-complete, produce-next, product-is, product-open, same-test, take-next}
+use Rattle.amber_worker.proofs.States.{closing-is, does-more, has-more, rows-more}
+
+-- a worker that has not finished; it is neither paused nor held, and has no hand
+pub record IsWorking (w : Station) : Type 0 where
+  pub unfinished : w.finished ≡ false
+  pub running : w.paused ≡ false
+  pub loose : w.held ≡ false
+  pub few : All (λ one. rows_moved one < 2 ^ 63) w.journal
+
+pub free-shown : (post : Post) (orders : Orders) (w : Station) (p : Position) (sent : ℕ → List Batch) → Shows post orders w p sent → IsWorking w → IsFree p
+free-shown post orders w p sent shows works = record {
+  running = sym shows.paused ∙ works.running;
+  loose = sym shows.held ∙ works.loose;
+  unfinished = sym shows.finished ∙ works.unfinished;
+}
+
+-- ---- what a row yields
+
+-- a row that suits yields what the worker gives of it
+yields-given : (d : Duty) (task : Task) (kind : What) (constants : List Value) (role : Role) (before : List Handed) (from : ℕ) (row : List Value)
+    → DoesKind d kind constants role → HasTaken d task before → yields_row task kind before from constants row ≡ gives d (is_builder task from) row
+yields-given duty.Scan task (what.Scan file) constants role before from row does has = refl
+yields-given (duty.Filter cond) task (what.Filter input own) constants role before from row does has = rw does refl
+yields-given (duty.Project columns) task (what.Project input own) constants role before from row does has = rw does refl
+yields-given (duty.Join state) task (what.Join build probe build_keys probe_keys) constants role before from row does has = rw (does.0, does.1, has) refl
+yields-given (duty.Group state) task (what.Group input keys aggs) constants role before from row does has = refl
+yields-given duty.Sink task (what.Sink input) constants role before from row does has = refl
+yields-given d task kind constants role before from row does has = absurd does
+
+-- what is handed yields what the worker gives of it
+yields-all : (d : Duty) (task : Task) (constants : List Value) (role : Role) (before : List Handed) (one : Handed) → DoesKind d task.kind constants role → HasTaken d task before
+    → yields task before one constants ≡ gives_if d (is_builder task one.from) (suiting task one)
+unfolding yields
+yields-all d task constants role before one does has = by (suiting task one)
+  where
+    by : (o : Option (List Value)) → yields_if task before one.from constants o ≡ gives_if d (is_builder task one.from) o
+    by None = refl
+    by (Some row) = yields-given d task task.kind constants role before one.from row does has
+
+nothing_kept : (d : Duty) (o : Option (List Value)) → ((row : List Value) → keeps d row ≡ []) → keeps_if d o ≡ []
+nothing_kept d None h = refl
+nothing_kept d (Some row) h = h row
+
+sink-keeps : (o : Option (List Value)) → option_to_list o ≡ keeps_if duty.Sink o
+sink-keeps None = refl
+sink-keeps (Some row) = refl
+
+-- what is kept for the answer, with one more that was taken
+kept-more : (d : Duty) (task : Task) (kind : What) (constants : List Value) (role : Role) (taken : List Handed) (one : Handed) → DoesKind d kind constants role
+    → kept_of kind task (taken ++ one ∷ []) ≡ kept_of kind task taken ++ keeps_if d (suiting task one)
+kept-more duty.Scan task (what.Scan file) constants role taken one does = sym (nothing_kept duty.Scan (suiting task one) (λ row. refl))
+kept-more (duty.Filter cond) task (what.Filter input own) constants role taken one does = sym (nothing_kept (duty.Filter cond) (suiting task one) (λ row. refl))
+kept-more (duty.Project columns) task (what.Project input own) constants role taken one does = sym (nothing_kept (duty.Project columns) (suiting task one) (λ row. refl))
+kept-more (duty.Join state) task (what.Join build probe build_keys probe_keys) constants role taken one does =
+    sym (nothing_kept (duty.Join state) (suiting task one) (λ row. refl))
+kept-more (duty.Group state) task (what.Group input keys aggs) constants role taken one does = sym (nothing_kept (duty.Group state) (suiting task one) (λ row. refl))
+kept-more duty.Sink task (what.Sink input) constants role taken one does = rows-more task taken one ∙ ap (λ l. rows_in task taken ++ l) (sink-keeps (suiting task one))
+kept-more d task kind constants role taken one does = absurd does
+
+-- what is refused, with one more that was taken
+refused-more : (op : ℕ) (taken : List Handed) (one : Handed) → refused_in op (taken ++ one ∷ []) ≡ refused_in op taken ++ refusal_in op one.from one.what
+refused-more op taken one = flat_map-append _ taken (one ∷ []) ∙ ap (λ l. refused_in op taken ++ l) (append-nil _)
+
+-- ---- a row is taken
+
+-- the facts of a row that is taken
+record TakesOne (post : Post) (orders : Orders) (w : Station) (p : Position) (sent : ℕ → List Batch) (one : Handed) (later : List Handed) (now : Duty)
+    (last : List (List Value)) : Type 0 where
+  shows : Shows post orders w p sent
+  rest : w.rest ≡ one ∷ later
+  pending : w.pending ≡ []
+  becomes : Becomes w.duty w.building (row_in (columns_at_hand w) one.what) now
+  closes : Closes now (eqb (length w.rest) 1 && have_all_ended w.ins) last
+
+-- the position with a row more
+abbrev with_one : Orders → Position → Position
+with_one orders p = went orders 1 0 p
+
+-- the side of what is at hand
+side-is : (post : Post) (orders : Orders) (w : Station) (p : Position) (sent : ℕ → List Batch) (one : Handed) (later : List Handed) (now : Duty) (last : List (List Value))
+    → TakesOne post orders w p sent one later now last → All (λ other. is_builder post.role.task other.from ≡ w.building) (one ∷ later)
+side-is post orders w p sent one later now last takes = rw takes.rest at takes.shows.building
+
+-- the row at hand, if it suits
+found-is : (post : Post) (orders : Orders) (w : Station) (p : Position) (sent : ℕ → List Batch) (one : Handed) (later : List Handed) (now : Duty) (last : List (List Value))
+    → TakesOne post orders w p sent one later now last → row_in (columns_at_hand w) one.what ≡ suiting post.role.task one
+found-is post orders w p sent one later now last takes =
+    let builds : is_builder post.role.task one.from ≡ w.building = side-is post orders w p sent one later now last takes 0 one (omega arith) in
+    ap (λ (columns : List Column). row_in columns one.what) (same w.building builds)
+  where
+    same : (b : Bool) → is_builder post.role.task one.from ≡ b → (if b then w.build_columns else w.columns) ≡ columns_from post.role.task one.from
+    same true e = takes.shows.build_columns ∙ rw e refl
+    same false e = takes.shows.columns ∙ rw e refl
+
+-- what is kept becomes what the task says
+becomes-is : (post : Post) (orders : Orders) (w : Station) (p : Position) (sent : ℕ → List Batch) (one : Handed) (later : List Handed) (now : Duty) (last : List (List Value))
+    → TakesOne post orders w p sent one later now last → Becomes w.duty (is_builder post.role.task one.from) (suiting post.role.task one) now
+becomes-is post orders w p sent one later now last takes =
+    let builds : is_builder post.role.task one.from ≡ w.building = side-is post orders w p sent one later now last takes 0 one (omega arith) in
+    let P : Option (List Value) → Type 0 = λ found. Becomes w.duty w.building found now in
+    let Q : Bool → Type 0 = λ b. Becomes w.duty b (suiting post.role.task one) now in
+    subst Q (sym builds) (subst P (found-is post orders w p sent one later now last takes) takes.becomes)
+
+taken-now : (post : Post) (orders : Orders) (w : Station) (p : Position) (sent : ℕ → List Batch) (one : Handed) (later : List Handed) (now : Duty) (last : List (List Value))
+    → TakesOne post orders w p sent one later now last → take (length p.constants + 1) (fed post.role p.taken) ≡ taken_of post.role p ++ one ∷ []
+taken-now post orders w p sent one later now last takes = take-next (length p.constants) (fed post.role p.taken) one later (sym takes.shows.rest ∙ takes.rest)
+
+pub all-ended : (senders : List ℕ) (taken : List Taken) (ins : List Incoming) → ReceiveAll senders taken ins → have_all_ended ins ≡ have_ended senders taken
+unfolding ReceiveAll have_ended
+all-ended [] taken [] h = refl
+all-ended [] taken (one ∷ ins) h = absurd h
+all-ended (sender ∷ senders) taken [] h = absurd h
+all-ended (sender ∷ senders) taken (one ∷ ins) h = rw (h.0.ended, all-ended senders taken ins h.2) refl
+
+-- of the same rows the same are closing
+pub closing-same : (over : Bool) (kind : What) (task : Task) (handed all : List Handed) → (over ≡ true → handed ≡ all)
+    → (if over then closing_rows kind (filter_map (suiting task) handed) else []) ≡ (if over then closing_rows kind (filter_map (suiting task) all) else [])
+closing-same true kind task handed all same = ap (λ l. closing_rows kind (filter_map (suiting task) l)) (same refl)
+closing-same false kind task handed all same = refl
+
+-- nothing more can come behind this row
+over-is : (post : Post) (orders : Orders) (w : Station) (p : Position) (sent : ℕ → List Batch) (one : Handed) (later : List Handed) (now : Duty) (last : List (List Value))
+    → TakesOne post orders w p sent one later now last → (eqb (length w.rest) 1 && have_all_ended w.ins) ≡ is_complete post.role p.taken (length p.constants + 1)
+over-is post orders w p sent one later now last takes =
+    let shows = takes.shows in
+    let within = left-within (length p.constants) (fed post.role p.taken) one later (sym shows.rest ∙ takes.rest) in
+    let left : length w.rest ≡ length (fed post.role p.taken) - length p.constants = ap length shows.rest ∙ length-drop (length p.constants) (fed post.role p.taken) in
+    and-turned (eqb (length w.rest) 1) (have_all_ended w.ins)
+    ∙ ap (λ b. b && eqb (length w.rest) 1) (all-ended post.role.senders p.taken w.ins shows.ins)
+    ∙ ap (λ b. have_ended post.role.senders p.taken && b)
+    (same-test (length w.rest) 1 (length p.constants + 1) (length (fed post.role p.taken)) (λ e. omega arith) (λ e. omega arith))
+
+-- the rows that are given at the end
+last-is : (post : Post) (orders : Orders) (w : Station) (p : Position) (sent : ℕ → List Batch) (one : Handed) (later : List Handed) (now : Duty) (last : List (List Value))
+    → TakesOne post orders w p sent one later now last
+    → last ≡ (if is_complete post.role p.taken (length p.constants + 1) then closing post.role.task (fed post.role p.taken) else [])
+unfolding closing
+last-is post orders w p sent one later now last takes =
+    let shows = takes.shows in
+    let task : Task = post.role.task in
+    let becomes = becomes-is post orders w p sent one later now last takes in
+    let does = does-more w.duty now (is_builder task one.from) (suiting task one) task.kind orders.constants post.role becomes shows.duty in
+    let has = has-more w.duty now task (taken_of post.role p) one becomes shows.state in
+    let over = over-is post orders w p sent one later now last takes in
+    closing-is now task.kind orders.constants post.role task (taken_of post.role p ++ one ∷ []) (is_complete post.role p.taken (length p.constants + 1)) last does has
+    (subst (λ b. Closes now b last) over takes.closes)
+    ∙ closing-same (is_complete post.role p.taken (length p.constants + 1)) task.kind task (taken_of post.role p ++ one ∷ []) (fed post.role p.taken)
+    (λ e. let end = and_parts (have_ended post.role.senders p.taken) _ e in
+    let here = eqb-true (length p.constants + 1) (length (fed post.role p.taken)) end.1 in
+    sym (taken-now post orders w p sent one later now last takes) ∙ take_all (length p.constants + 1) (fed post.role p.taken) (omega arith))
+
+-- what was produced with this row
+product-one : (post : Post) (orders : Orders) (w : Station) (p : Position) (sent : ℕ → List Batch) (one : Handed) (later : List Handed) (now : Duty) (last : List (List Value))
+    → TakesOne post orders w p sent one later now last
+    → product post.role p.taken (p.constants ++ orders.constants ∷ [])
+    ≡ product post.role p.taken p.constants ++ (gives_if w.duty w.building (row_in (columns_at_hand w) one.what) ++ last)
+product-one post orders w p sent one later now last takes =
+    let shows = takes.shows in
+    let task : Task = post.role.task in
+    let left : drop (length p.constants) (fed post.role p.taken) ≡ one ∷ later = sym shows.rest ∙ takes.rest in
+    let within = left-within (length p.constants) (fed post.role p.taken) one later left in
+    let more : length (p.constants ++ orders.constants ∷ []) ≡ length p.constants + 1 = omega (arith, length-append p.constants (orders.constants ∷ [])) in
+    let builds : is_builder task one.from ≡ w.building = side-is post orders w p sent one later now last takes 0 one (omega arith) in
+    let gives : yields task (take (length p.constants) (fed post.role p.taken)) one orders.constants ≡ gives_if w.duty w.building (row_in (columns_at_hand w) one.what) =
+    yields-all w.duty task orders.constants post.role (taken_of post.role p) one shows.duty shows.state
+    ∙ ap (λ b. gives_if w.duty b (suiting task one)) builds
+    ∙ ap (λ found. gives_if w.duty w.building found) (sym (found-is post orders w p sent one later now last takes)) in
+    let before : produce task [] (fed post.role p.taken) p.constants ≡ product post.role p.taken p.constants =
+    sym (product-open post.role p.taken p.constants (not-complete post.role p.taken (length p.constants) (omega arith))) in
+    product-is post.role p.taken (p.constants ++ orders.constants ∷ [])
+    ∙ rw (more, produce-next task [] (fed post.role p.taken) p.constants one later orders.constants left, gives, before, ← last-is post orders w p sent one later now last takes)
+    (append_assoc (product post.role p.taken p.constants) (gives_if w.duty w.building (row_in (columns_at_hand w) one.what)) last)
+
+-- all that was produced is gone
+pub all-gone : (post : Post) (orders : Orders) (w : Station) (p : Position) (sent : ℕ → List Batch) → Shows post orders w p sent → w.pending ≡ []
+    → length p.fates ≡ length (product post.role p.taken p.constants)
+all-gone post orders w p sent shows none =
+    let gone = left-nothing (length p.fates) (product post.role p.taken p.constants) (sym shows.pending ∙ none) in
+    let within = shows.produced in
+    omega arith
+
+may-take_row : (post : Post) (orders : Orders) (w : Station) (p : Position) (sent : ℕ → List Batch) (one : Handed) (later : List Handed) (now : Duty) (last : List (List Value))
+    → TakesOne post orders w p sent one later now last → IsWorking w → MayGo post.role orders p 1 0
+may-take_row post orders w p sent one later now_does last takes works =
+    let shows = takes.shows in
+    let within = left-within (length p.constants) (fed post.role p.taken) one later (sym shows.rest ∙ takes.rest) in
+    let gone = all-gone post orders w p sent shows takes.pending in
+    let before : produced_with post.role orders p 0 ≡ length (product post.role p.taken p.constants) =
+    ap (λ (constants : List (List Value)). length (product post.role p.taken constants)) (append-nil p.constants) in
+    let now = ap length (product-one post orders w p sent one later now_does last takes) in
+    let lengths = length-append (product post.role p.taken p.constants) (gives_if w.duty w.building (row_in (columns_at_hand w) one.what) ++ last) in
+    record {
+      free = free-shown post orders w p sent shows works;
+      within = within;
+      produced = omega arith;
+      drained = λ some. omega arith;
+      in_hand = λ counted. absurd (not_counted orders shows.plain counted);
+      before_taking = λ counted. absurd (not_counted orders shows.plain counted);
+      no_stop = passes orders p.waved (take 0 (drop (length p.fates) (product_with post.role orders p 1))) shows.plain;
+    }
+
+both_true : (b : Bool) → (b && true) ≡ b
+both_true true = refl
+both_true false = refl
+
+both_false : (b : Bool) → (b && false) ≡ false
+both_false true = refl
+both_false false = refl
+
+shows-row_taken : (post : Post) (orders : Orders) (w : Station) (p : Position) (sent : ℕ → List Batch) (one : Handed) (later : List Handed) (now : Duty) (last : List (List Value))
+    → TakesOne post orders w p sent one later now last → Shows post orders (row_taken one later now last w) (with_one orders p) sent
+shows-row_taken post orders w p sent one later now last takes =
+    let shows = takes.shows in
+    let task : Task = post.role.task in
+    let left : drop (length p.constants) (fed post.role p.taken) ≡ one ∷ later = sym shows.rest ∙ takes.rest in
+    let within = left-within (length p.constants) (fed post.role p.taken) one later left in
+    let more : length (p.constants ++ orders.constants ∷ []) ≡ length p.constants + 1 = omega (arith, length-append p.constants (orders.constants ∷ [])) in
+    let grown = product-one post orders w p sent one later now last takes in
+    let gone = all-gone post orders w p sent shows takes.pending in
+    let no_fate : p.fates ++ [] ≡ p.fates = append-nil p.fates in
+    let still : length p.fates ≤ length (product post.role p.taken p.constants) = shows.produced in
+    let lengths = length-append (product post.role p.taken p.constants) (gives_if w.duty w.building (row_in (columns_at_hand w) one.what) ++ last) in
+    let now_taken : take (length (p.constants ++ orders.constants ∷ [])) (fed post.role p.taken) ≡ taken_of post.role p ++ one ∷ [] =
+    rw more (taken-now post orders w p sent one later now last takes) in
+    let becomes = becomes-is post orders w p sent one later now last takes in
+    let found = found-is post orders w p sent one later now last takes in
+    record {
+      op = shows.op;
+      number = shows.number;
+      duty = does-more w.duty now (is_builder task one.from) (suiting task one) task.kind orders.constants post.role becomes shows.duty;
+      state = rw now_taken (has-more w.duty now task (taken_of post.role p) one becomes shows.state);
+      columns = shows.columns;
+      build_columns = shows.build_columns;
+      sides = shows.sides;
+      builders = shows.builders;
+      building = λ k d less. side-is post orders w p sent one later now last takes (suc k) d (omega arith);
+      plain = shows.plain;
+      rest = sym (rw more (left-next (length p.constants) (fed post.role p.taken) one later left));
+      pending = rw (takes.pending, no_fate, grown) (sym (left-behind (length p.fates) (product post.role p.taken p.constants) _ gone));
+      taken = rw (more, shows.taken) refl;
+      emitted = rw no_fate shows.emitted;
+      batches = shows.batches;
+      within = rw more within;
+      produced = rw (no_fate, grown) (omega arith);
+      refused = rw (shows.refused, shows.op, now_taken) (sym (refused-more post.op (taken_of post.role p) one));
+      kept = rw (shows.kept, found, now_taken) (sym (kept-more w.duty task task.kind orders.constants post.role (taken_of post.role p) one shows.duty));
+      hand = rw (shows.plain.uncounted) shows.hand;
+      held = shows.held;
+      waved = shows.waved ∙ sym (both_true p.waved);
+      paused = shows.paused;
+      finished = shows.finished;
+      ins = shows.ins;
+      outs = rw (no_fate, grown, kept-longer) shows.outs;
+    }
+
+-- wherever a worker stood, it stands once it took a row
+pub Keeps-row_taken : (w : Station) (one : Handed) (later : List Handed) (now : Duty) (last : List (List Value)) → w.rest ≡ one ∷ later → w.pending ≡ []
+    → Becomes w.duty w.building (row_in (columns_at_hand w) one.what) now → Closes now (eqb (length w.rest) 1 && have_all_ended w.ins) last
+    → IsWorking w → Keeps w (row_taken one later now last w)
+unfolding Keeps
+Keeps-row_taken w one later now last rest pending becomes closes works post orders start p sent stands =
+    let takes : TakesOne post orders w p sent one later now last = record { shows = stands.shows; rest = rest; pending = pending; becomes = becomes; closes = closes } in (
+      with_one orders p,
+      record {
+        leads = Leads-row post.role orders start w.journal p stands.shows.plain stands.leads (may-take_row post orders w p sent one later now last takes works);
+        text = AreEntries-with_go w.journal 1 0 stands.text works.few refl;
+        shows = shows-row_taken post orders w p sent one later now last takes;
+      },
+      λ sender. refl,
+    )
+
+-- ---- a row is emitted
+
+not-equal : (a b : ℕ) → eqb a b ≡ false → a ≡ b → ⊥
+not-equal a b e same = false≢true (sym e ∙ eq-eqb a b same)
+
+-- a row more goes to a receiver
+sends-row : (post : Post) (receiver : ℕ) (rows : List (List Value)) (row : List Value) (sent : List Batch) (one : Outgoing) → Sends post receiver rows false sent one
+    → Sends post receiver (rows ++ row ∷ []) false sent (with_row row one)
+sends-row post receiver rows row sent one sends = by (eqb (length one.partial + 1) one.size) refl
+  where
+    stream : List (List Value)
+    stream = stream_to post receiver rows
+
+    here : filter (λ (other : List Value). eqb (post.route other) receiver) (row ∷ []) ≡ row ∷ []
+    here = rw (sends.all_here row, eq-eqb receiver receiver refl) refl
+
+    grown : stream_to post receiver (rows ++ row ∷ []) ≡ stream_to post receiver rows ++ row ∷ []
+    grown = filter-append _ rows (row ∷ []) ∙ ap (λ l. stream_to post receiver rows ++ l) here
+
+    by : (b : Bool) → eqb (length one.partial + 1) one.size ≡ b
+        → Sends post receiver (rows ++ row ∷ []) false sent
+        (if b then record one { made = one.made + 1; waiting = one.waiting ++ record { seq = one.made; rows = one.partial ++ row ∷ []; last = false } ∷ []; partial = [] }
+        else record one { partial = one.partial ++ row ∷ [] })
+    by true e =
+        let size = sends.size in
+        let left = ap length (sends.partial refl) in
+        let fills : length (left_over post.size (stream_to post receiver rows)) + 1 ≡ post.size = let full = eqb-true (length one.partial + 1) one.size e in omega arith in
+        let full = chunks-full post.size (stream_to post receiver rows) row fills in
+        record {
+          to = sends.to;
+          size = sends.size;
+          some = sends.some;
+          all_here = sends.all_here;
+          batches = sym (append_assoc sent one.waiting _) ∙ rw (sends.batches, sends.made refl, sends.partial refl, grown) (sym full.1);
+          made = λ open_still. rw grown (rw (sends.made refl) (sym full.0));
+          partial = λ open_still. rw grown (sym full.2);
+        }
+    by false e =
+        let size = sends.size in
+        let left = ap length (sends.partial refl) in
+        let few = left_over-few post.size (stream_to post receiver rows) sends.some in
+        let open_still : length (left_over post.size (stream_to post receiver rows)) + 1 < post.size = let other = not-equal (length one.partial + 1) one.size e in omega arith in
+        let more = chunks-more post.size (stream_to post receiver rows) row open_still in
+        record {
+          to = sends.to;
+          size = sends.size;
+          some = sends.some;
+          all_here = sends.all_here;
+          batches = rw grown (sends.batches ∙ sym more.1);
+          made = λ open_still. rw grown (sends.made refl ∙ sym more.0);
+          partial = λ open_still. rw grown (ap (λ l. l ++ row ∷ []) (sends.partial refl) ∙ sym more.2);
+        }
+
+send_all-row : (post : Post) (receivers : List ℕ) (rows : List (List Value)) (row : List Value) (sent : ℕ → List Batch) (outs : List Outgoing)
+    → SendAll post receivers rows false sent outs → SendAll post receivers (rows ++ row ∷ []) false sent (map (with_row row) outs)
+unfolding SendAll
+send_all-row post [] rows row sent [] h = tt
+send_all-row post [] rows row sent (one ∷ outs) h = absurd h
+send_all-row post (receiver ∷ receivers) rows row sent [] h = absurd h
+send_all-row post (receiver ∷ receivers) rows row sent (one ∷ outs) h =
+    (sends-row post receiver rows row (sent receiver) one h.0, send_all-row post receivers rows row sent outs h.1)
+
+-- nothing is at its end that works
+open-outs : (post : Post) (orders : Orders) (w : Station) (p : Position) (sent : ℕ → List Batch) → Shows post orders w p sent → IsWorking w
+    → SendAll post post.receivers (emitted_rows post.role p) false sent w.outs
+open-outs post orders w p sent shows works =
+    let open_still : p.finished ≡ false = sym shows.finished ∙ works.unfinished in
+    let P : Bool → Type 0 = λ ended. SendAll post post.receivers (emitted_rows post.role p) ended sent w.outs in
+    subst P open_still shows.outs
+
+may-emit_row : (post : Post) (orders : Orders) (w : Station) (p : Position) (sent : ℕ → List Batch) (row : List Value) (later : List (List Value))
+    → Shows post orders w p sent → w.pending ≡ row ∷ later → IsWorking w → MayGo post.role orders p 0 1
+may-emit_row post orders w p sent row later shows pending works =
+    let produced = left-within (length p.fates) (product post.role p.taken p.constants) row later (sym shows.pending ∙ pending) in
+    let same : produced_with post.role orders p 0 ≡ length (product post.role p.taken p.constants) =
+    ap (λ (constants : List (List Value)). length (product post.role p.taken constants)) (append-nil p.constants) in
+    let within = shows.within in
+    record {
+      free = free-shown post orders w p sent shows works;
+      within = omega arith;
+      produced = omega arith;
+      drained = λ none. absurd (omega arith);
+      in_hand = λ counted. absurd (not_counted orders shows.plain counted);
+      before_taking = λ counted. absurd (not_counted orders shows.plain counted);
+      no_stop = passes orders p.waved (take 1 (drop (length p.fates) (product_with post.role orders p 0))) shows.plain;
+    }
+
+shows-row_emitted : (post : Post) (orders : Orders) (w : Station) (p : Position) (sent : ℕ → List Batch) (row : List Value) (later : List (List Value))
+    → Shows post orders w p sent → w.pending ≡ row ∷ later → IsWorking w → Shows post orders (row_emitted row later w) (went orders 0 1 p) sent
+shows-row_emitted post orders w p sent row later shows pending works =
+    let left : drop (length p.fates) (product post.role p.taken p.constants) ≡ row ∷ later = sym shows.pending ∙ pending in
+    let produced = left-within (length p.fates) (product post.role p.taken p.constants) row later left in
+    let no_row : p.constants ++ [] ≡ p.constants = append-nil p.constants in
+    let more : length (p.fates ++ true ∷ []) ≡ length p.fates + 1 = omega (arith, length-append p.fates (true ∷ [])) in
+    let counted = sum_by_push (λ fate. if is_emitted fate then 1 else 0) p.fates true in
+    let open_still : p.finished ≡ false = sym shows.finished ∙ works.unfinished in
+    record {
+      op = shows.op;
+      number = shows.number;
+      duty = shows.duty;
+      state = rw no_row shows.state;
+      columns = shows.columns;
+      build_columns = shows.build_columns;
+      sides = shows.sides;
+      builders = shows.builders;
+      building = shows.building;
+      plain = shows.plain;
+      rest = rw no_row shows.rest;
+      pending = rw (no_row, more) (sym (left-next (length p.fates) (product post.role p.taken p.constants) row later left));
+      taken = rw no_row shows.taken;
+      emitted = let before = shows.emitted in omega arith;
+      batches = shows.batches;
+      within = rw no_row shows.within;
+      produced = rw (no_row, more) produced;
+      refused = rw no_row shows.refused;
+      kept = rw no_row shows.kept;
+      hand = rw shows.plain.uncounted shows.hand;
+      held = shows.held;
+      waved = sym (both_false p.waved);
+      paused = shows.paused;
+      finished = shows.finished;
+      ins = shows.ins;
+      outs = rw (no_row, open_still, kept-next (product post.role p.taken p.constants) p.fates row later left)
+          (send_all-row post post.receivers (emitted_rows post.role p) row sent w.outs (open-outs post orders w p sent shows works));
+    }
+
+-- wherever a worker stood, it stands once it emitted a row
+pub Keeps-row_emitted : (w : Station) (row : List Value) (later : List (List Value)) → w.pending ≡ row ∷ later → IsWorking w → Keeps w (row_emitted row later w)
+unfolding Keeps
+Keeps-row_emitted w row later pending works post orders start p sent stands = (
+  went orders 0 1 p,
+  record {
+    leads = Leads-out post.role orders start w.journal p stands.shows.plain stands.leads (may-emit_row post orders w p sent row later stands.shows pending works);
+    text = AreEntries-with_go w.journal 0 1 stands.text works.few refl;
+    shows = shows-row_emitted post orders w p sent row later stands.shows pending works;
+  },
+  λ sender. refl,
+)
+
+-- ---- the end
+
+sends-end : (post : Post) (receiver : ℕ) (rows : List (List Value)) (sent : List Batch) (one : Outgoing) → Sends post receiver rows false sent one
+    → Sends post receiver rows true sent (with_end one)
+sends-end post receiver rows sent one sends = record {
+  to = sends.to;
+  size = sends.size;
+  some = sends.some;
+  all_here = sends.all_here;
+  batches = sym (append_assoc sent one.waiting _) ∙ rw (sends.batches, sends.made refl, sends.partial refl) (sym (chunks-end post.size (stream_to post receiver rows) sends.some));
+  made = λ ended. absurd (false≢true (sym ended));
+  partial = λ ended. absurd (false≢true (sym ended));
+}
+
+send_all-end : (post : Post) (receivers : List ℕ) (rows : List (List Value)) (sent : ℕ → List Batch) (outs : List Outgoing)
+    → SendAll post receivers rows false sent outs → SendAll post receivers rows true sent (map with_end outs)
+unfolding SendAll
+send_all-end post [] rows sent [] h = tt
+send_all-end post [] rows sent (one ∷ outs) h = absurd h
+send_all-end post (receiver ∷ receivers) rows sent [] h = absurd h
+send_all-end post (receiver ∷ receivers) rows sent (one ∷ outs) h =
+    (sends-end post receiver rows (sent receiver) one h.0, send_all-end post receivers rows sent outs h.1)
+
+-- wherever a worker stood, it stands once it finished
+pub Keeps-all_done : (w : Station) → w.rest ≡ [] → w.pending ≡ [] → have_all_ended w.ins ≡ true → IsWorking w → Keeps w (all_done w)
+unfolding Keeps
+Keeps-all_done w rest pending ended works post orders start p sent stands =
+    let shows = stands.shows in
+    let may : MayFinish post.role p = record {
+      free = free-shown post orders w p sent shows works;
+      no_rest = sym shows.rest ∙ rest;
+      no_pending = sym shows.pending ∙ pending;
+      ended = sym (all-ended post.role.senders p.taken w.ins shows.ins) ∙ ended;
+    } in (
+      record p { finished = true },
+      record {
+        leads = Leads-push post.role orders start w.journal p entry.Finish (record p { finished = true }) stands.leads (may, refl);
+        text = AreEntries-push false w.journal entry.Finish stands.text tt refl;
+        shows = record {
+          op = shows.op;
+          number = shows.number;
+          duty = shows.duty;
+          state = shows.state;
+          columns = shows.columns;
+          build_columns = shows.build_columns;
+          sides = shows.sides;
+          builders = shows.builders;
+          building = shows.building;
+          plain = shows.plain;
+          rest = shows.rest;
+          pending = shows.pending;
+          taken = shows.taken;
+          emitted = shows.emitted;
+          batches = shows.batches;
+          within = shows.within;
+          produced = shows.produced;
+          refused = shows.refused;
+          kept = shows.kept;
+          hand = shows.hand;
+          held = shows.held;
+          waved = shows.waved;
+          paused = shows.paused;
+          finished = refl;
+          ins = shows.ins;
+          outs = send_all-end post post.receivers (emitted_rows post.role p) sent w.outs (open-outs post orders w p sent shows works);
+        };
+      },
+      λ sender. refl,
+    )

@@ -1,0 +1,63 @@
+-- What a worker shows is what is said of its position.
+use Rattle.std.proofs.Common.{◌≡◌, ℕ, List, [], ◌∷◌, length, Result, Ok, Err, Bool, true, false, if◌then◌else◌, refl, sym, ap, ◌∙◌, arith, length-append}
+use Rattle.amber_rows.specs.declared.value.Value.{Value}
+use Rattle.amber_rows.specs.declared.record.RowFault.{RowFault}
+use Rattle.amber_rows.specs.declared.flow.What.{What}
+use Rattle.amber_rows.specs.declared.flow.What.TheVariants as what
+use Rattle.amber_meaning.specs.Task.{Handed, Role, Task}
+use Rattle.amber_meaning.specs.Views.{extra_of, first_of, refusal_in, refused_in, rows_in, taken_of, view_of}
+use Rattle.amber_meaning.specs.declared.answer.Refusal.{Refusal}
+use Rattle.amber_meaning.specs.declared.view.Extra.{Extra}
+use Rattle.amber_meaning.specs.declared.view.Extra.TheVariants as extra
+use Rattle.amber_meaning.specs.declared.view.Stand.TheVariants as stand
+use Rattle.amber_meaning.specs.declared.view.WorkerView.{WorkerView}
+use Rattle.amber_worker.specs.Stands.{DoesKind, HasTaken, IsViewOf, kept_of}
+use Rattle.amber_worker.specs.Station.{Station}
+use Rattle.amber_worker.specs.Steps.{IsExtra, IsShown}
+use Rattle.amber_worker.specs.declared.duty.Duty.{Duty}
+use Rattle.amber_worker.specs.declared.duty.Duty.TheVariants as duty
+
+-- as many refusals, whichever operator they are named for
+length-refused : (a b : ℕ) (handed : List Handed) → length (refused_in a handed) ≡ length (refused_in b handed)
+length-refused a b [] = refl
+length-refused a b (one ∷ more) =
+    let rest = length-refused a b more in
+    let here = same one.what in
+    omega (arith, length-append (refusal_in a one.from one.what) (refused_in a more), length-append (refusal_in b one.from one.what) (refused_in b more))
+  where
+    same : (r : Result (List Value) RowFault) → length (refusal_in a one.from r) ≡ length (refusal_in b one.from r)
+    same (Ok row) = refl
+    same (Err why) = refl
+
+extra-is : (d : Duty) (kind : What) (constants : List Value) (role : Role) (task : Task) (op : ℕ) (handed : List Handed) (refused : List Refusal) (keep : List (List Value)) (shown : Extra)
+    → DoesKind d kind constants role → HasTaken d task handed → refused ≡ refused_in op handed → keep ≡ kept_of kind task handed
+    → IsExtra d (length refused) (length keep) shown → shown ≡ extra_of task kind handed
+extra-is duty.Scan (what.Scan file) constants role task op handed refused keep shown does has refused_is kept_is is =
+    is ∙ ap extra.Scan (ap length refused_is ∙ length-refused op 0 handed)
+extra-is (duty.Filter cond) (what.Filter input own) constants role task op handed refused keep shown does has refused_is kept_is is = is
+extra-is (duty.Project columns) (what.Project input own) constants role task op handed refused keep shown does has refused_is kept_is is = is
+extra-is (duty.Join state) (what.Join build probe build_keys probe_keys) constants role task op handed refused keep shown does has refused_is kept_is is =
+    is ∙ rw (does.0, has) refl
+extra-is (duty.Group state) (what.Group input keys aggs) constants role task op handed refused keep shown does has refused_is kept_is is =
+    is (rows_in task handed) has ∙ rw does.0 refl
+extra-is duty.Sink (what.Sink input) constants role task op handed refused keep shown does has refused_is kept_is is = is ∙ ap extra.Sink (ap length kept_is)
+extra-is d kind constants role task op handed refused keep shown does has refused_is kept_is is = absurd does
+
+stands-so : (finished held : Bool) → held ≡ false
+    → (if finished then stand.Finished else stand.Ready) ≡ (if finished then stand.Finished else (if held then stand.Held else stand.Ready))
+stands-so true held loose = refl
+stands-so false held loose = rw loose refl
+
+same-view : (a b : WorkerView) → a.taken ≡ b.taken → a.rest ≡ b.rest → a.out ≡ b.out → a.pending ≡ b.pending → a.stand ≡ b.stand → a.next ≡ b.next → a.extra ≡ b.extra → a ≡ b
+same-view a b taken rest out pending stand next extra =
+    λ i. record { taken = taken i; rest = rest i; out = out i; pending = pending i; stand = stand i; next = next i; extra = extra i }
+
+-- what a worker keeps shows what is said of each position that it shows
+pub view-is : (w : Station) (view : WorkerView) → IsShown w view → w.held ≡ false → IsViewOf w view
+unfolding IsViewOf view_of
+view-is w view is loose post orders p sent shows =
+    same-view view (view_of post.role p) (is.taken ∙ shows.taken) (is.rest ∙ ap length shows.rest) (is.out ∙ shows.emitted) (is.pending ∙ ap length shows.pending)
+    (is.stand ∙ ap (λ (b : Bool). if b then stand.Finished else stand.Ready) shows.finished ∙ stands-so p.finished p.held (sym shows.held ∙ loose))
+    (is.next ∙ ap first_of shows.pending)
+    (extra-is w.duty post.role.task.kind orders.constants post.role post.role.task post.op (taken_of post.role p) w.refused w.kept view.extra shows.duty shows.state
+    shows.refused shows.kept is.extra)

@@ -1,0 +1,39 @@
+-- First facts on where a worker stands.
+use Rattle.std.proofs.Common.{◌≡◌, List, ◌++◌, map, refl, ap, ◌∙◌}
+use Rattle.amber_rows.specs.Order.{sort_rows}
+use Rattle.amber_rows.specs.declared.value.Value.{Value}
+use Rattle.amber_rows.specs.declared.flow.What.{What}
+use Rattle.amber_rows.specs.declared.flow.What.TheVariants as what
+use Rattle.amber_meaning.specs.Task.{Handed, Role, Task}
+use Rattle.amber_meaning.specs.Views.{keys_refused, rows_in, taken_of}
+use Rattle.amber_meaning.specs.declared.answer.Refusal.TheVariants as refusal
+use Rattle.amber_worker.specs.Stands.{DoesKind, HasTaken, IsGivenOf, Keeps}
+use Rattle.amber_worker.specs.Station.{Station}
+use Rattle.amber_worker.specs.Steps.{IsRefused}
+use Rattle.amber_worker.specs.declared.duty.Duty.{Duty}
+use Rattle.amber_worker.specs.declared.duty.Duty.TheVariants as duty
+use Rattle.amber_worker.specs.declared.given.Given.{Given}
+
+-- a worker that nothing happened to stands where it stood
+pub Keeps-refl : (w : Station) → Keeps w w
+unfolding Keeps
+Keeps-refl w post orders start p sent stands = (p, stands, λ sender. refl)
+
+-- the keys that a worker has refused are those of the rows that it took
+keys-are : (d : Duty) (kind : What) (constants : List Value) (role : Role) (task : Task) (handed : List Handed) (keys : List (List Value))
+    → DoesKind d kind constants role → HasTaken d task handed → IsRefused d keys → keys ≡ keys_refused kind task handed
+keys-are duty.Scan (what.Scan file) constants role task handed keys does has refused = refused
+keys-are (duty.Filter cond) (what.Filter input own) constants role task handed keys does has refused = refused
+keys-are (duty.Project from) (what.Project input columns) constants role task handed keys does has refused = refused
+keys-are (duty.Join state) (what.Join build probe build_keys probe_keys) constants role task handed keys does has refused = refused
+keys-are (duty.Group state) (what.Group input own aggs) constants role task handed keys does has refused = refused (rows_in task handed) has ∙ rw (does.0, does.1) refl
+keys-are duty.Sink (what.Sink input) constants role task handed keys does has refused = refused
+keys-are d kind constants role task handed keys does has refused = absurd does
+
+-- what a worker hands out is what it gives in its position
+pub given-is : (w : Station) (given : Given) (keys : List (List Value)) → IsRefused w.duty keys → given.refused ≡ w.refused ++ map (refusal.Group w.op) (sort_rows keys)
+    → given.rows ≡ sort_rows w.kept → IsGivenOf w given
+unfolding IsGivenOf
+given-is w given keys are refused rows post orders p sent shows =
+    let own = keys-are w.duty post.role.task.kind orders.constants post.role post.role.task (taken_of post.role p) keys shows.duty shows.state are in
+    (refused ∙ rw (shows.refused, shows.op, own) refl, rows ∙ ap sort_rows shows.kept)

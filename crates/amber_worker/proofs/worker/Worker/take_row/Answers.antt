@@ -1,0 +1,30 @@
+use Rattle.std.proofs.Common.{◌^◌, ◌<◌, ◌&&◌, eqb, length, refl, ◌∙◌, ap, arith}
+use Rattle.amber_worker.specs.Fields.{handed_in}
+use Rattle.amber_worker.specs.Station.{have_all_ended}
+use Rattle.amber_worker.specs.Steps.{with_go}
+use Rattle.amber_worker.proofs.Bounds.{few-row, takes-row}
+use Rattle.amber_worker.proofs.States.{may-take_row}
+use Rattle.amber_worker.proofs.worker.Worker.take_row.Goals as goal
+
+pub invariant_of-self-2 : goal.invariant_of-self-2
+invariant_of-self-2 c =
+    let few = rw (← c.self.view_is) at c.requires.few in
+    let gains = c.in_ok-take_next.ensures.ok in
+    rw (c.note_go.ensures, c.reserve.ensures.items) (few-row _ _ _ _ _ _ _ _ _ _ _ _ _ gains.becomes c.self.invariant few c.take_next.ensures.shares)
+
+pub take_next-requires-clause-may : goal.take_next-requires-clause-may
+take_next-requires-clause-may c =
+    let few = rw (← c.self.view_is) at c.requires.few in
+    let below : c.self.inside.taken < 2 ^ 40 = omega arith in
+    may-take_row _ _ c.self.inside.taken _ c.self.invariant.in_order below
+
+pub returns-clause-ok : goal.returns-clause-ok
+returns-clause-ok c =
+    let gains = c.in_ok-take_next.ensures.ok in
+    rw (← c.self.view_is)
+    (takes-row _ gains.one (handed_in c.take_next.new.rest) c.take_next.new.duty gains.last (handed_in c.take_next.new.rest) c.take_next.new.gains.pending.items
+    c.take_next.new.gains.refused.items c.take_next.new.gains.kept.items c.note_go.new.journal.items c.side_columns-columns.result.now c.is_last-over.result
+    c.side_columns-columns.ensures
+    (c.is_last-over.ensures ∙ ap (λ ins. eqb (length (handed_in c.self.inside.rest)) 1 && have_all_ended ins) c.as_slice.ensures.value)
+    gains.first refl gains.becomes gains.closes gains.pending gains.refused gains.kept
+    (c.note_go.ensures ∙ ap (λ l. with_go l 1 0) c.reserve.ensures.items))

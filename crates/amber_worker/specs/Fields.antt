@@ -1,0 +1,62 @@
+-- What a worker's fields mean.
+use Rattle.std.specs.Prelude.{◌≡◌, ℕ, not, false, true, ◌+◌, ◌^◌, ◌<◌, ◌≤◌, All, List, [], length, map, IfSome, MatchOption, Option, Some, None, Ok, Bool}
+use Rattle.amber_rows.specs.declared.value.Value.{Value}
+use Rattle.amber_log.specs.declared.entry.Entry.{Entry}
+use Rattle.amber_log.specs.declared.entry.Entry.TheVariants as entry
+use Rattle.amber_meaning.specs.Position.{one_if}
+use Rattle.amber_meaning.specs.Task.{Handed}
+use Rattle.amber_scan.specs.declared.share.Scanned.{Scanned}
+use Rattle.amber_worker.specs.Links.{Incoming, Outgoing}
+use Rattle.amber_worker.specs.Station.{have_builders_ended}
+use Rattle.amber_worker.specs.declared.duty.Duty.{Duty}
+use Rattle.amber_worker.specs.declared.duty.Duty.TheVariants as duty
+use Rattle.amber_worker.specs.declared.taking.Rest.{Rest}
+
+-- a row as it was handed by a sender
+abbrev pub row_from : ℕ → List Value → Handed
+row_from sender row = record { from = sender; what = Ok row }
+
+-- a record of a scan's share as what is handed
+abbrev pub handed_of : Scanned → Handed
+handed_of one = record { from = one.number; what = one.what }
+
+-- what is left: of a scan's share, or of the rows that a sender gave
+abbrev pub rest_in : Option (List Scanned) → ℕ → List (List Value) → List Handed
+rest_in None sender rows = map (row_from sender) rows
+rest_in (Some share) sender rows = map handed_of share
+
+-- the rows that an entry takes and emits
+abbrev pub rows_moved : Entry → ℕ
+rows_moved (entry.Take sender batch) = 0
+rows_moved (entry.Go rows outs) = rows + outs
+rows_moved (entry.Grant n) = 0
+rows_moved (entry.Back n) = 0
+rows_moved entry.Pause = 0
+rows_moved entry.Resume = 0
+rows_moved entry.Hold = 0
+rows_moved entry.Finish = 0
+
+-- what is kept of a join is sealed once the batches at hand are of the probe side, and then the build side has ended; a group was
+-- fed no more rows than were taken
+abbrev pub IsInOrder : Duty → Bool → ℕ → List Incoming → Type 0
+IsInOrder duty.Scan building taken ins = Unit {0}
+IsInOrder (duty.Filter cond) building taken ins = Unit {0}
+IsInOrder (duty.Project from) building taken ins = Unit {0}
+IsInOrder (duty.Join state) building taken ins = (state.sealed ≡ not building) × (building ≡ false → have_builders_ended ins ≡ true)
+IsInOrder (duty.Group state) building taken ins = state.fed ≤ taken
+IsInOrder duty.Sink building taken ins = Unit {0}
+
+-- what a worker counts is within its steps, and these are few; one that has a share is a scan's and has no senders
+pub record AreFew (does : Duty) (building : Bool) (share : Option (List Scanned)) (taken emitted batches : ℕ) (finished : Bool) (ins : List Incoming) (out : Option Outgoing)
+    (journal : List Entry) : Type 0 where
+  pub in_order : IsInOrder does building taken ins
+  pub scans : IfSome share (λ _. does ≡ duty.Scan)
+  pub shares : IfSome share (λ _. ins ≡ [])
+  pub steps : taken + emitted + batches + one_if finished ≤ 2 ^ 40
+  pub received : All (λ one. one.taken ≤ batches) ins
+  pub sizes : MatchOption out (Unit {0}) (λ one. 0 < one.size)
+  pub sent : MatchOption out (Unit {0}) (λ one. one.made + length one.partial ≤ emitted + one_if finished)
+  pub moved : All (λ one. rows_moved one ≤ taken + emitted) journal
+
+abbrev pub handed_in : Rest → List Handed
+handed_in rest = rest_in rest.share rest.from rest.rows.items

@@ -1,0 +1,42 @@
+-- What a worker keeps of each that sends to it, and of each to which it sends.
+use Rattle.std.specs.Prelude.{ℕ, ◌==◌, List, [], ◌∷◌, ◌++◌, map, Bool, if◌then◌else◌}
+use Rattle.amber_rows.specs.declared.value.Value.{Value}
+use Rattle.amber_rows.specs.declared.batch.Batch.{Batch}
+
+-- of a sender: its number, whether it is of the build side, how many of its batches were taken, whether the last was, and those
+-- that wait to be taken
+pub record Incoming : Type 0 where
+  pub from : ℕ
+  pub builds : Bool
+  pub taken : ℕ
+  pub ended : Bool
+  pub waiting : List Batch
+
+-- of a receiver: its number, the rows of a batch, how many batches were made for it, those that wait to be moved, and the rows for
+-- the next one
+pub record Outgoing : Type 0 where
+  pub to : ℕ
+  pub size : ℕ
+  pub made : ℕ
+  pub waiting : List Batch
+  pub partial : List (List Value)
+
+-- the batches of a sender that wait to be taken
+abbrev pub waiting_from : ℕ → List Incoming → List Batch
+waiting_from sender [] = []
+waiting_from sender (one ∷ more) = if one.from == sender then one.waiting else waiting_from sender more
+
+-- the batches for a receiver that wait to be moved
+abbrev pub waiting_for : ℕ → List Outgoing → List Batch
+waiting_for receiver [] = []
+waiting_for receiver (one ∷ more) = if one.to == receiver then one.waiting else waiting_for receiver more
+
+-- more batches of a sender have come
+abbrev pub with_batches : ℕ → List Batch → List Incoming → List Incoming
+with_batches sender batches [] = []
+with_batches sender batches (one ∷ more) =
+    if one.from == sender then record one { waiting = one.waiting ++ batches } ∷ more else one ∷ with_batches sender batches more
+
+-- the batches for a receiver were moved
+abbrev pub without_batches : ℕ → List Outgoing → List Outgoing
+without_batches receiver outs = map {A = Outgoing} (λ one. if one.to == receiver then record one { waiting = [] } else one) outs

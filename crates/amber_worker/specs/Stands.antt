@@ -1,0 +1,210 @@
+-- Where a worker stands: the position that it shows, and that its journal leads there.
+use Rattle.std.specs.Prelude.{◌≡◌, ℕ, ◌+◌, ◌*◌, ◌/◌, ◌==◌, ◌<◌, ◌≤◌, List, [], ◌∷◌, ◌++◌, length, map, filter, drop, All, Option, Some, None, Result, Bool, true, false}
+use Rattle.std.specs.List.{list_any}
+use Rattle.amber_rows.specs.Chunks.{chunks_of}
+use Rattle.amber_rows.specs.Crew.{op_of, receiver_of, receivers_of, what_at}
+use Rattle.amber_rows.specs.Order.{sort_rows}
+use Rattle.amber_rows.specs.declared.value.Value.{Value}
+use Rattle.amber_rows.specs.declared.batch.Batch.{Batch}
+use Rattle.amber_rows.specs.declared.record.RowFault.{RowFault}
+use Rattle.amber_rows.specs.declared.flow.What.{What}
+use Rattle.amber_rows.specs.declared.flow.What.TheVariants as what
+use Rattle.amber_rows.specs.declared.flow.Operator.{Operator}
+use Rattle.amber_log.specs.Grammar.{AreEntries}
+use Rattle.amber_group.specs.Group.{Stands as GroupStands}
+use Rattle.amber_meaning.specs.Plan.{role_of}
+use Rattle.amber_meaning.specs.Position.{Position, Taken, emitted_count, emitted_rows, fed, has_last, pending_rows, produced_rows, rest_of, taken_from}
+use Rattle.amber_meaning.specs.Rules.{Leads, Orders}
+use Rattle.amber_meaning.specs.State.{first_constants}
+use Rattle.amber_meaning.specs.Task.{Handed, Role, Task, built_of, is_builder, with_constant}
+use Rattle.amber_meaning.specs.Plain.{refused_groups}
+use Rattle.amber_meaning.specs.Views.{refused_in, rows_in, taken_of, view_of, worker_refuses}
+use Rattle.amber_meaning.specs.declared.view.WorkerView.{WorkerView}
+use Rattle.amber_scan.specs.declared.share.Scanned.{Scanned}
+use Rattle.amber_worker.specs.Fields.{handed_of}
+use Rattle.amber_worker.specs.Links.{Incoming, Outgoing, waiting_from}
+use Rattle.amber_worker.specs.Station.{Station, steps_in}
+use Rattle.amber_worker.specs.declared.duty.Duty.{Duty}
+use Rattle.amber_worker.specs.declared.duty.Duty.TheVariants as duty
+use Rattle.amber_worker.specs.declared.given.Given.{Given}
+use Rattle.amber_worker.specs.declared.turn.Turn.{Turn}
+use Rattle.amber_worker.specs.declared.turn.Turn.TheVariants as turn
+
+-- ---- a worker's place in a run
+
+-- its operator, its own running number, its role, its receivers and to which of them a row goes, and the rows of a batch
+pub record Post : Type 0 where
+  pub op : ℕ
+  pub number : ℕ
+  pub role : Role
+  pub receivers : List ℕ
+  pub route : List Value → ℕ
+  pub size : ℕ
+
+-- the place of a workflow's worker, from the typed records of the scans
+unfoldable pub post_of : List Operator → List (List (Result (List Value) RowFault)) → ℕ → ℕ → Post
+post_of flow records size worker = record {
+  op = op_of flow worker;
+  number = worker;
+  role = role_of flow records worker;
+  receivers = receivers_of flow worker;
+  route = receiver_of flow worker;
+  size = size;
+}
+
+-- the orders of a workflow's worker before any command
+unfoldable pub first_orders : List Operator → ℕ → Orders
+first_orders flow worker = record { constants = first_constants (what_at flow (op_of flow worker)); watch = None; counted = false }
+
+-- no condition and no count is in force
+pub record ArePlain (orders : Orders) : Type 0 where
+  pub unwatched : orders.watch ≡ None
+  pub uncounted : orders.counted ≡ false
+
+abbrev pub is_scan : What → Bool
+is_scan (what.Scan file) = true
+is_scan (what.Filter input cond) = false
+is_scan (what.Project input columns) = false
+is_scan (what.Join build probe build_keys probe_keys) = false
+is_scan (what.Group input keys aggs) = false
+is_scan (what.Sink input) = false
+
+-- every operator has one worker
+abbrev pub AreAlone : List Operator → Type 0
+AreAlone flow = All (λ operator. operator.workers ≡ 1) flow
+
+-- a worker of a scan was given its share
+abbrev pub HasShare : Option (List Scanned) → Role → Type 0
+HasShare None role = Unit {0}
+HasShare (Some share) role = map handed_of share ≡ role.share
+
+-- ---- the parts of a worker
+
+-- what a worker does is what its role says, under these constants
+abbrev pub DoesKind : Duty → What → List Value → Role → Type 0
+DoesKind duty.Scan (what.Scan file) constants role = role.senders ≡ []
+DoesKind (duty.Filter cond) (what.Filter input own) constants role = cond ≡ with_constant own constants
+DoesKind (duty.Project from) (what.Project input columns) constants role = from ≡ columns
+DoesKind (duty.Join state) (what.Join build probe build_keys probe_keys) constants role = (state.build_keys ≡ build_keys) × (state.probe_keys ≡ probe_keys)
+DoesKind (duty.Group state) (what.Group input keys aggs) constants role = (state.keys ≡ keys) × (state.aggs ≡ aggs)
+DoesKind duty.Sink (what.Sink input) constants role = Unit {0}
+DoesKind _ _ constants role = ⊥
+
+-- what a worker keeps of the rows that it took: of a join the build side, of a group what its rows stand for
+abbrev pub HasTaken : Duty → Task → List Handed → Type 0
+HasTaken duty.Scan task handed = Unit {0}
+HasTaken (duty.Filter cond) task handed = Unit {0}
+HasTaken (duty.Project from) task handed = Unit {0}
+HasTaken (duty.Join state) task handed = state.rows ≡ built_of task handed
+HasTaken (duty.Group state) task handed = GroupStands state (rows_in task handed)
+HasTaken duty.Sink task handed = Unit {0}
+
+-- the rows that a worker keeps for the answer, of those that it took
+abbrev pub kept_of : What → Task → List Handed → List (List Value)
+kept_of (what.Scan file) task handed = []
+kept_of (what.Filter input cond) task handed = []
+kept_of (what.Project input columns) task handed = []
+kept_of (what.Join build probe build_keys probe_keys) task handed = []
+kept_of (what.Group input keys aggs) task handed = []
+kept_of (what.Sink input) task handed = rows_in task handed
+
+-- what is kept of a sender: how many of its batches were taken, and whether the last was
+pub record Receives (sender : ℕ) (batches : List Taken) (one : Incoming) : Type 0 where
+  pub from : one.from ≡ sender
+  pub taken : one.taken ≡ length (taken_from batches sender)
+  pub ended : one.ended ≡ has_last batches sender
+
+-- the same for each sender, none of whom is there twice
+unfoldable pub ReceiveAll : List ℕ → List Taken → List Incoming → Type 0
+ReceiveAll [] batches [] = Unit {0}
+ReceiveAll [] batches (one ∷ more) = ⊥
+ReceiveAll (sender ∷ senders) batches [] = ⊥
+ReceiveAll (sender ∷ senders) batches (one ∷ more) =
+    Receives sender batches one × (list_any (λ other. other == sender) senders ≡ false) × ReceiveAll senders batches more
+
+-- the rows that go to a receiver
+abbrev pub stream_to : Post → ℕ → List (List Value) → List (List Value)
+stream_to post receiver rows = filter (λ row. post.route row == receiver) rows
+
+-- what is kept of a receiver, where these rows were emitted: what was sent and what waits are the batches of those that go there,
+-- and the rows of the next batch are those left over
+pub record Sends (post : Post) (receiver : ℕ) (rows : List (List Value)) (ended : Bool) (sent : List Batch) (one : Outgoing) : Type 0 where
+  pub to : one.to ≡ receiver
+  pub size : one.size ≡ post.size
+  pub some : 0 < post.size
+  pub all_here : (row : List Value) → post.route row ≡ receiver
+  pub batches : sent ++ one.waiting ≡ chunks_of post.size (stream_to post receiver rows) ended
+  pub made : ended ≡ false → one.made ≡ length (stream_to post receiver rows) / post.size
+  pub partial : ended ≡ false → one.partial ≡ drop (length (stream_to post receiver rows) / post.size * post.size) (stream_to post receiver rows)
+
+unfoldable pub SendAll : Post → List ℕ → List (List Value) → Bool → (ℕ → List Batch) → List Outgoing → Type 0
+SendAll post [] rows ended sent [] = Unit {0}
+SendAll post [] rows ended sent (one ∷ more) = ⊥
+SendAll post (receiver ∷ receivers) rows ended sent [] = ⊥
+SendAll post (receiver ∷ receivers) rows ended sent (one ∷ more) =
+    Sends post receiver rows ended (sent receiver) one × SendAll post receivers rows ended sent more
+
+-- ---- where it stands
+
+-- a worker shows a position under these orders, where these batches have left it for each receiver
+pub record Shows (post : Post) (orders : Orders) (w : Station) (p : Position) (sent : ℕ → List Batch) : Type 0 where
+  pub op : w.op ≡ post.op
+  pub number : w.number ≡ post.number
+  pub duty : DoesKind w.duty post.role.task.kind orders.constants post.role
+  pub state : HasTaken w.duty post.role.task (taken_of post.role p)
+  pub columns : w.columns ≡ post.role.task.columns
+  pub build_columns : w.build_columns ≡ post.role.task.build_columns
+  -- which of its senders are of the build side, that these are senders all, and whether what is left is of that side
+  pub sides : All (λ one. one.builds ≡ is_builder post.role.task one.from) w.ins
+  pub builders : (sender : ℕ) → is_builder post.role.task sender ≡ true → list_any (λ one. one == sender) post.role.senders ≡ true
+  pub building : All (λ one. is_builder post.role.task one.from ≡ w.building) w.rest
+  pub plain : ArePlain orders
+  pub rest : w.rest ≡ rest_of post.role p
+  pub pending : w.pending ≡ pending_rows post.role p
+  pub taken : w.taken ≡ length p.constants
+  pub emitted : w.emitted ≡ emitted_count p.fates
+  pub batches : w.batches ≡ length p.taken
+  pub within : length p.constants ≤ length (fed post.role p.taken)
+  pub produced : length p.fates ≤ length (produced_rows post.role p)
+  pub refused : w.refused ≡ refused_in post.op (taken_of post.role p)
+  pub kept : w.kept ≡ kept_of post.role.task.kind post.role.task (taken_of post.role p)
+  pub hand : w.hand ≡ p.hand
+  pub held : w.held ≡ p.held
+  pub waved : w.waved ≡ p.waved
+  pub paused : w.paused ≡ p.paused
+  pub finished : w.finished ≡ p.finished
+  pub ins : ReceiveAll post.role.senders p.taken w.ins
+  pub outs : SendAll post post.receivers (emitted_rows post.role p) p.finished sent w.outs
+
+-- a worker stands at a position: it shows it, and its journal leads there from where it stood when the journal was empty
+pub record Stands (post : Post) (orders : Orders) (w : Station) (start p : Position) (sent : ℕ → List Batch) : Type 0 where
+  pub leads : Leads post.role orders start w.journal p
+  pub text : AreEntries false w.journal
+  pub shows : Shows post orders w p sent
+
+-- of each sender the batches that were taken and those that wait are together the same
+abbrev pub SameBatches : Station → Position → Station → Position → Type 0
+SameBatches old p new q = (sender : ℕ) → taken_from q.taken sender ++ waiting_from sender new.ins ≡ taken_from p.taken sender ++ waiting_from sender old.ins
+
+-- wherever a worker stood, it stands at a position again, with the same batches of each sender and the same sent
+unfoldable pub Keeps : Station → Station → Type 0
+Keeps old new = (post : Post) (orders : Orders) (start p : Position) (sent : ℕ → List Batch) → Stands post orders old start p sent
+    → (q : Position) × Stands post orders new start q sent × SameBatches old p new q
+
+-- what a turn has done: one step more, or nothing
+abbrev pub HasTurned : Turn → Station → Station → Type 0
+HasTurned turn.Moved old new = steps_in new ≡ steps_in old + 1
+HasTurned turn.Idle old new = new ≡ old
+HasTurned turn.Ended old new = new ≡ old
+
+-- ---- what a worker gives
+
+-- what it shows in a position is what is said of that position
+unfoldable pub IsViewOf : Station → WorkerView → Type 0
+IsViewOf w view = (post : Post) (orders : Orders) (p : Position) (sent : ℕ → List Batch) → Shows post orders w p sent → view ≡ view_of post.role p
+
+-- what it gives for the answer in a position: what it has refused, and of a sink the rows that it took, in their order
+unfoldable pub IsGivenOf : Station → Given → Type 0
+IsGivenOf w given = (post : Post) (orders : Orders) (p : Position) (sent : ℕ → List Batch) → Shows post orders w p sent
+    → (given.refused ≡ refused_in post.op (taken_of post.role p) ++ refused_groups post.op (worker_refuses post.role p))
+    × (given.rows ≡ sort_rows (kept_of post.role.task.kind post.role.task (taken_of post.role p)))

@@ -1,0 +1,386 @@
+-- What each single step of a worker changes.
+use Rattle.std.specs.Prelude.{◌≡◌, ℕ, ◌+◌, ◌^◌, ◌<◌, ◌≤◌, ◌==◌, ◌&&◌, ◌||◌, option_to_list, not, Bool, All, List, [], ◌∷◌, ◌++◌, length, map, Ok, Option, Some, None, true, false, if◌then◌else◌}
+use Rattle.amber_rows.specs.Cond.{holds_of}
+use Rattle.amber_rows.specs.Operators.{first_keys, grouped, matches_of, picked, refused_keys}
+use Rattle.amber_rows.specs.declared.value.Value.{Value}
+use Rattle.amber_rows.specs.declared.column.Column.{Column}
+use Rattle.amber_rows.specs.declared.batch.Batch.{Batch}
+use Rattle.amber_group.specs.Group.{Group, Stands as GroupStands}
+use Rattle.amber_join.specs.Join.{Join}
+use Rattle.amber_log.specs.declared.entry.Entry.{Entry}
+use Rattle.amber_log.specs.declared.entry.Entry.TheVariants as entry
+use Rattle.amber_meaning.specs.Task.{Handed, row_in}
+use Rattle.amber_meaning.specs.Views.{first_of, refusal_in}
+use Rattle.amber_meaning.specs.declared.view.Extra.{Extra}
+use Rattle.amber_meaning.specs.declared.view.Extra.TheVariants as extra
+use Rattle.amber_meaning.specs.declared.view.Stand.TheVariants as stand
+use Rattle.amber_meaning.specs.declared.view.WorkerView.{WorkerView}
+use Rattle.amber_scan.specs.declared.share.Scanned.{Scanned}
+use Rattle.amber_worker.specs.Fields.{row_from, rows_moved}
+use Rattle.amber_worker.specs.Links.{Incoming, Outgoing}
+use Rattle.amber_worker.specs.Station.{Station, have_all_ended, have_builders_ended}
+use Rattle.amber_worker.specs.declared.duty.Duty.{Duty}
+use Rattle.amber_worker.specs.declared.duty.Duty.TheVariants as duty
+use Rattle.amber_worker.specs.declared.taking.Fate.{Fate}
+use Rattle.amber_worker.specs.declared.taking.Gains.{Gains}
+use Rattle.amber_worker.specs.declared.taking.Fate.TheVariants as fate
+
+-- ---- rows
+
+-- the rows that go on of a row that suits, of the build side or not
+abbrev pub gives : Duty → Bool → List Value → List (List Value)
+gives duty.Scan builds row = row ∷ []
+gives (duty.Filter cond) builds row = if holds_of cond row then row ∷ [] else []
+gives (duty.Project from) builds row = picked from row ∷ []
+gives (duty.Join state) builds row = if builds then [] else matches_of state.build_keys state.probe_keys state.rows row
+gives (duty.Group state) builds row = []
+gives duty.Sink builds row = []
+
+abbrev pub gives_if : Duty → Bool → Option (List Value) → List (List Value)
+gives_if duty builds None = []
+gives_if duty builds (Some row) = gives duty builds row
+
+-- the rows that are kept of a row that suits
+abbrev pub keeps : Duty → List Value → List (List Value)
+keeps duty.Scan row = []
+keeps (duty.Filter cond) row = []
+keeps (duty.Project from) row = []
+keeps (duty.Join state) row = []
+keeps (duty.Group state) row = []
+keeps duty.Sink row = row ∷ []
+
+abbrev pub keeps_if : Duty → Option (List Value) → List (List Value)
+keeps_if duty None = []
+keeps_if duty (Some row) = keeps duty row
+
+-- what a join keeps of the build side, with this row where it suits
+abbrev pub built_with : Bool → Option (List Value) → Join → Join
+built_with builds None state = state
+built_with true (Some row) state = record state { rows = state.rows ++ row ∷ [] }
+built_with false (Some row) state = state
+
+-- a group was fed this row, where it suits
+pub record Feeds (found : Option (List Value)) (old new : Group) : Type 0 where
+  pub keys : new.keys ≡ old.keys
+  pub aggs : new.aggs ≡ old.aggs
+  pub fed : new.fed ≤ old.fed + 1
+  pub stands : (rows : List (List Value)) → GroupStands old rows → GroupStands new (rows ++ option_to_list found)
+
+-- what a worker keeps of the rows that it took becomes this with another row
+abbrev pub Becomes : Duty → Bool → Option (List Value) → Duty → Type 0
+Becomes duty.Scan builds found new = new ≡ duty.Scan
+Becomes (duty.Filter cond) builds found new = new ≡ duty.Filter cond
+Becomes (duty.Project from) builds found new = new ≡ duty.Project from
+Becomes (duty.Join state) builds found new = new ≡ duty.Join (built_with builds found state)
+Becomes (duty.Group state) builds found new = (now : Group) × (new ≡ duty.Group now) × Feeds found state now
+Becomes duty.Sink builds found new = new ≡ duty.Sink
+
+-- the rows of the groups, once nothing more can come
+abbrev pub GivesGroups : Group → Bool → List (List Value) → Type 0
+GivesGroups state true rows = (fed : List (List Value)) → GroupStands state fed → rows ≡ grouped state.keys state.aggs fed
+GivesGroups state false rows = rows ≡ []
+
+-- the rows that a worker gives at the end, once nothing more can come
+abbrev pub Closes : Duty → Bool → List (List Value) → Type 0
+Closes duty.Scan over rows = rows ≡ []
+Closes (duty.Filter cond) over rows = rows ≡ []
+Closes (duty.Project from) over rows = rows ≡ []
+Closes (duty.Join state) over rows = rows ≡ []
+Closes (duty.Group state) over rows = GivesGroups state over rows
+Closes duty.Sink over rows = rows ≡ []
+
+-- the batches at hand are of the build side, or of the other: then what a join keeps is sealed
+abbrev pub turned_to : Bool → Duty → Duty
+turned_to builds duty.Scan = duty.Scan
+turned_to builds (duty.Filter cond) = duty.Filter cond
+turned_to builds (duty.Project from) = duty.Project from
+turned_to builds (duty.Join state) = duty.Join (if builds then state else record state { sealed = true })
+turned_to builds (duty.Group state) = duty.Group state
+turned_to builds duty.Sink = duty.Sink
+
+-- a worker may take a row of this side: a build row before what is kept is sealed, a probe row after
+abbrev pub MayTakeRow : Duty → Bool → Type 0
+MayTakeRow duty.Scan builds = Unit {0}
+MayTakeRow (duty.Filter cond) builds = Unit {0}
+MayTakeRow (duty.Project from) builds = Unit {0}
+MayTakeRow (duty.Join state) builds = state.sealed ≡ not builds
+MayTakeRow (duty.Group state) builds = state.fed < 2 ^ 40
+MayTakeRow duty.Sink builds = Unit {0}
+
+-- a worker keeps something of the rows that it took
+abbrev pub has_state : Duty → Bool
+has_state duty.Scan = false
+has_state (duty.Filter cond) = false
+has_state (duty.Project from) = false
+has_state (duty.Join state) = true
+has_state (duty.Group state) = true
+has_state duty.Sink = false
+
+-- what becomes of a row: the rows that go on, and those that are kept
+abbrev pub passed_of : Fate → List Value → List (List Value)
+passed_of fate.Dropped row = []
+passed_of fate.Passed row = row ∷ []
+passed_of (fate.Made other) row = other ∷ []
+passed_of fate.Kept row = []
+
+abbrev pub held_back_of : Fate → List Value → List (List Value)
+held_back_of fate.Dropped row = []
+held_back_of fate.Passed row = []
+held_back_of (fate.Made other) row = []
+held_back_of fate.Kept row = row ∷ []
+
+-- the same lists
+pub record AreSame (old new : Gains) : Type 0 where
+  pub pending : new.pending.items ≡ old.pending.items
+  pub refused : new.refused.items ≡ old.refused.items
+  pub kept : new.kept.items ≡ old.kept.items
+
+-- a record was taken of a share: what it gives is behind what was there
+pub record GainsRecord (share : List Scanned) (op : ℕ) (columns : List Column) (old : Gains) (later : List Scanned) (new : Gains) : Type 0 where
+  pub one : Scanned
+  pub first : share ≡ one ∷ later
+  pub pending : new.pending.items ≡ old.pending.items ++ gives_if duty.Scan false (row_in columns one.what)
+  pub refused : new.refused.items ≡ old.refused.items ++ refusal_in op one.number one.what
+  pub kept : new.kept.items ≡ old.kept.items
+
+-- a row was taken of a batch
+pub record GainsRow (rows : List (List Value)) (d : Duty) (columns : List Column) (old : Gains) (later : List (List Value)) (new : Gains) : Type 0 where
+  pub row : List Value
+  pub first : rows ≡ row ∷ later
+  pub pending : new.pending.items ≡ old.pending.items ++ gives_if d false (row_in columns (Ok row))
+  pub refused : new.refused.items ≡ old.refused.items
+  pub kept : new.kept.items ≡ old.kept.items ++ keeps_if d (row_in columns (Ok row))
+
+-- the first row was kept of the build side
+pub record Builds (rows : List (List Value)) (old : Join) (later : List (List Value)) (new : Join) : Type 0 where
+  pub row : List Value
+  pub first : rows ≡ row ∷ later
+  pub state : new ≡ record old { rows = old.rows ++ row ∷ [] }
+
+-- the matches of the first row are pending
+pub record Probes (rows : List (List Value)) (state : Join) (pending later after : List (List Value)) : Type 0 where
+  pub row : List Value
+  pub first : rows ≡ row ∷ later
+  pub pending_so : after ≡ pending ++ matches_of state.build_keys state.probe_keys state.rows row
+
+-- the first row was taken by a join
+pub record JoinsRow (rows : List (List Value)) (columns : List Column) (builds : Bool) (old : Join) (pending later : List (List Value)) (new : Join)
+    (after : List (List Value)) : Type 0 where
+  pub row : List Value
+  pub first : rows ≡ row ∷ later
+  pub state : new ≡ built_with builds (row_in columns (Ok row)) old
+  pub pending_so : after ≡ pending ++ gives_if (duty.Join old) builds (row_in columns (Ok row))
+
+-- a group was fed a row, the last one where nothing more can come
+pub record FeedsNext (found : Option (List Value)) (over : Bool) (old : Group) (pending : List (List Value)) (new : Group) (after : List (List Value)) : Type 0 where
+  pub feeds : Feeds found old new
+  pub last : List (List Value)
+  pub closes : GivesGroups new over last
+  pub pending_so : after ≡ pending ++ last
+
+-- the first row was taken by a group
+pub record GroupsRow (rows : List (List Value)) (columns : List Column) (over : Bool) (old : Group) (pending later : List (List Value)) (new : Group)
+    (after : List (List Value)) : Type 0 where
+  pub row : List Value
+  pub first : rows ≡ row ∷ later
+  pub fed : FeedsNext (row_in columns (Ok row)) over old pending new after
+
+-- the first row of a batch was taken
+pub record GainsAny (rows : List (List Value)) (columns : List Column) (builds over : Bool) (d : Duty) (old : Gains) (later : List (List Value)) (now : Duty)
+    (new : Gains) : Type 0 where
+  pub row : List Value
+  pub first : rows ≡ row ∷ later
+  pub becomes : Becomes d builds (row_in columns (Ok row)) now
+  pub last : List (List Value)
+  pub closes : Closes now over last
+  pub pending : new.pending.items ≡ (old.pending.items ++ gives_if d builds (row_in columns (Ok row))) ++ last
+  pub refused : new.refused.items ≡ old.refused.items
+  pub kept : new.kept.items ≡ old.kept.items ++ keeps_if d (row_in columns (Ok row))
+
+-- the next of what was handed was taken, the last one where nothing more can come
+pub record GainsNext (handed : List Handed) (op : ℕ) (columns : List Column) (builds over : Bool) (d : Duty) (old : Gains) (later : List Handed) (now : Duty)
+    (new : Gains) : Type 0 where
+  pub one : Handed
+  pub first : handed ≡ one ∷ later
+  pub becomes : Becomes d builds (row_in columns one.what) now
+  pub last : List (List Value)
+  pub closes : Closes now over last
+  pub pending : new.pending.items ≡ (old.pending.items ++ gives_if d builds (row_in columns one.what)) ++ last
+  pub refused : new.refused.items ≡ old.refused.items ++ refusal_in op one.from one.what
+  pub kept : new.kept.items ≡ old.kept.items ++ keeps_if d (row_in columns one.what)
+
+-- ---- the journal
+
+-- rows more, behind an entry
+abbrev pub gone_on : Entry → ℕ → ℕ → List Entry
+gone_on (entry.Take sender batch) rows outs = entry.Take sender batch ∷ entry.Go rows outs ∷ []
+gone_on (entry.Go before given) rows outs = entry.Go (before + rows) (given + outs) ∷ []
+gone_on (entry.Grant n) rows outs = entry.Grant n ∷ entry.Go rows outs ∷ []
+gone_on (entry.Back n) rows outs = entry.Back n ∷ entry.Go rows outs ∷ []
+gone_on entry.Pause rows outs = entry.Pause ∷ entry.Go rows outs ∷ []
+gone_on entry.Resume rows outs = entry.Resume ∷ entry.Go rows outs ∷ []
+gone_on entry.Hold rows outs = entry.Hold ∷ entry.Go rows outs ∷ []
+gone_on entry.Finish rows outs = entry.Finish ∷ entry.Go rows outs ∷ []
+
+-- rows taken and emitted between two other entries are one entry
+unfoldable pub with_go : List Entry → ℕ → ℕ → List Entry
+with_go [] rows outs = entry.Go rows outs ∷ []
+with_go (one ∷ []) rows outs = gone_on one rows outs
+with_go (one ∷ next ∷ more) rows outs = one ∷ with_go (next ∷ more) rows outs
+
+-- ---- links
+
+-- a row more for a receiver; a full batch waits to be moved
+abbrev pub with_row : List Value → Outgoing → Outgoing
+with_row row out =
+    if length out.partial + 1 == out.size
+    then record out {
+      made = out.made + 1;
+      waiting = out.waiting ++ record { seq = out.made; rows = out.partial ++ row ∷ []; last = false } ∷ [];
+      partial = [];
+    }
+    else record out { partial = out.partial ++ row ∷ [] }
+
+-- the rows that are left are the last batch
+abbrev pub with_end : Outgoing → Outgoing
+with_end out = record out {
+  made = out.made + 1;
+  waiting = out.waiting ++ record { seq = out.made; rows = out.partial; last = true } ∷ [];
+  partial = [];
+}
+
+-- the first of these rows was put behind the others for each receiver
+pub record Emits (rows : List (List Value)) (outs : List Outgoing) (later : List (List Value)) (after : List Outgoing) : Type 0 where
+  pub row : List Value
+  pub first : rows ≡ row ∷ later
+  pub sent : after ≡ map (with_row row) outs
+
+-- the first batch that waits was taken
+abbrev pub without_first : Batch → List Batch → Incoming → Incoming
+without_first batch later one = record one { taken = one.taken + 1; ended = batch.last; waiting = later }
+
+-- ---- steps
+
+-- the columns of the rows at hand
+abbrev pub columns_at_hand : Station → List Column
+columns_at_hand w = if w.building then w.build_columns else w.columns
+
+-- a row was taken; what the worker keeps became this, and these rows are given at the end
+abbrev pub row_taken : Handed → List Handed → Duty → List (List Value) → Station → Station
+row_taken one later now last w = record w {
+  duty = now;
+  rest = later;
+  pending = (w.pending ++ gives_if w.duty w.building (row_in (columns_at_hand w) one.what)) ++ last;
+  taken = w.taken + 1;
+  refused = w.refused ++ refusal_in w.op one.from one.what;
+  kept = w.kept ++ keeps_if w.duty (row_in (columns_at_hand w) one.what);
+  journal = with_go w.journal 1 0;
+}
+
+-- the next row was taken
+pub record TakesRow (old new : Station) : Type 0 where
+  pub one : Handed
+  pub later : List Handed
+  pub now : Duty
+  pub last : List (List Value)
+  pub first : old.rest ≡ one ∷ later
+  pub becomes : Becomes old.duty old.building (row_in (columns_at_hand old) one.what) now
+  pub closes : Closes now ((length old.rest == 1) && have_all_ended old.ins) last
+  pub after : new ≡ row_taken one later now last old
+
+-- a pending row was emitted
+abbrev pub row_emitted : List Value → List (List Value) → Station → Station
+row_emitted row later w = record w {
+  pending = later;
+  emitted = w.emitted + 1;
+  waved = false;
+  outs = map (with_row row) w.outs;
+  journal = with_go w.journal 0 1;
+}
+
+-- the first pending row was emitted
+abbrev pub row_emitted_from : List (List Value) → Station → Station
+row_emitted_from [] w = w
+row_emitted_from (row ∷ later) w = row_emitted row later w
+
+-- a batch of this sender was taken; these rows are given at the end
+abbrev pub batch_taken : Incoming → Batch → List Incoming → List (List Value) → Station → Station
+batch_taken one batch ins last w = record w {
+  duty = turned_to one.builds w.duty;
+  building = one.builds;
+  rest = map (row_from one.from) batch.rows;
+  pending = last;
+  batches = w.batches + 1;
+  ins = ins;
+  journal = w.journal ++ entry.Take one.from one.taken ∷ [];
+}
+
+-- the end was reached
+abbrev pub all_done : Station → Station
+all_done w = record w {
+  finished = true;
+  outs = map with_end w.outs;
+  journal = w.journal ++ entry.Finish ∷ [];
+}
+
+-- one of these senders gives this batch, the first that waits, and they are as these then
+pub record IsTaken (ins : List Incoming) (one : Incoming) (batch : Batch) (after : List Incoming) : Type 0 where
+  pub front : List Incoming
+  pub back : List Incoming
+  pub later : List Batch
+  pub found : ins ≡ front ++ one ∷ back
+  pub unended : one.ended ≡ false
+  pub side : (one.builds || have_builders_ended ins) ≡ true
+  pub waiting : one.waiting ≡ batch ∷ later
+  pub after_it : after ≡ front ++ without_first batch later one ∷ back
+
+-- a batch of one of its senders was taken
+pub record TakesBatch (old new : Station) : Type 0 where
+  pub one : Incoming
+  pub batch : Batch
+  pub ins : List Incoming
+  pub taken : IsTaken old.ins one batch ins
+  pub from_small : one.from < 2 ^ 32
+  pub number_small : one.taken < 2 ^ 64
+  pub last : List (List Value)
+  pub closes : Closes old.duty ((length batch.rows == 0) && have_all_ended ins) last
+  pub after : new ≡ batch_taken one batch ins last old
+
+-- neither paused nor held, and no entry speaks of very many rows
+pub record IsCalm (w : Station) : Type 0 where
+  pub running : w.paused ≡ false
+  pub loose : w.held ≡ false
+  pub few : All (λ one. rows_moved one < 2 ^ 63) w.journal
+
+-- the first batch that waits has no row
+abbrev pub starts_empty : List Batch → Bool
+starts_empty [] = false
+starts_empty (batch ∷ later) = length batch.rows == 0
+
+-- what a worker shows by what it does
+abbrev pub IsExtra : Duty → ℕ → ℕ → Extra → Type 0
+IsExtra duty.Scan refused kept shown = shown ≡ extra.Scan refused
+IsExtra (duty.Filter cond) refused kept shown = shown ≡ extra.Nothing
+IsExtra (duty.Project from) refused kept shown = shown ≡ extra.Nothing
+IsExtra (duty.Join state) refused kept shown = shown ≡ extra.Join (length (first_keys state.build_keys state.rows)) (length state.rows)
+IsExtra (duty.Group state) refused kept shown = (rows : List (List Value)) → GroupStands state rows → shown ≡ extra.Group (length (first_keys state.keys rows))
+IsExtra duty.Sink refused kept shown = shown ≡ extra.Sink kept
+
+-- what a worker shows
+pub record IsShown (w : Station) (view : WorkerView) : Type 0 where
+  pub taken : view.taken ≡ w.taken
+  pub rest : view.rest ≡ length w.rest
+  pub out : view.out ≡ w.emitted
+  pub pending : view.pending ≡ length w.pending
+  pub stand : view.stand ≡ (if w.finished then stand.Finished else stand.Ready)
+  pub next : view.next ≡ first_of w.pending
+  pub extra : IsExtra w.duty (length w.refused) (length w.kept) view.extra
+
+-- the keys that a worker has refused
+abbrev pub IsRefused : Duty → List (List Value) → Type 0
+IsRefused duty.Scan keys = keys ≡ []
+IsRefused (duty.Filter cond) keys = keys ≡ []
+IsRefused (duty.Project from) keys = keys ≡ []
+IsRefused (duty.Join state) keys = keys ≡ []
+IsRefused (duty.Group state) keys = (rows : List (List Value)) → GroupStands state rows → keys ≡ refused_keys state.keys state.aggs rows
+IsRefused duty.Sink keys = keys ≡ []

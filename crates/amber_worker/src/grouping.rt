@@ -1,0 +1,98 @@
+//! How a group takes rows, and what it gives at the end.
+
+ghost use Rattle.std.specs.Prelude.{◌≡◌, ◌^◌, ◌<◌, Ok, true, IfOk, OnErr, OnOk};
+ghost use Rattle.amber_meaning.specs.Task.{row_in};
+ghost use Rattle.amber_worker.specs.Station.{has_some};
+ghost use Rattle.amber_worker.specs.Steps.{Feeds, FeedsNext, GivesGroups, GroupsRow};
+
+use amber_group::GroupState;
+use amber_rows::{Row, Schema, suits};
+use std::alloc::AllocError;
+use std::collections::VecDeque;
+
+// Feeds a row, if it suits.
+fn feed(state: &mut GroupState, columns: &Schema, row: &Row) -> Result<(), AllocError>
+    requires few { state.old.fed < 2 ^ 40 }
+    ensures ok { OnOk result (Feeds (row_in columns.now (Ok row.now)) state.old state.new) }
+    ensures err { OnErr result (state.new ≡ state.old) }
+{
+    if !suits(row, columns) {
+        return Ok(());
+    }
+    state.feed(row)?;
+    Ok(())
+}
+
+// The rows of the groups.
+pub(crate) fn rows_of_groups(state: &GroupState) -> Result<VecDeque<Row>, AllocError>
+    ensures { IfOk result (λ rows. GivesGroups state.now true rows.items) }
+{
+    let grouped = state.finish()?;
+    Ok(VecDeque::from_vec(grouped.rows.into_inner()))
+}
+
+// Feeds the last row: the rows of the groups are pending. What is fed is a copy, so that want of memory changes nothing.
+fn feed_last(
+    state: &mut GroupState,
+    columns: &Schema,
+    row: &Row,
+    pending: &mut VecDeque<Row>,
+) -> Result<(), AllocError>
+    requires few { state.old.fed < 2 ^ 40 }
+    ensures ok { OnOk result (FeedsNext (row_in columns.now (Ok row.now)) true state.old pending.old.items state.new pending.new.items) }
+    ensures state_on_err { OnErr result (state.new ≡ state.old) }
+    ensures pending_on_err { OnErr result (pending.new.items ≡ pending.old.items) }
+{
+    let mut fed = state.copy()?;
+    feed(&mut fed, columns, row)?;
+    let mut last = rows_of_groups(&fed)?;
+    pending.append(&mut last)?;
+    *state = fed;
+    Ok(())
+}
+
+// Feeds a row, the last one where nothing more can come.
+fn feed_next(
+    state: &mut GroupState,
+    columns: &Schema,
+    row: &Row,
+    over: bool,
+    pending: &mut VecDeque<Row>,
+) -> Result<(), AllocError>
+    requires few { state.old.fed < 2 ^ 40 }
+    ensures ok { OnOk result (FeedsNext (row_in columns.now (Ok row.now)) over state.old pending.old.items state.new pending.new.items) }
+    ensures state_on_err { OnErr result (state.new ≡ state.old) }
+    ensures pending_on_err { OnErr result (pending.new.items ≡ pending.old.items) }
+{
+    if over {
+        feed_last(state, columns, row, pending)?;
+        return Ok(());
+    }
+    feed(state, columns, row)?;
+    Ok(())
+}
+
+// Takes the first of these rows, the last one where nothing more can come.
+pub(crate) fn take_grouped(
+    rows: &mut VecDeque<Row>,
+    columns: &Schema,
+    over: bool,
+    state: &mut GroupState,
+    pending: &mut VecDeque<Row>,
+) -> Result<(), AllocError>
+    requires some { has_some rows.old.items ≡ true }
+    requires few { state.old.fed < 2 ^ 40 }
+    ensures ok { OnOk result (GroupsRow rows.old.items columns.now over state.old pending.old.items rows.new.items state.new pending.new.items) }
+    ensures rows_on_err { OnErr result (rows.new.items ≡ rows.old.items) }
+    ensures state_on_err { OnErr result (state.new ≡ state.old) }
+    ensures pending_on_err { OnErr result (pending.new.items ≡ pending.old.items) }
+{
+    let Some(next) = rows.front() else {
+        unreachable!()
+    };
+    feed_next(state, columns, next, over, pending)?;
+    let Some(_row) = rows.pop_front() else {
+        unreachable!()
+    };
+    Ok(())
+}

@@ -1,0 +1,85 @@
+//! How a join takes rows.
+
+ghost use Rattle.std.specs.Prelude.{◌≡◌, not, true, false, OnErr, OnOk};
+ghost use Rattle.amber_worker.specs.Station.{has_some};
+ghost use Rattle.amber_worker.specs.Steps.{Builds, JoinsRow, Probes};
+
+use amber_join::JoinState;
+use amber_rows::{Row, Schema, suits};
+use std::alloc::AllocError;
+use std::collections::VecDeque;
+
+// Keeps the first of these rows, which is of the build side.
+fn build_first(rows: &mut VecDeque<Row>, state: &mut JoinState) -> Result<(), AllocError>
+    requires some { has_some rows.old.items ≡ true }
+    requires unsealed { state.old.sealed ≡ false }
+    ensures ok { OnOk result (Builds rows.old.items state.old rows.new.items state.new) }
+    ensures rows_on_err { OnErr result (rows.new.items ≡ rows.old.items) }
+    ensures state_on_err { OnErr result (state.new ≡ state.old) }
+{
+    rows.reserve(1)?;
+    let Some(row) = rows.pop_front() else {
+        unreachable!()
+    };
+    if let Err(row) = state.build(row) {
+        rows.push_front_reserved(row);
+        return Err(AllocError);
+    }
+    Ok(())
+}
+
+// Takes the first of these rows, which is of the probe side: its matches are pending.
+fn probe_first(
+    rows: &mut VecDeque<Row>,
+    state: &JoinState,
+    pending: &mut VecDeque<Row>,
+) -> Result<(), AllocError>
+    requires some { has_some rows.old.items ≡ true }
+    requires sealed { state.now.sealed ≡ true }
+    ensures ok { OnOk result (Probes rows.old.items state.now pending.old.items rows.new.items pending.new.items) }
+    ensures rows_on_err { OnErr result (rows.new.items ≡ rows.old.items) }
+    ensures pending_on_err { OnErr result (pending.new.items ≡ pending.old.items) }
+{
+    let Some(next) = rows.front() else {
+        unreachable!()
+    };
+    let found = state.probe(next)?;
+    let mut matches = VecDeque::from_vec(found.into_inner());
+    pending.append(&mut matches)?;
+    let Some(_row) = rows.pop_front() else {
+        unreachable!()
+    };
+    Ok(())
+}
+
+// Takes the first of these rows; one that does not suit the columns of its side is dropped.
+pub(crate) fn take_joined(
+    rows: &mut VecDeque<Row>,
+    columns: &Schema,
+    builds: bool,
+    state: &mut JoinState,
+    pending: &mut VecDeque<Row>,
+) -> Result<(), AllocError>
+    requires some { has_some rows.old.items ≡ true }
+    requires side { state.old.sealed ≡ not builds }
+    ensures ok { OnOk result (JoinsRow rows.old.items columns.now builds state.old pending.old.items rows.new.items state.new pending.new.items) }
+    ensures rows_on_err { OnErr result (rows.new.items ≡ rows.old.items) }
+    ensures state_on_err { OnErr result (state.new ≡ state.old) }
+    ensures pending_on_err { OnErr result (pending.new.items ≡ pending.old.items) }
+{
+    let Some(next) = rows.front() else {
+        unreachable!()
+    };
+    if !suits(next, columns) {
+        let Some(_row) = rows.pop_front() else {
+            unreachable!()
+        };
+        return Ok(());
+    }
+    if builds {
+        build_first(rows, state)?;
+        return Ok(());
+    }
+    probe_first(rows, state, pending)?;
+    Ok(())
+}

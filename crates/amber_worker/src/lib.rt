@@ -1,0 +1,34 @@
+//! A worker: one of those that run an operator of a workflow.
+//!
+//! A worker takes the batches that its senders have made for it, or the records of its share, and the rows of these one
+//! after the other; what a row yields is pending, and goes row by row into the batches for its receiver. It writes down
+//! what it does in a journal.
+//!
+//! A worker of a join takes all batches of its build side before the first of its probe side. One of a group makes the
+//! rows of its groups pending in the very step that takes the last row, or an empty last batch.
+//!
+//! What a worker keeps is seen as a `Station`, lists, numbers and flags. Wherever it stands after a call, its journal
+//! leads there by the rules of a run: `specs/Stands.antt` says what it is for a worker to stand at a position.
+#![tactic(auto)]
+
+pub mod duty;
+pub mod given;
+mod grouping;
+mod joining;
+mod journal;
+pub mod links;
+mod making;
+mod shown;
+mod taking;
+pub mod turn;
+pub mod worker;
+
+pub use duty::Duty;
+pub use given::Given;
+pub use links::{Inbox, Outbox};
+pub use std::alloc::AllocError as NoMemory;
+pub use turn::Turn;
+pub use worker::{Worker, settle_workers};
+
+#[cfg(test)]
+mod tests;

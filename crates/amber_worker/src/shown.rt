@@ -1,0 +1,55 @@
+//! The parts of what a worker shows.
+
+ghost use Rattle.std.specs.Prelude.{◌≡◌, IfOk, if◌then◌else◌, length};
+ghost use Rattle.amber_meaning.specs.Views.{first_of};
+ghost use Rattle.amber_worker.specs.Steps.{IsExtra};
+
+use crate::duty::Duty;
+use crate::taking::Gains;
+use amber_meaning::{Extra, Stand};
+use amber_rows::Row;
+use std::alloc::AllocError;
+use std::collections::VecDeque;
+
+// A copy of the first row, if there is one.
+pub(crate) fn first_copy(rows: &VecDeque<Row>) -> Result<Option<Row>, AllocError>
+    ensures { IfOk result (λ first. first ≡ first_of rows.now.items) }
+{
+    match rows.front() {
+        None => Ok(None),
+        Some(row) => Ok(Some(row.copy()?)),
+    }
+}
+
+// How a worker stands.
+pub(crate) fn stand_of(finished: bool) -> Stand
+    ensures { result ≡ (if finished then Stand.Finished else Stand.Ready) }
+{
+    if finished {
+        Stand::Finished
+    } else {
+        Stand::Ready
+    }
+}
+
+// What a worker shows by what it does.
+pub(crate) fn extra_of(duty: &Duty, gains: &Gains) -> Extra
+    ensures { IsExtra duty.now (length gains.now.refused.items) (length gains.now.kept.items) result }
+{
+    match duty {
+        Duty::Scan => Extra::Scan {
+            refused: gains.refused.len() as u64,
+        },
+        Duty::Filter(_) | Duty::Project(_) => Extra::Nothing,
+        Duty::Join(state) => Extra::Join {
+            keys: state.keys(),
+            built: state.rows(),
+        },
+        Duty::Group(state) => Extra::Group {
+            groups: state.groups(),
+        },
+        Duty::Sink => Extra::Sink {
+            kept: gains.kept.len() as u64,
+        },
+    }
+}

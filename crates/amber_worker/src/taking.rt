@@ -1,0 +1,385 @@
+//! How a worker takes rows and batches.
+
+ghost use Rattle.std.specs.Prelude.{◌≡◌, ◌==◌, ◌&&◌, [], if◌then◌else◌, ◌+◌, ◌^◌, ◌<◌, ◌≤◌, ◌++◌, ℕ, Ok, Some, All, is_some, true, false, not, length, slice_index_or, vec_capacity, vec_len, IfOk, IfNone, IfSome, OnErr, OnOk};
+ghost use Rattle.std.specs.List.{list_any};
+ghost use Rattle.std.specs.VecDeque.{deque_capacity, deque_len};
+ghost use Rattle.amber_meaning.specs.Task.{row_in};
+ghost use Rattle.amber_meaning.specs.Views.{refusal_in};
+ghost use Rattle.amber_worker.specs.Fields.{handed_in};
+ghost use Rattle.amber_worker.specs.Links.{Incoming};
+ghost use Rattle.amber_worker.specs.Station.{has_some, have_all_ended, have_builders_ended, may_come};
+ghost use Rattle.amber_worker.specs.Steps.{AreSame, Closes, GainsAny, GainsNext, GainsRecord, GainsRow, IsTaken, MayTakeRow, gives_if, has_state, held_back_of, keeps_if, passed_of, starts_empty, turned_to};
+
+use crate::duty::Duty;
+use crate::grouping::{rows_of_groups, take_grouped};
+use crate::joining::take_joined;
+use crate::links::Inbox;
+use amber_meaning::Refusal;
+use amber_rows::{Batch, Row, Schema, suits};
+use amber_scan::{Scanned, Share};
+use std::alloc::{AllocError, Global};
+use std::collections::VecDeque;
+
+// What a worker has not taken yet: of a scan's share, or of the batch at hand.
+#[derive(Debug, Drop)]
+pub(crate) struct Rest {
+    pub share: Option<Share>,
+    pub from: u32,
+    pub rows: VecDeque<Row>,
+}
+
+impl Rest {
+    // How much is left.
+    pub fn left(&self) -> u64
+        ensures { result ≡ length (handed_in self.now) }
+    {
+        match &self.share {
+            Some(share) => share.left(),
+            None => self.rows.len() as u64,
+        }
+    }
+
+    // Whether nothing is left.
+    pub fn is_empty(&self) -> bool
+        ensures { has_some (handed_in self.now) ≡ not result }
+    {
+        match &self.share {
+            Some(share) => share.left() == 0,
+            None => self.rows.is_empty(),
+        }
+    }
+}
+
+// What rows give: those that go on, records that were refused, and rows that are kept for the answer.
+#[derive(Debug, Drop)]
+pub(crate) struct Gains {
+    pub pending: VecDeque<Row>,
+    pub refused: Vec<Refusal>,
+    pub kept: Vec<Row>,
+}
+
+// What becomes of a row that was taken.
+#[derive(Debug, Drop)]
+pub(crate) enum Fate {
+    Dropped,
+    Passed,
+    Made(Row),
+    Kept,
+}
+
+// What becomes of a row that suits.
+fn suited_fate(duty: &Duty, row: &Row) -> Result<Fate, AllocError>
+    requires plain { has_state duty.now ≡ false }
+    ensures goes_on { IfOk result (λ fate. passed_of fate row.now ≡ gives_if duty.now false (Some row.now)) }
+    ensures stays { IfOk result (λ fate. held_back_of fate row.now ≡ keeps_if duty.now (Some row.now)) }
+{
+    match duty {
+        Duty::Scan => Ok(Fate::Passed),
+        Duty::Filter(state) => {
+            if state.passes(row) {
+                Ok(Fate::Passed)
+            } else {
+                Ok(Fate::Dropped)
+            }
+        }
+        Duty::Project(state) => Ok(Fate::Made(state.pick(row)?)),
+        Duty::Sink => Ok(Fate::Kept),
+        Duty::Join(_) | Duty::Group(_) => unreachable!(),
+    }
+}
+
+// What becomes of a row; one that does not suit the columns is dropped.
+pub(crate) fn fate_of(duty: &Duty, columns: &Schema, row: &Row) -> Result<Fate, AllocError>
+    requires plain { has_state duty.now ≡ false }
+    ensures goes_on { IfOk result (λ fate. passed_of fate row.now ≡ gives_if duty.now false (row_in columns.now (Ok row.now))) }
+    ensures stays { IfOk result (λ fate. held_back_of fate row.now ≡ keeps_if duty.now (row_in columns.now (Ok row.now))) }
+{
+    if suits(row, columns) {
+        suited_fate(duty, row)
+    } else {
+        Ok(Fate::Dropped)
+    }
+}
+
+// Puts a row where it goes.
+pub(crate) fn put(fate: Fate, row: Row, pending: &mut VecDeque<Row>, kept: &mut Vec<Row>)
+    requires room { deque_len pending.old < deque_capacity pending.old }
+    requires room_for_kept { vec_len kept.old < vec_capacity kept.old }
+    ensures goes_on { pending.new.items ≡ pending.old.items ++ passed_of fate row }
+    ensures stays { kept.new.items ≡ kept.old.items ++ held_back_of fate row }
+{
+    match fate {
+        Fate::Dropped => {}
+        Fate::Passed => pending.push_back_reserved(row),
+        Fate::Made(other) => pending.push_back_reserved(other),
+        Fate::Kept => kept.push_reserved(row),
+    }
+}
+
+// Puts a scan's record where it goes: a row that suits is passed on, a fault is kept for the answer.
+pub(crate) fn put_record(
+    one: Scanned,
+    op: u32,
+    columns: &Schema,
+    pending: &mut VecDeque<Row>,
+    refused: &mut Vec<Refusal>,
+)
+    requires room { deque_len pending.old < deque_capacity pending.old }
+    requires room_for_refused { vec_len refused.old < vec_capacity refused.old }
+    ensures goes_on { pending.new.items ≡ pending.old.items ++ gives_if Duty.Scan false (row_in columns.now one.what) }
+    ensures refused { refused.new.items ≡ refused.old.items ++ refusal_in op one.number one.what }
+{
+    match one.what {
+        Ok(row) => {
+            if suits(&row, columns) {
+                pending.push_back_reserved(row);
+            }
+        }
+        Err(fault) => refused.push_reserved(Refusal::Record {
+            op,
+            number: one.number,
+            fault,
+        }),
+    }
+}
+
+// Takes the next record of a share.
+fn take_record(
+    share: &mut Share,
+    op: u32,
+    columns: &Schema,
+    gains: &mut Gains,
+) -> Result<(), AllocError>
+    requires { has_some share.old ≡ true }
+    ensures ok { OnOk result (GainsRecord share.old op columns.now gains.old share.new gains.new) }
+    ensures share_on_err { OnErr result (share.new ≡ share.old) }
+    ensures gains_on_err { OnErr result (AreSame gains.old gains.new) }
+{
+    gains.pending.reserve(1)?;
+    gains.refused.reserve(1)?;
+    let Some(one) = share.next() else {
+        unreachable!()
+    };
+    put_record(one, op, columns, &mut gains.pending, &mut gains.refused);
+    Ok(())
+}
+
+// Takes the next row of a batch, of which a worker keeps nothing but for the answer.
+fn take_handed(
+    rows: &mut VecDeque<Row>,
+    duty: &Duty,
+    columns: &Schema,
+    gains: &mut Gains,
+) -> Result<(), AllocError>
+    requires some { has_some rows.old.items ≡ true }
+    requires plain { has_state duty.now ≡ false }
+    ensures ok { OnOk result (GainsRow rows.old.items duty.now columns.now gains.old rows.new.items gains.new) }
+    ensures rows_on_err { OnErr result (rows.new.items ≡ rows.old.items) }
+    ensures gains_on_err { OnErr result (AreSame gains.old gains.new) }
+{
+    gains.pending.reserve(1)?;
+    gains.kept.reserve(1)?;
+    let Some(next) = rows.front() else {
+        unreachable!()
+    };
+    let fate = fate_of(duty, columns, next)?;
+    let Some(row) = rows.pop_front() else {
+        unreachable!()
+    };
+    put(fate, row, &mut gains.pending, &mut gains.kept);
+    Ok(())
+}
+
+// Takes the next row of a batch, of the build side or not, the last one where nothing more can come.
+fn take_any(
+    rows: &mut VecDeque<Row>,
+    columns: &Schema,
+    builds: bool,
+    over: bool,
+    duty: &mut Duty,
+    gains: &mut Gains,
+) -> Result<(), AllocError>
+    requires some { has_some rows.old.items ≡ true }
+    requires may { MayTakeRow duty.old builds }
+    ensures ok { OnOk result (GainsAny rows.old.items columns.now builds over duty.old gains.old rows.new.items duty.new gains.new) }
+    ensures rows_on_err { OnErr result (rows.new.items ≡ rows.old.items) }
+    ensures duty_on_err { OnErr result (duty.new ≡ duty.old) }
+    ensures gains_on_err { OnErr result (AreSame gains.old gains.new) }
+{
+    match duty {
+        Duty::Join(state) => {
+            take_joined(rows, columns, builds, state, &mut gains.pending)?;
+            Ok(())
+        }
+        Duty::Group(state) => {
+            take_grouped(rows, columns, over, state, &mut gains.pending)?;
+            Ok(())
+        }
+        Duty::Scan | Duty::Filter(_) | Duty::Project(_) | Duty::Sink => {
+            take_handed(rows, duty, columns, gains)?;
+            Ok(())
+        }
+    }
+}
+
+// Takes the next row or record.
+pub(crate) fn take_next(
+    rest: &mut Rest,
+    op: u32,
+    columns: &Schema,
+    builds: bool,
+    over: bool,
+    duty: &mut Duty,
+    gains: &mut Gains,
+) -> Result<(), AllocError>
+    requires some { has_some (handed_in rest.old) ≡ true }
+    requires scans { IfSome rest.old.share (λ _. duty.old ≡ Duty.Scan) }
+    requires may { MayTakeRow duty.old builds }
+    ensures ok { OnOk result (GainsNext (handed_in rest.old) op columns.now builds over duty.old gains.old (handed_in rest.new) duty.new gains.new) }
+    ensures shares { is_some rest.new.share ≡ is_some rest.old.share }
+    ensures rest_on_err { OnErr result (handed_in rest.new ≡ handed_in rest.old) }
+    ensures duty_on_err { OnErr result (duty.new ≡ duty.old) }
+    ensures gains_on_err { OnErr result (AreSame gains.old gains.new) }
+{
+    match &mut rest.share {
+        Some(share) => {
+            take_record(share, op, columns, gains)?;
+            Ok(())
+        }
+        None => {
+            take_any(&mut rest.rows, columns, builds, over, duty, gains)?;
+            Ok(())
+        }
+    }
+}
+
+// The columns of rows of the build side or of the other.
+pub(crate) fn side_columns<'a>(
+    builds: bool,
+    build_columns: &'a Schema,
+    columns: &'a Schema,
+) -> &'a Schema
+    ensures { result.now ≡ (if builds then build_columns.now else columns.now) }
+{
+    if builds { build_columns } else { columns }
+}
+
+// Whether the next row is the last one that can come.
+pub(crate) fn is_last(rest: &Rest, ins: &[Inbox]) -> bool
+    ensures { result ≡ ((length (handed_in rest.now) == 1) && have_all_ended ins.now) }
+{
+    rest.left() == 1 && have_ended(ins)
+}
+
+// The rows that are given at the end, where a batch is empty; none where it is not.
+pub(crate) fn closing_of(
+    alloc: Global,
+    duty: &Duty,
+    empty: bool,
+) -> Result<VecDeque<Row>, AllocError>
+    ensures { IfOk result (λ last. Closes duty.now empty last.items) }
+{
+    if !empty {
+        return Ok(VecDeque::new(alloc));
+    }
+    match duty {
+        Duty::Group(state) => {
+            let last = rows_of_groups(state)?;
+            Ok(last)
+        }
+        Duty::Scan | Duty::Filter(_) | Duty::Project(_) | Duty::Join(_) | Duty::Sink => {
+            Ok(VecDeque::new(alloc))
+        }
+    }
+}
+
+// Where nothing more can come, these rows are pending.
+pub(crate) fn close(pending: &mut VecDeque<Row>, last: VecDeque<Row>, over: bool)
+    requires none { pending.old.items ≡ [] }
+    ensures { pending.new.items ≡ (if over then last.items else []) }
+{
+    if over && !last.is_empty() {
+        *pending = last;
+    }
+}
+
+// The batches at hand are of the build side, or of the other: then what a join keeps is sealed.
+pub(crate) fn turn_to(duty: &mut Duty, builds: bool)
+    ensures { duty.new ≡ turned_to builds duty.old }
+{
+    match duty {
+        Duty::Join(state) => {
+            if !builds {
+                state.seal();
+            }
+        }
+        Duty::Scan | Duty::Filter(_) | Duty::Project(_) | Duty::Group(_) | Duty::Sink => {}
+    }
+}
+
+// A batch that was taken, its sender, whether that is of the build side, and its number.
+pub(crate) struct Found {
+    pub from: u32,
+    pub builds: bool,
+    pub number: u64,
+    pub batch: Batch,
+}
+
+// Whether the last batches of all senders of the build side were taken.
+pub(crate) fn have_built(ins: &[Inbox]) -> bool
+    ensures { result ≡ have_builders_ended ins.now }
+{
+    ins.iter().all(|inbox| !inbox.builds() || inbox.has_ended())
+}
+
+// The place of the first sender of whom a batch may be taken, where the build side has ended or not.
+pub(crate) fn ready_place(ins: &[Inbox], built: bool) -> Option<usize>
+    ensures none { IfNone result (list_any (may_come built) ins.now ≡ false) }
+    ensures some { IfSome result (λ _. list_any (may_come built) ins.now ≡ true) }
+    ensures there { IfSome result (λ i. i < length ins.now) }
+    ensures ready { IfSome result (λ i. (d : Incoming) → may_come built (slice_index_or ins.now i d) ≡ true) }
+{
+    for (i, inbox) in ins.iter().enumerate() {
+        if inbox.may_come(built) {
+            return Some(i);
+        }
+    }
+    None
+}
+
+// Whether the first batch that waits of the sender at this place has no row.
+pub(crate) fn is_empty_at(ins: &[Inbox], i: usize) -> bool
+    requires there { i < length ins.now }
+    ensures { (d : Incoming) → starts_empty (slice_index_or ins.now i d).waiting ≡ result }
+{
+    ins[i].starts_empty()
+}
+
+// Takes the first batch of the sender at this place.
+pub(crate) fn take_at(ins: &mut [Inbox], i: usize) -> Found
+    requires there { i < length ins.old }
+    requires ready { (d : Incoming) → may_come (have_builders_ended ins.old) (slice_index_or ins.old i d) ≡ true }
+    requires few { All (λ one. one.taken + 1 < 2 ^ 64) ins.old }
+    ensures taken { (one : Incoming) × (one.from ≡ result.from) × (one.taken ≡ result.number) × (one.builds ≡ result.builds) × IsTaken ins.old one result.batch ins.new }
+    ensures empty { (d : Incoming) → starts_empty (slice_index_or ins.old i d).waiting ≡ (length result.batch.rows == 0) }
+    ensures few { (n : ℕ) → All (λ one. one.taken ≤ n) ins.old → All (λ one. one.taken ≤ n + 1) ins.new }
+{
+    let inbox = &mut ins[i];
+    let from = inbox.from();
+    let builds = inbox.builds();
+    let number = inbox.taken();
+    let batch = inbox.take();
+    Found {
+        from,
+        builds,
+        number,
+        batch,
+    }
+}
+
+// Whether the last batches of all senders were taken.
+pub(crate) fn have_ended(ins: &[Inbox]) -> bool
+    ensures { result ≡ have_all_ended ins.now }
+{
+    ins.iter().all(|inbox| inbox.has_ended())
+}

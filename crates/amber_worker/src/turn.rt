@@ -1,0 +1,10 @@
+/// What a turn of a worker came to.
+#[derive(Clone, Copy, Debug, PartialEq, Eq)]
+pub enum Turn {
+    /// It did one step: it took a row or a batch, emitted a row, or finished.
+    Moved,
+    /// It can do nothing until a batch comes.
+    Idle,
+    /// It had finished before.
+    Ended,
+}

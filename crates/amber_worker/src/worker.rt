@@ -1,0 +1,442 @@
+ghost use Rattle.std.specs.Prelude.{All, MatchOption, false, MatchBool, if◌then◌else◌, ◌≡◌, ◌+◌, ◌^◌, ◌<◌, ◌≤◌, ◌==◌, ℕ, [], List, Result, true, is_some, length, IfOk, OnErr, OnOk};
+ghost use Rattle.std.specs.List.{list_any};
+ghost use Rattle.amber_rows.specs.declared.batch.Batch.{Batch as OneBatch};
+ghost use Rattle.amber_rows.specs.declared.value.Value.{Value as Cell};
+ghost use Rattle.amber_rows.specs.declared.record.RowFault.{RowFault as Fault};
+ghost use Rattle.amber_rows.specs.Crew.{crew_of, op_of, what_at};
+ghost use Rattle.amber_meaning.specs.Position.{origin};
+ghost use Rattle.amber_meaning.specs.Plan.{role_of};
+ghost use Rattle.amber_worker.specs.Links.{waiting_for, with_batches, without_batches};
+ghost use Rattle.amber_worker.specs.Station.{answer_of, has_ready, has_some, have_all_ended, steps_in};
+ghost use Rattle.amber_worker.specs.Steps.{IsCalm, IsShown, TakesBatch, TakesRow, all_done, row_emitted_from};
+ghost use Rattle.amber_worker.specs.Made.{IsFresh};
+ghost use Rattle.amber_worker.specs.Stands.{AreAlone, HasShare, HasTurned, IsGivenOf, IsViewOf, Keeps, Stands, first_orders, is_scan, post_of};
+
+use crate::duty::Duty;
+use crate::given::{Given, add_keys, refused_keys};
+use crate::journal::note_go;
+use crate::links::{
+    Inbox, Outbox, emit_first, end, has_receiver, has_sender, settle_into, waiting_receiver,
+};
+use crate::making::{
+    build_columns_of, columns_of, duty_of, inboxes_of, is_join, outbox_of, receiver_of,
+};
+use crate::shown::{extra_of, first_copy, stand_of};
+use crate::taking::{
+    Found, Gains, Rest, close, closing_of, have_built, have_ended, is_empty_at, is_last,
+    ready_place, side_columns, take_at, take_next, turn_to,
+};
+use crate::turn::Turn;
+use amber_log::{Entries, Entry};
+use amber_meaning::{Refusals, WorkerView};
+use amber_rows::{Flow, Rows, Schema, sort};
+use amber_scan::Share;
+use std::alloc::{AllocError, Global};
+use std::collections::VecDeque;
+use std::marker::Model;
+use std::mem;
+
+/// A worker at rest or in a leg, seen as a `Station`.
+#[derive(Debug, Drop)]
+pub struct Worker {
+    alloc: Global,
+    op: u32,
+    number: u32,
+    duty: Duty,
+    columns: Schema,
+    build_columns: Schema,
+    building: bool,
+    rest: Rest,
+    taken: u64,
+    emitted: u64,
+    batches: u64,
+    gains: Gains,
+    finished: bool,
+    ins: Vec<Inbox>,
+    out: Option<Outbox>,
+    journal: Vec<Entry>,
+}
+
+impl Model for Worker {
+    ghost use Rattle.std.specs.Prelude.{false, option_to_list};
+    ghost use Rattle.amber_worker.specs.Station.{Station};
+
+    ghost Value = { Station };
+
+    ghost use Rattle.amber_worker.specs.Fields.{AreFew, handed_in};
+
+    ghost view = { λ a. record {
+      op = a.op;
+      number = a.number;
+      duty = a.duty;
+      columns = a.columns;
+      build_columns = a.build_columns;
+      building = a.building;
+      rest = handed_in a.rest;
+      pending = a.gains.pending.items;
+      taken = a.taken;
+      emitted = a.emitted;
+      batches = a.batches;
+      refused = a.gains.refused.items;
+      kept = a.gains.kept.items;
+      hand = 0;
+      held = false;
+      waved = false;
+      paused = false;
+      finished = a.finished;
+      ins = a.ins.items;
+      outs = option_to_list a.out;
+      journal = a.journal.items;
+    } };
+
+    ghost invariant = { λ a. AreFew a.duty a.building a.rest.share a.taken a.emitted a.batches a.finished a.ins.items a.out a.journal.items };
+}
+
+impl Worker {
+    /// A worker of a workflow before it has done anything, by its running number. The rows of a batch are 1 to 65,536.
+    /// A scan's worker is given its share of the records.
+    pub fn new(
+        alloc: Global,
+        flow: &Flow,
+        worker: u32,
+        batch: u32,
+        share: Option<Share>,
+    ) -> Result<Worker, AllocError>
+        requires there { worker < crew_of flow.now }
+        requires some { 0 < batch }
+        requires few { batch ≤ 65536 }
+        requires shared { is_some share ≡ is_scan (what_at flow.now (op_of flow.now worker)) }
+
+        // For now every operator has one worker.
+        requires alone { AreAlone flow.now }
+        ensures stands { (records : List (List (Result (List Cell) Fault))) → HasShare share (role_of flow.now records worker)
+            → IfOk result (λ made. Stands (post_of flow.now records batch worker) (first_orders flow.now worker) made origin origin (λ _. [])) }
+        ensures empty { IfOk result (λ made. All (λ one. one.waiting ≡ []) made.ins × All (λ one. one.waiting ≡ []) made.outs) }
+    {
+        let _operators = flow.get();
+        let made = Self::make(alloc, flow, worker, batch, share)?;
+        Ok(made)
+    }
+
+    // A worker that has done nothing.
+    fn make(
+        alloc: Global,
+        flow: &Flow,
+        worker: u32,
+        batch: u32,
+        share: Option<Share>,
+    ) -> Result<Worker, AllocError>
+        requires there { worker < crew_of flow.now }
+        requires some { 0 < batch }
+        requires shared { is_some share ≡ is_scan (what_at flow.now (op_of flow.now worker)) }
+        requires alone { AreAlone flow.now }
+        ensures { IfOk result (λ made. IsFresh flow.now worker batch share made) }
+    {
+        let operators = flow.get();
+        let op = flow.op_of(worker);
+        let what = &operators[op as usize - 1].what;
+        let duty = duty_of(alloc, what)?;
+        let columns = columns_of(alloc, flow, what, op)?;
+        let build_columns = build_columns_of(alloc, flow, what)?;
+        let building = is_join(what);
+        let ins = inboxes_of(alloc, what)?;
+        let receiver = receiver_of(operators, op);
+        let out = outbox_of(alloc, receiver, batch);
+        let rest = Rest {
+            share,
+            from: 0,
+            rows: VecDeque::new(alloc),
+        };
+        let gains = Gains {
+            pending: VecDeque::new(alloc),
+            refused: Vec::new(alloc),
+            kept: Vec::new(alloc),
+        };
+        Ok(Worker {
+            alloc,
+            op,
+            number: worker,
+            duty,
+            columns,
+            build_columns,
+            building,
+            rest,
+            taken: 0,
+            emitted: 0,
+            batches: 0,
+            gains,
+            finished: false,
+            ins,
+            out,
+            journal: Vec::new(alloc),
+        })
+    }
+
+    // Whether the worker has finished.
+    fn is_over(&self) -> bool
+        ensures over { result ≡ self.now.finished }
+        ensures calm { IsCalm self.now }
+    {
+        self.finished
+    }
+
+    // Whether a row is pending.
+    fn has_pending(&self) -> bool
+        ensures { result ≡ has_some self.now.pending }
+    {
+        !self.gains.pending.is_empty()
+    }
+
+    // Whether something is left that was handed.
+    fn has_rest(&self) -> bool
+        ensures { result ≡ has_some self.now.rest }
+    {
+        !self.rest.is_empty()
+    }
+
+    // Takes the next of what is left.
+    fn take_row(&mut self) -> Result<(), AllocError>
+        requires few { steps_in self.old < 2 ^ 40 }
+        requires some { has_some self.old.rest ≡ true }
+        ensures ok { OnOk result (TakesRow self.old self.new) }
+        ensures err { OnErr result (self.new ≡ self.old) }
+    {
+        self.journal.reserve(1)?;
+        let over = is_last(&self.rest, self.ins.as_slice());
+        let columns = side_columns(self.building, &self.build_columns, &self.columns);
+        take_next(
+            &mut self.rest,
+            self.op,
+            columns,
+            self.building,
+            over,
+            &mut self.duty,
+            &mut self.gains,
+        )?;
+        note_go(&mut self.journal, 1, 0);
+        self.taken += 1;
+        Ok(())
+    }
+
+    // Emits the first pending row.
+    fn emit_row(&mut self) -> Result<(), AllocError>
+        requires few { steps_in self.old < 2 ^ 40 }
+        requires some { has_some self.old.pending ≡ true }
+        ensures ok { OnOk result (self.new ≡ row_emitted_from self.old.pending self.old) }
+        ensures err { OnErr result (self.new ≡ self.old) }
+    {
+        self.journal.reserve(1)?;
+        emit_first(&mut self.gains.pending, &mut self.out)?;
+        note_go(&mut self.journal, 0, 1);
+        self.emitted += 1;
+        Ok(())
+    }
+
+    // Takes a batch of the first sender of whom one may be taken, and says whether there was one.
+    fn take_batch(&mut self) -> Result<bool, AllocError>
+        requires few { steps_in self.old < 2 ^ 40 }
+        requires none { has_some self.old.pending ≡ false }
+        ensures found { IfOk result (λ found. found ≡ has_ready self.old.ins) }
+        ensures taken { IfOk result (λ found. MatchBool found (TakesBatch self.old self.new) (self.new ≡ self.old)) }
+        ensures err { OnErr result (self.new ≡ self.old) }
+    {
+        let built = have_built(self.ins.as_slice());
+        let Some(place) = ready_place(self.ins.as_slice(), built) else {
+            return Ok(false);
+        };
+        let empty = is_empty_at(self.ins.as_slice(), place);
+        let last = closing_of(self.alloc, &self.duty, empty)?;
+        self.journal.reserve(1)?;
+        let Found {
+            from,
+            builds,
+            number,
+            batch,
+        } = take_at(self.ins.as_mut_slice(), place);
+        let over = have_ended(self.ins.as_slice());
+        close(&mut self.gains.pending, last, over);
+        turn_to(&mut self.duty, builds);
+        self.building = builds;
+        self.journal.push_reserved(Entry::Take {
+            from,
+            batch: number,
+        });
+        self.rest.from = from;
+        self.rest.rows = VecDeque::from_vec(batch.rows.into_inner());
+        self.batches += 1;
+        Ok(true)
+    }
+
+    // Finishes where the last batches of all senders were taken, and says whether they were.
+    fn finish(&mut self) -> Result<bool, AllocError>
+        requires few { steps_in self.old < 2 ^ 40 }
+        requires unfinished { self.old.finished ≡ false }
+        ensures ended { IfOk result (λ ended. ended ≡ have_all_ended self.old.ins) }
+        ensures done { IfOk result (λ ended. self.new ≡ (if ended then all_done self.old else self.old)) }
+        ensures err { OnErr result (self.new ≡ self.old) }
+    {
+        if !have_ended(self.ins.as_slice()) {
+            return Ok(false);
+        }
+        self.journal.reserve(1)?;
+        end(&mut self.out)?;
+        self.journal.push_reserved(Entry::Finish);
+        self.finished = true;
+        Ok(true)
+    }
+
+    /// Makes one step, if there is one to make. The journal says which.
+    pub fn turn(&mut self) -> Result<Turn, AllocError>
+        requires { steps_in self.old < 2 ^ 40 }
+        ensures keeps { Keeps self.old self.new }
+        ensures answer { IfOk result (λ turn. turn ≡ answer_of self.old) }
+        ensures moved { IfOk result (λ turn. HasTurned turn self.old self.new) }
+        ensures err { OnErr result (self.new ≡ self.old) }
+    {
+        if self.is_over() {
+            return Ok(Turn::Ended);
+        }
+        if self.has_pending() {
+            self.emit_row()?;
+            return Ok(Turn::Moved);
+        }
+        if self.has_rest() {
+            self.take_row()?;
+            return Ok(Turn::Moved);
+        }
+        let taken = self.take_batch()?;
+        if taken {
+            return Ok(Turn::Moved);
+        }
+        let ended = self.finish()?;
+        if ended {
+            return Ok(Turn::Moved);
+        }
+        Ok(Turn::Idle)
+    }
+
+    /// How many steps the worker has made: rows and batches taken, rows emitted, and the end.
+    pub fn steps(&self) -> u64
+        ensures { result ≡ steps_in self.now }
+    {
+        self.taken + self.emitted + self.batches + u64::from(self.finished)
+    }
+
+    /// Whether the worker has nothing more to do.
+    pub fn is_finished(&self) -> bool
+        ensures { result ≡ self.now.finished }
+    {
+        self.finished
+    }
+
+    /// The running number of the worker in its workflow, from 0.
+    pub fn number(&self) -> u32
+        ensures { result ≡ self.now.number }
+    {
+        self.number
+    }
+
+    /// Whether the worker sends to the worker with this number.
+    pub fn sends_to(&self, worker: u32) -> bool
+        ensures { result ≡ list_any (λ one. one.to == worker) self.now.outs }
+    {
+        has_receiver(&self.out, worker)
+    }
+
+    /// Whether the worker with this number sends to the worker.
+    pub fn receives_from(&self, worker: u32) -> bool
+        ensures { result ≡ list_any (λ one. one.from == worker) self.now.ins }
+    {
+        has_sender(self.ins.as_slice(), worker)
+    }
+
+    /// The receiver for which batches wait to be moved, if there is one.
+    pub fn waits_for(&self) -> Option<u32>
+        // For now a worker has one receiver at most.
+        ensures one { length self.now.outs ≤ 1 }
+        ensures waits { MatchOption result (All (λ one. one.waiting ≡ []) self.now.outs) (λ to. list_any (λ one. one.to == to) self.now.outs ≡ true) }
+    {
+        waiting_receiver(&self.out)
+    }
+
+    /// What the worker has done since its journal was handed out.
+    pub fn journal(&self) -> &[Entry]
+        ensures { result.now ≡ self.now.journal }
+    {
+        self.journal.as_slice()
+    }
+
+    /// Hands out what the worker has done since its journal was handed out last.
+    pub fn take_journal(&mut self) -> Entries
+        ensures journal { result ≡ self.old.journal }
+        ensures rest { self.new ≡ record self.old { journal = [] } }
+    {
+        let empty = Vec::new(self.alloc);
+        Entries::new(mem::replace(&mut self.journal, empty))
+    }
+
+    /// What the worker shows.
+    pub fn view(&self) -> Result<WorkerView, AllocError>
+        ensures { IfOk result (λ view. IsViewOf self.now view) }
+    {
+        let view = self.shown()?;
+        Ok(view)
+    }
+
+    // What the worker keeps, as it is shown.
+    fn shown(&self) -> Result<WorkerView, AllocError>
+        ensures shown { IfOk result (λ view. IsShown self.now view) }
+        ensures loose { self.now.held ≡ false }
+    {
+        let next = first_copy(&self.gains.pending)?;
+        Ok(WorkerView {
+            taken: self.taken,
+            rest: self.rest.left(),
+            out: self.emitted,
+            pending: self.gains.pending.len() as u64,
+            stand: stand_of(self.finished),
+            next,
+            extra: extra_of(&self.duty, &self.gains),
+        })
+    }
+
+    /// What the worker gives for the answer, where nothing more is asked of it.
+    pub fn into_given(self) -> Result<Given, AllocError>
+        ensures { IfOk result (λ given. IsGivenOf self given) }
+    {
+        let Worker {
+            alloc,
+            op,
+            duty,
+            gains,
+            ..
+        } = self;
+        let Gains {
+            mut refused,
+            mut kept,
+            ..
+        } = gains;
+        let mut keys = refused_keys(alloc, &duty)?;
+        sort(&mut keys);
+        add_keys(op, keys, &mut refused)?;
+        sort(&mut kept);
+        Ok(Given {
+            refused: Refusals::new(refused),
+            rows: Rows::new(kept),
+        })
+    }
+}
+
+/// Moves the batches that a worker has made for another one into the other's inbox, behind those that wait there.
+pub fn settle_workers(from: &mut Worker, to: &mut Worker) -> Result<(), AllocError>
+    requires sends { list_any (λ one. one.to == to.old.number) from.old.outs ≡ true }
+    requires receives { list_any (λ one. one.from == from.old.number) to.old.ins ≡ true }
+    ensures from { OnOk result (from.new ≡ record from.old { outs = without_batches to.old.number from.old.outs }) }
+    ensures to { OnOk result (to.new ≡ record to.old { ins = with_batches from.old.number (waiting_for to.old.number from.old.outs) to.old.ins }) }
+    ensures from_on_err { OnErr result (from.new ≡ from.old) }
+    ensures to_on_err { OnErr result (to.new ≡ to.old) }
+{
+    let sender = from.number;
+    let receiver = to.number;
+    settle_into(&mut from.out, to.ins.as_mut_slice(), sender, receiver)
+}
