@@ -1,0 +1,93 @@
+-- What a leg to the end leaves of a session.
+use Rattle.std.proofs.Common.{◌≡◌, refl, sym, ap, subst, ◌∙◌, ℕ, zero, suc, ◌-◌, ◌<◌, List, [], ◌∷◌, ◌++◌, length, get_or, Bool, false, Ok, Err, arith}
+use Rattle.std.proofs.lemmas.List.{get_or_push, length_push}
+use Rattle.amber_rows.specs.declared.flow.Operator.{Operator}
+use Rattle.amber_log.specs.Grammar.{AreItems, IsItem, IsLog, is_last}
+use Rattle.amber_log.specs.LogText.{item_text}
+use Rattle.amber_log.specs.declared.command.Command.{Command}
+use Rattle.amber_log.specs.declared.command.Command.TheVariants as command
+use Rattle.amber_log.specs.declared.leg.Close.{Close}
+use Rattle.amber_log.specs.declared.leg.Close.TheVariants as close
+use Rattle.amber_log.specs.declared.log.Item.{Item}
+use Rattle.amber_log.specs.declared.log.Log.{Log}
+use Rattle.amber_meaning.specs.Replay.{after_item, state_after}
+use Rattle.amber_meaning.specs.Texts.{answer_text}
+use Rattle.amber_meaning.specs.Transcript.{reply_of}
+use Rattle.amber_meaning.specs.Views.{answer_in}
+use Rattle.amber_meaning.proofs.Fronts.{transcripts_grow}
+use Rattle.amber_home.specs.Estate.{Closes, Estate, end_item, query_of}
+use Rattle.amber_debug.specs.declared.done.Done.{Done}
+use Rattle.amber_debug.specs.declared.done.EndErr.TheVariants as end_err
+use Rattle.amber_debug.specs.Ending.{EndsAs, IsLastText}
+use Rattle.amber_debug.specs.Session.{Does, Grew, Session}
+
+-- ---- the last item
+
+item-at : (over : Bool) (items : List Item) (k : ℕ) (d : Item) → AreItems over items → k < length items → IsItem (get_or items k d)
+unfolding AreItems
+item-at over [] k d are h = absurd (omega arith)
+item-at over (one ∷ more) zero d are h = are.1
+item-at over (one ∷ more) (suc k) d are h = item-at (is_last one) more k d are.2 (omega arith)
+
+pub last-item : (log : Log) (items : List Item) (one : Item) → IsLog log → items ≡ log.items → 0 < length log.items → one ≡ get_or items (length items - 1) one → IsItem one
+last-item log items one text same some is =
+    rw is (subst (λ xs. IsItem (get_or xs (length xs - 1) one)) (sym same) (item-at false log.items (length log.items - 1) one text.items (omega arith)))
+
+pub last-text : (log : Log) (items : List Item) (one : Item) (text : List ℕ) → items ≡ log.items → one ≡ get_or items (length items - 1) one → text ≡ item_text one → IsLastText log text
+unfolding IsLastText
+last-text log items one text same is text-is before last split =
+    let all : items ≡ before ++ last ∷ [] = same ∙ split in
+    let place : length items - 1 ≡ length before = ap (λ xs. length xs - 1) all ∙ ap (λ n. n - 1) (length_push before last) ∙ omega arith in
+    text-is ∙ ap item_text (is ∙ ap (λ n. get_or items n one) place ∙ ap (λ xs. get_or xs (length before) one) all ∙ get_or_push before last one (length before) refl)
+
+-- ---- at home
+
+leg-text : (old new : Estate) (closed : Close) (text : List ℕ) → (leg : Closes old new closed) → IsLastText new.log text → text ≡ item_text (end_item leg.parts closed)
+unfolding IsLastText
+leg-text old new closed text leg last = last old.log.items (end_item leg.parts closed) (ap (λ (e : Estate). e.log.items) leg.is)
+
+pub ends-ok : (old new : Estate) (item reply : List ℕ) (flow : List Operator) → (leg : Closes old new close.Cut) → IsLastText new.log item → flow ≡ new.flow
+    → reply ≡ answer_text flow (answer_in (query_of old) (state_after (query_of old) new.log.items))
+    → EndsAs (Ok (record { item = item; reply = reply })) old new
+ends-ok old new item reply flow leg last flow-is reply-is = (
+  leg,
+  leg-text old new close.Cut item leg last,
+  reply-is ∙ ap (λ f. answer_text f (answer_in (query_of old) (state_after (query_of old) new.log.items))) (flow-is ∙ ap (λ (e : Estate). e.flow) leg.is),
+)
+
+pub ends-long : (old new : Estate) (item : List ℕ) → (leg : Closes old new close.Long) → IsLastText new.log item → EndsAs (Err (end_err.Long item)) old new
+ends-long old new item leg last = (leg, leg-text old new close.Long item leg last)
+
+-- ---- in a session
+
+abbrev pub session : Estate → Bool → Session
+session home spent = record { flow = home.flow; files = home.files; most = home.most; log = home.log; spent = spent }
+
+grew : (old new : Estate) (closed : Close) → (leg : Closes old new closed) → Grew (session old false) (session new false) command.End (end_item leg.parts closed)
+grew old new closed leg = record {
+  flow = ap (λ (e : Estate). e.flow) leg.is;
+  files = ap (λ (e : Estate). e.files) leg.is;
+  most = ap (λ (e : Estate). e.most) leg.is;
+  log = ap (λ (e : Estate). e.log) leg.is;
+  command = refl;
+  unspent = refl;
+}
+
+-- the state behind the leg, and the reply to it
+reply-is : (old new : Estate) → (leg : Closes old new close.Cut)
+    → answer_text old.flow (answer_in (query_of old) (state_after (query_of old) new.log.items))
+    ≡ reply_of (query_of old) (state_after (query_of old) old.log.items) (end_item leg.parts close.Cut)
+unfolding reply_of after_item
+reply-is old new leg =
+    let one = end_item leg.parts close.Cut in
+    ap (λ items. answer_text old.flow (answer_in (query_of old) (state_after (query_of old) items))) (ap (λ (e : Estate). e.log.items) leg.is)
+    ∙ ap (λ state. answer_text old.flow (answer_in (query_of old) state)) (transcripts_grow (query_of old) old.log.items one).1
+
+pub does-ok : (old new : Estate) (done : Done) (given : Command) (before : Session) (spent : Bool) → session old spent ≡ before → spent ≡ false → given ≡ command.End
+    → EndsAs (Ok done) old new → Does (Ok done) before (session new spent) given
+does-ok old new done given before spent view unspent is ends =
+    let leg = ends.0 in
+    let it : Does (Ok done) (session old false) (session new false) command.End =
+    (end_item leg.parts close.Cut, grew old new close.Cut leg, refl, ends.1, ends.2 ∙ reply-is old new leg) in
+    subst (λ (d : Session). Does (Ok done) d (session new spent) given) view
+    (subst (λ (b : Bool). Does (Ok done) (session old b) (session new b) given) (sym unspent) (subst (λ (c : Command). Does (Ok done) (session old false) (session new false) c) (sym is) it))

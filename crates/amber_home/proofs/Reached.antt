@@ -1,0 +1,139 @@
+-- The state that a leg to the end reaches.
+use Rattle.std.proofs.Common.{◌≡◌, refl, sym, ap, ◌∙◌, ℕ, zero, suc, ◌+◌, ◌<◌, ◌≤◌, List, [], ◌∷◌, ◌++◌, length, map, take, get_or, length-append, if◌then◌else◌, ◌-◌, ◌&&◌, inl, inr, add-one, nat_eq, replicate, sum_by, Bool, true, false, Option, Some, None, unwrap_or, option_map, arith}
+use Rattle.std.specs.List.{list_all, slice_get}
+use Rattle.std.proofs.lemmas.Bool.{false≢true}
+use Rattle.std.proofs.lemmas.Bool.Decides.{eqb_tells}
+use Rattle.std.proofs.lemmas.List.{map-append}
+use Rattle.std.proofs.lemmas.List.Sums.{sum_by-append}
+use Rattle.std.proofs.lemmas.Grind.{take_at_read}
+use Rattle.std.proofs.Math.ListN.{get_or-map}
+use Rattle.amber_rows.specs.Chunks.{numbers_below}
+use Rattle.amber_rows.specs.Cond.{numbered}
+use Rattle.amber_rows.specs.Crew.{crew_of, kind_at, op_of, what_at}
+use Rattle.amber_rows.specs.declared.flow.Operator.{Operator}
+use Rattle.amber_log.specs.declared.entry.Entry.{Entry}
+use Rattle.amber_log.specs.declared.entry.Entry.TheVariants as entry
+use Rattle.amber_meaning.specs.Position.{Position, origin, steps_of}
+use Rattle.amber_meaning.specs.Rules.{Leads, Moves, Orders}
+use Rattle.amber_meaning.specs.State.{arms_at, begun_to_end, disarmed, first_constants, let_go, no_arms, orders_of, position_at, start_of}
+use Rattle.amber_meaning.specs.Task.{Role}
+use Rattle.amber_meaning.proofs.Lists.{list_all-at, list_all-below}
+use Rattle.amber_meaning.proofs.OneState.{position-before, position-get_or, position-last}
+use Rattle.amber_worker.specs.Stands.{first_orders}
+use Rattle.amber_worker.specs.Station.{Station}
+use Rattle.amber_worker.specs.Station as station
+use Rattle.amber_home.specs.Standing.{no_station, station_at, steps_by}
+
+-- ---- positions by number
+
+listed-next : (positions : ℕ → Position) (n : ℕ) → map positions (numbers_below (suc n)) ≡ map positions (numbers_below n) ++ positions n ∷ []
+unfolding numbers_below
+listed-next positions n = map-append positions (numbers_below n) (n ∷ [])
+
+pub length-listed : (positions : ℕ → Position) (n : ℕ) → length (map positions (numbers_below n)) ≡ n
+unfolding numbers_below
+length-listed positions zero = refl
+length-listed positions (suc n) =
+    ap length (listed-next positions n) ∙ length-append (map positions (numbers_below n)) (positions n ∷ []) ∙ ap (λ m. m + 1) (length-listed positions n) ∙ add-one n
+
+pub listed-at : (positions : ℕ → Position) (n k : ℕ) → k < n → position_at (map positions (numbers_below n)) k ≡ positions k
+listed-at positions zero k h = absurd (omega arith)
+listed-at positions (suc n) k h =
+    ap (λ list. position_at list k) (listed-next positions n)
+    ∙ elim (eqb_tells k n) [
+      | inl same ↦ position-last (map positions (numbers_below n)) (positions n) k (length-listed positions n ∙ sym same.1) ∙ ap positions (sym same.1)
+      | inr other ↦ let ne = other.1 in
+          position-before (map positions (numbers_below n)) (positions n) k (rw (length-listed positions n) (omega arith)) ∙ listed-at positions n k (omega arith)
+    ]
+
+-- ---- the start
+
+get-map : {A B : Type 0} (f : A → B) (xs : List A) (i : ℕ) → slice_get (map f xs) i ≡ option_map f (slice_get xs i)
+get-map f [] i = refl
+get-map f (x ∷ xs) zero = refl
+get-map f (x ∷ xs) (suc i) = get-map f xs i
+
+numbered-map : {A B : Type 0} (f : A → B) (xs : List A) (n : ℕ) → numbered (map f xs) n ≡ option_map f (numbered xs n)
+numbered-map f xs n = by (nat_eq n 0)
+  where
+    by : (b : Bool) → (if b then None else slice_get (map f xs) (n - 1)) ≡ option_map f (if b then None else slice_get xs (n - 1))
+    by true = refl
+    by false = get-map f xs (n - 1)
+
+start-arms : (flow : List Operator) (op : ℕ) → arms_at (begun_to_end (start_of flow)) op ≡ record no_arms { constants = first_constants (what_at flow op) }
+unfolding begun_to_end start_of
+start-arms flow op =
+    ap (λ found. unwrap_or found no_arms)
+    (numbered-map disarmed (map (λ (operator : Operator). record no_arms { constants = first_constants operator.what }) flow) op
+    ∙ ap (option_map disarmed) (numbered-map (λ (operator : Operator). record no_arms { constants = first_constants operator.what }) flow op))
+    ∙ by (numbered flow op)
+  where
+    by : (found : Option Operator) → unwrap_or (option_map disarmed (option_map (λ (operator : Operator). record no_arms { constants = first_constants operator.what }) found)) no_arms
+        ≡ record no_arms { constants = first_constants (kind_at found) }
+    by None = refl
+    by (Some operator) = refl
+
+pub start-orders : (flow : List Operator) (worker : ℕ) → orders_of (arms_at (begun_to_end (start_of flow)) (op_of flow worker)) ≡ first_orders flow worker
+unfolding first_orders
+start-orders flow worker = ap orders_of (start-arms flow (op_of flow worker))
+
+pub start-uncounted : (flow : List Operator) (op : ℕ) → (arms_at (begun_to_end (start_of flow)) op).count ≡ None
+start-uncounted flow op = ap (λ arms. arms.count) (start-arms flow op)
+
+at-origin : (n k : ℕ) → get_or (replicate n origin) k origin ≡ origin
+at-origin zero k = refl
+at-origin (suc n) zero = refl
+at-origin (suc n) (suc k) = at-origin n k
+
+pub start-position : (flow : List Operator) (worker : ℕ) → position_at (begun_to_end (start_of flow)).positions worker ≡ origin
+unfolding begun_to_end start_of
+start-position flow worker =
+    position-get_or (map let_go (replicate (crew_of flow) origin)) worker
+    ∙ get_or-map let_go (replicate (crew_of flow) origin) worker origin
+    ∙ ap let_go (at-origin (crew_of flow) worker)
+
+-- ---- no units
+
+hand-moves : (role : Role) (orders : Orders) (p q : Position) (one : Entry) → orders.counted ≡ false → p.hand ≡ 0 → Moves role orders p one q → q.hand ≡ 0
+hand-moves role orders p q (entry.Take from number) uncounted none moves = ap (λ m. m.hand) moves.2 ∙ none
+hand-moves role orders p q (entry.Go rows outs) uncounted none moves = ap (λ m. m.hand) moves.1 ∙ rw uncounted none
+hand-moves role orders p q (entry.Grant n) uncounted none moves = absurd (false≢true (sym uncounted ∙ moves.0.counted))
+hand-moves role orders p q (entry.Back n) uncounted none moves = ap (λ m. m.hand) moves.1
+hand-moves role orders p q entry.Pause uncounted none moves = ap (λ m. m.hand) moves.1 ∙ none
+hand-moves role orders p q entry.Resume uncounted none moves = ap (λ m. m.hand) moves.1 ∙ none
+hand-moves role orders p q entry.Hold uncounted none moves = ap (λ m. m.hand) moves.1 ∙ none
+hand-moves role orders p q entry.Finish uncounted none moves = ap (λ m. m.hand) moves.1 ∙ none
+
+pub hand-stays : (role : Role) (orders : Orders) (p q : Position) (entries : List Entry) → orders.counted ≡ false → p.hand ≡ 0 → Leads role orders p entries q → q.hand ≡ 0
+unfolding Leads
+hand-stays role orders p q [] uncounted none leads = ap (λ m. m.hand) (sym leads) ∙ none
+hand-stays role orders p q (one ∷ more) uncounted none leads =
+    hand-stays role orders leads.0 q more uncounted (hand-moves role orders p leads.0 one uncounted none leads.1) leads.2
+
+-- ---- steps, and who has finished
+
+pub steps-listed : (crew : List Station) (positions : ℕ → Position) (n : ℕ) → n ≤ length crew → ((k : ℕ) → k < n → station.steps_in (station_at crew k) ≡ steps_of (positions k))
+    → sum_by steps_of (map positions (numbers_below n)) ≡ steps_by (take n crew)
+unfolding numbers_below steps_by
+steps-listed crew positions zero h same = refl
+steps-listed crew positions (suc n) h same =
+    ap (sum_by steps_of) (listed-next positions n)
+    ∙ sum_by-append steps_of (map positions (numbers_below n)) (positions n ∷ [])
+    ∙ ap (λ m. m + (0 + steps_of (positions n))) (steps-listed crew positions n (omega arith) (λ k below. same k (omega arith)))
+    ∙ ap (λ m. steps_by (take n crew) + (0 + m)) (sym (same n (omega arith)))
+    ∙ sym (sum_by-append station.steps_in (take n crew) (station_at crew n ∷ []))
+    ∙ ap (sum_by station.steps_in) (sym ((take_at_read crew n no_station (omega (arith, h))).1) ∙ ap (λ m. take m crew) (add-one n))
+
+all-map : {A B : Type 0} (test : B → Bool) (f : A → B) (xs : List A) → list_all test (map f xs) ≡ list_all (λ x. test (f x)) xs
+all-map test f [] = refl
+all-map test f (x ∷ xs) = ap (λ rest. test (f x) && rest) (all-map test f xs)
+
+pub all-finished : (positions : ℕ → Position) (n : ℕ) → ((k : ℕ) → k < n → (positions k).finished ≡ true) → list_all (λ p. p.finished) (map positions (numbers_below n)) ≡ true
+all-finished positions n done = all-map (λ p. p.finished) positions (numbers_below n) ∙ list_all-below (λ k. (positions k).finished) n done
+
+pub not-finished : (positions : ℕ → Position) (n k : ℕ) → k < n → (positions k).finished ≡ false → list_all (λ p. p.finished) (map positions (numbers_below n)) ≡ false
+not-finished positions n k h not-yet = by (list_all (λ p. p.finished) (map positions (numbers_below n))) refl
+  where
+    by : (b : Bool) → list_all (λ p. p.finished) (map positions (numbers_below n)) ≡ b → b ≡ false
+    by false e = refl
+    by true e = absurd (false≢true (sym not-yet ∙ list_all-at (λ j. (positions j).finished) n k (sym (all-map (λ p. p.finished) positions (numbers_below n)) ∙ e) h))
