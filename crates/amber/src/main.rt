@@ -14,11 +14,16 @@ const VERSION: &str = "amber 0.1.0\n";
 const HELP: &str = "amber answers queries over CSV files.
 
   amber plain WORKFLOW   prints the answer of the workflow in the file WORKFLOW
+  amber run WORKFLOW SCRIPT LOG THREADS BATCH
+                         runs the workflow and prints its answer; what was done is written into the
+                         file LOG. A script has no commands yet: it is empty, or has comments. THREADS
+                         is 1 to 64, and BATCH, the rows of a batch, 1 to 65536
   amber --help           prints this text
   amber --version        prints the version
 
 A workflow is a JSON text with a list of operators: a scan of a CSV file, filters and a sink. The
-answer is the sink's rows in their order, behind their number and the columns' names.
+answer is the sink's rows in their order, behind their number and the columns' names. Records that
+are no rows are told before it.
 
 Whatever is refused is told in one line on the standard output. The exit code is
 

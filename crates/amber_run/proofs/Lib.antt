@@ -1,7 +1,10 @@
 pub mod Lines
 pub mod Following
-pub mod Texting
-pub mod OneScan
-pub mod ScansLate
+pub mod Numbers
 pub mod Scanning
+pub mod Scripts
+pub mod Texting
 pub mod Ending
+pub mod Working
+pub mod Finishing
+pub mod Deciding

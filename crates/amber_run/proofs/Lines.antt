@@ -1,7 +1,7 @@
 -- A line that is put piece by piece.
 use Rattle.std.proofs.Common.{ℕ, List, [], ◌++◌, Option, None, Some, Result, Ok, Err, sym, ap, ◌∙◌, append_assoc}
 use Rattle.std.proofs.lemmas.List.{append-nil}
-use Rattle.std.specs.Io.KnownBytes.{Appends}
+use Rattle.std.specs.Io.KnownBytes.{Appends, Keeps}
 use Rattle.amber_io.specs.Sink.{Begins}
 use Rattle.amber_io.specs.declared.error.IoErr.{IoErr}
 use Rattle.amber_io.specs.declared.error.IoErr.TheVariants as io_err
@@ -12,6 +12,17 @@ appends-on None mid new x y p q = tt
 appends-on (Some o) None new x y p q = absurd p
 appends-on (Some o) (Some m) None x y p q = absurd q
 appends-on (Some o) (Some m) (Some n) x y p q = rw (q, p) (append_assoc o x y)
+
+-- bytes that stayed
+pub keeps-nil : (a b : Option (List ℕ)) → Keeps a b → Appends a b []
+keeps-nil None b k = tt
+keeps-nil (Some x) None k = absurd k
+keeps-nil (Some x) (Some y) k = k ∙ sym (append-nil x)
+
+-- nothing was put
+pub appends-same : (a : Option (List ℕ)) → Appends a a []
+appends-same None = tt
+appends-same (Some x) = sym (append-nil x)
 
 -- a front part behind a whole piece
 pub begins-on : (old mid new : Option (List ℕ)) (x y : List ℕ) → Appends old mid x → Begins mid new y → Begins old new (x ++ y)

@@ -1,28 +1,22 @@
--- From the sequential answer to its text.
-use Rattle.std.proofs.Common.{◌≡◌, ℕ, ◌+◌, ◌<◌, ◌≤◌, List, [], ◌∷◌, ◌++◌, length, codes, nat_le, true, false, None, Some, Result, Ok, Err, refl, sym, ap, ◌∙◌, arith}
+-- From a job to what is printed.
+use Rattle.std.proofs.Common.{◌≡◌, ℕ, ◌<◌, ◌≤◌, List, nat_le, Bool, true, false, cond, Option, Result, Ok, Err, inl, inr, refl, arith}
 use Rattle.std.proofs.lemmas.Bool.Decides.{nat_tests}
-use Rattle.std.proofs.lemmas.List.Elements.{All-head, All-tail}
-use Rattle.std.specs.Fmt.{decimal}
-use Rattle.amber_rows.specs.Columns.{names_of}
-use Rattle.amber_rows.specs.RowText.{fields_text_of, rows_text_of}
-use Rattle.amber_rows.specs.declared.value.Value.{Value}
-use Rattle.amber_rows.specs.declared.record.RowFault.{RowFault}
-use Rattle.amber_rows.specs.declared.flow.What.{What}
-use Rattle.amber_rows.specs.declared.flow.What.TheVariants as what
+use Rattle.amber_io.specs.Folder.{Named}
 use Rattle.amber_rows.specs.declared.flow.Operator.{Operator}
-use Rattle.amber_flow.specs.Built.{AreBuilt, IsBuilt, is_built}
-use Rattle.amber_meaning.specs.Plain.{answer_from, answer_of, first_list, later_lists, refusals, refused_by, refused_records, row_total}
-use Rattle.amber_meaning.specs.Texts.{answer_text, words_line}
+use Rattle.amber_meaning.specs.Plain.{answer_of, row_total}
+use Rattle.amber_meaning.specs.Texts.{answer_text}
 use Rattle.amber_meaning.specs.declared.answer.Answer.{Answer}
-use Rattle.amber_meaning.specs.declared.answer.Refusal.{Refusal}
-use Rattle.amber_meaning.specs.declared.answer.Refusal.TheVariants as refusal
-use Rattle.amber_run.specs.Answering.{IsAnswer, IsFaultless, first_refused}
-use Rattle.amber_run.specs.Course.{Job, most_rows, output_of, without_faults}
-use Rattle.amber_run.specs.Loading.{text_of}
-use Rattle.amber_run.specs.Steps.{Judges}
-use Rattle.amber_run.specs.declared.stop.Reason.TheVariants as reason
+use Rattle.amber_run.specs.Answering.{IsAnswer, Works, text_of}
+use Rattle.amber_run.specs.Course.{most_rows}
+use Rattle.amber_run.specs.Outcome.{Counts}
+use Rattle.amber_run.specs.Standing.{Worked}
+use Rattle.amber_run.specs.Steps.{Judges, Sent}
+use Rattle.amber_run.specs.Task.{task_of}
+use Rattle.amber_run.specs.Writing.{CountsWrites}
+use Rattle.amber_run.specs.declared.job.Job.TheVariants as job
 use Rattle.amber_run.specs.declared.stop.Stop.{Stop}
 use Rattle.amber_run.specs.declared.stop.Stop.TheVariants as stop
+use Rattle.amber_run.proofs.Lines.{appends-same, keeps-nil}
 
 -- ---- how many rows there are
 
@@ -32,79 +26,76 @@ is-few rows most h = grind (arith, nat_tests)
 is-long : (rows most : ℕ) → most < rows → nat_le rows most ≡ false
 is-long rows most h = grind (arith, nat_tests)
 
--- there was no answer
-pub query-stop : (s : Stop) (flow : List Operator) (files : List (List ℕ)) → IsAnswer (Err s) flow files → Judges {A = List ℕ} (Err s) (text_of flow files)
-unfolding text_of
-query-stop stop.Usage flow files h = absurd h
-query-stop (stop.BadFlow op why) flow files h = rw (h.0, h.1) refl
-query-stop (stop.ReadFault name) flow files h = h
-query-stop stop.OutFault flow files h = h
-query-stop stop.Long flow files h = rw (h.0, is-long (row_total flow files) most_rows h.1) refl
-query-stop stop.NoMemory flow files h = tt
+-- there was an answer
+pub text-of : (answer : Answer) (flow : List Operator) (files : List (List ℕ)) (text : List ℕ) → IsAnswer (Ok answer) flow files
+    → text ≡ answer_text flow answer → text_of flow files ≡ Ok text
+text-of answer flow files text is e = rw (is-few (row_total flow files) most_rows is.0, e, is.1) refl
 
--- ---- a record was no row
+-- there was none
+pub no-answer : (s : Stop) (flow : List Operator) (files : List (List ℕ)) → IsAnswer (Err s) flow files → Judges {A = List ℕ} (Err s) (text_of flow files)
+no-answer stop.Long flow files h = rw (is-long (row_total flow files) most_rows h) refl
+no-answer stop.NoMemory flow files h = tt
+no-answer other flow files h = absurd h
 
-refused-stop : (refused : List Refusal) (job : Job) (op : ℕ) → first_refused refused ≡ Some op → without_faults refused job ≡ Err (stop.BadFlow op reason.Header)
-refused-stop [] job op h = cc
-refused-stop (refusal.Record o number fault ∷ more) job op h = cc
-refused-stop (refusal.Group o key ∷ more) job op h = refused-stop more job op h
+-- ---- the job
 
-pub faults-stop : (s : Stop) (answer : Answer) (flow : List Operator) (files : List (List ℕ)) → IsAnswer (Ok answer) flow files
-    → IsFaultless {A = Unit {0}} (Err s) answer.refused → Judges {A = List ℕ} (Err s) (text_of flow files)
-unfolding text_of
-faults-stop stop.Usage answer flow files h f = absurd f
-faults-stop (stop.BadFlow op why) answer flow files h f =
-    rw (h.0, is-few (row_total flow files) most_rows h.1, ← h.2, refused-stop answer.refused (record { flow = flow; files = files }) op f.0, f.1) refl
-faults-stop (stop.ReadFault name) answer flow files h f = f
-faults-stop stop.OutFault answer flow files h f = f
-faults-stop stop.Long answer flow files h f = absurd f
-faults-stop stop.NoMemory answer flow files h f = absurd f
+cut-err : {A : Type 0} (few : Bool) (x : A) (s : Stop) → cond few (Ok x) (Err stop.Long) ≡ Err s → (few ≡ false) × (s ≡ stop.Long)
+cut-err true x s e = cc
+cut-err false x s e = (refl, cc)
 
--- ---- only records are refused
+cut-ok : {A : Type 0} (few : Bool) (x y : A) → cond few (Ok x) (Err stop.Long) ≡ Ok y → (few ≡ true) × (y ≡ x)
+cut-ok true x y e = (refl, cc)
+cut-ok false x y e = cc
 
-records-none : (op number : ℕ) (records : List (Result (List Value) RowFault)) (more : List Refusal) → first_refused (refused_records op number records ++ more) ≡ None
-    → (refused_records op number records ≡ []) × (first_refused more ≡ None)
-unfolding refused_records
-records-none op number [] more h = (refl, h)
-records-none op number (Ok row ∷ records) more h = records-none op (number + 1) records more h
-records-none op number (Err why ∷ records) more h = cc
+-- there was no text
+pub works-stop : (s : Stop) (flow : List Operator) (files : List (List ℕ)) (told : Option Named) (got : Option (List ℕ)) → Judges {A = List ℕ} (Err s) (text_of flow files)
+    → Works {A = Unit {0}} (Err s) (job.Plain flow files) told told got got
+works-stop stop.Usage flow files told got h = absurd h
+works-stop (stop.ReadFault name) flow files told got h = absurd h
+works-stop stop.LogFault flow files told got h = absurd h
+works-stop stop.OutFault flow files told got h = absurd h
+works-stop stop.NoMemory flow files told got h = inl (refl, appends-same got)
+works-stop stop.Long flow files told got h =
+    inl (rw (cut-err (nat_le (row_total flow files) most_rows) (answer_text flow (answer_of flow files)) stop.Long h).0 refl, (refl, appends-same got))
+works-stop other flow files told got h = absurd (let e = (cut-err (nat_le (row_total flow files) most_rows) (answer_text flow (answer_of flow files)) other h).1 in cc)
 
-by-none : (op : ℕ) (w : What) (records : List (Result (List Value) RowFault)) (done : List (List (List Value))) (more : List Refusal) → is_built w ≡ true
-    → first_refused (refused_by op w records done ++ more) ≡ None → (refused_by op w records done ≡ []) × (first_refused more ≡ None)
-by-none op (what.Scan file) records done more built h = records-none op 1 records more h
-by-none op (what.Filter input condition) records done more built h = (refl, h)
-by-none op (what.Project input from) records done more built h = (refl, h)
-by-none op (what.Join build probe build_keys probe_keys) records done more built h = (refl, h)
-by-none op (what.Group input keys aggs) records done more built h = cc
-by-none op (what.Sink input) records done more built h = (refl, h)
+pub judged-counts : (s : Stop) (meant : Result (List ℕ) Stop) (n : ℕ) → Judges {A = List ℕ} (Err s) meant → Counts {A = Unit {0}} (Err s) n n
+judged-counts stop.OutFault meant n h = absurd h
+judged-counts other meant n h = refl
 
-only-records : (op : ℕ) (records : List (List (Result (List Value) RowFault))) (done : List (List (List Value))) (flow : List Operator) → AreBuilt flow
-    → first_refused (refusals op records done flow) ≡ None → refusals op records done flow ≡ []
-unfolding refusals
-only-records op records done [] built h = refl
-only-records op records done (o ∷ os) built h =
-    let here = by-none op o.what (first_list records) done (refusals (op + 1) (later_lists records) done os) (All-head IsBuilt o os built) h in
-    rw here.0 (only-records (op + 1) (later_lists records) done os (All-tail IsBuilt o os built) here.1)
+pub judged-writes : (s : Stop) (meant : Result (List ℕ) Stop) (n : ℕ) → Judges {A = List ℕ} (Err s) meant → CountsWrites {A = Unit {0}} (Err s) n n
+judged-writes stop.LogFault meant n h = absurd h
+judged-writes other meant n h = refl
 
-none-refused : (flow : List Operator) (files : List (List ℕ)) → AreBuilt flow → first_refused (answer_of flow files).refused ≡ None → (answer_of flow files).refused ≡ []
-unfolding answer_of answer_from
-none-refused flow files built h = only-records 1 _ _ flow built h
+-- the text was put
+pub works-sent : (r : Result (Unit {0}) Stop) (flow : List Operator) (files : List (List ℕ)) (text : List ℕ) (told : Option Named) (before got : Option (List ℕ)) (a b : ℕ) → text_of flow files ≡ Ok text
+    → Sent r before got a b text → Works r (job.Plain flow files) told told before got
+works-sent (Ok u) flow files text told before got a b e h =
+    let few = cut-ok (nat_le (row_total flow files) most_rows) (answer_text flow (answer_of flow files)) text e in
+    (rw few.0 refl, (refl, rw few.1 at h.1))
+works-sent (Err stop.OutFault) flow files text told before got a b e h =
+    let few = cut-ok (nat_le (row_total flow files) most_rows) (answer_text flow (answer_of flow files)) text e in
+    (rw few.0 refl, (refl, rw few.1 at h.2))
+works-sent (Err stop.NoMemory) flow files text told before got a b e h = inl (refl, keeps-nil before got h.1)
+works-sent (Err other) flow files text told before got a b e h = absurd h
 
--- ---- the text
+pub sent-counts : (r : Result (Unit {0}) Stop) (text : List ℕ) (before got : Option (List ℕ)) (a b : ℕ) → Sent r before got a b text → Counts r a b
+sent-counts (Ok u) text before got a b h = h.0
+sent-counts (Err stop.OutFault) text before got a b h = (h.0, h.1)
+sent-counts (Err stop.NoMemory) text before got a b h = h.0
+sent-counts (Err other) text before got a b h = absurd h
 
-quiet-text : (flow : List Operator) (answer : Answer) → answer.refused ≡ []
-    → answer_text flow answer
-    ≡ words_line (codes "rows" ∷ decimal (length answer.rows) ∷ []) ++ (fields_text_of (names_of answer.columns) ++ rows_text_of answer.rows)
-unfolding answer_text
-quiet-text flow answer none = rw none refl
+pub sent-writes : (r : Result (Unit {0}) Stop) (text : List ℕ) (before got : Option (List ℕ)) (a b n : ℕ) → Sent r before got a b text → CountsWrites r n n
+sent-writes (Ok u) text before got a b n h = refl
+sent-writes (Err stop.LogFault) text before got a b n h = absurd h
+sent-writes (Err other) text before got a b n h = refl
 
--- every record was a row
-pub text-ok : (answer : Answer) (flow : List Operator) (files : List (List ℕ)) → AreBuilt flow → IsAnswer (Ok answer) flow files → first_refused answer.refused ≡ None
-    → text_of flow files
-    ≡ Ok (words_line (codes "rows" ∷ decimal (length answer.rows) ∷ []) ++ (fields_text_of (names_of answer.columns) ++ rows_text_of answer.rows))
-unfolding text_of output_of
-text-ok answer flow files built h faultless =
-    let first : first_refused (answer_of flow files).refused ≡ None = ap (λ (a : Answer). first_refused a.refused) (sym h.2) ∙ faultless in
-    let none : (answer_of flow files).refused ≡ [] = none-refused flow files built first in
-    let empty : answer.refused ≡ [] = ap (λ (a : Answer). a.refused) h.2 ∙ none in
-    rw (h.0, is-few (row_total flow files) most_rows h.1, none, ← h.2) (ap (λ text. Ok text) (quiet-text flow answer empty))
+-- a run
+pub works-run : (r : Result (Unit {0}) Stop) (flow : List Operator) (files : List (List ℕ)) (log : List ℕ) (threads batch : ℕ) (told now : Option Named) (before got : Option (List ℕ))
+    → Worked r (task_of told before flow files log batch) now got → Works r (job.Run flow files log threads batch) told now before got
+works-run (Ok u) flow files log threads batch told now before got h = (refl, h)
+works-run (Err stop.LogFault) flow files log threads batch told now before got h = (refl, h)
+works-run (Err stop.OutFault) flow files log threads batch told now before got h = (refl, h)
+works-run (Err stop.Long) flow files log threads batch told now before got h = inr (refl, h)
+works-run (Err stop.NoMemory) flow files log threads batch told now before got h = inr (refl, h)
+works-run (Err other) flow files log threads batch told now before got h = absurd h

@@ -1,5 +1,5 @@
 -- The course of a call: its first refusal in the order of work, or the job to do. It is judged over the words and the files alone.
-use Rattle.std.specs.Prelude.{◌≡◌, ℕ, ◌+◌, ◌^◌, ◌⊎◌, nat_le, Contains, List, [], ◌∷◌, codes, bytes_eq, Option, Some, None, Result, Ok, Err, if◌then◌else◌}
+use Rattle.std.specs.Prelude.{◌≡◌, ℕ, ◌+◌, ◌-◌, ◌^◌, ◌⊎◌, nat_le, Contains, List, [], ◌∷◌, length, bytes_eq, Bool, false, Option, Some, None, Result, Ok, Err, if◌then◌else◌}
 use Rattle.std.specs.FinMap as finmap
 use Rattle.amber_io.specs.Folder.{Named}
 use Rattle.amber_rows.specs.Record.{has_header}
@@ -9,112 +9,133 @@ use Rattle.amber_rows.specs.declared.flow.What.TheVariants as what
 use Rattle.amber_rows.specs.declared.flow.Operator.{Operator}
 use Rattle.amber_flow.specs.Workflow.{workflow_of}
 use Rattle.amber_flow.specs.declared.error.Fault.{Fault}
-use Rattle.amber_flow.specs.declared.error.FlowWhy.TheVariants.{Shape}
-use Rattle.amber_meaning.specs.Plain.{answer_of, row_total}
-use Rattle.amber_meaning.specs.Texts.{answer_text}
-use Rattle.amber_meaning.specs.declared.answer.Refusal.{Refusal}
-use Rattle.amber_meaning.specs.declared.answer.Refusal.TheVariants as refusal
+use Rattle.amber_meaning.specs.Plain.{row_total}
+use Rattle.amber_run.specs.Script.{first_said, script_read}
+use Rattle.amber_run.specs.Words.{words_of}
+use Rattle.amber_run.specs.declared.job.Job.{Job}
+use Rattle.amber_run.specs.declared.job.Job.TheVariants as job
+use Rattle.amber_run.specs.declared.words.Words.{Words}
+use Rattle.amber_run.specs.declared.words.Words.TheVariants as form
 use Rattle.amber_run.specs.declared.stop.Reason.TheVariants as reason
 use Rattle.amber_run.specs.declared.stop.Stop.{Stop}
 use Rattle.amber_run.specs.declared.stop.Stop.TheVariants as stop
-
--- a workflow, and the bytes of its scans' files in order
-pub record Job : Type 0 where
-  pub flow : List Operator
-  pub files : List (List ℕ)
-
--- what the job prints: the text of the sequential answer
-unfoldable pub output_of : Job → List ℕ
-output_of job = answer_text job.flow (answer_of job.flow job.files)
 
 -- one step after another; a refusal is the last
 abbrev pub then_on : {A B : Type 0} → Result A Stop → (A → Result B Stop) → Result B Stop
 then_on (Ok x) next = next x
 then_on (Err s) next = Err s
 
--- ---- words
+-- ---- limits
 
--- the workflow that the words name: they are `plain` and its name
-unfoldable pub workflow_word : List (List ℕ) → Option (List ℕ)
-workflow_word [] = None
-workflow_word (form ∷ []) = None
-workflow_word (form ∷ name ∷ []) = if bytes_eq form (codes "plain") then Some name else None
-workflow_word (form ∷ name ∷ other ∷ others) = None
+-- how many bytes a workflow or a script may have
+abbrev pub most_text : ℕ
+most_text = 2 ^ 20
 
-abbrev pub words_read : Option (List ℕ) → Result (List ℕ) Stop
-words_read None = Err stop.Usage
-words_read (Some name) = Ok name
+-- how many bytes the files of all scans may have together
+abbrev pub most_scanned : ℕ
+most_scanned = 2 ^ 25
+
+-- how many rows all operators of a query may give together
+abbrev pub most_rows : ℕ
+most_rows = 2 ^ 40
 
 -- ---- files
 
-abbrev pub found_file : List ℕ → Option (List ℕ) → Result (List ℕ) Stop
-found_file name None = Err (stop.ReadFault name)
-found_file name (Some bytes) = Ok bytes
+-- a file has to be there, and may have so many bytes
+abbrev pub sized : ℕ → List ℕ → Option (List ℕ) → Result (List ℕ) Stop
+sized most name None = Err (stop.ReadFault name)
+sized most name (Some bytes) = if nat_le (length bytes) most then Ok bytes else Err (stop.TooLarge name)
 
--- a file, which has to be there
-unfoldable pub load_of : List ℕ → Named → Result (List ℕ) Stop
-load_of name files = found_file name (finmap.get files name)
+-- a file of this name
+unfoldable pub load_of : ℕ → List ℕ → Named → Result (List ℕ) Stop
+load_of most name files = sized most name (finmap.get files name)
 
--- the workflow that was read; so far each refusal is told as one of the whole
+-- the workflow that was read, or the first reason against it
 abbrev pub flow_read : Result (List Operator) Fault → Result (List Operator) Stop
 flow_read (Ok flow) = Ok flow
-flow_read (Err fault) = Err (stop.BadFlow 0 (reason.Flow Shape))
+flow_read (Err fault) = Err (stop.BadFlow fault.op (reason.Flow fault.why))
+
+-- the workflow in the file of this name
+unfoldable pub workflow_in : List ℕ → Named → Result (List Operator) Stop
+workflow_in name files = then_on (load_of most_text name files) (λ bytes. flow_read (workflow_of bytes))
+
+-- the script in the file of this name
+unfoldable pub script_in : List ℕ → Named → Result (Unit {0}) Stop
+script_in name files = then_on (load_of most_text name files) (λ bytes. script_read (first_said bytes))
+
+-- ---- the log
+
+-- whether a scan reads this file
+abbrev pub reads : List ℕ → What → Bool
+reads log (what.Scan file) = bytes_eq file log
+reads log other = false
+
+-- the first scan, of the operators from this number on, that reads the log
+unfoldable pub log_scan : ℕ → List ℕ → List Operator → Option ℕ
+log_scan op log [] = None
+log_scan op log (operator ∷ more) = if reads log operator.what then Some op else log_scan (op + 1) log more
+
+-- the log has to be none of the scans' files
+abbrev pub apart_from : List Operator → Option ℕ → Result (List Operator) Stop
+apart_from flow None = Ok flow
+apart_from flow (Some op) = Err (stop.BadFlow op reason.LogName)
+
+-- the workflow of a run, whose scans do not read the log
+unfoldable pub run_flow : List ℕ → List ℕ → Named → Result (List Operator) Stop
+run_flow workflow log files = then_on (workflow_in workflow files) (λ flow. apart_from flow (log_scan 1 log flow))
+
+-- ---- scans
 
 -- a scan's file has to begin with the names of its columns
 abbrev pub headed : ℕ → List Column → List ℕ → Result (List ℕ) Stop
 headed op columns bytes = if has_header columns bytes then Ok bytes else Err (stop.BadFlow op reason.Header)
 
--- a file before those of later scans
-abbrev pub file_before : Result (List (List ℕ)) Stop → List ℕ → Result (List (List ℕ)) Stop
-file_before (Ok others) bytes = Ok (bytes ∷ others)
-file_before (Err s) bytes = Err s
+-- the file of a scan, where all scans from it on may have so many bytes together
+unfoldable pub scan_file : ℕ → ℕ → List ℕ → List Column → Named → Result (List ℕ) Stop
+scan_file op left name columns files = then_on (load_of left name files) (headed op columns)
 
--- the file of an operator, where it is a scan, before those of later scans
-abbrev pub scan_before : ℕ → What → List Column → Named → Result (List (List ℕ)) Stop → Result (List (List ℕ)) Stop
-scan_before op (what.Scan name) columns files later = then_on (load_of name files) (λ bytes. then_on (headed op columns bytes) (file_before later))
-scan_before op (what.Filter input cond) columns files later = later
-scan_before op (what.Project input from) columns files later = later
-scan_before op (what.Join build probe build_keys probe_keys) columns files later = later
-scan_before op (what.Group input keys aggs) columns files later = later
-scan_before op (what.Sink input) columns files later = later
+-- a file before those of later scans
+abbrev pub file_before : List ℕ → Result (List (List ℕ)) Stop → Result (List (List ℕ)) Stop
+file_before bytes (Ok others) = Ok (bytes ∷ others)
+file_before bytes (Err s) = Err s
+
+-- the file of an operator, where it is a scan, before those of later scans, which may have the bytes that it leaves
+abbrev pub scan_before : ℕ → ℕ → What → List Column → Named → (ℕ → Result (List (List ℕ)) Stop) → Result (List (List ℕ)) Stop
+scan_before op left (what.Scan name) columns files later = then_on (scan_file op left name columns files) (λ bytes. file_before bytes (later (left - length bytes)))
+scan_before op left other columns files later = later left
 
 -- the files of the scans among the operators from this number on
-unfoldable pub scans_of : ℕ → List Operator → Named → Result (List (List ℕ)) Stop
-scans_of op [] files = Ok []
-scans_of op (operator ∷ more) files = scan_before op operator.what operator.schema files (scans_of (op + 1) more files)
+unfoldable pub scans_from : ℕ → ℕ → List Operator → Named → Result (List (List ℕ)) Stop
+scans_from op left [] files = Ok []
+scans_from op left (operator ∷ more) files = scan_before op left operator.what operator.schema files (λ rest. scans_from (op + 1) rest more files)
 
--- ---- rows and records
-
--- how many rows all operators of a call may give together
-abbrev pub most_rows : ℕ
-most_rows = 2 ^ 40
-
--- so far a record that is no row refuses the workflow, as a wrong header of its scan does
-abbrev pub without_faults : List Refusal → Job → Result Job Stop
-without_faults [] job = Ok job
-without_faults (refusal.Record op number fault ∷ more) job = Err (stop.BadFlow op reason.Header)
-without_faults (refusal.Group op key ∷ more) job = without_faults more job
-
--- the rows are few enough, and every record of a scan is a row
-abbrev pub course_rows : List Operator → List (List ℕ) → Result Job Stop
-course_rows flow inputs =
-    if nat_le (row_total flow inputs) most_rows then without_faults (answer_of flow inputs).refused (record { flow = flow; files = inputs }) else Err stop.Long
+-- the files of a workflow's scans
+unfoldable pub scans_of : List Operator → Named → Result (List (List ℕ)) Stop
+scans_of flow files = scans_from 1 most_scanned flow files
 
 -- ---- the order of work
 
-unfoldable pub course_scans : List Operator → Named → Result Job Stop
-course_scans flow files = then_on (scans_of 1 flow files) (course_rows flow)
+abbrev pub words_read : Option Words → Result Words Stop
+words_read None = Err stop.Usage
+words_read (Some words) = Ok words
 
-unfoldable pub workflow_in : List ℕ → Named → Result (List Operator) Stop
-workflow_in name files = then_on (load_of name files) (λ bytes. flow_read (workflow_of bytes))
+-- the job that words ask for: the workflow is loaded and read; for a run its scans' files are compared with the log, and the script is
+-- loaded and read; each scan's file is loaded and its header compared
+unfoldable pub job_of : Words → Named → Result Job Stop
+job_of (form.Plain workflow) files =
+    then_on (workflow_in workflow files) (λ flow. then_on (scans_of flow files) (λ inputs. Ok (job.Plain flow inputs)))
+job_of (form.Run words) files =
+    then_on (run_flow words.workflow words.log files)
+    (λ flow. then_on (script_in words.script files) (λ read. then_on (scans_of flow files) (λ inputs. Ok (job.Run flow inputs words.log words.threads words.batch))))
 
-unfoldable pub course_plain : List ℕ → Named → Result Job Stop
-course_plain name files = then_on (workflow_in name files) (λ flow. course_scans flow files)
+-- the operators of a query that is printed at once give no more rows than they may
+abbrev pub limited : Job → Result Job Stop
+limited (job.Plain flow inputs) = if nat_le (row_total flow inputs) most_rows then Ok (job.Plain flow inputs) else Err stop.Long
+limited (job.Run flow inputs log threads batch) = Ok (job.Run flow inputs log threads batch)
 
--- the words are read; the workflow is loaded and read; each scan's file is loaded and its header compared; the
--- rows of all operators are counted; the records are typed
+-- the words are read; the files are loaded and read; for `plain` the rows of all operators are counted
 unfoldable pub course_of : List (List ℕ) → Named → Result Job Stop
-course_of words files = then_on (words_read (workflow_word words)) (λ name. course_plain name files)
+course_of words files = then_on (words_read (words_of words)) (λ read. then_on (job_of read files) limited)
 
 -- ---- the files that the order of work loads
 
@@ -122,9 +143,18 @@ course_of words files = then_on (words_read (workflow_word words)) (λ name. cou
 abbrev pub IsScanFile : List Operator → List ℕ → Type 0
 IsScanFile flow file = (operator : Operator) × Contains flow operator × (operator.what ≡ what.Scan file)
 
--- the workflow's, and those of its scans where it is one
-abbrev pub IsLoaded : List ℕ → Named → List ℕ → Type 0
-IsLoaded name files file = (file ≡ name) ⊎ ((flow : List Operator) × (workflow_in name files ≡ Ok flow) × IsScanFile flow file)
+-- the file of a scan of the workflow, where it is one
+abbrev pub IsScanned : List ℕ → Named → List ℕ → Type 0
+IsScanned workflow files file = (flow : List Operator) × (workflow_in workflow files ≡ Ok flow) × IsScanFile flow file
+
+-- the script of a run, where its workflow stands, and the file of a scan of it, where the script stands too
+abbrev pub IsBehind : List ℕ → List ℕ → List ℕ → Named → List ℕ → Type 0
+IsBehind workflow script log files file =
+    (flow : List Operator) × (run_flow workflow log files ≡ Ok flow) × ((file ≡ script) ⊎ ((script_in script files ≡ Ok tt) × IsScanFile flow file))
+
+abbrev pub IsLoaded : Words → Named → List ℕ → Type 0
+IsLoaded (form.Plain workflow) files file = (file ≡ workflow) ⊎ IsScanned workflow files file
+IsLoaded (form.Run words) files file = (file ≡ words.workflow) ⊎ IsBehind words.workflow words.script words.log files file
 
 abbrev pub IsReached : List (List ℕ) → Named → List ℕ → Type 0
-IsReached words files file = (name : List ℕ) × (workflow_word words ≡ Some name) × IsLoaded name files file
+IsReached words files file = (read : Words) × (words_of words ≡ Some read) × IsLoaded read files file

@@ -1,7 +1,11 @@
 pub mod Status
 pub mod Stop
+pub mod Words
+pub mod Script
 pub mod Course
-pub mod Loading
 pub mod Answering
 pub mod Outcome
 pub mod Steps
+pub mod Task
+pub mod Standing
+pub mod Writing

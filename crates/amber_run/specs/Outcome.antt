@@ -1,101 +1,127 @@
 -- What the status of a call says, and what the call leaves.
-use Rattle.std.specs.Prelude.{◌≡◌, ◌≢◌, ℕ, ◌-◌, ◌^◌, ◌<◌, ◌≤◌, ◌⊎◌, List, Option, None, Result, Ok, Err, IsSome, ⊤}
-use Rattle.std.specs.Io.KnownBytes.{Appends, Keeps}
+use Rattle.std.specs.Prelude.{◌≡◌, ◌≢◌, ℕ, ◌-◌, ◌^◌, ◌<◌, ◌≤◌, ◌⊎◌, List, [], ◌++◌, Option, None, Some, Result, Ok, Err, IsSome, ⊤}
+use Rattle.std.specs.Io.KnownBytes.{Appends}
 use Rattle.amber_io.specs.Counts.{Rose}
 use Rattle.amber_io.specs.Folder.{Named, Told}
 use Rattle.amber_io.specs.Sink.{Begins}
-use Rattle.amber_run.specs.Course.{IsReached, Job, course_of, output_of, workflow_word}
+use Rattle.amber_meaning.specs.Legal.{query_over}
+use Rattle.amber_meaning.specs.Total.{step_total}
+use Rattle.amber_run.specs.Answering.{BreaksOff, Fulfils, IsUntouched}
+use Rattle.amber_run.specs.Course.{IsReached, course_of}
+use Rattle.amber_run.specs.Task.{most_steps}
+use Rattle.amber_run.specs.Words.{words_of}
+use Rattle.amber_run.specs.declared.job.Job.{Job}
+use Rattle.amber_run.specs.declared.job.Job.TheVariants as job
 use Rattle.amber_run.specs.Steps.{Names, Stopped, Tells}
 use Rattle.amber_run.specs.Stop.{line_of, status_of}
 use Rattle.amber_run.specs.declared.status.Status.{Status}
 use Rattle.amber_run.specs.declared.status.Status.TheVariants as status
 use Rattle.amber_run.specs.declared.stop.Stop.{Stop}
 use Rattle.amber_run.specs.declared.stop.Stop.TheVariants as stop
+use Rattle.amber_run.specs.declared.words.Words.{Words}
+use Rattle.amber_run.specs.declared.words.Words.TheVariants as form
 
 -- ---- the status
 
--- the statuses that are left where the course has a job: the sink may refuse the output, and memory may run out
-abbrev pub IsOpen : Status → Type 0
-IsOpen status.Ok = ⊤
-IsOpen status.Usage = ⊥
-IsOpen status.BadFlow = ⊥
-IsOpen status.BadScript = ⊥
-IsOpen status.ReadFault = ⊥
-IsOpen status.LogFault = ⊥
-IsOpen status.OutFault = ⊤
-IsOpen status.BadLog = ⊥
-IsOpen status.Long = ⊥
-IsOpen status.TooLarge = ⊥
-IsOpen status.NoMemory = ⊤
+-- the statuses of an answer that is printed at once: the sink may fail, and memory may run out
+abbrev pub IsPrintStatus : Status → Type 0
+IsPrintStatus status.Ok = ⊤
+IsPrintStatus status.OutFault = ⊤
+IsPrintStatus status.NoMemory = ⊤
+IsPrintStatus other = ⊥
+
+-- the statuses of a run: the log may also fail, and the steps may be too many
+abbrev pub IsRunStatus : Status → Type 0
+IsRunStatus status.Ok = ⊤
+IsRunStatus status.LogFault = ⊤
+IsRunStatus status.OutFault = ⊤
+IsRunStatus status.Long = ⊤
+IsRunStatus status.NoMemory = ⊤
+IsRunStatus other = ⊥
+
+-- the statuses that are left where the course has a job
+abbrev pub IsOpen : Job → Status → Type 0
+IsOpen (job.Plain flow files) result = IsPrintStatus result
+IsOpen (job.Run flow files log threads batch) result = IsRunStatus result
 
 -- the course decides the status, but for want of memory and for reads that failed, which raise the count of failed loads
 abbrev pub Answers : Result Job Stop → Status → ℕ → ℕ → Type 0
-Answers (Ok job) result old new = IsOpen result ⊎ ((result ≡ status.ReadFault) × Rose old new)
+Answers (Ok job) result old new = IsOpen job result ⊎ ((result ≡ status.ReadFault) × Rose old new)
 Answers (Err s) result old new = (result ≡ status_of s) ⊎ (result ≡ status.NoMemory) ⊎ ((result ≡ status.ReadFault) × Rose old new)
 
--- ---- what was printed
+-- the course has a job, which meets the limit on its steps
+abbrev pub IsWithin : Result Job Stop → Type 0
+IsWithin (Ok (job.Plain flow files)) = ⊤
+IsWithin (Ok (job.Run flow files log threads batch)) = step_total (query_over flow files batch most_steps) ≤ most_steps
+IsWithin (Err s) = ⊥
 
--- the course has a job, and the sink got its output
-abbrev pub Prints : List (List ℕ) → Named → Option (List ℕ) → Option (List ℕ) → Type 0
-Prints words files before got = (job : Job) × (course_of words files ≡ Ok job) × Appends before got (output_of job)
+-- the statuses where the course has a job and only the sink has failed
+abbrev pub IsSinkStatus : Result Job Stop → Status → Type 0
+IsSinkStatus (Ok (job.Plain flow files)) result = (result ≡ status.OutFault) ⊎ (result ≡ status.NoMemory)
+IsSinkStatus (Ok (job.Run flow files log threads batch)) result = (result ≡ status.OutFault) ⊎ (result ≡ status.Long) ⊎ (result ≡ status.NoMemory)
+IsSinkStatus (Err s) result = ⊤
 
--- the course has a job, and the sink got a front part of its output
-abbrev pub PrintsPart : List (List ℕ) → Named → Option (List ℕ) → Option (List ℕ) → Type 0
-PrintsPart words files before got = (job : Job) × (course_of words files ≡ Ok job) × Begins before got (output_of job)
+-- the words do not ask for a run
+abbrev pub AsksNoRun : Option Words → Type 0
+AsksNoRun None = ⊤
+AsksNoRun (Some (form.Plain workflow)) = ⊤
+AsksNoRun (Some (form.Run words)) = ⊥
+
+-- ---- what a call leaves
+
+-- the course has a job, and it is done
+abbrev pub Succeeds : List (List ℕ) → Named → Option Named → Option Named → Option (List ℕ) → Option (List ℕ) → Type 0
+Succeeds words files told now before got = (job : Job) × (course_of words files ≡ Ok job) × Fulfils job told now before got
+
+-- the course has a job, and it was broken off
+abbrev pub Breaks : List (List ℕ) → Stop → List ℕ → Option Named → Option Named → Option (List ℕ) → Option (List ℕ) → Type 0
+Breaks words s line told now before got = Told told (λ files. (job : Job) × (course_of words files ≡ Ok job) × BreaksOff job s line told now before got)
 
 -- a stop behind the words is that of the course, but for want of memory and for reads that failed
 abbrev pub IsCause : List (List ℕ) → Option Named → Stop → ℕ → ℕ → Type 0
 IsCause words told s old new = Stopped s old new (Told told (λ files. course_of words files ≡ Err s)) (Tells told (λ files. course_of words files ≡ Err s))
 
--- what a call that stopped has printed: a front part of the output where the sink failed, else of the stop's line alone
-abbrev pub Stops : List (List ℕ) → Option Named → Stop → Option (List ℕ) → Option (List ℕ) → ℕ → ℕ → Type 0
-Stops words told stop.OutFault before got old new = (new ≡ old) × Told told (λ files. PrintsPart words files before got)
-Stops words told stop.Usage before got old new = (new ≡ old) × (workflow_word words ≡ None) × Begins before got (line_of stop.Usage)
-Stops words told (stop.BadFlow op why) before got old new = IsCause words told (stop.BadFlow op why) old new × Begins before got (line_of (stop.BadFlow op why))
-Stops words told (stop.ReadFault name) before got old new = IsCause words told (stop.ReadFault name) old new × Begins before got (line_of (stop.ReadFault name))
-Stops words told stop.Long before got old new = IsCause words told stop.Long old new × Begins before got (line_of stop.Long)
-Stops words told stop.NoMemory before got old new = Begins before got (line_of stop.NoMemory)
+-- what a call that stopped leaves, with this part of the stop's line. `old` and `new` count the failed loads
+abbrev pub Stops : List (List ℕ) → Stop → List ℕ → Option Named → Option Named → Option (List ℕ) → Option (List ℕ) → ℕ → ℕ → Type 0
+Stops words stop.Usage line told now before got old new = (new ≡ old) × (words_of words ≡ None) × IsUntouched line told now before got
+Stops words stop.LogFault line told now before got old new = (new ≡ old) × Breaks words stop.LogFault line told now before got
+Stops words stop.OutFault line told now before got old new = (new ≡ old) × Breaks words stop.OutFault line told now before got
+Stops words stop.Long line told now before got old new =
+    (new ≡ old) × ((Told told (λ files. course_of words files ≡ Err stop.Long) × IsUntouched line told now before got) ⊎ Breaks words stop.Long line told now before got)
+Stops words stop.NoMemory line told now before got old new = IsUntouched line told now before got ⊎ ((new ≡ old) × Breaks words stop.NoMemory line told now before got)
+Stops words other line told now before got old new = IsCause words told other old new × IsUntouched line told now before got
 
--- why a call did not end with `Ok`, and what it printed; a file in the line is one that the order of work loads, and the line is
--- whole unless the sink failed or memory ran out
-pub record Ended (words : List (List ℕ)) (result : Status) (told : Option Named) (before got : Option (List ℕ)) (loads loads_now faults faults_now : ℕ) : Type 0 where
+-- why a call did not end with `Ok`, and what it left; a file in the line is one that the order of work loads, and the line is whole
+-- unless the sink failed or memory ran out
+pub record Ended (words : List (List ℕ)) (result : Status) (told now : Option Named) (before got : Option (List ℕ)) (loads loads_now faults faults_now : ℕ) : Type 0 where
   pub cause : Stop
   pub answer : (result ≡ status_of cause) ⊎ (result ≡ status.NoMemory)
-  pub printed : Stops words told cause before got loads loads_now
+  -- what was put of the cause's line, and what was not
+  pub line : List ℕ
+  pub rest : List ℕ
+  pub split : line ++ rest ≡ line_of cause
+  pub whole : result ≢ status.NoMemory → faults_now ≡ faults → faults < 2 ^ 64 - 1 → line ≡ line_of cause
+  pub left : Stops words cause line told now before got loads loads_now
   pub named : Told told (λ files. Names cause (IsReached words files))
-  pub whole : result ≢ status.OutFault → result ≢ status.NoMemory → faults_now ≡ faults → faults < 2 ^ 64 - 1 → Appends before got (line_of cause)
 
 -- ---- the steps of a call
 
 -- a run before its error line
-abbrev pub Runs : {A : Type 0} → Result A Stop → List (List ℕ) → Option Named → Option (List ℕ) → Option (List ℕ) → ℕ → ℕ → Type 0
-Runs (Ok x) words told before got old new = (new ≡ old) × Told told (λ files. Prints words files before got)
-Runs (Err stop.OutFault) words told before got old new = (new ≡ old) × Told told (λ files. PrintsPart words files before got)
-Runs (Err stop.Usage) words told before got old new = (new ≡ old) × (workflow_word words ≡ None) × Keeps before got
-Runs (Err (stop.BadFlow op why)) words told before got old new = IsCause words told (stop.BadFlow op why) old new × Keeps before got
-Runs (Err (stop.ReadFault name)) words told before got old new = IsCause words told (stop.ReadFault name) old new × Keeps before got
-Runs (Err stop.Long) words told before got old new = IsCause words told stop.Long old new × Keeps before got
-Runs (Err stop.NoMemory) words told before got old new = Keeps before got
+abbrev pub Runs : {A : Type 0} → Result A Stop → List (List ℕ) → Option Named → Option Named → Option (List ℕ) → Option (List ℕ) → ℕ → ℕ → Type 0
+Runs (Ok x) words told now before got old new = (new ≡ old) × Told told (λ files. Succeeds words files told now before got)
+Runs (Err s) words told now before got old new = Stops words s [] told now before got old new
 
 -- the count of failed puts stands, unless the sink failed
 abbrev pub Counts : {A : Type 0} → Result A Stop → ℕ → ℕ → Type 0
 Counts (Ok x) old new = new ≡ old
 Counts (Err stop.OutFault) old new = (old ≤ new) × Rose old new
-Counts (Err stop.Usage) old new = new ≡ old
-Counts (Err (stop.BadFlow op why)) old new = new ≡ old
-Counts (Err (stop.ReadFault name)) old new = new ≡ old
-Counts (Err stop.Long) old new = new ≡ old
-Counts (Err stop.NoMemory) old new = new ≡ old
+Counts (Err other) old new = new ≡ old
 
--- the words are refused where they name no workflow, and only there
+-- the words are refused where they ask for nothing, and only there
 abbrev pub Worded : {A : Type 0} → Result A Stop → List (List ℕ) → Type 0
-Worded (Ok x) words = IsSome (workflow_word words)
-Worded (Err stop.Usage) words = workflow_word words ≡ None
-Worded (Err (stop.BadFlow op why)) words = IsSome (workflow_word words)
-Worded (Err (stop.ReadFault name)) words = IsSome (workflow_word words)
-Worded (Err stop.OutFault) words = IsSome (workflow_word words)
-Worded (Err stop.Long) words = IsSome (workflow_word words)
-Worded (Err stop.NoMemory) words = IsSome (workflow_word words)
+Worded (Ok x) words = IsSome (words_of words)
+Worded (Err stop.Usage) words = words_of words ≡ None
+Worded (Err other) words = IsSome (words_of words)
 
 -- a refusal was told: its line, or for want of memory a front part of it
 abbrev pub Refuses : Status → Stop → Option (List ℕ) → Option (List ℕ) → ℕ → ℕ → Type 0

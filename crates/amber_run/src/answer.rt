@@ -1,13 +1,17 @@
-ghost use Rattle.std.specs.Prelude.{◌≡◌, length};
-ghost use Rattle.amber_flow.specs.Built.{AreBuilt};
-ghost use Rattle.amber_meaning.specs.Plain.{scan_count};
-ghost use Rattle.amber_run.specs.Answering.{IsAnswer, IsFaultless};
-ghost use Rattle.amber_run.specs.Loading.{text_of};
+ghost use Rattle.std.specs.Prelude.{◌≡◌, ℕ, Option};
+ghost use Rattle.amber_io.specs.Folder.{Named};
+ghost use Rattle.amber_run.specs.Answering.{AreInputs, IsAnswer, IsPlain, IsReady, Works, text_of};
+ghost use Rattle.amber_run.specs.Outcome.{Counts};
 ghost use Rattle.amber_run.specs.Steps.{Judges};
+ghost use Rattle.amber_run.specs.Writing.{CountsWrites};
 
-use crate::report::rows_text;
-use crate::stop::{Reason, Stop};
-use amber_meaning::{Answer, PlainErr, Refusal, plain};
+use crate::job::Job;
+use crate::refusal::put_output;
+use crate::stop::Stop;
+use crate::work::work;
+use amber_io::{Folder, Sink};
+use amber_meaning::{Answer, PlainErr, plain};
+use amber_report::answer_lines;
 use amber_rows::{Bytes, Files, Flow};
 use std::alloc::Global;
 use std::mem;
@@ -15,48 +19,67 @@ use std::mem;
 // How many rows all operators may give together.
 const MOST_ROWS: u64 = 1 << 40;
 
-// The sequential answer, where each scan's file begins with the names of its columns and the rows are few enough.
+// The sequential answer, where the rows are few enough.
 fn query(alloc: Global, flow: &Flow, files: &Files) -> Result<Answer, Stop>
-    requires { length files.now ≡ scan_count flow.now }
+    requires { AreInputs flow.now files.now }
     ensures { IsAnswer result flow.now files.now }
 {
     match plain(alloc, flow, files, MOST_ROWS) {
         Ok(answer) => Ok(answer),
-        Err(PlainErr::Header(op)) => Err(Stop::BadFlow {
-            op,
-            why: Reason::Header,
-        }),
+        // Each file begins with the names of its columns.
+        Err(PlainErr::Header(_)) => unreachable!(),
         Err(PlainErr::Long) => Err(Stop::Long),
         Err(PlainErr::NoMemory) => Err(Stop::NoMemory),
     }
 }
 
-// So far a record that is no row refuses the workflow, as a wrong header of its scan does.
-fn without_faults(answer: &Answer) -> Result<(), Stop>
-    ensures { IsFaultless result answer.now.refused }
-{
-    let refused = answer.refused.get();
-    for refusal in refused {
-        if let Refusal::Record { op, .. } = refusal {
-            return Err(Stop::BadFlow {
-                op: *op,
-                why: Reason::Header,
-            });
-        }
-    }
-    Ok(())
-}
-
 // The text of the sequential answer.
-pub(crate) fn answer_text(alloc: Global, flow: &Flow, files: &Files) -> Result<Bytes, Stop>
-    requires count { length files.now ≡ scan_count flow.now }
-    requires built { AreBuilt flow.now }
+fn answer_text(alloc: Global, flow: &Flow, files: &Files) -> Result<Bytes, Stop>
+    requires { AreInputs flow.now files.now }
     ensures { Judges result (text_of flow.now files.now) }
 {
     let answer = query(alloc, flow, files)?;
-    without_faults(&answer)?;
-    let text = rows_text(alloc, &answer.columns, &answer.rows)?;
+    let text = answer_lines(alloc, flow, &answer)?;
     // The program is about to end, so the rows are not freed one by one.
     mem::forget(answer.rows);
-    Ok(Bytes::new(text))
+    Ok(text)
+}
+
+// Prints the sequential answer.
+fn print_answer<O: Sink>(alloc: Global, flow: &Flow, files: &Files, out: &mut O) -> Result<(), Stop>
+    requires { AreInputs flow.now files.now }
+    ensures works { (told : Option Named) → Works result (Job.Plain flow.now files.now) told told (O.written out.old) (O.written out.new) }
+    ensures puts { Counts result (O.faults out.old) (O.faults out.new) }
+    ensures still { (writes : ℕ) → CountsWrites result writes writes }
+{
+    let text = answer_text(alloc, flow, files)?;
+    put_output(out, text.get())?;
+    Ok(())
+}
+
+/// Does a job.
+pub(crate) fn do_job<F: Folder, O: Sink>(
+    alloc: Global,
+    job: Job,
+    folder: &mut F,
+    out: &mut O,
+) -> Result<(), Stop>
+    requires { IsReady job }
+    ensures works { Works result job (F.files folder.old) (F.files folder.new) (O.written out.old) (O.written out.new) }
+    ensures writes { CountsWrites result (F.write_faults folder.old) (F.write_faults folder.new) }
+    ensures puts { Counts result (O.faults out.old) (O.faults out.new) }
+    ensures loads { F.load_faults folder.new ≡ F.load_faults folder.old }
+    ensures same { IsPlain job → F.files folder.new ≡ F.files folder.old }
+    ensures idle { IsPlain job → F.write_faults folder.new ≡ F.write_faults folder.old }
+{
+    match job {
+        Job::Plain { flow, files } => print_answer(alloc, &flow, &files, out),
+        Job::Run {
+            flow,
+            files,
+            log,
+            threads,
+            batch,
+        } => work(alloc, flow, files, log.get(), threads, batch, folder, out),
+    }
 }

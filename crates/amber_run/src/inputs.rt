@@ -1,16 +1,17 @@
-ghost use Rattle.std.specs.Prelude.{◌≡◌, length, IfErr, IfOk};
-ghost use Rattle.amber_meaning.specs.Plain.{scan_count};
-ghost use Rattle.amber_run.specs.Course.{IsScanFile, flow_read, load_of, workflow_in};
-ghost use Rattle.amber_run.specs.Loading.{loads_of};
-ghost use Rattle.amber_run.specs.Steps.{Follows, IsMissing, Judges, Names};
-ghost use Rattle.amber_flow.specs.Built.{AreBuilt};
+ghost use Rattle.std.specs.Prelude.{◌≡◌, ◌<◌, ◌≤◌, ◌^◌, length, IfErr, IfOk};
+ghost use Rattle.amber_flow.specs.Alone.{AreAlone};
 ghost use Rattle.amber_flow.specs.Workflow.{workflow_of};
+ghost use Rattle.amber_run.specs.Course.{flow_read, load_of, workflow_in};
+ghost use Rattle.amber_run.specs.Steps.{Follows, IsBounded, IsMissing, IsOversized, Judges, Names};
 
 use crate::stop::{Reason, Stop};
 use amber_flow::{FlowErr, read_flow};
 use amber_io::{Folder, IoErr};
-use amber_rows::{Bytes, Files, Flow, Operator, Text, What};
+use amber_rows::{Bytes, Flow, Text};
 use std::alloc::Global;
+
+// How many bytes a workflow or a script may have.
+pub(crate) const MOST_TEXT: u64 = 1 << 20;
 
 // The stop for a file that could not be read.
 fn unread(alloc: Global, name: &str) -> Stop
@@ -24,15 +25,44 @@ fn unread(alloc: Global, name: &str) -> Stop
     }
 }
 
-// All bytes of a file.
-fn load<F: Folder>(alloc: Global, name: &str, folder: &mut F) -> Result<Bytes, Stop>
-    ensures course { Follows result (F.files folder.old) (load_of name.now) (F.load_faults folder.old) (F.load_faults folder.new) }
+// The stop for a file that is too large.
+fn oversized(alloc: Global, name: &str) -> Stop
+    ensures { IsOversized result name.now }
+{
+    match String::from_str(alloc, name) {
+        Ok(name) => Stop::TooLarge {
+            name: Text::new(name),
+        },
+        Err(_) => Stop::NoMemory,
+    }
+}
+
+// The first bytes of a file, where they are no more than it may have.
+fn bounded(alloc: Global, name: &str, most: u64, bytes: Vec<u8>) -> Result<Bytes, Stop>
+    ensures { IsBounded result name.now most bytes.items }
+{
+    if bytes.len() as u64 > most {
+        return Err(oversized(alloc, name));
+    }
+    Ok(Bytes::new(bytes))
+}
+
+/// All bytes of a file, of which it may have so many.
+pub(crate) fn load<F: Folder>(
+    alloc: Global,
+    name: &str,
+    most: u64,
+    folder: &mut F,
+) -> Result<Bytes, Stop>
+    requires { most < 2 ^ 63 }
+    ensures course { Follows result (F.files folder.old) (load_of most name.now) (F.load_faults folder.old) (F.load_faults folder.new) }
+    ensures few { IfOk result (λ bytes. length bytes ≤ most) }
     ensures named { IfErr result (λ stop. Names stop (λ file. file ≡ name.now)) }
     ensures same { F.files folder.new ≡ F.files folder.old }
     ensures writes { F.write_faults folder.new ≡ F.write_faults folder.old }
 {
-    match folder.load(alloc, name, u64::MAX) {
-        Ok(bytes) => Ok(Bytes::new(bytes)),
+    match folder.load(alloc, name, most + 1) {
+        Ok(bytes) => bounded(alloc, name, most, bytes),
         Err(IoErr::Failed) => Err(unread(alloc, name)),
         Err(IoErr::NoMemory) => Err(Stop::NoMemory),
     }
@@ -41,7 +71,7 @@ fn load<F: Folder>(alloc: Global, name: &str, folder: &mut F) -> Result<Bytes, S
 // The workflow that the bytes of a file are.
 fn read(alloc: Global, bytes: &Bytes) -> Result<Flow, Stop>
     ensures flow { Judges result (flow_read (workflow_of bytes.now)) }
-    ensures built { IfOk result (λ flow. AreBuilt flow) }
+    ensures alone { IfOk result (λ flow. AreAlone flow) }
 {
     match read_flow(alloc, bytes.get()) {
         Ok(flow) => Ok(flow),
@@ -53,35 +83,14 @@ fn read(alloc: Global, bytes: &Bytes) -> Result<Flow, Stop>
     }
 }
 
-// The workflow in a file.
+/// The workflow in a file.
 pub(crate) fn load_flow<F: Folder>(alloc: Global, name: &str, folder: &mut F) -> Result<Flow, Stop>
     ensures course { Follows result (F.files folder.old) (workflow_in name.now) (F.load_faults folder.old) (F.load_faults folder.new) }
+    ensures alone { IfOk result (λ flow. AreAlone flow) }
     ensures named { IfErr result (λ stop. Names stop (λ file. file ≡ name.now)) }
-    ensures built { IfOk result (λ flow. AreBuilt flow) }
     ensures same { F.files folder.new ≡ F.files folder.old }
     ensures writes { F.write_faults folder.new ≡ F.write_faults folder.old }
 {
-    let bytes = load(alloc, name, folder)?;
+    let bytes = load(alloc, name, MOST_TEXT, folder)?;
     read(alloc, &bytes)
-}
-
-// The files of the scans among the operators, in their order.
-pub(crate) fn load_scans<F: Folder>(
-    alloc: Global,
-    operators: &[Operator],
-    folder: &mut F,
-) -> Result<Files, Stop>
-    ensures course { Follows result (F.files folder.old) (loads_of operators.now) (F.load_faults folder.old) (F.load_faults folder.new) }
-    ensures named { IfErr result (λ stop. Names stop (IsScanFile operators.now)) }
-    ensures count { IfOk result (λ files. length files ≡ scan_count operators.now) }
-    ensures same { F.files folder.new ≡ F.files folder.old }
-    ensures writes { F.write_faults folder.new ≡ F.write_faults folder.old }
-{
-    let mut files = Vec::new(alloc);
-    for operator in operators {
-        if let What::Scan { file } = &operator.what {
-            files.push(load(alloc, file.get(), folder)?)?;
-        }
-    }
-    Ok(Files::new(files))
 }

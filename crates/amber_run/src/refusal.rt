@@ -2,10 +2,10 @@ ghost use Rattle.std.specs.Prelude.{◌≡◌, ◌++◌, codes};
 ghost use Rattle.std.specs.Fmt.{decimal};
 ghost use Rattle.amber_run.specs.Outcome.{Refuses};
 ghost use Rattle.amber_run.specs.Steps.{Lined, Sent};
-ghost use Rattle.amber_run.specs.Stop.{line_of, reason_word};
+ghost use Rattle.amber_run.specs.Stop.{line_of};
 
 use crate::status::Status;
-use crate::stop::{Reason, Stop};
+use crate::stop::Stop;
 use amber_io::{IoErr, Sink};
 use itoa::Buffer;
 
@@ -16,26 +16,26 @@ fn put_piece<O: Sink>(out: &mut O, piece: &[u8]) -> Result<(), IoErr>
     out.put(piece)
 }
 
-// The line for a workflow that was refused, without taking memory.
-fn put_flow_line<O: Sink>(out: &mut O, op: u32, why: Reason) -> Result<(), IoErr>
+// The line for a workflow or a script: these words, a number and the reason. It takes no memory.
+fn put_reason_line<O: Sink>(out: &mut O, words: &[u8], number: u64, why: &str) -> Result<(), IoErr>
     ensures { Lined result (O.written out.old) (O.written out.new) (O.faults out.old) (O.faults out.new)
-        (codes "error 2 flow " ++ (decimal op ++ (codes " " ++ (reason_word why ++ codes "\n")))) }
+        (words.now ++ (decimal number ++ (codes " " ++ (why.now ++ codes "\n")))) }
 {
     let mut buffer = Buffer::new();
-    put_piece(out, b"error 2 flow ")?;
-    put_piece(out, buffer.format(op).as_bytes())?;
+    put_piece(out, words)?;
+    put_piece(out, buffer.format(number).as_bytes())?;
     put_piece(out, b" ")?;
-    put_piece(out, why.word().as_bytes())?;
+    put_piece(out, why.as_bytes())?;
     put_piece(out, b"\n")?;
     Ok(())
 }
 
-// The line for a file that could not be read.
-fn put_read_line<O: Sink>(out: &mut O, name: &str) -> Result<(), IoErr>
+// The line for a file: these words, and its name.
+fn put_file_line<O: Sink>(out: &mut O, words: &[u8], name: &str) -> Result<(), IoErr>
     ensures { Lined result (O.written out.old) (O.written out.new) (O.faults out.old) (O.faults out.new)
-        (codes "error 4 read " ++ (name.now ++ codes "\n")) }
+        (words.now ++ (name.now ++ codes "\n")) }
 {
-    put_piece(out, b"error 4 read ")?;
+    put_piece(out, words)?;
     put_piece(out, name.as_bytes())?;
     put_piece(out, b"\n")?;
     Ok(())
@@ -47,10 +47,20 @@ fn put_line<O: Sink>(out: &mut O, stop: &Stop) -> Result<(), IoErr>
 {
     match stop {
         Stop::Usage => put_piece(out, b"error 1 usage\n"),
-        Stop::BadFlow { op, why } => put_flow_line(out, *op, *why),
-        Stop::ReadFault { name } => put_read_line(out, name.get()),
+        Stop::BadFlow { op, why } => {
+            put_reason_line(out, b"error 2 flow ", u64::from(*op), why.word())
+        }
+        Stop::BadScript { line, why } => put_reason_line(
+            out,
+            b"error 3 script ",
+            *line,
+            why.word(),
+        ),
+        Stop::ReadFault { name } => put_file_line(out, b"error 4 read ", name.get()),
+        Stop::LogFault => put_piece(out, b"error 5 log write\n"),
         Stop::OutFault => Ok(()),
         Stop::Long => put_piece(out, b"error 8 long\n"),
+        Stop::TooLarge { name } => put_file_line(out, b"error 9 large ", name.get()),
         Stop::NoMemory => put_piece(out, b"error 10 memory\n"),
     }
 }

@@ -1,7 +1,8 @@
 ghost use Rattle.std.specs.Prelude.{◌≡◌};
-ghost use Rattle.amber_run.specs.Stop.{reason_word, status_of, why_word};
+ghost use Rattle.amber_run.specs.Stop.{reason_word, status_of};
 ghost use Rattle.amber_run.specs.declared.stop.Stop.TheVariants.{NoMemory};
 
+use crate::script::ScriptWhy;
 use crate::status::Status;
 use amber_flow::FlowWhy;
 use amber_rows::Text;
@@ -12,8 +13,10 @@ use std::alloc::{AllocError, AllocFailed};
 pub enum Reason {
     /// Its text is no workflow.
     Flow(FlowWhy),
-    /// The file of a scan does not fit the scan's columns.
+    /// The file of a scan does not begin with the names of the scan's columns.
     Header,
+    /// The log is the file of a scan.
+    LogName,
 }
 
 /// Why a call ended early, with what its error line says.
@@ -23,12 +26,18 @@ pub enum Stop {
     Usage,
     /// The workflow was refused: the number of an operator, 0 for the whole, and the reason.
     BadFlow { op: u32, why: Reason },
+    /// The script was refused: the number of a line, from 1, and the reason.
+    BadScript { line: u64, why: ScriptWhy },
     /// The file of this name was not there, or could not be read.
     ReadFault { name: Text },
+    /// The log could not be written.
+    LogFault,
     /// The output could not be written.
     OutFault,
-    /// All operators together give more rows than a call may compute.
+    /// All operators together give more rows than a query may.
     Long,
+    /// The file of this name is too large, or passes what the files of all scans may have together.
+    TooLarge { name: Text },
     /// Memory ran out.
     NoMemory,
 }
@@ -41,9 +50,12 @@ impl Stop {
         match self {
             Stop::Usage => Status::Usage,
             Stop::BadFlow { .. } => Status::BadFlow,
+            Stop::BadScript { .. } => Status::BadScript,
             Stop::ReadFault { .. } => Status::ReadFault,
+            Stop::LogFault => Status::LogFault,
             Stop::OutFault => Status::OutFault,
             Stop::Long => Status::Long,
+            Stop::TooLarge { .. } => Status::TooLarge,
             Stop::NoMemory => Status::NoMemory,
         }
     }
@@ -71,28 +83,9 @@ impl Reason {
         ensures { result.now ≡ reason_word self.now }
     {
         match self {
-            Reason::Flow(why) => word_of(*why),
+            Reason::Flow(why) => why.word(),
             Reason::Header => "Header",
+            Reason::LogName => "LogName",
         }
-    }
-}
-
-fn word_of(why: FlowWhy) -> &'static str
-    ensures { result.now ≡ why_word why }
-{
-    match why {
-        FlowWhy::Json => "Json",
-        FlowWhy::Shape => "Shape",
-        FlowWhy::Count => "Count",
-        FlowWhy::Name => "Name",
-        FlowWhy::Duplicate => "Duplicate",
-        FlowWhy::Kind => "Kind",
-        FlowWhy::Workers => "Workers",
-        FlowWhy::Forward => "Forward",
-        FlowWhy::Column => "Column",
-        FlowWhy::Mismatch => "Mismatch",
-        FlowWhy::Wide => "Wide",
-        FlowWhy::SinkPlace => "SinkPlace",
-        FlowWhy::Readers => "Readers",
     }
 }

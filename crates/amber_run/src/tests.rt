@@ -5,15 +5,20 @@ use std::alloc::{AllocError, Global};
 use std::test::Fail;
 
 // A scan of `o.csv`, the orders with at least seven pieces, and the sink.
-const ORDERS: &str =
+pub(crate) const ORDERS: &str =
     r#"{"operators":[{"id":"o","kind":"scan","file":"o.csv","columns":[["id","int"],["item","text"],["qty","int"]]},
 {"id":"f","kind":"filter","input":"o","column":"qty","op":">=","constant":7},{"id":"s","kind":"sink","input":"f"}]}"#;
 
-const ORDER_ROWS: &[u8] = b"id,item,qty\n1,nut,5\n2,bolt,12\n3,nut,7\n4,cog,12\n5,bolt,1\n";
+pub(crate) const ORDER_ROWS: &[u8] =
+    b"id,item,qty\n1,nut,5\n2,bolt,12\n3,nut,7\n4,cog,12\n5,bolt,1\n";
 
 // A scan of `o.csv` straight into the sink: a text and a number, one text, one number.
 const PAIRS: &str =
     r#"{"operators":[{"id":"o","kind":"scan","file":"o.csv","columns":[["t","text"],["n","int"]]},{"id":"s","kind":"sink","input":"o"}]}"#;
+
+// A scan of `o.csv` straight into the sink, with the columns of the orders.
+const ALL_ORDERS: &str =
+    r#"{"operators":[{"id":"o","kind":"scan","file":"o.csv","columns":[["id","int"],["item","text"],["qty","int"]]},{"id":"s","kind":"sink","input":"o"}]}"#;
 
 const TEXTS: &str =
     r#"{"operators":[{"id":"o","kind":"scan","file":"o.csv","columns":[["t","text"]]},{"id":"s","kind":"sink","input":"o"}]}"#;
@@ -23,7 +28,7 @@ const NUMBERS: &str =
 
 const PLAIN: &[&str] = &["plain", "w.json"];
 
-fn numbers(alloc: Global, of: &[u64]) -> Result<Numbers, AllocError> {
+pub(crate) fn numbers(alloc: Global, of: &[u64]) -> Result<Numbers, AllocError> {
     Ok(Numbers::new(Vec::from_slice(alloc, of)?))
 }
 
@@ -66,7 +71,7 @@ fn call(
 
 #[test]
 fn plain_prints_the_rows_in_order(rt: HostRuntime) -> Result<(), Fail> {
-    let cases: [(&str, &str, &[u8], &[u8]); 11] = [
+    let cases: [(&str, &str, &[u8], &[u8]); 14] = [
         (
             "orders",
             ORDERS,
@@ -118,6 +123,24 @@ fn plain_prints_the_rows_in_order(rt: HostRuntime) -> Result<(), Fail> {
             b"rows 1\nt\nx\n",
         ),
         ("a zero byte", TEXTS, b"t\na\0b\n", b"rows 1\nt\na\0b\n"),
+        (
+            "records of other widths and no numbers",
+            ALL_ORDERS,
+            b"id,item,qty\nx,nut\n+07,nut,5\na,nut,5\n",
+            b"refused record o 1 width\nrefused record o 3 int 1\nrows 1\nid,item,qty\n7,nut,5\n",
+        ),
+        (
+            "a number of more than 64 bits",
+            NUMBERS,
+            b"n\n1\n9223372036854775808\n",
+            b"refused record o 2 int 1\nrows 1\nn\n1\n",
+        ),
+        (
+            "bytes that are no text",
+            TEXTS,
+            b"t\n\xff\n",
+            b"refused record o 1 utf8 1\nrows 0\nt\n",
+        ),
     ];
     for (name, workflow, rows, want) in cases {
         let (status, out) = call(
@@ -140,7 +163,7 @@ const ELSEWHERE: &str = "elsewhere";
 #[test]
 fn the_first_refusal_in_the_order_of_work_is_told(rt: HostRuntime) -> Result<(), Fail> {
     // The words, the workflow's name and bytes, the rows' name and bytes.
-    let cases: [(&[&str], &str, &str, &str, &[u8], Status, &str); 15] = [
+    let cases: [(&[&str], &str, &str, &str, &[u8], Status, &str); 11] = [
         (
             &[],
             "w.json",
@@ -240,42 +263,6 @@ fn the_first_refusal_in_the_order_of_work_is_told(rt: HostRuntime) -> Result<(),
             Status::BadFlow,
             "error 2 flow 1 Header\n",
         ),
-        (
-            PLAIN,
-            "w.json",
-            ORDERS,
-            "o.csv",
-            b"id,item,qty\n1,nut\n",
-            Status::BadFlow,
-            "error 2 flow 1 Header\n",
-        ),
-        (
-            PLAIN,
-            "w.json",
-            NUMBERS,
-            "o.csv",
-            b"n\n1\n9223372036854775808\n",
-            Status::BadFlow,
-            "error 2 flow 1 Header\n",
-        ),
-        (
-            PLAIN,
-            "w.json",
-            TEXTS,
-            "o.csv",
-            b"t\n\xff\n",
-            Status::BadFlow,
-            "error 2 flow 1 Header\n",
-        ),
-        (
-            PLAIN,
-            "w.json",
-            NUMBERS,
-            "o.csv",
-            b"n\n\xff\n",
-            Status::BadFlow,
-            "error 2 flow 1 Header\n",
-        ),
     ];
     for (words, workflow_name, workflow, rows_name, rows, status, line) in cases {
         let files = [(workflow_name, workflow.as_bytes()), (rows_name, rows)];
@@ -288,22 +275,253 @@ fn the_first_refusal_in_the_order_of_work_is_told(rt: HostRuntime) -> Result<(),
 
 #[test]
 fn a_text_that_is_no_workflow_is_refused(rt: HostRuntime) -> Result<(), Fail> {
-    let mut deep = Vec::new(rt.alloc());
-    for _ in 0..10_000 {
-        deep.push(b'[')?;
+    let cases = [
+        ("", "error 2 flow 0 Json\n"),
+        ("[1,", "error 2 flow 0 Json\n"),
+        ("[]", "error 2 flow 0 Shape\n"),
+        (
+            r#"{"operators":[{"id":"o","kind":"scan"},{"id":"O","kind":"sink"}]}"#,
+            "error 2 flow 1 Shape\n",
+        ),
+        (
+            r#"{"operators":[{"id":"o","kind":"scan","file":"o.csv","columns":[["t","text"]]},{"id":"s","kind":"sink","input":"t"}]}"#,
+            "error 2 flow 2 Forward\n",
+        ),
+        (
+            r#"{"operators":[{"id":"o","kind":"scan","file":"o.csv","columns":[["id","int"],["item","text"],["qty","int"]]},
+{"id":"f","kind":"filter","input":"o","column":"qtyy","op":">=","constant":7},{"id":"s","kind":"sink","input":"f"}]}"#,
+            "error 2 flow 2 Column\n",
+        ),
+    ];
+    for (workflow, line) in cases {
+        let files: &[(&str, &[u8])] = &[("w.json", workflow.as_bytes()), ("o.csv", ORDER_ROWS)];
+        let (status, out) = call(rt.alloc(), PLAIN, files, &[], &[], 0)?;
+        assert_eq!(rt; out.bytes(), line.as_bytes(), "{line}");
+        assert_eq!(rt; status, Status::BadFlow, "{line}");
     }
-    let cases: [&[u8]; 6] = [b"", b"plain", b"[1,", b"\xff", b"[]", deep.as_slice()];
-    for workflow in cases {
-        let (status, out) = call(
-            rt.alloc(),
-            PLAIN,
-            &[("w.json", workflow), ("o.csv", ORDER_ROWS)],
-            &[],
-            &[],
-            0,
+    Ok(())
+}
+
+// Two scans, `p.csv` and `o.csv`: the prices of the ordered items.
+const PRICES: &str =
+    r#"{"operators":[{"id":"p","kind":"scan","file":"p.csv","columns":[["name","text"],["price","int"]]},
+{"id":"o","kind":"scan","file":"o.csv","columns":[["id","int"],["item","text"],["qty","int"]]},
+{"id":"j","kind":"join","build":"p","probe":"o","build_keys":["name"],"probe_keys":["item"]},{"id":"s","kind":"sink","input":"j"}]}"#;
+
+const PRICE_ROWS: &[u8] = b"name,price\nnut,3\nbolt,4\nbolt,9\n";
+
+#[test]
+fn each_scan_is_looked_at_before_the_next(rt: HostRuntime) -> Result<(), Fail> {
+    let cases: [(&str, &[u8], &str, &[u8], &str); 5] = [
+        (
+            "p.csv",
+            b"name\n",
+            ELSEWHERE,
+            b"",
+            "error 2 flow 1 Header\n",
+        ),
+        ("p.csv", PRICE_ROWS, ELSEWHERE, b"", "error 4 read o.csv\n"),
+        (ELSEWHERE, b"", "o.csv", b"id\n", "error 4 read p.csv\n"),
+        (
+            "p.csv",
+            PRICE_ROWS,
+            "o.csv",
+            b"id\n",
+            "error 2 flow 2 Header\n",
+        ),
+        (
+            "p.csv",
+            PRICE_ROWS,
+            "o.csv",
+            ORDER_ROWS,
+            "rows 6\nid,item,qty,name,price\n1,nut,5,nut,3\n2,bolt,12,bolt,4\n2,bolt,12,bolt,9\n3,nut,7,nut,3\n5,bolt,1,bolt,4\n5,bolt,1,bolt,9\n",
+        ),
+    ];
+    for (first_name, first, second_name, second, want) in cases {
+        let files: &[(&str, &[u8])] = &[
+            ("w.json", PRICES.as_bytes()),
+            (first_name, first),
+            (second_name, second),
+        ];
+        let (_, out) = call(rt.alloc(), PLAIN, files, &[], &[], 0)?;
+        assert_eq!(rt; out.bytes(), want.as_bytes(), "{want}");
+    }
+    Ok(())
+}
+
+// The words of a run with these numbers and this log.
+fn run_words<'a>(log: &'a str, threads: &'a str, batch: &'a str) -> [&'a str; 6] {
+    ["run", "w.json", "s.txt", log, threads, batch]
+}
+
+#[test]
+fn words_of_a_run_are_refused(rt: HostRuntime) -> Result<(), Fail> {
+    let cases = [
+        ("w.json", "1", "400"),
+        ("s.txt", "1", "400"),
+        ("l", "0", "400"),
+        ("l", "65", "400"),
+        ("l", "+1", "400"),
+        ("l", "01", "400"),
+        ("l", "", "400"),
+        ("l", "1", "0"),
+        ("l", "1", "65537"),
+        ("l", "1", "4e2"),
+        ("l", "1", "99999999999999999999"),
+    ];
+    for (log, threads, batch) in cases {
+        let words = run_words(log, threads, batch);
+        let (status, out) = call(rt.alloc(), &words, &[], &[], &[], 0)?;
+        assert_eq!(rt;
+            out.bytes(),
+            b"error 1 usage\n".as_slice(),
+            "{log} {threads} {batch}"
+        );
+        assert_eq!(rt; status, Status::Usage, "{log} {threads} {batch}");
+    }
+    // The numbers at the ends of their ranges are good.
+    for (threads, batch) in [("1", "1"), ("64", "65536")] {
+        let words = run_words("l", threads, batch);
+        let (status, _) = call(rt.alloc(), &words, &[], &[], &[], 0)?;
+        assert_eq!(rt; status, Status::ReadFault, "{threads} {batch}");
+    }
+    Ok(())
+}
+
+#[test]
+fn a_script_may_say_nothing(rt: HostRuntime) -> Result<(), Fail> {
+    // The name and the bytes of the script, and what is told before the files of the scans.
+    let cases = [
+        (ELSEWHERE, "", "error 4 read s.txt\n"),
+        ("s.txt", "", "error 4 read o.csv\n"),
+        ("s.txt", " \t\n\r\n  # run\n#", "error 4 read o.csv\n"),
+        ("s.txt", "run", "error 3 script 1 Word\n"),
+        ("s.txt", "\n#\n \tend # now\n", "error 3 script 3 Word\n"),
+        ("s.txt", "\n\r\r\n", "error 3 script 2 Word\n"),
+    ];
+    for (name, script, want) in cases {
+        let files: &[(&str, &[u8])] = &[("w.json", TEXTS.as_bytes()), (name, script.as_bytes())];
+        let words = run_words("l", "1", "400");
+        let (_, out) = call(rt.alloc(), &words, files, &[], &[], 0)?;
+        assert_eq!(rt; out.bytes(), want.as_bytes(), "{script:?}");
+    }
+    Ok(())
+}
+
+#[test]
+fn the_log_is_no_file_of_a_scan(rt: HostRuntime) -> Result<(), Fail> {
+    let cases = [
+        ("p.csv", "error 2 flow 1 LogName\n"),
+        ("o.csv", "error 2 flow 2 LogName\n"),
+        ("q.csv", "error 4 read s.txt\n"),
+    ];
+    for (log, want) in cases {
+        let files: &[(&str, &[u8])] = &[("w.json", PRICES.as_bytes())];
+        let words = run_words(log, "1", "400");
+        let (_, out) = call(rt.alloc(), &words, files, &[], &[], 0)?;
+        assert_eq!(rt; out.bytes(), want.as_bytes(), "{log}");
+    }
+    Ok(())
+}
+
+#[test]
+fn a_script_may_have_so_many_bytes(rt: HostRuntime) -> Result<(), Fail> {
+    let cases = [
+        (1_048_576, "error 4 read o.csv\n"),
+        (1_048_577, "error 9 large s.txt\n"),
+    ];
+    for (len, want) in cases {
+        let script = padded(rt.alloc(), "#", len)?;
+        let files: &[(&str, &[u8])] = &[("w.json", TEXTS.as_bytes()), ("s.txt", script.as_slice())];
+        let words = run_words("l", "1", "400");
+        let (_, out) = call(rt.alloc(), &words, files, &[], &[], 0)?;
+        assert_eq!(rt; out.bytes(), want.as_bytes(), "{len} bytes");
+    }
+    Ok(())
+}
+
+#[test]
+fn a_group_whose_sum_is_too_large_is_told(rt: HostRuntime) -> Result<(), Fail> {
+    let cases = [
+        (r#"["k"]"#, "refused group g a\nrows 1\nk,sum:v\nb,2\n"),
+        ("[]", "refused group g\nrows 0\nsum:v\n"),
+    ];
+    for (keys, want) in cases {
+        let workflow = format!(in rt.alloc();
+            r#"{{"operators":[{{"id":"v","kind":"scan","file":"v.csv","columns":[["k","text"],["v","int"]]}},{{"id":"g","kind":"group","input":"v","keys":{keys},"aggregates":["sum:v"]}},{{"id":"s","kind":"sink","input":"g"}}]}}"#
         )?;
-        assert_eq!(rt; out.bytes(), b"error 2 flow 0 Shape\n".as_slice());
-        assert_eq!(rt; status, Status::BadFlow);
+        let files: &[(&str, &[u8])] = &[
+            ("w.json", workflow.as_str().as_bytes()),
+            ("v.csv", b"k,v\na,9223372036854775807\na,1\nb,2\n"),
+        ];
+        let (_, out) = call(rt.alloc(), PLAIN, files, &[], &[], 0)?;
+        assert_eq!(rt; out.bytes(), want.as_bytes(), "keys {keys}");
+    }
+    Ok(())
+}
+
+const BLANKS: [u8; 4096] = [b' '; 4096];
+
+// A text of so many bytes, with blanks at its end.
+fn padded(alloc: Global, text: &str, len: usize) -> Result<Vec<u8>, AllocError> {
+    let mut bytes = Vec::with_capacity(alloc, len)?;
+    bytes.extend_from_slice(text.as_bytes())?;
+    for _ in 0..len / BLANKS.len() + 1 {
+        let more = BLANKS.len().min(len.saturating_sub(bytes.len()));
+        bytes.extend_from_slice(&BLANKS[..more])?;
+    }
+    Ok(bytes)
+}
+
+#[test]
+fn a_workflow_may_have_so_many_bytes(rt: HostRuntime) -> Result<(), Fail> {
+    let cases = [
+        (1_048_576, Status::Ok, "rows 1\nt\nx\n"),
+        (1_048_577, Status::TooLarge, "error 9 large w.json\n"),
+    ];
+    for (len, status, want) in cases {
+        let workflow = padded(rt.alloc(), TEXTS, len)?;
+        let files: &[(&str, &[u8])] = &[("w.json", workflow.as_slice()), ("o.csv", b"t\nx\n")];
+        let (found, out) = call(rt.alloc(), PLAIN, files, &[], &[], 0)?;
+        assert_eq!(rt; out.bytes(), want.as_bytes(), "{len} bytes");
+        assert_eq!(rt; found, status, "{len} bytes");
+    }
+    Ok(())
+}
+
+#[test]
+fn a_file_is_too_large_before_its_header_is_wrong(rt: HostRuntime) -> Result<(), Fail> {
+    let cases = [
+        (33_554_432, Status::BadFlow, "error 2 flow 1 Header\n"),
+        (33_554_433, Status::TooLarge, "error 9 large o.csv\n"),
+    ];
+    for (len, status, want) in cases {
+        let rows = padded(rt.alloc(), "u\n", len)?;
+        let files: &[(&str, &[u8])] = &[("w.json", TEXTS.as_bytes()), ("o.csv", rows.as_slice())];
+        let (found, out) = call(rt.alloc(), PLAIN, files, &[], &[], 0)?;
+        assert_eq!(rt; out.bytes(), want.as_bytes(), "{len} bytes");
+        assert_eq!(rt; found, status, "{len} bytes");
+    }
+    Ok(())
+}
+
+#[test]
+fn the_scan_whose_file_passes_the_limit_is_told(rt: HostRuntime) -> Result<(), Fail> {
+    // The prices, and the twelve bytes of an empty file of orders.
+    let cases = [
+        (33_554_421, Status::TooLarge, "error 9 large o.csv\n"),
+        (33_554_433, Status::TooLarge, "error 9 large p.csv\n"),
+    ];
+    for (len, status, want) in cases {
+        let prices = padded(rt.alloc(), "name,price\n", len)?;
+        let files: &[(&str, &[u8])] = &[
+            ("w.json", PRICES.as_bytes()),
+            ("p.csv", prices.as_slice()),
+            ("o.csv", b"id,item,qty\n"),
+        ];
+        let (found, out) = call(rt.alloc(), PLAIN, files, &[], &[], 0)?;
+        assert_eq!(rt; out.bytes(), want.as_bytes(), "{len} bytes");
+        assert_eq!(rt; found, status, "{len} bytes");
     }
     Ok(())
 }

@@ -1,27 +1,87 @@
--- The words, the text, and what was put of it.
-use Rattle.std.proofs.Common.{◌≡◌, map, string_bytes, Err, sym, rules}
-use Rattle.amber_run.proofs.Ending.{reached-sent, reached-stop, run-sent, run-stop}
+-- The words, the job, and what was done of it.
+use Rattle.std.proofs.Common.{◌≡◌, map, string_bytes, Err, ◌∙◌, rules}
+use Rattle.amber_run.proofs.Ending.{plain-job, reached-stop, reached-words, reached-works, run-stop, run-words, run-works, stop-counts, stop-writes, words-counts, words-writes, worded-stop, worded-words, worded-works}
+use Rattle.amber_run.specs.Course.{job_of}
+use Rattle.amber_run.specs.Words.{words_of}
 use Rattle.amber_run.proofs.call.run.Goals as goal
 
-pub returns-in_err-text-clause-ran : goal.returns-in_err-text-clause-ran
-returns-in_err-text-clause-ran g c =
-    let e : c.from_residual.result ≡ Err c.in_err-text.field-0.0 = search rules in
-    rw e (run-stop (map string_bytes c.args.words.now) c.in-Some.name.now (g.F.Folder.files c.args.folder.now) (g.O.Sink.written c.args.out.now) c.in_err-text.field-0.0
-    (g.F.Folder.load_faults c.args.folder.now) (g.F.Folder.load_faults c.plain_text.new.folder) (sym c.in-Some.ensures) c.in_err-text.ensures.course)
+pub returns-in_err-words-clause-ran : goal.returns-in_err-words-clause-ran
+returns-in_err-words-clause-ran g c =
+    let e : c.from_residual.result ≡ Err c.in_err-words.field-0.0 = search rules in
+    rw e (run-words c.in_err-words.field-0.0 (map string_bytes c.args.words.now) (g.F.Folder.files c.args.folder.now) (g.O.Sink.written c.args.out.now) (g.F.Folder.load_faults c.args.folder.now) c.in_err-words.ensures.read)
+
+pub returns-in_err-words-clause-named : goal.returns-in_err-words-clause-named
+returns-in_err-words-clause-named g c =
+    let e : c.from_residual.result ≡ Err c.in_err-words.field-0.0 = search rules in
+    rw e (reached-words c.in_err-words.field-0.0 (map string_bytes c.args.words.now) (g.F.Folder.files c.args.folder.now) c.in_err-words.ensures.read)
+
+pub returns-in_err-words-clause-words : goal.returns-in_err-words-clause-words
+returns-in_err-words-clause-words g c =
+    let e : c.from_residual.result ≡ Err c.in_err-words.field-0.0 = search rules in
+    rw e (worded-words c.in_err-words.field-0.0 (map string_bytes c.args.words.now) c.in_err-words.ensures.read)
+
+pub returns-in_err-words-clause-puts : goal.returns-in_err-words-clause-puts
+returns-in_err-words-clause-puts g c =
+    let e : c.from_residual.result ≡ Err c.in_err-words.field-0.0 = search rules in
+    rw e (words-counts c.in_err-words.field-0.0 (map string_bytes c.args.words.now) (g.O.Sink.faults c.args.out.now) c.in_err-words.ensures.read)
+
+pub returns-in_err-words-clause-writes : goal.returns-in_err-words-clause-writes
+returns-in_err-words-clause-writes g c =
+    let e : c.from_residual.result ≡ Err c.in_err-words.field-0.0 = search rules in
+    rw e (words-writes c.in_err-words.field-0.0 (map string_bytes c.args.words.now) (g.F.Folder.write_faults c.args.folder.now) c.in_err-words.ensures.read)
+
+pub returns-in_err-job-clause-ran : goal.returns-in_err-job-clause-ran
+returns-in_err-job-clause-ran g c =
+    let e : c.from_residual-in_err-job.result ≡ Err c.in_err-job.field-0.0 = search rules in
+    rw e (rw c.in_err-job.ensures.same (run-stop (map string_bytes c.args.words.now) c.in_ok-words.words (g.F.Folder.files c.args.folder.now) (g.O.Sink.written c.args.out.now) c.in_err-job.field-0.0
+    (g.F.Folder.load_faults c.args.folder.now) (g.F.Folder.load_faults c.prepare.new.folder) c.in_ok-words.ensures.read c.in_err-job.ensures.course))
+
+pub returns-in_err-job-clause-puts : goal.returns-in_err-job-clause-puts
+returns-in_err-job-clause-puts g c =
+    let e : c.from_residual-in_err-job.result ≡ Err c.in_err-job.field-0.0 = search rules in
+    rw e (stop-counts c.in_err-job.field-0.0 (g.F.Folder.files c.args.folder.now) (job_of c.in_ok-words.words) (g.F.Folder.load_faults c.args.folder.now) (g.F.Folder.load_faults c.prepare.new.folder) (g.O.Sink.faults c.args.out.now) c.in_err-job.ensures.course)
+
+pub returns-in_err-job-clause-writes : goal.returns-in_err-job-clause-writes
+returns-in_err-job-clause-writes g c =
+    let e : c.from_residual-in_err-job.result ≡ Err c.in_err-job.field-0.0 = search rules in
+    rw e (stop-writes c.in_err-job.field-0.0 (g.F.Folder.files c.args.folder.now) (job_of c.in_ok-words.words) (g.F.Folder.load_faults c.args.folder.now) (g.F.Folder.load_faults c.prepare.new.folder) (g.F.Folder.write_faults c.args.folder.now) (g.F.Folder.write_faults c.prepare.new.folder) c.in_err-job.ensures.course c.in_err-job.ensures.writes)
+
+pub returns-in_err-job-clause-named : goal.returns-in_err-job-clause-named
+returns-in_err-job-clause-named g c =
+    let e : c.from_residual-in_err-job.result ≡ Err c.in_err-job.field-0.0 = search rules in
+    rw e (reached-stop c.in_err-job.field-0.0 (map string_bytes c.args.words.now) c.in_ok-words.words (g.F.Folder.files c.args.folder.now) c.in_ok-words.ensures.read c.in_err-job.ensures.named)
+
+pub returns-in_err-job-clause-words : goal.returns-in_err-job-clause-words
+returns-in_err-job-clause-words g c =
+    let e : c.from_residual-in_err-job.result ≡ Err c.in_err-job.field-0.0 = search rules in
+    rw e (worded-stop c.in_err-job.field-0.0 (map string_bytes c.args.words.now) c.in_ok-words.words (g.F.Folder.files c.args.folder.now) (job_of c.in_ok-words.words)
+    (g.F.Folder.load_faults c.args.folder.now) (g.F.Folder.load_faults c.prepare.new.folder) c.in_ok-words.ensures.read c.in_err-job.ensures.course)
 
 pub returns-clause-ran : goal.returns-clause-ran
 returns-clause-ran g c =
-    run-sent c.put_output.result (map string_bytes c.args.words.now) c.in-Some.name.now (g.F.Folder.files c.args.folder.now)
-    (g.O.Sink.written c.args.out.now) (g.O.Sink.written c.put_output.new.out) c.in_ok-text.text
-    (g.F.Folder.load_faults c.args.folder.now) (g.F.Folder.load_faults c.plain_text.new.folder) (g.O.Sink.faults c.args.out.now) (g.O.Sink.faults c.put_output.new.out)
-    (sym c.in-Some.ensures) c.in_ok-text.ensures.course (rw c.get.ensures at c.put_output.ensures)
+    rw c.do_job.ensures.loads
+    (run-works c.do_job.result (map string_bytes c.args.words.now) c.in_ok-words.words (g.F.Folder.files c.args.folder.now) (g.F.Folder.files c.do_job.new.folder) c.in_ok-job.job
+    (g.O.Sink.written c.args.out.now) (g.O.Sink.written c.do_job.new.out) (g.F.Folder.load_faults c.args.folder.now) (g.F.Folder.load_faults c.prepare.new.folder)
+    c.in_ok-words.ensures.read c.in_ok-job.ensures.course (rw c.in_ok-job.ensures.same at c.do_job.ensures.works))
 
-pub returns-in_err-text-clause-named : goal.returns-in_err-text-clause-named
-returns-in_err-text-clause-named g c =
-    let e : c.from_residual.result ≡ Err c.in_err-text.field-0.0 = search rules in
-    rw e (reached-stop c.in_err-text.field-0.0 (map string_bytes c.args.words.now) c.in-Some.name.now (g.F.Folder.files c.args.folder.now) (sym c.in-Some.ensures) c.in_err-text.ensures.named)
+pub returns-clause-writes : goal.returns-clause-writes
+returns-clause-writes g c =
+    rw c.in_ok-job.ensures.writes at c.do_job.ensures.writes
 
 pub returns-clause-named : goal.returns-clause-named
 returns-clause-named g c =
-    reached-sent c.put_output.result (map string_bytes c.args.words.now) (g.F.Folder.files c.args.folder.now) (g.O.Sink.written c.args.out.now) (g.O.Sink.written c.put_output.new.out)
-    c.in_ok-text.text (g.O.Sink.faults c.args.out.now) (g.O.Sink.faults c.put_output.new.out) (rw c.get.ensures at c.put_output.ensures)
+    reached-works c.do_job.result (map string_bytes c.args.words.now) (g.F.Folder.files c.args.folder.now) (g.F.Folder.files c.do_job.new.folder) c.in_ok-job.job
+    (g.O.Sink.written c.args.out.now) (g.O.Sink.written c.do_job.new.out) (rw c.in_ok-job.ensures.same at c.do_job.ensures.works)
+
+pub returns-clause-words : goal.returns-clause-words
+returns-clause-words g c =
+    worded-works c.do_job.result (map string_bytes c.args.words.now) c.in_ok-words.words (g.F.Folder.files c.args.folder.now) (g.F.Folder.files c.do_job.new.folder) c.in_ok-job.job
+    (g.O.Sink.written c.args.out.now) (g.O.Sink.written c.do_job.new.out) c.in_ok-words.ensures.read (rw c.in_ok-job.ensures.same at c.do_job.ensures.works)
+
+pub returns-clause-same : goal.returns-clause-same
+returns-clause-same g c =
+    λ none. c.do_job.ensures.same (plain-job (words_of (map string_bytes c.args.words.now)) c.in_ok-words.words c.in_ok-job.job c.in_ok-words.ensures.read none c.in_ok-job.ensures.form) ∙ c.in_ok-job.ensures.same
+
+pub returns-clause-idle : goal.returns-clause-idle
+returns-clause-idle g c =
+    λ none. c.do_job.ensures.idle (plain-job (words_of (map string_bytes c.args.words.now)) c.in_ok-words.words c.in_ok-job.job c.in_ok-words.ensures.read none c.in_ok-job.ensures.form) ∙ c.in_ok-job.ensures.writes

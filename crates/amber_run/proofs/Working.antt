@@ -1,0 +1,317 @@
+-- What stands after each step of a run.
+use Rattle.std.proofs.Common.{◌≡◌, ◌≢◌, ℕ, ◌≤◌, inl, inr, List, [], ◌∷◌, ◌++◌, length, map, take, Option, Ok, Err, Bool, true, false, refl, sym, ap, subst, ◌∙◌, arith, append_assoc}
+use Rattle.std.proofs.lemmas.List.{append-nil, map-append}
+use Rattle.std.proofs.Math.Seq.{take-append_seam}
+use Rattle.std.specs.Io.KnownBytes.{Appends}
+use Rattle.amber_io.specs.Folder.{Named, with_file, with_more}
+use Rattle.amber_io.proofs.Told.{with_more-with_file}
+use Rattle.amber_rows.specs.declared.flow.Operator.{Operator}
+use Rattle.amber_log.specs.Fits.{fits_of}
+use Rattle.amber_log.specs.Grammar.{AreItems, IsBatch, IsItem, is_last}
+use Rattle.amber_log.specs.LogText.{head_text, item_text, log_text}
+use Rattle.amber_log.specs.ReadAs.{IsReadAs}
+use Rattle.amber_log.specs.declared.command.Command.{Command}
+use Rattle.amber_log.specs.declared.command.Command.TheVariants as command
+use Rattle.amber_log.specs.declared.log.Item.{Item}
+use Rattle.amber_log.specs.declared.log.Log.{Log}
+use Rattle.amber_log.proofs.Pushes.{log_text-head, log_text-push}
+use Rattle.amber_log.proofs.Torn.{reads-torn, reads-torn_head, reads-whole}
+use Rattle.amber_meaning.specs.Legal.{IsLegal, Reaches}
+use Rattle.amber_meaning.specs.Replay.{state_after}
+use Rattle.amber_meaning.specs.State.{start_of}
+use Rattle.amber_meaning.specs.Transcript.{replies, reply_of, transcript_of}
+use Rattle.amber_meaning.proofs.Fronts.{transcripts_grow}
+use Rattle.amber_debug.specs.Session.{Does, Grew, Session, command_of, is_long_item, one_more, query_in}
+use Rattle.amber_debug.specs.declared.done.DebugErr.TheVariants as debug_err
+use Rattle.amber_debug.specs.declared.done.Done.{Done}
+use Rattle.amber_run.specs.Standing.{ClosesAs, Halts, IsBare, IsLeft, Opens, Stands}
+use Rattle.amber_run.specs.Steps.{Sent}
+use Rattle.amber_run.specs.Task.{IsSession, Task, ends_long, query_at}
+use Rattle.amber_run.specs.Writing.{Made, Wrote}
+use Rattle.amber_run.specs.declared.stop.Stop.{Stop}
+use Rattle.amber_run.specs.declared.stop.Stop.TheVariants as stop
+use Rattle.amber_run.proofs.Lines.{appends-on, appends-same, keeps-nil}
+
+-- ---- lists
+
+take-front : (part rest whole : List ℕ) → part ++ rest ≡ whole → take (length part) whole ≡ part
+take-front part rest whole e = subst (λ w. take (length part) w ≡ part) e (take-append_seam part rest)
+
+pub last-is : (over : Bool) (items : List Item) (one : Item) → AreItems over (items ++ one ∷ []) → IsItem one
+unfolding AreItems
+last-is over [] one h = h.1
+last-is over (x ∷ items) one h = last-is (is_last x) items one h.2
+
+pub ends_long-push : (long : Bool) (items : List Item) (one : Item) → ends_long long (items ++ one ∷ []) ≡ is_long_item one
+ends_long-push long [] one = refl
+ends_long-push long (x ∷ items) one = ends_long-push (is_long_item x) items one
+
+one-few : (one : Item) → length (one ∷ []) ≤ 1
+one-few one = omega arith
+
+-- ---- the log's head
+
+legal-start : (t : Task) (batch : ℕ) → IsBatch batch → IsLegal (query_at t batch) (record { batch = batch; items = [] })
+unfolding AreItems Reaches
+legal-start t batch h = record { text = record { batch = h; items = tt }; batch = refl; after = start_of t.flow; reached = refl }
+
+pub stands-start : (t : Task) (batch : ℕ) (files : Option Named) (written : Option (List ℕ)) → IsBatch batch → batch ≡ t.batch
+    → files ≡ with_file t.told t.name (head_text batch) → Appends t.before written [] → Stands t t.commands (record { batch = batch; items = [] }) files written
+unfolding log_text transcript_of replies
+stands-start t batch files written h is place sent = record {
+  batch = is;
+  legal = legal-start t batch h;
+  commands = refl;
+  place = place ∙ ap (λ text. with_file t.told t.name text) (sym (append-nil (head_text batch)));
+  sent = sent;
+  short = refl;
+}
+
+-- a log of no item
+left-head : (t : Task) (bytes : List ℕ) (batch : ℕ) (files : Option Named) (written : Option (List ℕ)) → IsBatch batch → IsReadAs bytes (record { batch = batch; items = [] })
+    → files ≡ with_file t.told t.name bytes → Appends t.before written [] → IsLeft t stop.LogFault [] files written
+unfolding transcript_of replies
+left-head t bytes batch files written h read place sent = record {
+  bytes = bytes;
+  batch = batch;
+  done = [];
+  last = [];
+  left = t.commands;
+  part = [];
+  rest = [];
+  place = place;
+  few = omega arith;
+  read = read;
+  legal = legal-start t batch h;
+  size = inr refl;
+  commands = refl;
+  split = refl;
+  whole = λ n. refl;
+  sent = sent;
+  closed = tt;
+}
+
+no-items : AreItems false []
+unfolding AreItems
+no-items = tt
+
+head-read : (batch : ℕ) → IsBatch batch → IsReadAs (head_text batch) (record { batch = batch; items = [] })
+head-read batch h =
+    subst (λ text. IsReadAs text (record { batch = batch; items = [] })) (log_text-head batch) (reads-whole (record { batch = batch; items = [] }) (record { batch = h; items = no-items }))
+
+empty-batch : IsBatch 400
+empty-batch = (omega arith, omega arith)
+
+-- the log was not made
+pub exit-create : (s : Stop) (t : Task) (log : Log) (files : Option Named) (written : Option (List ℕ)) → Made {A = Unit {0}} (Err s) t.told files t.name → Appends t.before written []
+    → Opens {A = Unit {0}} (Err s) t log files written
+exit-create stop.LogFault t log files written h sent = inl (h, sent)
+exit-create stop.NoMemory t log files written h sent = (inl h, sent)
+exit-create other t log files written h sent = absurd h
+
+-- there was no memory for its head
+pub exit-bare : (t : Task) (files : Option Named) (written : Option (List ℕ)) → files ≡ with_file t.told t.name [] → Appends t.before written [] → IsBare t [] files written
+exit-bare t files written h sent = (inr (inr h), sent)
+
+-- its head was not written
+pub exit-head : (s : Stop) (t : Task) (log : Log) (batch : ℕ) (head : List ℕ) (mid files : Option Named) (written : Option (List ℕ)) → IsBatch batch → head ≡ head_text batch
+    → mid ≡ with_file t.told t.name [] → Wrote {A = Unit {0}} (Err s) mid files t.name head → Appends t.before written [] → Opens {A = Unit {0}} (Err s) t log files written
+exit-head stop.LogFault t log batch head mid files written h text made (part, rest, split, new) sent =
+    let place : files ≡ with_file t.told t.name part = new ∙ ap (λ m. with_more m t.name part) made ∙ with_more-with_file t.told t.name [] part in
+    let front : take (length part) (head_text batch) ≡ part = take-front part rest (head_text batch) (split ∙ text) in
+    let torn = rw front at (reads-torn_head batch (length part) h) in
+    inr (elim torn [
+      | inl read ↦ left-head t part 400 files written empty-batch read place sent
+      | inr all ↦ left-head t part batch files written h (rw all (head-read batch h)) place sent
+    ])
+exit-head stop.NoMemory t log batch head mid files written h text made new sent = (inr (inr (new ∙ made)), sent)
+exit-head other t log batch head mid files written h text made new sent = absurd new
+
+-- its head was written
+pub stands-head : (t : Task) (batch : ℕ) (head : List ℕ) (mid files : Option Named) (written : Option (List ℕ)) → IsBatch batch → batch ≡ t.batch → head ≡ head_text batch
+    → mid ≡ with_file t.told t.name [] → files ≡ with_more mid t.name head → Appends t.before written [] → Stands t t.commands (record { batch = batch; items = [] }) files written
+stands-head t batch head mid files written h is text made new sent =
+    stands-start t batch files written h is
+    (new ∙ ap (λ m. with_more m t.name head) made ∙ with_more-with_file t.told t.name [] head ∙ ap (λ b. with_file t.told t.name b) text) sent
+
+-- ---- a command
+
+-- the log is as it was, and perhaps a torn item behind it
+left-log : (t : Task) (s : Stop) (left : List Command) (log : Log) (bytes : List ℕ) (mid files : Option Named) (written : Option (List ℕ)) → Stands t left log mid written
+    → files ≡ with_file t.told t.name bytes → IsReadAs bytes log → ClosesAs s false → IsLeft t s [] files written
+unfolding replies
+left-log t s left log bytes mid files written h place read closed = record {
+  bytes = bytes;
+  batch = log.batch;
+  done = log.items;
+  last = [];
+  left = left;
+  part = [];
+  rest = [];
+  place = place;
+  few = omega arith;
+  read = rw (append-nil log.items) read;
+  legal = rw (append-nil log.items) h.legal;
+  size = inl h.batch;
+  commands = rw (append-nil log.items) h.commands;
+  split = refl;
+  whole = λ n. refl;
+  sent = rw (append-nil (transcript_of (query_at t log.batch) log.items)) h.sent;
+  closed = rw (append-nil log.items, h.short) closed;
+}
+
+-- the log has an item more, and a part of its reply was put
+left-item : (t : Task) (s : Stop) (left : List Command) (command : Command) (log : Log) (one : Item) (part rest : List ℕ) (mid files : Option Named) (written got : Option (List ℕ))
+    → Stands t (command ∷ left) log mid written → command_of one ≡ command → IsLegal (query_at t log.batch) (one_more log one)
+    → files ≡ with_file t.told t.name (log_text (one_more log one)) → part ++ rest ≡ reply_of (query_at t log.batch) (state_after (query_at t log.batch) log.items) one
+    → (s ≢ stop.OutFault → part ≡ []) → Appends written got part → ClosesAs s (is_long_item one) → IsLeft t s [] files got
+unfolding replies
+left-item t s left command log one part rest mid files written got h is legal place split whole put closed =
+    let query = query_at t log.batch in
+    record {
+      bytes = log_text (one_more log one);
+      batch = log.batch;
+      done = log.items;
+      last = one ∷ [];
+      left = left;
+      part = part;
+      rest = rest;
+      place = place;
+      few = one-few one;
+      read = reads-whole (one_more log one) legal.text;
+      legal = legal;
+      size = inl h.batch;
+      commands = ap (λ c. c ++ left) (map-append command_of log.items (one ∷ []) ∙ ap (λ c. map command_of log.items ++ c ∷ []) is)
+          ∙ append_assoc (map command_of log.items) (command ∷ []) left ∙ h.commands;
+      split = split ∙ sym (append-nil (reply_of query (state_after query log.items) one));
+      whole = whole;
+      sent = rw (append-nil part) (appends-on t.before written got (transcript_of query log.items) part h.sent put);
+      closed = rw (ends_long-push false log.items one) closed;
+    }
+
+-- where an item more was written
+item-place : (t : Task) (log : Log) (one : Item) (mid files : Option Named) (piece : List ℕ) → mid ≡ with_file t.told t.name (log_text log) → piece ≡ item_text one
+    → files ≡ with_more mid t.name piece → files ≡ with_file t.told t.name (log_text (one_more log one))
+item-place t log one mid files piece place text new =
+    new ∙ ap (λ m. with_more m t.name piece) place ∙ with_more-with_file t.told t.name (log_text log) piece
+    ∙ ap (λ b. with_file t.told t.name (log_text log ++ b)) text ∙ ap (λ b. with_file t.told t.name b) (sym (log_text-push log one))
+
+-- there was no item, for want of memory
+pub exit-memory : (t : Task) (left : List Command) (log : Log) (files : Option Named) (written : Option (List ℕ)) → Stands t left log files written → IsLeft t stop.NoMemory [] files written
+exit-memory t left log files written h = left-log t stop.NoMemory left log (log_text log) files files written h h.place (reads-whole log h.legal.text) tt
+
+-- the item was not written
+pub exit-write : (s : Stop) (t : Task) (left : List Command) (command : Command) (log : Log) (one : Item) (piece : List ℕ) (mid files : Option Named) (written : Option (List ℕ))
+    → Stands t (command ∷ left) log mid written → command_of one ≡ command → IsLegal (query_at t log.batch) (one_more log one) → piece ≡ item_text one
+    → Wrote {A = Unit {0}} (Err s) mid files t.name piece → Halts t s files written
+exit-write stop.LogFault t left command log one piece mid files written h is legal text (part, rest, split, new) =
+    let place : files ≡ with_file t.told t.name (log_text log ++ part) =
+    new ∙ ap (λ m. with_more m t.name part) h.place ∙ with_more-with_file t.told t.name (log_text log) part in
+    let front : take (length part) (item_text one) ≡ part = take-front part rest (item_text one) (split ∙ text) in
+    let torn = rw front at (reads-torn log one (length part) h.legal.text (last-is false log.items one legal.text.items)) in
+    elim torn [
+      | inl read ↦ left-log t stop.LogFault (command ∷ left) log (log_text log ++ part) mid files written h place read tt
+      | inr all ↦ left-item t stop.LogFault left command log one [] (reply_of (query_at t log.batch) (state_after (query_at t log.batch) log.items) one) mid files written written h is legal
+          (item-place t log one mid files part h.place all new) refl (λ n. refl) (appends-same written) tt
+    ]
+exit-write stop.NoMemory t left command log one piece mid files written h is legal text new =
+    left-log t stop.NoMemory (command ∷ left) log (log_text log) mid files written h (new ∙ h.place) (reads-whole log h.legal.text) tt
+exit-write other t left command log one piece mid files written h is legal text new = absurd new
+
+-- the reply was not put
+pub exit-send : (s : Stop) (t : Task) (left : List Command) (command : Command) (log : Log) (one : Item) (piece reply : List ℕ) (mid files : Option Named) (written got : Option (List ℕ)) (a b : ℕ)
+    → Stands t (command ∷ left) log mid written → command_of one ≡ command → IsLegal (query_at t log.batch) (one_more log one) → piece ≡ item_text one
+    → is_long_item one ≡ false → files ≡ with_more mid t.name piece → reply ≡ reply_of (query_at t log.batch) (state_after (query_at t log.batch) log.items) one
+    → Sent {A = Unit {0}} (Err s) written got a b reply → Halts t s files got
+exit-send stop.OutFault t left command log one piece reply mid files written got a b h is legal text short new answer sent =
+    left-item t stop.OutFault left command log one sent.2.0 sent.2.1 mid files written got h is legal (item-place t log one mid files piece h.place text new) (sent.2.2 ∙ answer)
+    (λ n. absurd (n refl)) sent.2.3 short
+exit-send stop.NoMemory t left command log one piece reply mid files written got a b h is legal text short new answer sent =
+    left-item t stop.NoMemory left command log one [] reply mid files written got h is legal (item-place t log one mid files piece h.place text new) answer
+    (λ n. refl) (keeps-nil written got sent.1) tt
+exit-send other t left command log one piece reply mid files written got a b h is legal text short new answer sent = absurd sent
+
+-- the steps were as many as may be
+pub exit-long : (t : Task) (left : List Command) (command : Command) (log : Log) (one : Item) (piece : List ℕ) (mid files : Option Named) (written : Option (List ℕ))
+    → Stands t (command ∷ left) log mid written → command_of one ≡ command → IsLegal (query_at t log.batch) (one_more log one) → piece ≡ item_text one
+    → is_long_item one ≡ true → files ≡ with_more mid t.name piece → IsLeft t stop.Long [] files written
+exit-long t left command log one piece mid files written h is legal text long new =
+    left-item t stop.Long left command log one [] (reply_of (query_at t log.batch) (state_after (query_at t log.batch) log.items) one) mid files written written h is legal
+    (item-place t log one mid files piece h.place text new) refl (λ n. refl) (appends-same written) long
+
+-- the command was done
+pub stands-next : (t : Task) (left : List Command) (command : Command) (log : Log) (one : Item) (piece reply : List ℕ) (mid files : Option Named) (written got : Option (List ℕ))
+    → Stands t (command ∷ left) log mid written → command_of one ≡ command → IsLegal (query_at t log.batch) (one_more log one) → piece ≡ item_text one
+    → is_long_item one ≡ false → files ≡ with_more mid t.name piece → reply ≡ reply_of (query_at t log.batch) (state_after (query_at t log.batch) log.items) one
+    → Appends written got reply → Stands t left (one_more log one) files got
+stands-next t left command log one piece reply mid files written got h is legal text short new answer put =
+    let query = query_at t log.batch in
+    record {
+      batch = h.batch;
+      legal = legal;
+      commands = ap (λ c. c ++ left) (map-append command_of log.items (one ∷ []) ∙ ap (λ c. map command_of log.items ++ c ∷ []) is)
+          ∙ append_assoc (map command_of log.items) (command ∷ []) left ∙ h.commands;
+      place = item-place t log one mid files piece h.place text new;
+      sent = rw (transcripts_grow query log.items one).0 (rw answer at (appends-on t.before written got (transcript_of query log.items) reply h.sent put));
+      short = ends_long-push false log.items one ∙ short;
+    }
+
+-- ---- the session
+
+-- what the session runs
+pub session-query : (t : Task) (d : Session) → IsSession t d → query_in d ≡ query_at t d.log.batch
+session-query t d h = rw (h.flow, h.inputs, h.most) refl
+
+-- a session that grew
+pub session-grown : (t : Task) (old new : Session) (command : Command) (one : Item) → IsSession t old → Grew old new command one → IsLegal (query_in new) new.log
+    → IsLegal (query_at t old.log.batch) (one_more old.log one)
+session-grown t old new command one h grew legal = rw (grew.flow, grew.files, grew.most, grew.log, h.flow, h.inputs, h.most) at legal
+
+-- ---- what the debugger did
+
+pub fits-end : (flow : List Operator) (done : Command) → done ≡ command.End → fits_of flow done ≡ true
+unfolding fits_of
+fits-end flow done e = rw e refl
+
+-- a command was done, and its item was not written
+pub done-write : (s : Stop) (t : Task) (left : List Command) (old new : Session) (command : Command) (told : Done) (piece : List ℕ) (mid files : Option Named) (written : Option (List ℕ))
+    → IsSession t old → Stands t (command ∷ left) old.log mid written → Does (Ok told) old new command → IsLegal (query_in new) new.log → piece ≡ told.item
+    → Wrote {A = Unit {0}} (Err s) mid files t.name piece → Halts t s files written
+done-write s t left old new command told piece mid files written session h does legal is wrote =
+    exit-write s t left command old.log does.0 piece mid files written h does.1.command (session-grown t old new command does.0 session does.1 legal) (is ∙ does.3) wrote
+
+reply-is : (t : Task) (old new : Session) (command : Command) (told : Done) (reply : List ℕ) → IsSession t old → (does : Does (Ok told) old new command) → reply ≡ told.reply
+    → reply ≡ reply_of (query_at t old.log.batch) (state_after (query_at t old.log.batch) old.log.items) does.0
+reply-is t old new command told reply session does is =
+    is ∙ does.4 ∙ ap (λ query. reply_of query (state_after query old.log.items) does.0) (session-query t old session)
+
+-- its reply was not put
+pub done-send : (s : Stop) (t : Task) (left : List Command) (old new : Session) (command : Command) (told : Done) (piece reply : List ℕ) (mid files : Option Named) (written got : Option (List ℕ)) (a b : ℕ)
+    → IsSession t old → Stands t (command ∷ left) old.log mid written → Does (Ok told) old new command → IsLegal (query_in new) new.log → piece ≡ told.item → reply ≡ told.reply
+    → files ≡ with_more mid t.name piece → Sent {A = Unit {0}} (Err s) written got a b reply → Halts t s files got
+done-send s t left old new command told piece reply mid files written got a b session h does legal is answer wrote sent =
+    exit-send s t left command old.log does.0 piece reply mid files written got a b h does.1.command (session-grown t old new command does.0 session does.1 legal) (is ∙ does.3) does.2 wrote
+    (reply-is t old new command told reply session does answer) sent
+
+-- all was written and put
+pub done-next : (t : Task) (left : List Command) (old new : Session) (command : Command) (told : Done) (piece reply : List ℕ) (mid files : Option Named) (written got : Option (List ℕ))
+    → IsSession t old → Stands t (command ∷ left) old.log mid written → Does (Ok told) old new command → IsLegal (query_in new) new.log → piece ≡ told.item → reply ≡ told.reply
+    → files ≡ with_more mid t.name piece → Appends written got reply → Stands t left new.log files got
+done-next t left old new command told piece reply mid files written got session h does legal is answer wrote sent =
+    rw does.1.log
+    (stands-next t left command old.log does.0 piece reply mid files written got h does.1.command (session-grown t old new command does.0 session does.1 legal) (is ∙ does.3) does.2 wrote
+    (reply-is t old new command told reply session does answer) sent)
+
+-- a leg was too long, and was not written
+pub long-write : (s : Stop) (t : Task) (left : List Command) (old new : Session) (command : Command) (text piece : List ℕ) (mid files : Option Named) (written : Option (List ℕ))
+    → IsSession t old → Stands t (command ∷ left) old.log mid written → Does (Err (debug_err.Long text)) old new command → IsLegal (query_in new) new.log → piece ≡ text
+    → Wrote {A = Unit {0}} (Err s) mid files t.name piece → Halts t s files written
+long-write s t left old new command text piece mid files written session h does legal is wrote =
+    exit-write s t left command old.log does.0 piece mid files written h does.1.command (session-grown t old new command does.0 session does.1 legal) (is ∙ does.3) wrote
+
+-- it was written
+pub long-next : (t : Task) (left : List Command) (old new : Session) (command : Command) (text piece : List ℕ) (mid files : Option Named) (written : Option (List ℕ))
+    → IsSession t old → Stands t (command ∷ left) old.log mid written → Does (Err (debug_err.Long text)) old new command → IsLegal (query_in new) new.log → piece ≡ text
+    → files ≡ with_more mid t.name piece → IsLeft t stop.Long [] files written
+long-next t left old new command text piece mid files written session h does legal is wrote =
+    exit-long t left command old.log does.0 piece mid files written h does.1.command (session-grown t old new command does.0 session does.1 legal) (is ∙ does.3) does.2 wrote

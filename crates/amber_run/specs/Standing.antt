@@ -1,0 +1,114 @@
+-- How far a run has come, and what it leaves that ended early.
+use Rattle.std.specs.Prelude.{◌≡◌, ◌≢◌, ℕ, ◌<◌, ◌≤◌, ◌⊎◌, List, [], ◌∷◌, ◌++◌, length, map, Option, Result, Ok, Err, Bool, true, false, ⊤}
+use Rattle.std.specs.Io.KnownBytes.{Appends}
+use Rattle.amber_io.specs.Folder.{Named, with_file, without_file}
+use Rattle.amber_log.specs.LogText.{log_text}
+use Rattle.amber_log.specs.ReadAs.{IsReadAs}
+use Rattle.amber_log.specs.declared.command.Command.{Command}
+use Rattle.amber_log.specs.declared.log.Item.{Item}
+use Rattle.amber_log.specs.declared.log.Log.{Log}
+use Rattle.amber_meaning.specs.Legal.{IsLegal, IsUnaltered}
+use Rattle.amber_meaning.specs.Plain.{answer_of}
+use Rattle.amber_meaning.specs.Replay.{state_after}
+use Rattle.amber_meaning.specs.Texts.{answer_text}
+use Rattle.amber_meaning.specs.Total.{step_total}
+use Rattle.amber_meaning.specs.Transcript.{replies, reply_of, transcript_of}
+use Rattle.amber_debug.specs.Session.{Session, command_of}
+use Rattle.amber_run.specs.Task.{Task, ends_long, most_steps, query_at}
+use Rattle.amber_run.specs.declared.stop.Stop.{Stop}
+use Rattle.amber_run.specs.declared.stop.Stop.TheVariants as stop
+
+-- ---- between two commands
+
+-- the log's file holds the text of a legal log, all other files are as before, and the sink got the log's transcript; `left` are
+-- the commands that are still to be done
+pub record Stands (t : Task) (left : List Command) (log : Log) (files : Option Named) (written : Option (List ℕ)) : Type 0 where
+  pub batch : log.batch ≡ t.batch
+  pub legal : IsLegal (query_at t log.batch) log
+  pub commands : map command_of log.items ++ left ≡ t.commands
+  pub place : files ≡ with_file t.told t.name (log_text log)
+  pub sent : Appends t.before written (transcript_of (query_at t log.batch) log.items)
+  pub short : ends_long false log.items ≡ false
+
+-- where no item sets a constant or drops a row, the reply to the last item is the text of the sequential answer
+abbrev pub HasAnswer : Task → Log → Type 0
+HasAnswer t log =
+    IsUnaltered log.items → (done : List Item) (last : Item) → log.items ≡ done ++ last ∷ []
+    → reply_of (query_at t log.batch) (state_after (query_at t log.batch) done) last ≡ answer_text t.flow (answer_of t.flow t.inputs)
+
+-- a run that has done all
+abbrev pub IsDone : Task → Option Named → Option (List ℕ) → Type 0
+IsDone t files written = (log : Log) × Stands t [] log files written × HasAnswer t log
+
+-- ---- a run that ended early
+
+-- where the steps were as many as may be, that leg is the log's last item; where the sink failed, it was no such leg's reply
+abbrev pub ClosesAs : Stop → Bool → Type 0
+ClosesAs stop.Long long = long ≡ true
+ClosesAs stop.OutFault long = long ≡ false
+ClosesAs other long = ⊤
+
+-- the log's file reads as a legal log, whose commands are the first of those to be done, and all other files are as before. The sink
+-- got the replies to all items, where that to the last may be wanting, or cut if the sink failed; then a line
+pub record IsLeft (t : Task) (s : Stop) (line : List ℕ) (files : Option Named) (written : Option (List ℕ)) : Type 0 where
+  -- the file's bytes
+  pub bytes : List ℕ
+  -- the log that is read of them: its batch size, the items that were replied to, and perhaps one more
+  pub batch : ℕ
+  pub done : List Item
+  pub last : List Item
+  -- the commands that are in none of them
+  pub left : List Command
+  -- what was put of the reply to the last item, and what was not
+  pub part : List ℕ
+  pub rest : List ℕ
+  pub place : files ≡ with_file t.told t.name bytes
+  pub few : length last ≤ 1
+  pub read : IsReadAs bytes (record { batch = batch; items = done ++ last })
+  pub legal : IsLegal (query_at t batch) (record { batch = batch; items = done ++ last })
+  pub size : (batch ≡ t.batch) ⊎ (done ++ last ≡ [])
+  pub commands : map command_of (done ++ last) ++ left ≡ t.commands
+  pub split : part ++ rest ≡ replies (query_at t batch) (state_after (query_at t batch) done) last
+  pub whole : s ≢ stop.OutFault → part ≡ []
+  pub sent : Appends t.before written (transcript_of (query_at t batch) done ++ (part ++ line))
+  pub closed : ClosesAs s (ends_long false (done ++ last))
+
+-- the log's file is as before, absent or empty, all other files are as before, and the sink got a line alone
+abbrev pub IsBare : Task → List ℕ → Option Named → Option (List ℕ) → Type 0
+IsBare t line files written =
+    ((files ≡ t.told) ⊎ (files ≡ without_file t.told t.name) ⊎ (files ≡ with_file t.told t.name [])) × Appends t.before written line
+
+-- what each stop of a run that was begun leaves
+abbrev pub Leaves : Task → Stop → List ℕ → Option Named → Option (List ℕ) → Type 0
+Leaves t stop.LogFault line files written = IsBare t line files written ⊎ IsLeft t stop.LogFault line files written
+Leaves t stop.OutFault line files written = IsLeft t stop.OutFault line files written
+Leaves t stop.Long line files written = IsLeft t stop.Long line files written × (most_steps < step_total (query_at t t.batch))
+Leaves t stop.NoMemory line files written = IsBare t line files written ⊎ IsLeft t stop.NoMemory line files written
+Leaves t other line files written = ⊥
+
+-- ---- the steps of a run
+
+-- the log was made
+abbrev pub Opens : {A : Type 0} → Result A Stop → Task → Log → Option Named → Option (List ℕ) → Type 0
+Opens (Ok x) t log files written = Stands t t.commands log files written
+Opens (Err stop.LogFault) t log files written = IsBare t [] files written ⊎ IsLeft t stop.LogFault [] files written
+Opens (Err stop.NoMemory) t log files written = IsBare t [] files written
+Opens (Err other) t log files written = ⊥
+
+-- what a stop at a command leaves
+abbrev pub Halts : Task → Stop → Option Named → Option (List ℕ) → Type 0
+Halts t stop.LogFault files written = IsLeft t stop.LogFault [] files written
+Halts t stop.OutFault files written = IsLeft t stop.OutFault [] files written
+Halts t stop.Long files written = IsLeft t stop.Long [] files written
+Halts t stop.NoMemory files written = IsLeft t stop.NoMemory [] files written
+Halts t other files written = ⊥
+
+-- a command was done
+abbrev pub Did : {A : Type 0} → Result A Stop → Task → List Command → Session → Option Named → Option (List ℕ) → Type 0
+Did (Ok x) t left d files written = Stands t left d.log files written
+Did (Err s) t left d files written = Halts t s files written
+
+-- the run was done
+abbrev pub Worked : {A : Type 0} → Result A Stop → Task → Option Named → Option (List ℕ) → Type 0
+Worked (Ok x) t files written = IsDone t files written
+Worked (Err s) t files written = Leaves t s [] files written

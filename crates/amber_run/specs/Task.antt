@@ -1,0 +1,52 @@
+-- What a run is to do.
+use Rattle.std.specs.Prelude.{◌≡◌, ℕ, ◌^◌, List, [], ◌∷◌, Option, Bool}
+use Rattle.amber_io.specs.Folder.{Named}
+use Rattle.amber_rows.specs.declared.flow.Operator.{Operator}
+use Rattle.amber_log.specs.declared.command.Command.{Command}
+use Rattle.amber_log.specs.declared.command.Command.TheVariants as command
+use Rattle.amber_log.specs.declared.log.Item.{Item}
+use Rattle.amber_meaning.specs.Legal.{Query, query_over}
+use Rattle.amber_debug.specs.Session.{Session, is_long_item}
+
+-- what is fixed once nothing is left that refuses a run
+pub record Task : Type 0 where
+  -- the folder's files before the log is made, and what the sink has got before
+  pub told : Option Named
+  pub before : Option (List ℕ)
+  -- the log's name
+  pub name : List ℕ
+  pub flow : List Operator
+  -- the scans' files
+  pub inputs : List (List ℕ)
+  -- how many rows a batch has
+  pub batch : ℕ
+  -- the script's commands, then the one to run to the end
+  pub commands : List Command
+
+-- how many steps a run may make
+abbrev pub most_steps : ℕ
+most_steps = 2 ^ 40
+
+-- what is run, in batches of this size
+abbrev pub query_at : Task → ℕ → Query
+query_at t batch = query_over t.flow t.inputs batch most_steps
+
+-- the commands of a script that has none
+abbrev pub end_alone : List Command
+end_alone = command.End ∷ []
+
+-- the session runs what the task asks for
+pub record IsSession (t : Task) (d : Session) : Type 0 where
+  pub flow : d.flow ≡ t.flow
+  pub inputs : d.files ≡ t.inputs
+  pub most : d.most ≡ most_steps
+
+-- whether the last item is a leg that was closed because the steps were as many as may be; `long` where there is no item
+abbrev pub ends_long : Bool → List Item → Bool
+ends_long long [] = long
+ends_long long (one ∷ more) = ends_long (is_long_item one) more
+
+-- a run of a workflow over the files of its scans, by a script without commands
+abbrev pub task_of : Option Named → Option (List ℕ) → List Operator → List (List ℕ) → List ℕ → ℕ → Task
+task_of told before flow inputs name batch =
+    record { told = told; before = before; name = name; flow = flow; inputs = inputs; batch = batch; commands = end_alone }
