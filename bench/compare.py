@@ -1,17 +1,21 @@
 #!/usr/bin/env python3
-"""Times `amber plain` against sqlite3's command line on the workloads of `generate.py`.
+"""Times Amber against sqlite3's command line on the workloads of `generate.py`.
 
 Usage: bench/compare.py PROGRAM FOLDER [ROUNDS]
 
-PROGRAM is the built program (crates/amber/out/amber), FOLDER what `generate.py` made. Each round runs both
-programs once on each workload, one after the other; the least time of all rounds counts. The outputs are
-compared: what follows Amber's line `rows N` has to be what sqlite3 prints, byte for byte.
+PROGRAM is the built program (crates/amber/out/amber), FOLDER what `generate.py` made. Each round runs, one
+after the other on each workload, `amber plain`, `amber run` with an empty script, one thread and batches of
+400 rows, and sqlite3; the least time of all rounds counts. The outputs are compared: what follows Amber's line
+`rows N` has to be what sqlite3 prints, byte for byte. A workload with refused records is for Amber alone.
 """
 import os
 import subprocess
 import sys
 import tempfile
 import time
+
+PLAIN = ["plain", "workflow.json"]
+RUN = ["run", "workflow.json", "script", "log", "1", "400"]
 
 
 def run(words, folder, given, output):
@@ -22,7 +26,7 @@ def run(words, folder, given, output):
         _, status, usage = os.wait4(child.pid, 0)
     seconds = time.perf_counter() - before
     if status != 0:
-        sys.exit(f"{words[0]} ended with status {status} in {folder}")
+        sys.exit(f"{' '.join(words)} ended with status {status} in {folder}")
     return seconds, usage.ru_maxrss / 1024
 
 
@@ -37,22 +41,29 @@ def main():
     program, top = os.path.abspath(sys.argv[1]), sys.argv[2]
     rounds = int(sys.argv[3]) if len(sys.argv) > 3 else 5
     names = sorted(name for name in os.listdir(top) if os.path.isdir(os.path.join(top, name)))
-    amber, sqlite, memory = {}, {}, {}
+    seconds, memory = {}, {}
     with tempfile.TemporaryDirectory() as kept:
-        output, wanted = os.path.join(kept, "amber"), os.path.join(kept, "sqlite3")
+        output, wanted, again = (os.path.join(kept, name) for name in ("plain", "sqlite3", "run"))
         for _ in range(rounds):
             for name in names:
                 folder = os.path.join(top, name)
-                seconds, peak = run([program, "plain", "workflow.json"], folder, os.devnull, output)
-                amber[name] = min(amber.get(name, seconds), seconds)
-                other, other_peak = run(["sqlite3", "-batch"], folder, os.path.join(folder, "query.sql"), wanted)
-                sqlite[name] = min(sqlite.get(name, other), other)
-                memory[name] = (peak, other_peak)
-                if not same(output, wanted):
-                    sys.exit(f"{name}: the outputs differ")
+                runs = {
+                    "plain": ([program] + PLAIN, os.devnull, output),
+                    "run": ([program] + RUN, os.devnull, again),
+                    "sqlite3": (["sqlite3", "-batch"], os.path.join(folder, "query.sql"), wanted),
+                }
+                for what, (words, given, into) in runs.items():
+                    took, peak = run(words, folder, given, into)
+                    seconds[name, what] = min(seconds.get((name, what), took), took)
+                    memory[name, what] = peak
+                if not name.startswith("faults") and not same(output, wanted):
+                    sys.exit(f"{name}: the outputs of amber and sqlite3 differ")
+                if subprocess.run(["cmp", "-s", output, again]).returncode != 0:
+                    sys.exit(f"{name}: the outputs of plain and run differ")
     for name in names:
-        ratio = amber[name] / sqlite[name]
-        print(f"{name:12} amber {amber[name]:6.2f} s {memory[name][0]:5.0f} MB   sqlite3 {sqlite[name]:6.2f} s {memory[name][1]:5.0f} MB   ratio {ratio:.2f}")
+        shown = "   ".join(f"{what} {seconds[name, what]:6.2f} s {memory[name, what]:5.0f} MB" for what in ("plain", "run", "sqlite3"))
+        ratios = f"plain/sqlite3 {seconds[name, 'plain'] / seconds[name, 'sqlite3']:.2f}   run/plain {seconds[name, 'run'] / seconds[name, 'plain']:.2f}"
+        print(f"{name:12} {shown}   {ratios}")
 
 
 main()

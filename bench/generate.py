@@ -1,10 +1,11 @@
 #!/usr/bin/env python3
 """Makes the workloads of the comparison from nothing, the same bytes each time.
 
-Usage: bench/generate.py FOLDER
+Usage: bench/generate.py FOLDER [NAME..]
 
-FOLDER gets a folder for each workload, with `data.csv` (about 30 MB), `workflow.json` for Amber and
-`query.sql` for sqlite3's command line. No text needs quotes, so that both print the same bytes.
+FOLDER gets a folder for each workload (or for those named), with its CSV files (up to 30 MB together),
+`workflow.json` for Amber, an empty `script` and `query.sql` for sqlite3's command line. No text needs
+quotes, so that both print the same bytes.
 """
 import json
 import os
@@ -13,6 +14,10 @@ import sys
 
 ITEMS = ["nut", "bolt", "cog", "washer", "bracket", "hinge", "spring", "clamp", "rivet", "valve"]
 WORDS = ["red", "blue", "green", "small", "large", "spare", "old", "new", "left", "right"]
+ORDER = [("id", "int"), ("item", "text"), ("qty", "int"), ("note", "text")]
+SALE = [("sale", "int"), ("part", "int"), ("qty", "int")]
+PART = [("code", "int"), ("name", "text")]
+WIDE = [(f"c{k}", "text" if k % 3 == 2 else "int") for k in range(30)]
 
 
 def orders(count):
@@ -29,36 +34,82 @@ def wide(count):
         yield tuple(rng.choice(WORDS) if k % 3 == 2 else rng.randrange(10**6) for k in range(30))
 
 
-def write(folder, columns, rows, condition):
+def parts(count):
+    """Parts by a code of their own, in no order."""
+    rng = random.Random(13)
+    codes = list(range(count))
+    rng.shuffle(codes)
+    for code in codes:
+        yield (code, rng.choice(ITEMS) + str(code % 1000))
+
+
+def sales(count, kinds):
+    """Sales of parts that are spread evenly over so many codes."""
+    rng = random.Random(17)
+    for sale in range(count):
+        yield (sale, rng.randrange(kinds), rng.randrange(100))
+
+
+def faulty(rows):
+    """The same, with every tenth row's `qty` no number."""
+    for k, row in enumerate(rows):
+        yield row[:2] + ("x",) + row[3:] if k % 10 == 9 else row
+
+
+def scan(name, columns):
+    return {"id": name, "kind": "scan", "file": f"{name}.csv", "columns": columns}
+
+
+def write(top, name, tables, operators, query):
+    """A workload: its tables as (name, columns, rows), its operators behind the scans, and what sqlite3 is asked."""
+    if len(sys.argv) > 2 and name not in sys.argv[2:]:
+        return
+    folder = os.path.join(top, name)
     os.makedirs(folder, exist_ok=True)
-    with open(os.path.join(folder, "data.csv"), "w", newline="") as out:
-        out.write(",".join(name for name, _ in columns) + "\n")
-        for row in rows:
-            out.write(",".join(map(str, row)) + "\n")
-    operators = [{"id": "data", "kind": "scan", "file": "data.csv", "columns": columns}]
-    where = ""
-    if condition:
-        column, sign, constant = condition
-        operators.append({"id": "kept", "kind": "filter", "input": "data", "column": column, "op": sign, "constant": constant})
-        where = f" WHERE {column} {sign} {constant}"
-    operators.append({"id": "answer", "kind": "sink", "input": operators[-1]["id"]})
-    with open(os.path.join(folder, "workflow.json"), "w") as out:
-        json.dump({"operators": operators}, out, indent=1)
     sql = {"int": "INTEGER", "text": "TEXT"}
-    table = ", ".join(f"{name} {sql[kind]}" for name, kind in columns)
-    names = ", ".join(name for name, _ in columns)
+    script = ".mode csv\n.separator , \"\\n\"\n"
+    for table, columns, rows in tables:
+        with open(os.path.join(folder, f"{table}.csv"), "w", newline="") as out:
+            out.write(",".join(column for column, _ in columns) + "\n")
+            for row in rows:
+                out.write(",".join(map(str, row)) + "\n")
+        kinds = ", ".join(f"{column} {sql[kind]}" for column, kind in columns)
+        script += f"CREATE TABLE {table} ({kinds});\n.import --skip 1 {table}.csv {table}\n"
+    scans = [scan(table, columns) for table, columns, _ in tables]
+    answer = {"id": "answer", "kind": "sink", "input": (scans + operators)[-1]["id"]}
+    with open(os.path.join(folder, "workflow.json"), "w") as out:
+        json.dump({"operators": scans + operators + [answer]}, out, indent=1)
     with open(os.path.join(folder, "query.sql"), "w") as out:
-        out.write(f"CREATE TABLE data ({table});\n.mode csv\n.separator , \"\\n\"\n.import --skip 1 data.csv data\n")
-        out.write(f".headers on\nSELECT {names} FROM data{where} ORDER BY {names};\n")
+        out.write(script + f".headers on\n{query};\n")
+    open(os.path.join(folder, "script"), "w").close()
+
+
+def kept(column, sign, constant):
+    return {"id": "kept", "kind": "filter", "input": "data", "column": column, "op": sign, "constant": constant}
+
+
+def totals(column, aggregates):
+    return {"id": "totals", "kind": "group", "input": "data", "keys": [column], "aggregates": aggregates}
 
 
 def main():
     top = sys.argv[1]
-    order_columns = [("id", "int"), ("item", "text"), ("qty", "int"), ("note", "text")]
-    write(os.path.join(top, "keeps_1"), order_columns, orders(1_000_000), ("qty", ">=", 99))
-    write(os.path.join(top, "keeps_90"), order_columns, orders(1_000_000), ("qty", ">=", 10))
-    wide_columns = [(f"c{k}", "text" if k % 3 == 2 else "int") for k in range(30)]
-    write(os.path.join(top, "columns_30"), wide_columns, wide(155_000), ("c0", ">=", 0))
+    names = ", ".join(column for column, _ in ORDER)
+    write(top, "keeps_1", [("data", ORDER, orders(1_000_000))], [kept("qty", ">=", 99)],
+          f"SELECT {names} FROM data WHERE qty >= 99 ORDER BY {names}")
+    write(top, "keeps_90", [("data", ORDER, orders(1_000_000))], [kept("qty", ">=", 10)],
+          f"SELECT {names} FROM data WHERE qty >= 10 ORDER BY {names}")
+    names = ", ".join(column for column, _ in WIDE)
+    write(top, "columns_30", [("data", WIDE, wide(155_000))], [kept("c0", ">=", 0)],
+          f"SELECT {names} FROM data WHERE c0 >= 0 ORDER BY {names}")
+    join = {"id": "sold", "kind": "join", "build": "parts", "probe": "sales", "build_keys": ["code"], "probe_keys": ["part"]}
+    write(top, "join", [("parts", PART, parts(100_000)), ("sales", SALE, sales(1_000_000, 100_000))], [join],
+          "SELECT sale, part, qty, code, name FROM sales JOIN parts ON part = code ORDER BY sale, part, qty, code, name")
+    write(top, "group_10", [("data", ORDER, orders(1_000_000))], [totals("item", ["count", "sum:qty", "max:note"])],
+          'SELECT item, count(*) AS "count", sum(qty) AS "sum:qty", max(note) AS "max:note" FROM data GROUP BY item ORDER BY item')
+    write(top, "group_100k", [("data", SALE, sales(1_000_000, 100_000))], [totals("part", ["count", "sum:qty", "min:sale"])],
+          'SELECT part, count(*) AS "count", sum(qty) AS "sum:qty", min(sale) AS "min:sale" FROM data GROUP BY part ORDER BY part')
+    write(top, "faults_10", [("data", ORDER, faulty(orders(1_000_000)))], [kept("qty", ">=", 10)], "SELECT 1")
 
 
 main()
