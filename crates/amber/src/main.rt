@@ -21,9 +21,9 @@ const HELP: &str = "amber answers queries over CSV files.
   amber --help           prints this text
   amber --version        prints the version
 
-A workflow is a JSON text with a list of operators: a scan of a CSV file, filters and a sink. The
-answer is the sink's rows in their order, behind their number and the columns' names. Records that
-are no rows are told before it.
+A workflow is a JSON text with a list of operators: scans of CSV files, filters, projections, joins,
+groups and a sink. The answer is the sink's rows in their order, behind their number and the columns'
+names. Records that are no rows are told before it.
 
 Whatever is refused is told in one line on the standard output. The exit code is
 
