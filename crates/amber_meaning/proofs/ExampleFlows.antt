@@ -37,6 +37,18 @@ counted =
     ∷ record { id = codes "g"; what = what.Group 1 [] (agg.Count ∷ []); schema = count; workers = 1 }
     ∷ record { id = codes "s"; what = what.Sink 2; schema = count; workers = 1 } ∷ []
 
+-- for each key of pairs how many there are, and the sum, the least and the greatest of their values
+abbrev pub tallies : List Column
+tallies =
+    record { name = codes "k"; kind = kind.Text } ∷ record { name = codes "count"; kind = kind.Int } ∷ record { name = codes "sum:v"; kind = kind.Int }
+    ∷ record { name = codes "min:v"; kind = kind.Int } ∷ record { name = codes "max:v"; kind = kind.Int } ∷ []
+
+abbrev pub tallied : List Operator
+tallied =
+    record { id = codes "o"; what = what.Scan (codes "o.csv"); schema = pairs; workers = 1 }
+    ∷ record { id = codes "g"; what = what.Group 1 (1 ∷ []) (agg.Count ∷ agg.Sum 2 ∷ agg.Min 2 ∷ agg.Max 2 ∷ []); schema = tallies; workers = 1 }
+    ∷ record { id = codes "s"; what = what.Sink 2; schema = tallies; workers = 1 } ∷ []
+
 -- the items of orders, and the orders' numbers
 abbrev pub things : List Column
 things = record { name = codes "thing"; kind = kind.Text } ∷ record { name = codes "n"; kind = kind.Int } ∷ []
@@ -92,6 +104,10 @@ pairs_fit = record { some = omega arith; few = omega arith; apart = refl }
 sums_fit : AreColumns sums
 unfolding are_apart
 sums_fit = record { some = omega arith; few = omega arith; apart = refl }
+
+tallies_fit : AreColumns tallies
+unfolding are_apart
+tallies_fit = record { some = omega arith; few = omega arith; apart = refl }
 
 -- ---- each operator is read once
 
@@ -177,6 +193,23 @@ summed-is-flow = record {
   );
   ends = refl;
   read_once = once_of_three summed refl refl;
+  few_workers = omega arith;
+}
+
+pub tallied-is-flow : IsFlow tallied
+unfolding AreNext ends_in_sink is_id reader_count
+tallied-is-flow = record {
+  some = omega arith;
+  few = omega arith;
+  operators = (
+    stands _ _ refl refl pairs_fit (omega arith, omega arith, refl) refl,
+    (
+      stands _ _ refl refl tallies_fit ((omega arith, omega arith), AreIn-more pairs 1 [] (omega arith) (omega arith) (AreIn-none pairs), refl, refl) refl,
+      (stands _ _ refl refl tallies_fit refl refl, tt),
+    ),
+  );
+  ends = refl;
+  read_once = once_of_three tallied refl refl;
   few_workers = omega arith;
 }
 

@@ -8,10 +8,12 @@ ghost use Rattle.amber_meaning.specs.declared.answer.Refusal.TheVariants as refu
 ghost use Rattle.amber_meaning.specs.declared.evaluator.PlainErr.TheVariants as plain_err;
 
 use crate::answer::{Answer, Refusal, Refusals};
+use crate::grouping::group_rows;
 use crate::header::{file_behind, wrong_header};
+use crate::joining::join_rows;
 use crate::project::project;
 use crate::scan::scan;
-use crate::through::{Groups, group_rows, join_rows};
+use amber_group::Grouped;
 use amber_rows::{Aggs, Cols, Cond, Files, Flow, Operator, Row, Rows, What, holds, sort};
 use std::alloc::{AllocError, Global};
 use std::mem;
@@ -75,14 +77,14 @@ fn group_refused(
     ensures rows { IfOk result (λ made. made.items ≡ grouped keys.now aggs.now rows.items) }
     ensures refused { OnOk result (refused.new.items ≡ refused.old.items ++ refused_groups op (refused_keys keys.now aggs.now rows.items)) }
 {
-    let groups = group_rows(alloc, keys, aggs, rows)?;
-    let Groups {
+    let Grouped {
         rows: made,
-        refused: mut none,
-    } = groups;
+        refused: none,
+    } = group_rows(alloc, keys, aggs, rows)?;
+    let mut none = none.into_inner();
     sort(&mut none);
     refuse_groups(op, none.as_slice(), refused)?;
-    Ok(made)
+    Ok(made.into_inner())
 }
 
 /// The rows of an operator, from its file or the lists of its inputs, which it takes. What it refuses comes behind

@@ -6,11 +6,12 @@
 
 pub mod answer;
 pub mod evaluator;
+mod grouping;
 mod header;
+mod joining;
 pub mod laws;
 mod project;
 mod scan;
-mod through;
 pub mod view;
 
 pub use answer::{Answer, Refusal, Refusals};

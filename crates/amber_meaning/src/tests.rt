@@ -3,6 +3,7 @@ ghost use Rattle.std.specs.Prelude.{◌≡◌, length, IfOk};
 ghost use Rattle.amber_meaning.specs.Plain.{scan_count};
 
 mod flows;
+mod simple;
 
 use super::*;
 use amber_rows::{Bytes, Files, Flow, append_names, append_rows, row_text};

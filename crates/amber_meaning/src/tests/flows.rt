@@ -201,3 +201,35 @@ pub fn count(alloc: Global) -> Result<Flow, NoMemory>
     add(alloc, &mut operators, "s", What::Sink { input: 2 }, &count)?;
     Ok(Flow::new(operators))
 }
+
+// For each key how many pairs have it, and the sum, the least and the greatest of their values.
+pub fn tallies(alloc: Global) -> Result<Flow, NoMemory>
+    ensures { IfOk result (λ flow. scan_count flow ≡ 1) }
+{
+    let pairs = [("k", ColKind::Text), ("v", ColKind::Int)];
+    let tallies = [
+        ("k", ColKind::Text),
+        ("count", ColKind::Int),
+        ("sum:v", ColKind::Int),
+        ("min:v", ColKind::Int),
+        ("max:v", ColKind::Int),
+    ];
+    let mut operators = Vec::new(alloc);
+    let file = text(alloc, "o.csv")?;
+    add(alloc, &mut operators, "o", What::Scan { file }, &pairs)?;
+    let aggs = [Agg::Count, Agg::Sum(2), Agg::Min(2), Agg::Max(2)];
+    let group = What::Group {
+        input: 1,
+        keys: numbers(alloc, &[1])?,
+        aggs: Aggs::new(Vec::from_slice(alloc, &aggs)?),
+    };
+    add(alloc, &mut operators, "g", group, &tallies)?;
+    add(
+        alloc,
+        &mut operators,
+        "s",
+        What::Sink { input: 2 },
+        &tallies,
+    )?;
+    Ok(Flow::new(operators))
+}

@@ -2,9 +2,7 @@ ghost use Rattle.std.specs.Prelude.{◌≡◌, ◌<◌, ◌++◌, ◌∷◌, [],
 ghost use Rattle.amber_rows.specs.Operators.{grouped, refused_keys};
 ghost use Rattle.amber_rows.specs.declared.value.Value.{Value as Cell};
 ghost use Rattle.amber_group.specs.Group.{Stands};
-ghost use Rattle.amber_pipe.specs.Passing.{IsFed};
 
-use crate::pipe::Pipe;
 use amber_group::{GroupState, Grouped};
 use amber_rows::{Aggs, Cols, Row};
 use std::alloc::{AllocError, Global};
@@ -41,20 +39,17 @@ fn fed_with(
     Ok(state)
 }
 
-/// Feeds a pipe a row for each key of the rows, in the order in which the keys stand first, and gives the keys that
-/// have none, since a sum leaves 64 bits.
-pub fn group(
+/// A row for each key of the rows, in the order in which the keys stand first, by a table of the keys; the keys with
+/// a sum that leaves 64 bits apart.
+pub fn group_rows(
     alloc: Global,
     keys: &Cols,
     aggs: &Aggs,
     rows: Vec<Row>,
-    pipe: &mut Pipe,
-) -> Result<Vec<Row>, AllocError>
-    ensures rows { OnOk result (IsFed pipe.old pipe.new (grouped keys.now aggs.now rows.items)) }
-    ensures refused { IfOk result (λ refused. refused.items ≡ refused_keys keys.now aggs.now rows.items) }
+) -> Result<Grouped, AllocError>
+    ensures rows { IfOk result (λ groups. groups.rows ≡ grouped keys.now aggs.now rows.items) }
+    ensures refused { IfOk result (λ groups. groups.refused ≡ refused_keys keys.now aggs.now rows.items) }
 {
     let state = fed_with(alloc, keys, aggs, rows)?;
-    let Grouped { rows, refused } = state.finish()?;
-    pipe.feed_all(rows.into_inner())?;
-    Ok(refused.into_inner())
+    state.finish()
 }

@@ -1,7 +1,7 @@
 -- The rows so far were fed.
 use Rattle.std.proofs.Common.{◌≡◌}
 use Rattle.amber_group.specs.Group.{Stands}
-use Rattle.amber_pipe.proofs.grouping.fed_with.Given as goal
+use Rattle.amber_meaning.proofs.grouping.fed_with.Given as goal
 
 abbrev pub invariant-loop-row : goal.invariant-loop-row
 invariant-loop-row l = record {

@@ -1,8 +1,6 @@
 ghost use Rattle.std.specs.Prelude.{◌≡◌, ◌++◌, ◌∷◌, [], IfOk, OnOk, false, true};
 ghost use Rattle.amber_rows.specs.Operators.{joined};
-ghost use Rattle.amber_pipe.specs.Passing.{IsFed};
 
-use crate::pipe::Pipe;
 use amber_join::JoinState;
 use amber_rows::{Cols, Row};
 use std::alloc::{AllocError, Global};
@@ -44,30 +42,29 @@ fn built(
     Ok(state)
 }
 
-// Feeds a pipe the matches of the probe rows in the build rows of a state.
-fn probe_all(state: &JoinState, probe: Vec<Row>, pipe: &mut Pipe) -> Result<(), AllocError>
+// The matches of the probe rows in the build rows of a state.
+fn probed(alloc: Global, state: &JoinState, probe: Vec<Row>) -> Result<Vec<Row>, AllocError>
     requires { state.now.sealed ≡ true }
-    ensures { OnOk result (IsFed pipe.old pipe.new (joined state.now.build_keys state.now.probe_keys state.now.rows probe.items)) }
+    ensures { IfOk result (λ made. made.items ≡ joined state.now.build_keys state.now.probe_keys state.now.rows probe.items) }
 {
+    let mut made = Vec::new(alloc);
     for row in probe {
-        let matches = state.probe(&row)?;
-        pipe.feed_all(matches.into_inner())?;
+        let mut matches = state.probe(&row)?.into_inner();
+        made.append(&mut matches)?;
     }
-    Ok(())
+    Ok(made)
 }
 
-/// Feeds a pipe the matches of the probe rows in the build rows.
-pub fn join(
+/// The matches of the probe rows in the build rows, by a table of the build rows' keys.
+pub fn join_rows(
     alloc: Global,
     build_keys: &Cols,
     probe_keys: &Cols,
     build: Vec<Row>,
     probe: Vec<Row>,
-    pipe: &mut Pipe,
-) -> Result<(), AllocError>
-    ensures { OnOk result (IsFed pipe.old pipe.new (joined build_keys.now probe_keys.now build.items probe.items)) }
+) -> Result<Vec<Row>, AllocError>
+    ensures { IfOk result (λ made. made.items ≡ joined build_keys.now probe_keys.now build.items probe.items) }
 {
     let state = built(alloc, build_keys, probe_keys, build)?;
-    probe_all(&state, probe, pipe)?;
-    Ok(())
+    probed(alloc, &state, probe)
 }
