@@ -66,46 +66,102 @@ fn probed(alloc: Global, state: &JoinState, written: &str) -> Result<Vec<Row>, F
     Ok(made)
 }
 
-// Build keys and probe keys, build rows, probe rows, their matches, and how many different keys and build rows there are.
-const JOINS: [(&str, &str, &str, &str, &str, u64, u64); 6] = [
-    (
-        "1 2",
-        "2 1",
-        "1 'a 10 / 1 'b 20 / 2 'a 30 /",
-        "'b 1 / 'a 2 / 'a 3 /",
-        "'b 1 1 'b 20 / 'a 2 2 'a 30 /",
-        3,
-        3,
-    ),
-    (
-        "1",
-        "1",
-        "7 'x / 8 'y / 7 'z / 7 'x /",
-        "7 / 8 / 7 /",
-        "7 7 'x / 7 7 'z / 7 7 'x / 8 8 'y / 7 7 'x / 7 7 'z / 7 7 'x /",
-        2,
-        4,
-    ),
-    ("1", "1", "1 / 2 / -3 /", "3 / 12 / -1 /", "", 3, 3),
-    ("1", "1", "", "1 / 'a /", "", 0, 0),
-    (
-        "1",
-        "1",
-        "'\u{e9} 1 / 'e\u{301} 2 / 'e 3 /",
-        "'e\u{301} / '\u{e9} / 'E /",
-        "'e\u{301} 'e\u{301} 2 / '\u{e9} '\u{e9} 1 /",
-        3,
-        3,
-    ),
-    (
-        "2",
-        "1",
-        "'number 1 / 'text '1 /",
-        "'1 / 1 /",
-        "'1 'text '1 / 1 'number 1 /",
-        2,
-        2,
-    ),
+// A join, and what it gives.
+#[derive(Clone, Copy)]
+struct Case {
+    name: &'static str,
+    build_keys: &'static str,
+    probe_keys: &'static str,
+    build: &'static str,
+    probe: &'static str,
+    matches: &'static str,
+    // How many different keys the build rows have, and how many rows there are.
+    keys: u64,
+    rows: u64,
+}
+
+// `proofs/Examples.antt` has the same joins by the same names, computed from the definition.
+const JOINS: [Case; 8] = [
+    Case {
+        name: "keys_of_two_columns",
+        build_keys: "1 2",
+        probe_keys: "2 1",
+        build: "1 'a 10 / 1 'b 20 / 2 'a 30 /",
+        probe: "'b 1 / 'a 2 / 'a 3 /",
+        matches: "'b 1 1 'b 20 / 'a 2 2 'a 30 /",
+        keys: 3,
+        rows: 3,
+    },
+    Case {
+        name: "duplicates_on_both_sides",
+        build_keys: "1",
+        probe_keys: "1",
+        build: "7 'x / 8 'y / 7 'z / 7 'x /",
+        probe: "7 / 8 / 7 /",
+        matches: "7 7 'x / 7 7 'z / 7 7 'x / 8 8 'y / 7 7 'x / 7 7 'z / 7 7 'x /",
+        keys: 2,
+        rows: 4,
+    },
+    Case {
+        name: "no_match",
+        build_keys: "1",
+        probe_keys: "1",
+        build: "1 / 2 / -3 /",
+        probe: "3 / 12 / -1 /",
+        matches: "",
+        keys: 3,
+        rows: 3,
+    },
+    Case {
+        name: "no_build_row",
+        build_keys: "1",
+        probe_keys: "1",
+        build: "",
+        probe: "1 / 'a /",
+        matches: "",
+        keys: 0,
+        rows: 0,
+    },
+    Case {
+        name: "no_probe_row",
+        build_keys: "1",
+        probe_keys: "1",
+        build: "1 / 2 / 1 /",
+        probe: "",
+        matches: "",
+        keys: 2,
+        rows: 3,
+    },
+    Case {
+        name: "no_key_column",
+        build_keys: "",
+        probe_keys: "",
+        build: "1 / 2 /",
+        probe: "'a / 'b /",
+        matches: "'a 1 / 'a 2 / 'b 1 / 'b 2 /",
+        keys: 1,
+        rows: 2,
+    },
+    Case {
+        name: "bytes_alone",
+        build_keys: "1",
+        probe_keys: "1",
+        build: "'\u{e9} 1 / 'e\u{301} 2 / 'e 3 /",
+        probe: "'e\u{301} / '\u{e9} / 'E /",
+        matches: "'e\u{301} 'e\u{301} 2 / '\u{e9} '\u{e9} 1 /",
+        keys: 3,
+        rows: 3,
+    },
+    Case {
+        name: "number_against_text",
+        build_keys: "2",
+        probe_keys: "1",
+        build: "'number 1 / 'text '1 /",
+        probe: "'1 / 1 /",
+        matches: "'1 'text '1 / 1 'number 1 /",
+        keys: 2,
+        rows: 2,
+    },
 ];
 
 // A sealed copy of the state of a join of build rows.
@@ -136,11 +192,57 @@ fn gives(alloc: Global, state: &JoinState, probe: &str, want: &str) -> Result<bo
 #[test]
 fn a_probe_row_stands_before_each_build_row_with_its_key(rt: HostRuntime) -> Result<(), Fail> {
     let alloc = rt.alloc();
-    for (build_keys, probe_keys, build, probe, want, keys, count) in JOINS {
-        let state = built(alloc, build_keys, probe_keys, build)?;
-        assert!(rt; gives(alloc, &state, probe, want)?, "not {want}");
-        assert_eq!(rt; state.keys(), keys, "keys of {build}");
-        assert_eq!(rt; state.rows(), count, "rows of {build}");
+    for case in JOINS {
+        let name = case.name;
+        let state = built(alloc, case.build_keys, case.probe_keys, case.build)?;
+        assert!(rt;
+            gives(alloc, &state, case.probe, case.matches)?,
+            "matches of {name}"
+        );
+        assert_eq!(rt; state.keys(), case.keys, "keys of {name}");
+        assert_eq!(rt; state.rows(), case.rows, "rows of {name}");
     }
+    Ok(())
+}
+
+// How many keys the large join has.
+const MANY: u32 = 100_000;
+
+// Feeds a join a row for each number below `MANY`, and a second one of a number of the first.
+fn build_many(alloc: Global, state: &mut JoinState) -> Result<(), Fail>
+    requires { state.old.sealed ≡ false }
+    ensures { state.new.sealed ≡ false }
+{
+    for number in 0..MANY {
+        let written = format!(in alloc; "{number} 'a /")?;
+        build_all(alloc, state, written.as_str())?;
+    }
+    build_all(alloc, state, "12 'b /")
+}
+
+// How many matches the numbers below twice `MANY` have, each as a probe row.
+fn count_matches(alloc: Global, state: &JoinState) -> Result<usize, Fail>
+    requires { state.now.sealed ≡ true }
+{
+    let mut count = 0usize;
+    for number in 0..2 * MANY {
+        let row = Row::new(vec![in alloc; Value::Int(number as i64)]?);
+        count = count.saturating_add(state.probe(&row)?.get().len());
+    }
+    Ok(count)
+}
+
+#[test]
+fn many_keys_are_told_apart(rt: HostRuntime) -> Result<(), Fail> {
+    let alloc = rt.alloc();
+    let mut state = JoinState::new(alloc, cols(alloc, "1")?, cols(alloc, "1")?);
+    build_many(alloc, &mut state)?;
+    state.seal();
+    assert_eq!(rt; state.keys(), 100_000);
+    assert_eq!(rt; state.rows(), 100_001);
+    let probe = "0 / 12 / 50000 / 99999 / 100000 / -1 / '12 /";
+    let matches = "0 0 'a / 12 12 'a / 12 12 'b / 50000 50000 'a / 99999 99999 'a /";
+    assert!(rt; gives(alloc, &state, probe, matches)?, "not {matches}");
+    assert_eq!(rt; count_matches(alloc, &state)?, 100_001);
     Ok(())
 }

@@ -1,0 +1,160 @@
+-- Joins on literals: the cases of the table of the tests, by their names there.
+use Rattle.std.specs.Prelude.{⊤}
+use Rattle.std.proofs.Common.{◌≡◌, ℕ, ◌-◌, pos, negsuc, List, [], ◌∷◌, length, codes, refl}
+use Rattle.amber_rows.specs.Operators.{first_keys, joined, matches_of, picked}
+use Rattle.amber_rows.specs.declared.value.Value.{Value}
+use Rattle.amber_rows.specs.declared.value.Value.TheVariants.{Int, Text}
+
+unfoldable joins_on_literals : ⊤
+unfolding picked matches_of joined first_keys
+joins_on_literals = tt
+
+-- ---- cells and rows
+
+-- a number, and one below 0
+abbrev int : ℕ → Value
+int n = Int (pos n)
+
+abbrev minus : ℕ → Value
+minus n = Int (negsuc (n - 1))
+
+abbrev a : Value
+a = Text (codes "a")
+
+abbrev b : Value
+b = Text (codes "b")
+
+abbrev x : Value
+x = Text (codes "x")
+
+abbrev y : Value
+y = Text (codes "y")
+
+abbrev z : Value
+z = Text (codes "z")
+
+-- an e with an acute accent, as one code point and as two
+abbrev accented : Value
+accented = Text (195 ∷ 169 ∷ [])
+
+abbrev decomposed : Value
+decomposed = Text (101 ∷ 204 ∷ 129 ∷ [])
+
+abbrev Row : Type 0
+Row = List Value
+
+abbrev one : Value → Row
+one c = c ∷ []
+
+abbrev two : Value → Value → Row
+two c d = c ∷ d ∷ []
+
+abbrev three : Value → Value → Value → Row
+three c d e = c ∷ d ∷ e ∷ []
+
+abbrev five : Value → Value → Value → Value → Value → Row
+five c d e f g = c ∷ d ∷ three e f g
+
+abbrev Rows : Type 0
+Rows = List (List Value)
+
+-- how many different keys rows have
+abbrev key_count : List ℕ → Rows → ℕ
+key_count keys rows = length (first_keys keys rows)
+
+-- ---- the first two columns of a build row are the second and the first of a probe row
+
+abbrev pairs : Rows
+pairs = three (int 1) a (int 10) ∷ three (int 1) b (int 20) ∷ three (int 2) a (int 30) ∷ []
+
+keys_of_two_columns : joined (1 ∷ 2 ∷ []) (2 ∷ 1 ∷ []) pairs (two b (int 1) ∷ two a (int 2) ∷ two a (int 3) ∷ [])
+    ≡ five b (int 1) (int 1) b (int 20) ∷ five a (int 2) (int 2) a (int 30) ∷ []
+unfolding joins_on_literals
+keys_of_two_columns = refl
+
+count_keys_of_two_columns : key_count (1 ∷ 2 ∷ []) pairs ≡ 3
+unfolding joins_on_literals
+count_keys_of_two_columns = refl
+
+-- ---- equal keys on both sides: the matches of each probe row stand in the order of the build rows
+
+abbrev repeated : Rows
+repeated = two (int 7) x ∷ two (int 8) y ∷ two (int 7) z ∷ two (int 7) x ∷ []
+
+abbrev sevens : Rows
+sevens = three (int 7) (int 7) x ∷ three (int 7) (int 7) z ∷ three (int 7) (int 7) x ∷ []
+
+duplicates_on_both_sides : joined (1 ∷ []) (1 ∷ []) repeated (one (int 7) ∷ one (int 8) ∷ one (int 7) ∷ [])
+    ≡ three (int 7) (int 7) x ∷ three (int 7) (int 7) z ∷ three (int 7) (int 7) x ∷ three (int 8) (int 8) y ∷ sevens
+unfolding joins_on_literals
+duplicates_on_both_sides = refl
+
+count_duplicates_on_both_sides : key_count (1 ∷ []) repeated ≡ 2
+unfolding joins_on_literals
+count_duplicates_on_both_sides = refl
+
+-- ---- sides that share no key, and sides with no row
+
+abbrev lone : Rows
+lone = one (int 1) ∷ one (int 2) ∷ one (minus 3) ∷ []
+
+no_match : joined (1 ∷ []) (1 ∷ []) lone (one (int 3) ∷ one (int 12) ∷ one (minus 1) ∷ []) ≡ []
+unfolding joins_on_literals
+no_match = refl
+
+count_no_match : key_count (1 ∷ []) lone ≡ 3
+unfolding joins_on_literals
+count_no_match = refl
+
+no_build_row : joined (1 ∷ []) (1 ∷ []) [] (one (int 1) ∷ one a ∷ []) ≡ []
+unfolding joins_on_literals
+no_build_row = refl
+
+count_no_build_row : key_count (1 ∷ []) [] ≡ 0
+unfolding joins_on_literals
+count_no_build_row = refl
+
+no_probe_row : joined (1 ∷ []) (1 ∷ []) (one (int 1) ∷ one (int 2) ∷ one (int 1) ∷ []) [] ≡ []
+unfolding joins_on_literals
+no_probe_row = refl
+
+count_no_probe_row : key_count (1 ∷ []) (one (int 1) ∷ one (int 2) ∷ one (int 1) ∷ []) ≡ 2
+unfolding joins_on_literals
+count_no_probe_row = refl
+
+-- ---- with no columns of keys each row matches each
+
+no_key_column : joined [] [] (one (int 1) ∷ one (int 2) ∷ []) (one a ∷ one b ∷ [])
+    ≡ two a (int 1) ∷ two a (int 2) ∷ two b (int 1) ∷ two b (int 2) ∷ []
+unfolding joins_on_literals
+no_key_column = refl
+
+count_no_key_column : key_count [] (one (int 1) ∷ one (int 2) ∷ []) ≡ 1
+unfolding joins_on_literals
+count_no_key_column = refl
+
+-- ---- texts are compared by their bytes alone, and no number equals a text
+
+abbrev accents : Rows
+accents = two accented (int 1) ∷ two decomposed (int 2) ∷ two (Text (codes "e")) (int 3) ∷ []
+
+bytes_alone : joined (1 ∷ []) (1 ∷ []) accents (one decomposed ∷ one accented ∷ one (Text (codes "E")) ∷ [])
+    ≡ three decomposed decomposed (int 2) ∷ three accented accented (int 1) ∷ []
+unfolding joins_on_literals
+bytes_alone = refl
+
+count_bytes_alone : key_count (1 ∷ []) accents ≡ 3
+unfolding joins_on_literals
+count_bytes_alone = refl
+
+abbrev ones : Rows
+ones = two (Text (codes "number")) (int 1) ∷ two (Text (codes "text")) (Text (codes "1")) ∷ []
+
+number_against_text : joined (2 ∷ []) (1 ∷ []) ones (one (Text (codes "1")) ∷ one (int 1) ∷ [])
+    ≡ three (Text (codes "1")) (Text (codes "text")) (Text (codes "1")) ∷ three (int 1) (Text (codes "number")) (int 1) ∷ []
+unfolding joins_on_literals
+number_against_text = refl
+
+count_number_against_text : key_count (2 ∷ []) ones ≡ 2
+unfolding joins_on_literals
+count_number_against_text = refl
