@@ -1,4 +1,5 @@
 pub mod Answers
+pub mod Examples
 pub mod Finishing
 pub mod GroupTables
 pub mod Stepping
