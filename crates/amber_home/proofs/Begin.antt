@@ -15,7 +15,9 @@ use Rattle.amber_meaning.specs.Plain.{list_at, next_file, records_of, wrong_head
 use Rattle.amber_meaning.specs.Position.{origin, taken_from}
 use Rattle.amber_meaning.proofs.Lists.{numbered_or}
 use Rattle.amber_meaning.proofs.Operators.{records-here, wrong_header-here, wrong_header-more}
-use Rattle.amber_worker.specs.Links.{Incoming, Outgoing, waiting_from}
+use Rattle.amber_worker.specs.Incoming.{Incoming}
+use Rattle.amber_worker.specs.Outgoing.{Outgoing}
+use Rattle.amber_worker.specs.Links.{waiting_from}
 use Rattle.amber_worker.specs.Stands.{AreAlone, Stands, first_orders, post_of}
 use Rattle.amber_worker.specs.Station.{Station}
 use Rattle.amber_home.specs.declared.error.HomeErr.{HomeErr}

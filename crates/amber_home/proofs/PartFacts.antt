@@ -10,7 +10,8 @@ use Rattle.amber_log.specs.Grammar.{AreEntries, AreParts}
 use Rattle.amber_log.specs.declared.entry.Entry.{Entry}
 use Rattle.amber_log.specs.declared.leg.Part.{Part}
 use Rattle.amber_meaning.specs.Legal.{entries_of}
-use Rattle.amber_worker.specs.Station.{Station, has_some}
+use Rattle.amber_worker.specs.Incoming.{has_some}
+use Rattle.amber_worker.specs.Station.{Station}
 use Rattle.amber_home.specs.Parts.{part_of, parts_from, without_journal}
 use Rattle.amber_home.specs.Standing.{station_at}
 

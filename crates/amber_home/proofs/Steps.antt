@@ -11,9 +11,11 @@ use Rattle.amber_meaning.specs.Legal.{Query}
 use Rattle.amber_meaning.specs.Plan.{role_of}
 use Rattle.amber_meaning.specs.Position.{Position, emitted_rows, origin}
 use Rattle.amber_meaning.proofs.Senders.{flows_send_forward}
-use Rattle.amber_worker.specs.Links.{Outgoing, waiting_for, without_batches}
+use Rattle.amber_worker.specs.Incoming.{has_some, have_all_ended}
+use Rattle.amber_worker.specs.Outgoing.{Outgoing}
+use Rattle.amber_worker.specs.Links.{waiting_for, without_batches}
 use Rattle.amber_worker.specs.Stands.{HasTurned, Keeps, first_orders, post_of, stream_to}
-use Rattle.amber_worker.specs.Station.{Station, answer_of, has_ready, has_some, have_all_ended, steps_in}
+use Rattle.amber_worker.specs.Station.{Station, answer_of, has_ready, steps_in}
 use Rattle.amber_worker.specs.declared.turn.Turn.{Turn}
 use Rattle.amber_worker.specs.declared.turn.Turn.TheVariants as turn
 use Rattle.amber_worker.proofs.Idle.{has_marked-chunks_of, never_idle}

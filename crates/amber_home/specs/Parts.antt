@@ -7,7 +7,8 @@ use Rattle.amber_log.specs.declared.leg.Part.{Part}
 use Rattle.amber_meaning.specs.Legal.{Query}
 use Rattle.amber_meaning.specs.Position.{Position}
 use Rattle.amber_meaning.specs.State.{State, begun_to_end, start_of}
-use Rattle.amber_worker.specs.Station.{Station, has_some}
+use Rattle.amber_worker.specs.Incoming.{has_some}
+use Rattle.amber_worker.specs.Station.{Station}
 
 -- the part of a worker that did this; none where it did nothing
 abbrev pub part_of : ℕ → List Entry → List Part

@@ -12,10 +12,11 @@ use Rattle.amber_meaning.specs.Position.{one_if}
 use Rattle.amber_meaning.specs.Task.{Handed, row_in}
 use Rattle.amber_meaning.specs.Views.{refusal_in}
 use Rattle.amber_scan.specs.declared.share.Scanned.{Scanned}
+use Rattle.amber_link.specs.Incoming.{Incoming, IsTaken, have_all_ended, have_builders_ended}
+use Rattle.amber_link.specs.Outgoing.{Outgoing, with_row}
 use Rattle.amber_worker.specs.Fields.{AreFew, row_from, rows_moved}
-use Rattle.amber_worker.specs.Links.{Incoming, Outgoing}
-use Rattle.amber_worker.specs.Station.{Station, have_all_ended, have_builders_ended}
-use Rattle.amber_worker.specs.Steps.{Becomes, Closes, IsTaken, TakesBatch, TakesRow, columns_at_hand, gives_if, gone_on, keeps_if, turned_to, with_go, with_row}
+use Rattle.amber_worker.specs.Station.{Station}
+use Rattle.amber_worker.specs.Steps.{Becomes, Closes, TakesBatch, TakesRow, columns_at_hand, gives_if, gone_on, keeps_if, turned_to, with_go}
 use Rattle.amber_worker.proofs.States.{closes-batch, in_order-batch, in_order-row, in_order-settled}
 use Rattle.amber_worker.specs.declared.duty.Duty.{Duty}
 use Rattle.amber_worker.specs.declared.duty.Duty.TheVariants as duty

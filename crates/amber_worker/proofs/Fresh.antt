@@ -26,8 +26,9 @@ use Rattle.amber_meaning.specs.Task.{Handed, Role, Task, built_of, closing, clos
 use Rattle.amber_meaning.proofs.Lists.{numbered-next}
 use Rattle.amber_scan.specs.declared.share.Scanned.{Scanned}
 use Rattle.amber_join.specs.Join.{Join}
+use Rattle.amber_link.specs.Incoming.{Incoming}
+use Rattle.amber_link.specs.Outgoing.{Outgoing}
 use Rattle.amber_worker.specs.Fields.{AreFew, IsInOrder, rest_in}
-use Rattle.amber_worker.specs.Links.{Incoming, Outgoing}
 use Rattle.amber_worker.specs.Made.{IsDutyOf, IsFresh, IsReceiver, fresh_inbox, fresh_inboxes, fresh_outbox, handing_operator, is_join}
 use Rattle.amber_worker.specs.Stands.{AreAlone, DoesKind, HasShare, HasTaken, Post, ReceiveAll, Receives, SendAll, Sends, Shows, Stands, first_orders, is_scan, kept_of, post_of}
 use Rattle.amber_worker.specs.Station.{Station}

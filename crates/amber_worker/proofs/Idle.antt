@@ -9,9 +9,10 @@ use Rattle.amber_rows.specs.declared.batch.Batch.{Batch}
 use Rattle.amber_meaning.specs.Position.{Position, Taken, has_last, taken_from}
 use Rattle.amber_meaning.specs.Rules.{Orders}
 use Rattle.amber_meaning.specs.Task.{Task, is_builder}
-use Rattle.amber_worker.specs.Links.{Incoming, waiting_from}
+use Rattle.amber_link.specs.Incoming.{Incoming, has_some, have_all_ended, have_builders_ended, is_ready, may_come}
+use Rattle.amber_worker.specs.Links.{waiting_from}
 use Rattle.amber_worker.specs.Stands.{Post, ReceiveAll, Shows}
-use Rattle.amber_worker.specs.Station.{Station, answer_of, has_ready, has_some, have_all_ended, have_builders_ended, is_ready, may_come}
+use Rattle.amber_worker.specs.Station.{Station, answer_of, has_ready}
 use Rattle.amber_worker.specs.declared.turn.Turn.TheVariants as turn
 
 -- one of these batches is a last one

@@ -17,11 +17,12 @@ use Rattle.amber_meaning.specs.Position.{Position, Taken, emitted_rows, fed, hav
 use Rattle.amber_meaning.specs.Rules.{IsFree, MayFinish, MayGo, Orders, product_with, produced_with, went}
 use Rattle.amber_meaning.specs.Task.{Handed, Role, Task, closing, closing_rows, columns_from, is_builder, produce, row_in, suiting, yields, yields_if, yields_row}
 use Rattle.amber_meaning.specs.Views.{refusal_in, refused_in, rows_in, taken_of}
+use Rattle.amber_link.specs.Incoming.{Incoming, have_all_ended}
+use Rattle.amber_link.specs.Outgoing.{Outgoing, with_end, with_row}
 use Rattle.amber_worker.specs.Fields.{rows_moved}
-use Rattle.amber_worker.specs.Links.{Incoming, Outgoing}
 use Rattle.amber_worker.specs.Stands.{DoesKind, HasTaken, Keeps, Post, ReceiveAll, SendAll, Sends, Shows, kept_of, stream_to}
-use Rattle.amber_worker.specs.Station.{Station, have_all_ended}
-use Rattle.amber_worker.specs.Steps.{Becomes, Closes, all_done, columns_at_hand, gives, gives_if, keeps, keeps_if, row_emitted, row_taken, with_end, with_row}
+use Rattle.amber_worker.specs.Station.{Station}
+use Rattle.amber_worker.specs.Steps.{Becomes, Closes, all_done, columns_at_hand, gives, gives_if, keeps, keeps_if, row_emitted, row_taken}
 use Rattle.amber_worker.specs.declared.duty.Duty.{Duty}
 use Rattle.amber_worker.specs.declared.duty.Duty.TheVariants as duty
 use Rattle.amber_worker.proofs.Chunked.{chunks-end, chunks-full, chunks-more, left_over, left_over-few}

@@ -13,11 +13,10 @@ use Rattle.amber_group.specs.Group.{Group, Stands as GroupStands}
 use Rattle.amber_join.specs.Join.{Join}
 use Rattle.amber_meaning.specs.Task.{Handed, Role, Task, built_of, closing_rows, is_builder, suiting}
 use Rattle.amber_meaning.specs.Views.{rows_in}
+use Rattle.amber_link.specs.Incoming.{Incoming, IsTaken, have_builders_ended, without_first}
 use Rattle.amber_worker.specs.Fields.{IsInOrder}
-use Rattle.amber_worker.specs.Links.{Incoming}
 use Rattle.amber_worker.specs.Stands.{DoesKind, HasTaken}
-use Rattle.amber_worker.specs.Station.{have_builders_ended}
-use Rattle.amber_worker.specs.Steps.{Becomes, Closes, GivesGroups, IsTaken, MayTakeRow, built_with, turned_to, without_first}
+use Rattle.amber_worker.specs.Steps.{Becomes, Closes, GivesGroups, MayTakeRow, built_with, turned_to}
 use Rattle.amber_worker.specs.declared.duty.Duty.{Duty}
 use Rattle.amber_worker.specs.declared.duty.Duty.TheVariants as duty
 

@@ -16,11 +16,12 @@ use Rattle.amber_meaning.specs.Position.{Position, Taken, fed, handed_by, has_la
 use Rattle.amber_meaning.specs.Rules.{MayTake, Orders, may_take_from, took}
 use Rattle.amber_meaning.specs.Task.{Handed, Role, Task, closing, is_builder, produce}
 use Rattle.amber_meaning.specs.Views.{taken_of}
+use Rattle.amber_link.specs.Incoming.{Incoming, IsTaken, have_all_ended, have_builders_ended, without_first}
 use Rattle.amber_worker.specs.Fields.{row_from}
-use Rattle.amber_worker.specs.Links.{Incoming, waiting_from}
+use Rattle.amber_worker.specs.Links.{waiting_from}
 use Rattle.amber_worker.specs.Stands.{DoesKind, Keeps, Post, ReceiveAll, Receives, Shows}
-use Rattle.amber_worker.specs.Station.{Station, have_all_ended, have_builders_ended}
-use Rattle.amber_worker.specs.Steps.{Closes, IsTaken, batch_taken, without_first}
+use Rattle.amber_worker.specs.Station.{Station}
+use Rattle.amber_worker.specs.Steps.{Closes, batch_taken}
 use Rattle.amber_worker.specs.declared.duty.Duty.{Duty}
 use Rattle.amber_worker.specs.declared.duty.Duty.TheVariants as duty
 use Rattle.amber_worker.proofs.Journals.{AreEntries-push, Leads-push}

@@ -6,8 +6,8 @@ use Rattle.amber_log.specs.declared.entry.Entry.TheVariants as entry
 use Rattle.amber_meaning.specs.Position.{one_if}
 use Rattle.amber_meaning.specs.Task.{Handed}
 use Rattle.amber_scan.specs.declared.share.Scanned.{Scanned}
-use Rattle.amber_worker.specs.Links.{Incoming, Outgoing}
-use Rattle.amber_worker.specs.Station.{have_builders_ended}
+use Rattle.amber_link.specs.Incoming.{Incoming, have_builders_ended}
+use Rattle.amber_link.specs.Outgoing.{Outgoing}
 use Rattle.amber_worker.specs.declared.duty.Duty.{Duty}
 use Rattle.amber_worker.specs.declared.duty.Duty.TheVariants as duty
 use Rattle.amber_worker.specs.declared.taking.Rest.{Rest}

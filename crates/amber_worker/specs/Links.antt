@@ -1,25 +1,8 @@
--- What a worker keeps of each that sends to it, and of each to which it sends.
-use Rattle.std.specs.Prelude.{ℕ, ◌==◌, List, [], ◌∷◌, ◌++◌, map, Bool, if◌then◌else◌}
-use Rattle.amber_rows.specs.declared.value.Value.{Value}
+-- The batches that wait at a worker, by sender and by receiver.
+use Rattle.std.specs.Prelude.{ℕ, ◌==◌, List, [], ◌∷◌, ◌++◌, map, if◌then◌else◌}
 use Rattle.amber_rows.specs.declared.batch.Batch.{Batch}
-
--- of a sender: its number, whether it is of the build side, how many of its batches were taken, whether the last was, and those
--- that wait to be taken
-pub record Incoming : Type 0 where
-  pub from : ℕ
-  pub builds : Bool
-  pub taken : ℕ
-  pub ended : Bool
-  pub waiting : List Batch
-
--- of a receiver: its number, the rows of a batch, how many batches were made for it, those that wait to be moved, and the rows for
--- the next one
-pub record Outgoing : Type 0 where
-  pub to : ℕ
-  pub size : ℕ
-  pub made : ℕ
-  pub waiting : List Batch
-  pub partial : List (List Value)
+use Rattle.amber_link.specs.Incoming.{Incoming}
+use Rattle.amber_link.specs.Outgoing.{Outgoing}
 
 -- the batches of a sender that wait to be taken
 abbrev pub waiting_from : ℕ → List Incoming → List Batch

@@ -8,8 +8,9 @@ use Rattle.amber_rows.specs.declared.flow.What.TheVariants as what
 use Rattle.amber_group.specs.Group.{Stands}
 use Rattle.amber_meaning.specs.Plan.{built_columns}
 use Rattle.amber_scan.specs.declared.share.Scanned.{Scanned}
+use Rattle.amber_link.specs.Incoming.{Incoming}
+use Rattle.amber_link.specs.Outgoing.{Outgoing}
 use Rattle.amber_worker.specs.Fields.{rest_in}
-use Rattle.amber_worker.specs.Links.{Incoming, Outgoing}
 use Rattle.amber_worker.specs.Station.{Station}
 use Rattle.amber_worker.specs.declared.duty.Duty.{Duty}
 use Rattle.amber_worker.specs.declared.duty.Duty.TheVariants as duty

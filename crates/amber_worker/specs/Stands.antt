@@ -21,8 +21,10 @@ use Rattle.amber_meaning.specs.Plain.{refused_groups}
 use Rattle.amber_meaning.specs.Views.{refused_in, rows_in, taken_of, view_of, worker_refuses}
 use Rattle.amber_meaning.specs.declared.view.WorkerView.{WorkerView}
 use Rattle.amber_scan.specs.declared.share.Scanned.{Scanned}
+use Rattle.amber_link.specs.Incoming.{Incoming}
+use Rattle.amber_link.specs.Outgoing.{Outgoing}
 use Rattle.amber_worker.specs.Fields.{handed_of}
-use Rattle.amber_worker.specs.Links.{Incoming, Outgoing, waiting_from}
+use Rattle.amber_worker.specs.Links.{waiting_from}
 use Rattle.amber_worker.specs.Station.{Station, steps_in}
 use Rattle.amber_worker.specs.declared.duty.Duty.{Duty}
 use Rattle.amber_worker.specs.declared.duty.Duty.TheVariants as duty

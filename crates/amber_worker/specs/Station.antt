@@ -1,13 +1,14 @@
 -- What a worker keeps, as lists, numbers and flags.
-use Rattle.std.specs.Prelude.{ℕ, ◌+◌, ◌&&◌, ◌||◌, not, List, [], ◌∷◌, Bool, true, false, if◌then◌else◌}
-use Rattle.std.specs.List.{list_all, list_any}
+use Rattle.std.specs.Prelude.{ℕ, ◌+◌, List, Bool, if◌then◌else◌}
+use Rattle.std.specs.List.{list_any}
 use Rattle.amber_rows.specs.declared.value.Value.{Value}
 use Rattle.amber_rows.specs.declared.column.Column.{Column}
 use Rattle.amber_log.specs.declared.entry.Entry.{Entry}
 use Rattle.amber_meaning.specs.Position.{one_if}
 use Rattle.amber_meaning.specs.Task.{Handed}
 use Rattle.amber_meaning.specs.declared.answer.Refusal.{Refusal}
-use Rattle.amber_worker.specs.Links.{Incoming, Outgoing}
+use Rattle.amber_link.specs.Incoming.{Incoming, has_some, have_all_ended, have_builders_ended, may_come}
+use Rattle.amber_link.specs.Outgoing.{Outgoing}
 use Rattle.amber_worker.specs.declared.duty.Duty.{Duty}
 use Rattle.amber_worker.specs.declared.turn.Turn.{Turn}
 use Rattle.amber_worker.specs.declared.turn.Turn.TheVariants as turn
@@ -49,29 +50,9 @@ steps_in w = w.taken + w.emitted + w.batches + one_if w.finished
 
 -- ---- which turn comes
 
-abbrev pub has_some : {A : Type 0} → List A → Bool
-has_some [] = false
-has_some (x ∷ xs) = true
-
--- a batch of this sender waits that comes before the end
-abbrev pub is_ready : Incoming → Bool
-is_ready one = not one.ended && has_some one.waiting
-
--- the last batches of all senders of the build side were taken
-abbrev pub have_builders_ended : List Incoming → Bool
-have_builders_ended ins = list_all (λ one. not one.builds || one.ended) ins
-
--- a batch of this sender may be taken, where the build side has ended or not
-abbrev pub may_come : Bool → Incoming → Bool
-may_come built one = is_ready one && (one.builds || built)
-
 -- a batch may be taken: of the probe side once the build side has ended
 abbrev pub has_ready : List Incoming → Bool
 has_ready ins = list_any (may_come (have_builders_ended ins)) ins
-
--- the last batches of all senders were taken
-abbrev pub have_all_ended : List Incoming → Bool
-have_all_ended ins = list_all (λ one. one.ended) ins
 
 -- the turn that a worker makes: it moves where a row is pending, where a row is left, where a batch may be taken, and where nothing
 -- more can come

@@ -1,5 +1,5 @@
 -- What each single step of a worker changes.
-use Rattle.std.specs.Prelude.{◌≡◌, ℕ, ◌+◌, ◌^◌, ◌<◌, ◌≤◌, ◌==◌, ◌&&◌, ◌||◌, option_to_list, not, Bool, All, List, [], ◌∷◌, ◌++◌, length, map, Ok, Option, Some, None, true, false, if◌then◌else◌}
+use Rattle.std.specs.Prelude.{◌≡◌, ℕ, ◌+◌, ◌^◌, ◌<◌, ◌≤◌, ◌==◌, ◌&&◌, option_to_list, not, Bool, All, List, [], ◌∷◌, ◌++◌, length, map, Ok, Option, Some, None, true, false, if◌then◌else◌}
 use Rattle.amber_rows.specs.Cond.{holds_of}
 use Rattle.amber_rows.specs.Operators.{first_keys, grouped, matches_of, picked, refused_keys}
 use Rattle.amber_rows.specs.declared.value.Value.{Value}
@@ -16,9 +16,10 @@ use Rattle.amber_meaning.specs.declared.view.Extra.TheVariants as extra
 use Rattle.amber_meaning.specs.declared.view.Stand.TheVariants as stand
 use Rattle.amber_meaning.specs.declared.view.WorkerView.{WorkerView}
 use Rattle.amber_scan.specs.declared.share.Scanned.{Scanned}
+use Rattle.amber_link.specs.Incoming.{Incoming, IsTaken, have_all_ended}
+use Rattle.amber_link.specs.Outgoing.{Outgoing, with_end, with_row}
 use Rattle.amber_worker.specs.Fields.{row_from, rows_moved}
-use Rattle.amber_worker.specs.Links.{Incoming, Outgoing}
-use Rattle.amber_worker.specs.Station.{Station, have_all_ended, have_builders_ended}
+use Rattle.amber_worker.specs.Station.{Station}
 use Rattle.amber_worker.specs.declared.duty.Duty.{Duty}
 use Rattle.amber_worker.specs.declared.duty.Duty.TheVariants as duty
 use Rattle.amber_worker.specs.declared.taking.Fate.{Fate}
@@ -230,34 +231,11 @@ with_go (one ∷ next ∷ more) rows outs = one ∷ with_go (next ∷ more) rows
 
 -- ---- links
 
--- a row more for a receiver; a full batch waits to be moved
-abbrev pub with_row : List Value → Outgoing → Outgoing
-with_row row out =
-    if length out.partial + 1 == out.size
-    then record out {
-      made = out.made + 1;
-      waiting = out.waiting ++ record { seq = out.made; rows = out.partial ++ row ∷ []; last = false } ∷ [];
-      partial = [];
-    }
-    else record out { partial = out.partial ++ row ∷ [] }
-
--- the rows that are left are the last batch
-abbrev pub with_end : Outgoing → Outgoing
-with_end out = record out {
-  made = out.made + 1;
-  waiting = out.waiting ++ record { seq = out.made; rows = out.partial; last = true } ∷ [];
-  partial = [];
-}
-
 -- the first of these rows was put behind the others for each receiver
 pub record Emits (rows : List (List Value)) (outs : List Outgoing) (later : List (List Value)) (after : List Outgoing) : Type 0 where
   pub row : List Value
   pub first : rows ≡ row ∷ later
   pub sent : after ≡ map (with_row row) outs
-
--- the first batch that waits was taken
-abbrev pub without_first : Batch → List Batch → Incoming → Incoming
-without_first batch later one = record one { taken = one.taken + 1; ended = batch.last; waiting = later }
 
 -- ---- steps
 
@@ -323,17 +301,6 @@ all_done w = record w {
   journal = w.journal ++ entry.Finish ∷ [];
 }
 
--- one of these senders gives this batch, the first that waits, and they are as these then
-pub record IsTaken (ins : List Incoming) (one : Incoming) (batch : Batch) (after : List Incoming) : Type 0 where
-  pub front : List Incoming
-  pub back : List Incoming
-  pub later : List Batch
-  pub found : ins ≡ front ++ one ∷ back
-  pub unended : one.ended ≡ false
-  pub side : (one.builds || have_builders_ended ins) ≡ true
-  pub waiting : one.waiting ≡ batch ∷ later
-  pub after_it : after ≡ front ++ without_first batch later one ∷ back
-
 -- a batch of one of its senders was taken
 pub record TakesBatch (old new : Station) : Type 0 where
   pub one : Incoming
@@ -351,11 +318,6 @@ pub record IsCalm (w : Station) : Type 0 where
   pub running : w.paused ≡ false
   pub loose : w.held ≡ false
   pub few : All (λ one. rows_moved one < 2 ^ 63) w.journal
-
--- the first batch that waits has no row
-abbrev pub starts_empty : List Batch → Bool
-starts_empty [] = false
-starts_empty (batch ∷ later) = length batch.rows == 0
 
 -- what a worker shows by what it does
 abbrev pub IsExtra : Duty → ℕ → ℕ → Extra → Type 0

@@ -16,7 +16,7 @@ pub mod given;
 mod grouping;
 mod joining;
 mod journal;
-pub mod links;
+mod links;
 mod making;
 mod shown;
 mod taking;
@@ -25,7 +25,6 @@ pub mod worker;
 
 pub use duty::Duty;
 pub use given::Given;
-pub use links::{Inbox, Outbox};
 pub use std::alloc::AllocError as NoMemory;
 pub use turn::Turn;
 pub use worker::{Worker, settle_workers};

@@ -7,9 +7,9 @@ ghost use Rattle.amber_meaning.specs.Plan.{built_columns};
 ghost use Rattle.amber_worker.specs.Made.{IsDutyOf, fresh_inbox, fresh_inboxes, fresh_outbox, handing_operator, is_join};
 
 use crate::duty::Duty;
-use crate::links::{Inbox, Outbox};
 use amber_group::GroupState;
 use amber_join::JoinState;
+use amber_link::{Inbox, Outbox};
 use amber_ops::{FilterState, ProjectState};
 use amber_rows::{Aggs, Cols, Cond, Flow, Operator, Schema, What};
 use std::alloc::{AllocError, Global};

@@ -1,21 +1,19 @@
 //! How a worker takes rows and batches.
 
-ghost use Rattle.std.specs.Prelude.{◌≡◌, ◌==◌, ◌&&◌, [], if◌then◌else◌, ◌+◌, ◌^◌, ◌<◌, ◌≤◌, ◌++◌, ℕ, Ok, Some, All, is_some, true, false, not, length, slice_index_or, vec_capacity, vec_len, IfOk, IfNone, IfSome, OnErr, OnOk};
-ghost use Rattle.std.specs.List.{list_any};
+ghost use Rattle.std.specs.Prelude.{◌≡◌, ◌==◌, ◌&&◌, [], if◌then◌else◌, ◌+◌, ◌<◌, ◌++◌, Ok, Some, is_some, true, false, not, length, vec_capacity, vec_len, IfOk, IfSome, OnErr, OnOk};
 ghost use Rattle.std.specs.VecDeque.{deque_capacity, deque_len};
 ghost use Rattle.amber_meaning.specs.Task.{row_in};
 ghost use Rattle.amber_meaning.specs.Views.{refusal_in};
+ghost use Rattle.amber_link.specs.Incoming.{has_some, have_all_ended};
 ghost use Rattle.amber_worker.specs.Fields.{handed_in};
-ghost use Rattle.amber_worker.specs.Links.{Incoming};
-ghost use Rattle.amber_worker.specs.Station.{has_some, have_all_ended, have_builders_ended, may_come};
-ghost use Rattle.amber_worker.specs.Steps.{AreSame, Closes, GainsAny, GainsNext, GainsRecord, GainsRow, IsTaken, MayTakeRow, gives_if, has_state, held_back_of, keeps_if, passed_of, starts_empty, turned_to};
+ghost use Rattle.amber_worker.specs.Steps.{AreSame, Closes, GainsAny, GainsNext, GainsRecord, GainsRow, MayTakeRow, gives_if, has_state, held_back_of, keeps_if, passed_of, turned_to};
 
 use crate::duty::Duty;
 use crate::grouping::{rows_of_groups, take_grouped};
 use crate::joining::take_joined;
-use crate::links::Inbox;
+use amber_link::{Inbox, have_ended};
 use amber_meaning::Refusal;
-use amber_rows::{Batch, Row, Schema, suits};
+use amber_rows::{Row, Schema, suits};
 use amber_scan::{Scanned, Share};
 use std::alloc::{AllocError, Global};
 use std::collections::VecDeque;
@@ -315,71 +313,4 @@ pub(crate) fn turn_to(duty: &mut Duty, builds: bool)
         }
         Duty::Scan | Duty::Filter(_) | Duty::Project(_) | Duty::Group(_) | Duty::Sink => {}
     }
-}
-
-// A batch that was taken, its sender, whether that is of the build side, and its number.
-pub(crate) struct Found {
-    pub from: u32,
-    pub builds: bool,
-    pub number: u64,
-    pub batch: Batch,
-}
-
-// Whether the last batches of all senders of the build side were taken.
-pub(crate) fn have_built(ins: &[Inbox]) -> bool
-    ensures { result ≡ have_builders_ended ins.now }
-{
-    ins.iter().all(|inbox| !inbox.builds() || inbox.has_ended())
-}
-
-// The place of the first sender of whom a batch may be taken, where the build side has ended or not.
-pub(crate) fn ready_place(ins: &[Inbox], built: bool) -> Option<usize>
-    ensures none { IfNone result (list_any (may_come built) ins.now ≡ false) }
-    ensures some { IfSome result (λ _. list_any (may_come built) ins.now ≡ true) }
-    ensures there { IfSome result (λ i. i < length ins.now) }
-    ensures ready { IfSome result (λ i. (d : Incoming) → may_come built (slice_index_or ins.now i d) ≡ true) }
-{
-    for (i, inbox) in ins.iter().enumerate() {
-        if inbox.may_come(built) {
-            return Some(i);
-        }
-    }
-    None
-}
-
-// Whether the first batch that waits of the sender at this place has no row.
-pub(crate) fn is_empty_at(ins: &[Inbox], i: usize) -> bool
-    requires there { i < length ins.now }
-    ensures { (d : Incoming) → starts_empty (slice_index_or ins.now i d).waiting ≡ result }
-{
-    ins[i].starts_empty()
-}
-
-// Takes the first batch of the sender at this place.
-pub(crate) fn take_at(ins: &mut [Inbox], i: usize) -> Found
-    requires there { i < length ins.old }
-    requires ready { (d : Incoming) → may_come (have_builders_ended ins.old) (slice_index_or ins.old i d) ≡ true }
-    requires few { All (λ one. one.taken + 1 < 2 ^ 64) ins.old }
-    ensures taken { (one : Incoming) × (one.from ≡ result.from) × (one.taken ≡ result.number) × (one.builds ≡ result.builds) × IsTaken ins.old one result.batch ins.new }
-    ensures empty { (d : Incoming) → starts_empty (slice_index_or ins.old i d).waiting ≡ (length result.batch.rows == 0) }
-    ensures few { (n : ℕ) → All (λ one. one.taken ≤ n) ins.old → All (λ one. one.taken ≤ n + 1) ins.new }
-{
-    let inbox = &mut ins[i];
-    let from = inbox.from();
-    let builds = inbox.builds();
-    let number = inbox.taken();
-    let batch = inbox.take();
-    Found {
-        from,
-        builds,
-        number,
-        batch,
-    }
-}
-
-// Whether the last batches of all senders were taken.
-pub(crate) fn have_ended(ins: &[Inbox]) -> bool
-    ensures { result ≡ have_all_ended ins.now }
-{
-    ins.iter().all(|inbox| inbox.has_ended())
 }

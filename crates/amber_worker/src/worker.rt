@@ -6,8 +6,9 @@ ghost use Rattle.amber_rows.specs.declared.record.RowFault.{RowFault as Fault};
 ghost use Rattle.amber_rows.specs.Crew.{crew_of, op_of, what_at};
 ghost use Rattle.amber_meaning.specs.Position.{origin};
 ghost use Rattle.amber_meaning.specs.Plan.{role_of};
+ghost use Rattle.amber_link.specs.Incoming.{has_some, have_all_ended};
 ghost use Rattle.amber_worker.specs.Links.{waiting_for, with_batches, without_batches};
-ghost use Rattle.amber_worker.specs.Station.{answer_of, has_ready, has_some, have_all_ended, steps_in};
+ghost use Rattle.amber_worker.specs.Station.{answer_of, has_ready, steps_in};
 ghost use Rattle.amber_worker.specs.Steps.{IsCalm, IsShown, TakesBatch, TakesRow, all_done, row_emitted_from};
 ghost use Rattle.amber_worker.specs.Made.{IsFresh};
 ghost use Rattle.amber_worker.specs.Stands.{AreAlone, HasShare, HasTurned, IsGivenOf, IsViewOf, Keeps, Stands, first_orders, is_scan, post_of};
@@ -15,18 +16,16 @@ ghost use Rattle.amber_worker.specs.Stands.{AreAlone, HasShare, HasTurned, IsGiv
 use crate::duty::Duty;
 use crate::given::{Given, add_keys, refused_keys};
 use crate::journal::note_go;
-use crate::links::{
-    Inbox, Outbox, emit_first, end, has_receiver, has_sender, settle_into, waiting_receiver,
-};
+use crate::links::{emit_first, end, has_receiver, settle_into, waiting_receiver};
 use crate::making::{
     build_columns_of, columns_of, duty_of, inboxes_of, is_join, outbox_of, receiver_of,
 };
 use crate::shown::{extra_of, first_copy, stand_of};
-use crate::taking::{
-    Found, Gains, Rest, close, closing_of, have_built, have_ended, is_empty_at, is_last,
-    ready_place, side_columns, take_at, take_next, turn_to,
-};
+use crate::taking::{Gains, Rest, close, closing_of, is_last, side_columns, take_next, turn_to};
 use crate::turn::Turn;
+use amber_link::{
+    Found, Inbox, Outbox, has_sender, have_built, have_ended, is_empty_at, ready_place, take_at,
+};
 use amber_log::{Entries, Entry};
 use amber_meaning::{Refusals, WorkerView};
 use amber_rows::{Flow, Rows, Schema, sort};

@@ -1,6 +1,6 @@
 use Rattle.std.proofs.Common.{◌^◌, ◌<◌, ◌&&◌, eqb, length, refl, ◌∙◌, ap, arith}
+use Rattle.amber_link.specs.Incoming.{have_all_ended}
 use Rattle.amber_worker.specs.Fields.{handed_in}
-use Rattle.amber_worker.specs.Station.{have_all_ended}
 use Rattle.amber_worker.specs.Steps.{with_go}
 use Rattle.amber_worker.proofs.Bounds.{few-row, takes-row}
 use Rattle.amber_worker.proofs.States.{may-take_row}

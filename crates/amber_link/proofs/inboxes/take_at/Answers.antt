@@ -1,5 +1,5 @@
-use Rattle.amber_worker.proofs.Places.{taken-there}
-use Rattle.amber_worker.proofs.taking.take_at.Goals as goal
+use Rattle.amber_link.proofs.Places.{taken-there}
+use Rattle.amber_link.proofs.inboxes.take_at.Goals as goal
 
 pub returns-clause-taken : goal.returns-clause-taken
 returns-clause-taken c =
