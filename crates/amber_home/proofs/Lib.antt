@@ -6,6 +6,7 @@ pub mod Wholes
 pub mod Gathered
 pub mod Homes
 pub mod Links
+pub mod Only
 pub mod PartFacts
 pub mod Reached
 pub mod Stepping

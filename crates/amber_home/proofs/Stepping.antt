@@ -93,3 +93,7 @@ finished-more crew worker d b inside is done first k below =
       | inl same ↦ rw same.1 (ap (λ w. w.finished) (sym (read-at crew worker d inside)) ∙ sym is ∙ done)
       | inr other ↦ first k (let ne = other.1 in omega arith)
     ]
+
+pub unfinished-at : (crew : List Station) (worker : ℕ) (d : Station) (b : Bool) → worker < length crew → b ≡ (get_or crew worker d).finished → b ≡ false
+    → (station_at crew worker).finished ≡ false
+unfinished-at crew worker d b inside is not-yet = ap (λ w. w.finished) (sym (read-at crew worker d inside)) ∙ sym is ∙ not-yet

@@ -1,5 +1,5 @@
 -- Where the workers of a home stand.
-use Rattle.std.specs.Prelude.{◌≡◌, ℕ, ◌<◌, List, [], ◌++◌, All, length, slice_index_or, sum_by, true, false}
+use Rattle.std.specs.Prelude.{◌≡◌, ◌≢◌, ℕ, ◌<◌, List, [], ◌++◌, All, length, slice_index_or, sum_by, true, false}
 use Rattle.amber_rows.specs.Crew.{crew_of}
 use Rattle.amber_rows.specs.FlowRules.{IsFlow}
 use Rattle.amber_rows.specs.declared.batch.Batch.{Batch}
@@ -76,3 +76,7 @@ steps_by crew = sum_by steps_in crew
 -- the first workers have finished
 abbrev pub HaveFinished : ℕ → List Station → Type 0
 HaveFinished workers crew = (worker : ℕ) → worker < workers → (station_at crew worker).finished ≡ true
+
+-- none but this worker has made a step
+abbrev pub MovesOnly : List Station → List Station → ℕ → Type 0
+MovesOnly old new worker = (other : ℕ) → other ≢ worker → steps_in (station_at new other) ≡ steps_in (station_at old other)

@@ -3,7 +3,7 @@ ghost use Rattle.std.specs.Prelude.{◌≡◌, ◌≢◌, ◌+◌, ◌<◌, ◌�
 ghost use Rattle.std.specs.List.{list_any};
 ghost use Rattle.amber_worker.specs.Station.{steps_in};
 ghost use Rattle.amber_home.specs.Leg.{IsDone, given_of, taker_of};
-ghost use Rattle.amber_home.specs.Standing.{HaveFinished, IsCrew, StayAtWork, station_at, steps_by};
+ghost use Rattle.amber_home.specs.Standing.{HaveFinished, IsCrew, MovesOnly, StayAtWork, station_at, steps_by};
 
 use amber_log::Close;
 use amber_worker::{Worker, settle_workers};
@@ -32,6 +32,7 @@ fn step(crew: &mut [Worker], number: usize) -> Result<(), AllocError>
     requires few { steps_in (station_at crew.old number) < 2 ^ 40 }
     ensures stay { OnOk result (StayAtWork crew.old crew.new) }
     ensures one { OnOk result (steps_by crew.new ≡ steps_by crew.old + 1) }
+    ensures only { OnOk result (MovesOnly crew.old crew.new number) }
     ensures first { OnOk result (HaveFinished number crew.new) }
 {
     crew[number].turn()?;
@@ -53,6 +54,7 @@ fn drive(crew: &mut [Worker], number: usize, budget: u64) -> Result<u64, AllocEr
     requires few { steps_by crew.old + budget ≤ 2 ^ 40 }
     ensures stay { OnOk result (StayAtWork crew.old crew.new) }
     ensures left { IfOk result (λ left. steps_by crew.new + left ≡ steps_by crew.old + budget) }
+    ensures only { OnOk result (MovesOnly crew.old crew.new number) }
     ensures first { OnOk result (HaveFinished number crew.new) }
     ensures stops { IfOk result (λ left. (station_at crew.new number).finished ≡ false → left ≡ 0) }
 {

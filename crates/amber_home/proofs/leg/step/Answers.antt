@@ -1,5 +1,6 @@
 -- The worker moves, and what it made is moved on.
 use Rattle.std.proofs.Common.{◌∙◌}
+use Rattle.amber_home.proofs.Only.{only-passed, only-turned}
 use Rattle.amber_home.proofs.Steps.{sum-passed}
 use Rattle.amber_home.proofs.Stepping.{moved-at, none-stays, receives-at, sends-at, some-passed}
 use Rattle.amber_home.proofs.leg.step.Goals as goal
@@ -51,3 +52,13 @@ returns-in_ok-pass_on-in-Some-clause-one c =
     (sum-passed _ c.args.number c.in-Some.to link.before link.there
     ∙ moved-at c.args.crew.now c.args.number c.turn.new.self c.index-crew-number.result c.index-crew-number-2.result c.requires.there c.in_ok-turn.field-0
     c.requires.crew c.requires.first c.requires.unfinished c.in_ok-turn.ensures.answer c.in_ok-turn.ensures.moved)
+
+pub returns-in-None-clause-only : goal.returns-in-None-clause-only
+returns-in-None-clause-only c = only-turned c.args.crew.now c.args.number c.turn.new.self
+
+pub returns-in_ok-pass_on-in-Some-clause-only : goal.returns-in_ok-pass_on-in-Some-clause-only
+returns-in_ok-pass_on-in-Some-clause-only c =
+    let link = (some-passed c.args.crew.now c.args.number c.turn.new.self c.index-crew-number.result c.index-crew-number-2.result c.requires.there c.in-Some.to
+    c.requires.crew c.in_ok-turn.ensures.keeps c.in-Some.ensures.one c.in-Some.ensures.waits).0 in
+    rw c.in_ok-pass_on-in-Some.ensures
+    (only-passed c.args.crew.now c.args.number c.in-Some.to c.turn.new.self link.before link.there)
