@@ -1,5 +1,5 @@
 -- Who has made a step: a turn is one of its worker alone, and batches that are moved are none.
-use Rattle.std.proofs.Common.{◌≡◌, ◌≢◌, refl, ap, ◌∙◌, ℕ, ◌<◌, List, length, set, arith}
+use Rattle.std.proofs.Common.{◌≡◌, refl, ap, ◌∙◌, ℕ, ◌<◌, List, length, set, arith}
 use Rattle.std.proofs.lemmas.List.{get_or-set_same, get_or-set_other, length-set}
 use Rattle.amber_worker.specs.Station.{Station, steps_in}
 use Rattle.amber_home.specs.Leg.{given_of, taker_of}

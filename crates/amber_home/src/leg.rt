@@ -1,5 +1,5 @@
 //! A leg: the workers make their steps, one worker after the other.
-ghost use Rattle.std.specs.Prelude.{◌≡◌, ◌≢◌, ◌+◌, ◌<◌, ◌≤◌, ◌^◌, ◌==◌, ℕ, false, true, length, map, slice_set, IfOk, OnOk};
+ghost use Rattle.std.specs.Prelude.{◌≡◌, ◌+◌, ◌<◌, ◌≤◌, ◌^◌, ◌==◌, false, true, length, slice_set, IfOk, OnOk};
 ghost use Rattle.std.specs.List.{list_any};
 ghost use Rattle.amber_worker.specs.Station.{steps_in};
 ghost use Rattle.amber_home.specs.Leg.{IsDone, given_of, taker_of};

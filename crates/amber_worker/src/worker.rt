@@ -1,6 +1,5 @@
-ghost use Rattle.std.specs.Prelude.{All, MatchOption, false, MatchBool, if◌then◌else◌, ◌≡◌, ◌+◌, ◌^◌, ◌<◌, ◌≤◌, ◌==◌, ℕ, [], List, Result, true, is_some, length, IfOk, OnErr, OnOk};
+ghost use Rattle.std.specs.Prelude.{All, MatchOption, false, MatchBool, if◌then◌else◌, ◌≡◌, ◌+◌, ◌^◌, ◌<◌, ◌≤◌, ◌==◌, [], List, Result, true, is_some, length, IfOk, OnErr, OnOk};
 ghost use Rattle.std.specs.List.{list_any};
-ghost use Rattle.amber_rows.specs.declared.batch.Batch.{Batch as OneBatch};
 ghost use Rattle.amber_rows.specs.declared.value.Value.{Value as Cell};
 ghost use Rattle.amber_rows.specs.declared.record.RowFault.{RowFault as Fault};
 ghost use Rattle.amber_rows.specs.Crew.{crew_of, op_of, what_at};
