@@ -60,14 +60,15 @@ ends-long old new item leg last = (leg, leg-text old new close.Long item leg las
 
 -- ---- in a session
 
-abbrev pub session : Estate → Bool → Session
-session home spent = record { flow = home.flow; files = home.files; most = home.most; log = home.log; spent = spent }
+abbrev pub session : Estate → ℕ → Bool → Session
+session home threads spent = record { flow = home.flow; files = home.files; most = home.most; threads = threads; log = home.log; spent = spent }
 
-grew : (old new : Estate) (closed : Close) → (leg : Closes old new closed) → Grew (session old false) (session new false) command.End (end_item leg.parts closed)
-grew old new closed leg = record {
+grew : (old new : Estate) (threads : ℕ) (closed : Close) → (leg : Closes old new closed) → Grew (session old threads false) (session new threads false) command.End (end_item leg.parts closed)
+grew old new threads closed leg = record {
   flow = ap (λ (e : Estate). e.flow) leg.is;
   files = ap (λ (e : Estate). e.files) leg.is;
   most = ap (λ (e : Estate). e.most) leg.is;
+  threads = refl;
   log = ap (λ (e : Estate). e.log) leg.is;
   command = refl;
   unspent = refl;
@@ -83,11 +84,11 @@ reply-is old new leg =
     ap (λ items. answer_text old.flow (answer_in (query_of old) (state_after (query_of old) items))) (ap (λ (e : Estate). e.log.items) leg.is)
     ∙ ap (λ state. answer_text old.flow (answer_in (query_of old) state)) (transcripts_grow (query_of old) old.log.items one).1
 
-pub does-ok : (old new : Estate) (done : Done) (given : Command) (before : Session) (spent : Bool) → session old spent ≡ before → spent ≡ false → given ≡ command.End
-    → EndsAs (Ok done) old new → Does (Ok done) before (session new spent) given
-does-ok old new done given before spent view unspent is ends =
+pub does-ok : (old new : Estate) (threads : ℕ) (done : Done) (given : Command) (before : Session) (spent : Bool) → session old threads spent ≡ before → spent ≡ false → given ≡ command.End
+    → EndsAs (Ok done) old new → Does (Ok done) before (session new threads spent) given
+does-ok old new threads done given before spent view unspent is ends =
     let leg = ends.0 in
-    let it : Does (Ok done) (session old false) (session new false) command.End =
-    (end_item leg.parts close.Cut, grew old new close.Cut leg, refl, ends.1, ends.2 ∙ reply-is old new leg) in
-    subst (λ (d : Session). Does (Ok done) d (session new spent) given) view
-    (subst (λ (b : Bool). Does (Ok done) (session old b) (session new b) given) (sym unspent) (subst (λ (c : Command). Does (Ok done) (session old false) (session new false) c) (sym is) it))
+    let it : Does (Ok done) (session old threads false) (session new threads false) command.End =
+    (end_item leg.parts close.Cut, grew old new threads close.Cut leg, refl, ends.1, ends.2 ∙ reply-is old new leg) in
+    subst (λ (d : Session). Does (Ok done) d (session new threads spent) given) view
+    (subst (λ (b : Bool). Does (Ok done) (session old threads b) (session new threads b) given) (sym unspent) (subst (λ (c : Command). Does (Ok done) (session old threads false) (session new threads false) c) (sym is) it))

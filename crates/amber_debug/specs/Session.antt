@@ -22,6 +22,8 @@ pub record Session : Type 0 where
   pub files : List (List ℕ)
   -- the most steps
   pub most : ℕ
+  -- on how many threads it works
+  pub threads : ℕ
   pub log : Log
   -- memory ran out at a command to run
   pub spent : Bool
@@ -69,6 +71,7 @@ pub record Grew (old new : Session) (done : Command) (one : Item) : Type 0 where
   pub flow : new.flow ≡ old.flow
   pub files : new.files ≡ old.files
   pub most : new.most ≡ old.most
+  pub threads : new.threads ≡ old.threads
   pub log : new.log ≡ one_more old.log one
   pub command : command_of one ≡ done
   pub unspent : new.spent ≡ false
@@ -78,6 +81,7 @@ pub record IsCutOff (old new : Session) (done : Command) : Type 0 where
   pub flow : new.flow ≡ old.flow
   pub files : new.files ≡ old.files
   pub most : new.most ≡ old.most
+  pub threads : new.threads ≡ old.threads
   pub log : (new.log ≡ old.log) ⊎ ((one : Item) × (new.log ≡ one_more old.log one) × (command_of one ≡ done))
   pub spent : new.spent ≡ true
 

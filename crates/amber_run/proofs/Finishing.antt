@@ -156,8 +156,9 @@ pub all-done : (t : Task) (log : Log) (files : Option Named) (written : Option (
 all-done t log files written flow alone h = (log, h, has-answer t log files written flow alone h)
 
 -- the session of a run that begins
-pub session-begun : (t : Task) (d : Session) (log : Log) → d ≡ record { flow = t.flow; files = t.inputs; most = most_steps; log = log; spent = false } → IsSession t d
-session-begun t d log e = rw e (record { flow = refl; inputs = refl; most = refl })
+pub session-begun : (t : Task) (d : Session) (threads : ℕ) (log : Log) → d ≡ record { flow = t.flow; files = t.inputs; most = most_steps; threads = threads; log = log; spent = false }
+    → IsSession t d
+session-begun t d threads log e = rw e (record { flow = refl; inputs = refl; most = refl })
 
 -- where the log was not made, the sink did not fail
 pub opens-counts : (s : Stop) (t : Task) (log : Log) (files : Option Named) (written : Option (List ℕ)) (n : ℕ) → Opens {A = Unit {0}} (Err s) t log files written → Counts {A = Unit {0}} (Err s) n n
@@ -165,7 +166,7 @@ opens-counts stop.OutFault t log files written n h = absurd h
 opens-counts other t log files written n h = refl
 
 -- the one command of a run that begins
-pub run-command : (r : Result (Unit {0}) Stop) (t : Task) (d new : Session) (log : Log) (mid files : Option Named) (written got : Option (List ℕ))
-    → d ≡ record { flow = t.flow; files = t.inputs; most = most_steps; log = log; spent = false } → Stands t end_alone log mid written
+pub run-command : (r : Result (Unit {0}) Stop) (t : Task) (d new : Session) (threads : ℕ) (log : Log) (mid files : Option Named) (written got : Option (List ℕ))
+    → d ≡ record { flow = t.flow; files = t.inputs; most = most_steps; threads = threads; log = log; spent = false } → Stands t end_alone log mid written
     → ((left : List Command) → IsSession t d → Stands t (command.End ∷ left) d.log mid written → Did r t left new files got) → Did r t [] new files got
-run-command r t d new log mid files written got e h did = did [] (session-begun t d log e) (rw e h)
+run-command r t d new threads log mid files written got e h did = did [] (session-begun t d threads log e) (rw e h)

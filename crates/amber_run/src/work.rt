@@ -33,7 +33,7 @@ fn begin(
     requires inputs { AreInputs flow files }
     requires sizes { AreSizes threads batch }
     requires alone { AreAlone flow }
-    ensures begins { IfOk result (λ d. d ≡ record { flow = flow; files = files; most = most_steps; log = record { batch = batch; items = [] }; spent = false }) }
+    ensures begins { IfOk result (λ d. d ≡ record { flow = flow; files = files; most = most_steps; threads = threads; log = record { batch = batch; items = [] }; spent = false }) }
     ensures memory { IfErr result (λ stop. stop ≡ Stop.NoMemory) }
 {
     match Debugger::start(alloc, flow, files, batch, threads, MOST_STEPS) {
