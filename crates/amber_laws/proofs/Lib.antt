@@ -1,6 +1,5 @@
 pub mod Answered
 pub mod Bags
-pub mod Chunks
 pub mod Counted
 pub mod Crews
 pub mod Dealt

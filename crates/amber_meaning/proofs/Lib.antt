@@ -1,4 +1,5 @@
 pub mod Batches
+pub mod Chunks
 pub mod Evaluated
 pub mod ExampleCases
 pub mod ExampleFiles
@@ -11,11 +12,13 @@ pub mod ExampleSteps
 pub mod ExampleStops
 pub mod ExampleTexts
 pub mod Fronts
+pub mod Led
 pub mod LegalFrom
 pub mod LegalTests
 pub mod Lists
 pub mod OneState
 pub mod Operators
+pub mod Orderly
 pub mod Records
 pub mod Rest
 pub mod RuleTests

@@ -1,0 +1,5 @@
+pub mod Bounded
+pub mod BoundedLogs
+pub mod Growing
+pub mod Joining
+pub mod Splitting
