@@ -1,5 +1,13 @@
+pub mod Beginnings
 pub mod Bounded
 pub mod BoundedLogs
+pub mod Entered
+pub mod FromLines
 pub mod Growing
+pub mod Illegal
 pub mod Joining
+pub mod Judged
+pub mod Parts
 pub mod Splitting
+pub mod Stepping
+pub mod ToLines

@@ -1,2 +1,4 @@
+pub mod LineLaws
+pub mod Lines
 pub mod Moving
 pub mod MovingLaws

@@ -4,4 +4,5 @@
 //! said of a beginning that ends at any line. The definitions stand in `specs/`; the laws tie them to legal logs.
 #![tactic(auto)]
 
+pub mod lines;
 pub mod moving;
