@@ -2,6 +2,10 @@ pub mod Beginnings
 pub mod Bounded
 pub mod BoundedLogs
 pub mod Entered
+pub mod ExampleChanges
+pub mod ExampleEnds
+pub mod ExampleLog
+pub mod ExampleRules
 pub mod FromLines
 pub mod Growing
 pub mod Illegal
