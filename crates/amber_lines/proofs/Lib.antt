@@ -4,6 +4,7 @@ pub mod BoundedLogs
 pub mod Entered
 pub mod ExampleChanges
 pub mod ExampleEnds
+pub mod ExampleKept
 pub mod ExampleLog
 pub mod ExampleRules
 pub mod FromLines
@@ -11,6 +12,7 @@ pub mod Growing
 pub mod Illegal
 pub mod Joining
 pub mod Judged
+pub mod Kept
 pub mod Parts
 pub mod Splitting
 pub mod Stepping

@@ -1,3 +1,4 @@
+pub mod KeptStops
 pub mod LineLaws
 pub mod Lines
 pub mod Moving
