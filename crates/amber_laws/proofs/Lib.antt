@@ -22,4 +22,5 @@ pub mod Sound
 pub mod Spread
 pub mod Suited
 pub mod Together
+pub mod Totals
 pub mod Workers

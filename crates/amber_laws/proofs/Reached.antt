@@ -14,9 +14,9 @@ use Rattle.amber_log.specs.declared.leg.Part.{Part}
 use Rattle.amber_log.specs.declared.log.Item.{Item}
 use Rattle.amber_log.specs.declared.log.Item.TheVariants as item
 use Rattle.amber_log.specs.declared.log.Log.{Log}
-use Rattle.amber_meaning.specs.Legal.{AreOffered, IsLegal, IsOpen, IsUnaltered, IsWorked, Makes, Query, Reaches, after_close, alters, batches_for, entries_of, opened, role_in}
+use Rattle.amber_meaning.specs.Legal.{AreOffered, IsLegal, IsOpen, IsUnaltered, IsWorked, Makes, Query, Reaches, after_close, alters, entries_of, opened, role_in}
 use Rattle.amber_meaning.specs.Plan.{role_of, task_of}
-use Rattle.amber_meaning.specs.Position.{Position, origin, taken_from}
+use Rattle.amber_meaning.specs.Position.{Position, origin}
 use Rattle.amber_meaning.specs.State.{Arms, State, arms_at, begun, begun_to_end, changed_from, commanded, disarmed, first_constants, let_go, no_arms, orders_of, position_at, start_of, with_arms}
 use Rattle.amber_meaning.specs.Stops.{arms_left, op_numbers, without_stops}
 use Rattle.amber_meaning.proofs.Lists.{numbered-next}
