@@ -1,6 +1,5 @@
 -- Which stops are kept behind the example's items.
-use Rattle.std.proofs.Common.{◌≡◌, List, [], ◌∷◌, take, refl}
-use Rattle.amber_meaning.specs.declared.view.Stop.{Stop}
+use Rattle.std.proofs.Common.{◌≡◌, [], ◌∷◌, take, refl}
 use Rattle.amber_meaning.specs.declared.view.Stop.TheVariants as stop
 use Rattle.amber_meaning.proofs.ExampleCases.{counted_log, states_on_literals}
 use Rattle.amber_lines.specs.KeptStops.{kept_stops, stops_along}

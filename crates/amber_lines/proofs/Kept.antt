@@ -1,16 +1,14 @@
 -- The stops that are kept behind a leg.
 use Rattle.std.proofs.Common.{◌≡◌, List, [], ◌∷◌, ◌++◌, not, Bool, true, false, refl, sym, ap, ◌∙◌}
 use Rattle.std.specs.List.{list_all}
-use Rattle.std.proofs.lemmas.Bool.{and_parts, false≢true}
+use Rattle.std.proofs.lemmas.Bool.{false≢true}
 use Rattle.amber_log.specs.declared.leg.Close.{Close}
 use Rattle.amber_log.specs.declared.leg.Close.TheVariants as close
 use Rattle.amber_log.specs.declared.leg.Part.{Part}
 use Rattle.amber_log.specs.declared.log.Item.{Item}
 use Rattle.amber_log.specs.declared.log.Item.TheVariants as item
-use Rattle.amber_log.specs.declared.log.Log.{Log}
 use Rattle.amber_meaning.specs.declared.view.Stop.{Stop}
-use Rattle.amber_meaning.specs.Laws.{SendersFirst}
-use Rattle.amber_meaning.specs.Legal.{IsLegal, IsWorked, Query, opened, stops_in}
+use Rattle.amber_meaning.specs.Legal.{Query, opened, stops_in}
 use Rattle.amber_meaning.specs.Replay.{after_item, after_items, state_after, worked}
 use Rattle.amber_meaning.specs.State.{State, start_of}
 use Rattle.amber_meaning.specs.Texts.{stops_text}

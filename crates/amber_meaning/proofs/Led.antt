@@ -1,5 +1,5 @@
 -- Entries behind entries.
-use Rattle.std.proofs.Common.{◌≡◌, List, [], ◌∷◌, ◌++◌, refl}
+use Rattle.std.proofs.Common.{List, [], ◌∷◌, ◌++◌, refl}
 use Rattle.amber_log.specs.declared.entry.Entry.{Entry}
 use Rattle.amber_meaning.specs.Position.{Position}
 use Rattle.amber_meaning.specs.Rules.{Leads, Moves, Orders}

@@ -4,6 +4,7 @@ pub mod Evaluated
 pub mod ExampleCases
 pub mod ExampleFiles
 pub mod ExampleFlows
+pub mod ExampleGiven
 pub mod ExampleLegal
 pub mod ExampleRefusals
 pub mod ExampleRows
@@ -12,6 +13,7 @@ pub mod ExampleSteps
 pub mod ExampleStops
 pub mod ExampleTexts
 pub mod Fronts
+pub mod Given
 pub mod Led
 pub mod LegalFrom
 pub mod LegalTests

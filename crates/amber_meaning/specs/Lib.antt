@@ -1,4 +1,5 @@
 pub mod Evaluator
+pub mod Given
 pub mod Laws
 pub mod Legal
 pub mod LegalTests

@@ -1,4 +1,5 @@
 //! Laws of legal logs. Each function does nothing; its contract is the law.
+ghost use Rattle.amber_meaning.specs.Given.{FinishedOperatorsRefuse, KeysMayBeSorted, OneWorkerRefusesAlone};
 ghost use Rattle.amber_meaning.specs.Laws.{EndsClose, FlowsSendForward, FrontsAreLegal, ItemsHaveOneState, LegalLogsGrow, LegalLogsHaveOneState, LegalLogsRest, LegsHaveOneState, LegsOpen, LogsAreTested, RulesAreTested, RunsClose, TranscriptsGrow};
 
 /// A beginning of a legal log is legal: whatever was written before the last items is a log of its own, which can
@@ -74,4 +75,20 @@ pub fn runs_close()
 /// An open leg to the end, closed as its workers stand, is an item more of a legal log.
 pub fn ends_close()
     ensures { EndsClose }
+{}
+
+/// What an operator with one worker has refused is what that worker has.
+pub fn one_worker_refuses_alone()
+    ensures { OneWorkerRefusesAlone }
+{}
+
+/// Once all workers of an operator have finished, what they have refused is what the answer says of the operator. Before,
+/// a group's worker that has not finished has refused no key.
+pub fn finished_operators_refuse()
+    ensures { FinishedOperatorsRefuse }
+{}
+
+/// Refused keys may be sorted worker by worker, and all of them again.
+pub fn keys_may_be_sorted()
+    ensures { KeysMayBeSorted }
 {}
