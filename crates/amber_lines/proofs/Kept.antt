@@ -14,9 +14,9 @@ use Rattle.amber_meaning.specs.State.{State, start_of}
 use Rattle.amber_meaning.specs.Texts.{stops_text}
 use Rattle.amber_meaning.specs.Transcript.{reply_of}
 use Rattle.amber_meaning.proofs.OneState.{legal_logs_have_one_state, worked-is}
-use Rattle.amber_lines.specs.KeptStops.{CommandsKeepStops, KeptStopsWereReplied, LegsKeepTheirStops, NoStopsAtFirst, is_leg, kept_stops, leg_of, stops_along, stops_left}
+use Rattle.amber_lines.specs.KeptStops.{CommandsKeepStops, KeptStopsWereReplied, LegsKeepTheirStops, NoStopsAtFirst, is_leg_item, kept_stops, leg_of, stops_along, stops_left}
 
-none-along : (query : Query) (state : State) (items : List Item) → list_all (λ (one : Item). not (is_leg one)) items ≡ true → stops_along query state [] items ≡ []
+none-along : (query : Query) (state : State) (items : List Item) → list_all (λ (one : Item). not (is_leg_item one)) items ≡ true → stops_along query state [] items ≡ []
 unfolding stops_along
 none-along query state [] e = refl
 none-along query state (item.Do command ∷ more) e = none-along query (after_item query state (item.Do command)) more e
@@ -38,7 +38,7 @@ kept-push : (query : Query) (items : List Item) (one : Item) → kept_stops quer
 unfolding kept_stops state_after
 kept-push query items one = along-push query (start_of query.flow) [] items one
 
-command-leaves : (query : Query) (state : State) (kept : List Stop) (one : Item) → is_leg one ≡ false → stops_left query state kept one ≡ kept
+command-leaves : (query : Query) (state : State) (kept : List Stop) (one : Item) → is_leg_item one ≡ false → stops_left query state kept one ≡ kept
 command-leaves query state kept (item.Do command) e = refl
 command-leaves query state kept (item.Run leg) e = absurd (false≢true (sym e))
 command-leaves query state kept (item.End leg) e = absurd (false≢true (sym e))

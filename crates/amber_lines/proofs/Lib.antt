@@ -4,6 +4,7 @@ pub mod BoundedLogs
 pub mod Entered
 pub mod ExampleChanges
 pub mod ExampleEnds
+pub mod ExampleFronts
 pub mod ExampleKept
 pub mod ExampleLog
 pub mod ExampleRules

@@ -31,18 +31,18 @@ kept_stops query items = stops_along query (start_of query.flow) [] items
 
 -- ---- laws
 
-abbrev pub is_leg : Item → Bool
-is_leg (item.Do command) = false
-is_leg (item.Run leg) = true
-is_leg (item.End leg) = true
+abbrev pub is_leg_item : Item → Bool
+is_leg_item (item.Do command) = false
+is_leg_item (item.Run leg) = true
+is_leg_item (item.End leg) = true
 
 -- before the first leg none are kept
 abbrev pub NoStopsAtFirst : Type 0
-NoStopsAtFirst = (query : Query) (items : List Item) → list_all (λ one. not (is_leg one)) items ≡ true → kept_stops query items ≡ []
+NoStopsAtFirst = (query : Query) (items : List Item) → list_all (λ one. not (is_leg_item one)) items ≡ true → kept_stops query items ≡ []
 
 -- a command changes nothing of them
 abbrev pub CommandsKeepStops : Type 0
-CommandsKeepStops = (query : Query) (items : List Item) (one : Item) → is_leg one ≡ false → kept_stops query (items ++ one ∷ []) ≡ kept_stops query items
+CommandsKeepStops = (query : Query) (items : List Item) (one : Item) → is_leg_item one ≡ false → kept_stops query (items ++ one ∷ []) ≡ kept_stops query items
 
 -- a leg, to the end or not
 abbrev pub leg_of : Bool → List Part → Close → Item
