@@ -1,5 +1,4 @@
 pub mod Batches
-pub mod Evaluated
 pub mod ExampleCases
 pub mod ExampleFiles
 pub mod ExampleFlows
@@ -16,7 +15,6 @@ pub mod LegalTests
 pub mod Lists
 pub mod OneState
 pub mod Operators
-pub mod Records
 pub mod Rest
 pub mod RuleTests
 pub mod Senders

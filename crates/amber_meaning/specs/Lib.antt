@@ -1,4 +1,3 @@
-pub mod Evaluator
 pub mod Laws
 pub mod Legal
 pub mod LegalTests
@@ -8,6 +7,7 @@ pub mod Position
 pub mod Replay
 pub mod Rules
 pub mod RuleTests
+pub mod ScanFiles
 pub mod State
 pub mod Stops
 pub mod Task
