@@ -334,7 +334,7 @@ sum-whole f g (m ∷ ns) h e n k = by (or_cases (eqb m n) (among n ns) k) (λ s 
 
 -- ---- rows
 
-same_times : (row : List Value) {xs ys : List (List Value)} → Same xs ys → times row xs ≡ times row ys
+pub same_times : (row : List Value) {xs ys : List (List Value)} → Same xs ys → times row xs ≡ times row ys
 unfolding times
 same_times row Empty = refl
 same_times row (Keep x xs ys h) = omega (arith, same_times row h)

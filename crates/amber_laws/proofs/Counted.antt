@@ -19,7 +19,7 @@ use Rattle.amber_meaning.specs.Total.{dealt_stream, dealt_to, step_total, work_o
 use Rattle.amber_meaning.proofs.OneState.{position-get_or}
 use Rattle.amber_meaning.proofs.Senders.{flows_send_forward}
 use Rattle.amber_laws.proofs.Bags.{among, part-filter, part-length, same-dealt, same-filter, same-length, sent_to, sum-equal, sum-most, sum-whole}
-use Rattle.amber_laws.proofs.Chunks.{front-count}
+use Rattle.amber_meaning.proofs.Chunks.{front-count}
 use Rattle.amber_laws.proofs.Emitted.{emitted-front, emitted-part, ended-given, fed-part, finished-dealt, has-ended, rows-whole, sender-before, stands, taken-begins}
 use Rattle.amber_laws.proofs.Finished.{took-all}
 use Rattle.amber_laws.proofs.Given.{senders-apart}

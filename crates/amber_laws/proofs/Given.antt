@@ -16,7 +16,7 @@ use Rattle.amber_meaning.specs.Position.{Taken, handed_by, share_or, taken_from}
 use Rattle.amber_meaning.specs.Task.{Handed, Task, built_of, closing, closing_rows, is_builder, produce, suiting, yields, yields_if, yields_row}
 use Rattle.amber_meaning.specs.Total.{gives, handed_from, task_constants}
 use Rattle.amber_laws.proofs.Bags.{Same, Empty, Join, Part, among, are_different, equal-among, part-among, part-begin, part-both, part-filter, part-filter_map, part-map, part-none, part-self, part-then, same-among, same-both, same-dealt, same-each, same-filter, same-filter_map, same-flat_map, same-map, same-self, same-turned, sent_to}
-use Rattle.amber_laws.proofs.Chunks.{batch_rows}
+use Rattle.amber_meaning.proofs.Chunks.{batch_rows}
 use Rattle.amber_laws.proofs.Grouping.{grouped-same}
 use Rattle.amber_laws.proofs.Numbers.{different-below, different-kept}
 

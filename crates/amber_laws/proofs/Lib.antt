@@ -1,6 +1,5 @@
 pub mod Answered
 pub mod Bags
-pub mod Chunks
 pub mod Counted
 pub mod Crews
 pub mod Dealt
@@ -23,4 +22,5 @@ pub mod Sound
 pub mod Spread
 pub mod Suited
 pub mod Together
+pub mod Totals
 pub mod Workers

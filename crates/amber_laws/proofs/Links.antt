@@ -33,7 +33,7 @@ use Rattle.amber_laws.proofs.Flows.{reader-is, sides-differ, some-workers}
 unfoldable pub feeders_of : List Operator → ℕ → List ℕ
 feeders_of flow op = flat_map (workers_of flow) (inputs_of (what_at flow op))
 
-flat_among : (f : ℕ → List ℕ) (n : ℕ) (ks : List ℕ) → among n (flat_map f ks) ≡ true → (k : ℕ) × (among k ks ≡ true) × (among n (f k) ≡ true)
+pub flat_among : (f : ℕ → List ℕ) (n : ℕ) (ks : List ℕ) → among n (flat_map f ks) ≡ true → (k : ℕ) × (among k ks ≡ true) × (among n (f k) ≡ true)
 flat_among f n [] h = absurd (false≢true h)
 flat_among f n (k ∷ ks) h = by (among-cases n (f k) (flat_map f ks) h) (flat_among f n ks)
   where

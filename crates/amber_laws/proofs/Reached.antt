@@ -14,16 +14,16 @@ use Rattle.amber_log.specs.declared.leg.Part.{Part}
 use Rattle.amber_log.specs.declared.log.Item.{Item}
 use Rattle.amber_log.specs.declared.log.Item.TheVariants as item
 use Rattle.amber_log.specs.declared.log.Log.{Log}
-use Rattle.amber_meaning.specs.Legal.{AreOffered, IsLegal, IsOpen, IsUnaltered, IsWorked, Makes, Query, Reaches, after_close, alters, batches_for, entries_of, opened, role_in}
+use Rattle.amber_meaning.specs.Legal.{AreOffered, IsLegal, IsOpen, IsUnaltered, IsWorked, Makes, Query, Reaches, after_close, alters, entries_of, opened, role_in}
 use Rattle.amber_meaning.specs.Plan.{role_of, task_of}
-use Rattle.amber_meaning.specs.Position.{Position, origin, taken_from}
+use Rattle.amber_meaning.specs.Position.{Position, origin}
 use Rattle.amber_meaning.specs.State.{Arms, State, arms_at, begun, begun_to_end, changed_from, commanded, disarmed, first_constants, let_go, no_arms, orders_of, position_at, start_of, with_arms}
 use Rattle.amber_meaning.specs.Stops.{arms_left, op_numbers, without_stops}
 use Rattle.amber_meaning.proofs.Lists.{numbered-next}
 use Rattle.amber_meaning.proofs.OneState.{position-get_or}
 use Rattle.amber_meaning.proofs.Rest.{legal_logs_rest}
-use Rattle.amber_laws.proofs.Chunks.{chunks-marked}
-use Rattle.amber_laws.proofs.Sound.{IsOrderly, IsSound, led-sound, let_go-sound, marked-front, origin-sound}
+use Rattle.amber_meaning.proofs.Chunks.{offered-orderly}
+use Rattle.amber_laws.proofs.Sound.{IsSound, led-sound, let_go-sound, origin-sound}
 
 -- ---- the constants in force
 
@@ -99,14 +99,6 @@ left-ops flow state (op ∷ ops) h = rw (own-constants flow state op h, left-ops
 pub record IsFit (query : Query) (state : State) : Type 0 where
   pub own : HasOwn query.flow state.arms
   pub sound : (worker : ℕ) → worker < crew_of query.flow → IsSound (role_in query worker) (position_at state.positions worker)
-
--- of each sender only the last batch may be marked
-pub offered-orderly : (query : Query) (positions : List Position) (worker : ℕ) → AreOffered query positions → worker < crew_of query.flow
-    → IsOrderly (role_in query worker) (position_at positions worker).taken
-unfolding AreOffered batches_for
-offered-orderly query positions worker offered less sender known =
-    let begins = offered worker less sender known in
-    marked-front (taken_from (position_at positions worker).taken sender) begins.0 (rw begins.1 (chunks-marked query.size _ _))
 
 worked-fit : (query : Query) (before after : State) (parts : List Part) → IsWorked query before parts after → IsFit query before → IsFit query after
 unfolding role_of task_of

@@ -17,13 +17,13 @@ use Rattle.amber_log.proofs.Sound.{IsLogOf, IsReading, IsSpelled, parse-found, r
 use Rattle.amber_log.proofs.Torn.{log_bytes, log_text-unlines, what_stands_is_read}
 
 -- these lines are the log's
-abbrev IsTextOf : List (List ℕ) → Log → Type 0
+abbrev pub IsTextOf : List (List ℕ) → Log → Type 0
 IsTextOf lines log = IsLog log × (lines ≡ log_bytes log)
 
-abbrev behind_head : ℕ → Reading
+abbrev pub behind_head : ℕ → Reading
 behind_head batch = record { batch = batch; items = []; place = place.Outside }
 
-IsReading-head : (batch : ℕ) → IsBatch batch → IsReading (behind_head batch)
+pub IsReading-head : (batch : ℕ) → IsBatch batch → IsReading (behind_head batch)
 unfolding AreItems
 IsReading-head batch h = record { batch = h; items = tt; over = refl; place = tt }
 
@@ -46,14 +46,14 @@ by_first bytes lines (Some (line.Entry entry)) h = tt
 by_first bytes lines (Some (line.Close close)) h = tt
 
 -- lines that read as a log are its lines, or there are none
-abbrev IsFound : List (List ℕ) → Log → Type 0
+abbrev pub IsFound : List (List ℕ) → Log → Type 0
 IsFound lines log = IsTextOf lines log ⊎ ((lines ≡ []) × (log ≡ empty_log))
 
 found_text : (lines : List (List ℕ)) (result : Result Log ℕ) → IfOk result (IsTextOf lines) → IfOk result (IsFound lines)
 found_text lines (Err number) h = tt
 found_text lines (Ok log) h = inl h
 
-read_lines-found : (lines : List (List ℕ)) → IfOk (read_lines lines) (IsFound lines)
+pub read_lines-found : (lines : List (List ℕ)) → IfOk (read_lines lines) (IsFound lines)
 unfolding read_lines
 read_lines-found [] = inr (refl, refl)
 read_lines-found (bytes ∷ lines) =

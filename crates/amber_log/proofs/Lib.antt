@@ -1,6 +1,9 @@
+pub mod BadLines
 pub mod Complete
+pub mod Endings
 pub mod Exact
 pub mod FoundWords
+pub mod Longest
 pub mod Plain
 pub mod Pushes
 pub mod Sound

@@ -8,6 +8,7 @@ use Rattle.amber_log.specs.Laws.{EachHasItsText, FrontsAreRead, NoItemBeginsAnot
 use Rattle.amber_log.specs.LogText.{head_text, item_lines, item_text, line_text, log_lines, log_text, unlines}
 use Rattle.amber_log.specs.ReadAs.{IsReadAs, closes, cut_back, keep, lines_of, read_of, whole_items, whole_lines}
 use Rattle.amber_log.specs.ReadLines.{empty_log, read_lines}
+use Rattle.amber_log.specs.TextLaws.{TextsReadBack}
 use Rattle.amber_log.specs.Words.{spell}
 use Rattle.amber_log.specs.declared.log.Item.{Item}
 use Rattle.amber_log.specs.declared.log.Log.{Log}
@@ -114,7 +115,7 @@ unfolding whole_lines
 AreClean-whole_lines [] h = tt
 AreClean-whole_lines (bytes ∷ lines) h = (h.0, AreClean-cut_back lines h.1)
 
-lines_of-whole_items : (bytes : List ℕ) → lines_of (whole_items bytes) ≡ whole_lines (lines_of bytes)
+pub lines_of-whole_items : (bytes : List ℕ) → lines_of (whole_items bytes) ≡ whole_lines (lines_of bytes)
 unfolding whole_items
 lines_of-whole_items bytes = lines_of-whole (whole_lines (lines_of bytes)) (AreClean-whole_lines (lines_of bytes) (AreClean-lines_of bytes))
 
@@ -131,6 +132,10 @@ unfolding cut_back
 reads-whole log h =
     IsReadAs-from_lines (log_text log) log h
     (ap whole_lines (lines_of-log log h ∙ sym (append-nil (log_bytes log))) ∙ whole_lines-log log [] h ∙ append-nil (log_bytes log))
+
+-- and is what is read of it
+pub texts_read_back : TextsReadBack
+texts_read_back log h = what_stands_is_read (log_text log) log (reads-whole log h)
 
 pub each_has_its_text : EachHasItsText
 each_has_its_text one other h h' e =

@@ -51,7 +51,7 @@ ends_once-open (x ∷ xs) last p q =
 
 -- ---- the lines of an item
 
-open-entry : (one : Entry) → not (closes (spell (line.Entry one))) ≡ true
+pub open-entry : (one : Entry) → not (closes (spell (line.Entry one))) ≡ true
 unfolding closes
 open-entry (entry.Take sender batch) = refl
 open-entry (entry.Go rows outs) = refl
@@ -62,15 +62,15 @@ open-entry entry.Resume = refl
 open-entry entry.Hold = refl
 open-entry entry.Finish = refl
 
-open-worker : (worker : ℕ) → not (closes (spell (line.Worker worker))) ≡ true
+pub open-worker : (worker : ℕ) → not (closes (spell (line.Worker worker))) ≡ true
 unfolding closes
 open-worker worker = refl
 
-open-run : closes (spell line.Run) ≡ false
+pub open-run : closes (spell line.Run) ≡ false
 unfolding closes
 open-run = refl
 
-open-end : closes (spell line.End) ≡ false
+pub open-end : closes (spell line.End) ≡ false
 unfolding closes
 open-end = refl
 
@@ -134,7 +134,7 @@ ends_once-front (x ∷ next ∷ xs) more p q =
 
 -- ---- cutting back
 
-keep-closing : (closing : Bool) (bytes : List ℕ) (lines : List (List ℕ)) → closing ≡ true → keep closing bytes lines ≡ bytes ∷ lines
+pub keep-closing : (closing : Bool) (bytes : List ℕ) (lines : List (List ℕ)) → closing ≡ true → keep closing bytes lines ≡ bytes ∷ lines
 keep-closing true bytes [] e = refl
 keep-closing true bytes (next ∷ lines) e = refl
 keep-closing false bytes lines e = absurd (false≢true e)

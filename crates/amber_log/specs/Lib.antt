@@ -5,4 +5,5 @@ pub mod LogText
 pub mod ReadAs
 pub mod ReadLines
 pub mod ReadWords
+pub mod TextLaws
 pub mod Words

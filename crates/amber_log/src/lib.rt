@@ -2,8 +2,8 @@
 //!
 //! A log is a batch size and a list of items: the commands that were given and the legs that were run.
 //! The definitions in `specs/` give the text of each item, the grammar of logs, and how a text is read.
-//! The laws say that no item's text begins another's, and that a text that was cut off anywhere reads
-//! as a log with fewer items.
+//! The laws say that no item's text begins another's, that a text that was cut off anywhere reads as a
+//! log with fewer items, and that reading fails exactly at the first line that cannot stand there.
 #![tactic(auto)]
 
 pub mod command;

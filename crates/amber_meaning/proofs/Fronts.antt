@@ -35,7 +35,7 @@ fronts_are_legal query batch items more legal =
 
 -- ---- an item more
 
-AreItems-push : (over : Bool) (items : List Item) (one : Item) → AreItems over items → ends_over over items ≡ false → IsItem one → AreItems over (items ++ one ∷ [])
+pub AreItems-push : (over : Bool) (items : List Item) (one : Item) → AreItems over items → ends_over over items ≡ false → IsItem one → AreItems over (items ++ one ∷ [])
 unfolding AreItems
 AreItems-push over [] one h e is = (e, is, tt)
 AreItems-push over (first ∷ items) one h e is = (h.0, h.1, AreItems-push (is_last first) items one h.2 e is)

@@ -34,7 +34,7 @@ use Rattle.amber_meaning.proofs.RuleTests.{may_move-so, may_take-so, nil_from_em
 
 -- ---- one worker
 
-moves-from : (role : Role) (orders : Orders) (offer : ℕ → List Batch) (p : Position) (one : Entry) → may_move role orders p one ≡ true
+pub moves-from : (role : Role) (orders : Orders) (offer : ℕ → List Batch) (p : Position) (one : Entry) → may_move role orders p one ≡ true
     → is_offered offer one ≡ true → Moves role orders p one (moved_by offer orders one p)
 moves-from role orders offer p (entry.Take from number) e f = by (numbered (offer from) (number + 1)) f
   where
@@ -195,7 +195,7 @@ some-from : {A : Type 0} (xs : List A) → not (is_empty xs) ≡ true → xs ≢
 some-from [] e = absurd (false≢true e)
 some-from (x ∷ xs) e = λ f. cc
 
-close_run-from : (query : Query) (state : State) (closed : Close) → may_close_run query state closed ≡ true → ClosesRun query state closed
+pub close_run-from : (query : Query) (state : State) (closed : Close) → may_close_run query state closed ≡ true → ClosesRun query state closed
 unfolding may_close_run
 close_run-from query state close.Cut e =
     let parts = and_parts (is_settled query state) _ e in
@@ -206,7 +206,7 @@ close_run-from query state close.Long e =
     let others = and_parts (eqb (steps_in state) query.most) _ parts.1 in
     (settled-from query state parts.0, eqb-true _ _ others.0, nil_from_empty (stops_in query state) others.1)
 
-close_end-from : (query : Query) (state : State) (closed : Close) → may_close_end query state closed ≡ true → ClosesEnd query state closed
+pub close_end-from : (query : Query) (state : State) (closed : Close) → may_close_end query state closed ≡ true → ClosesEnd query state closed
 unfolding may_close_end
 close_end-from query state close.Cut e =
     let parts = and_parts (is_settled query state) _ e in

@@ -29,7 +29,7 @@ use Rattle.amber_meaning.proofs.RuleTests.{empty_from_nil, may_move-so}
 
 -- ---- one worker
 
-rule-of : (role : Role) (orders : Orders) (p q : Position) (one : Entry) → Moves role orders p one q → MayMove role orders p one
+pub rule-of : (role : Role) (orders : Orders) (p q : Position) (one : Entry) → Moves role orders p one q → MayMove role orders p one
 rule-of role orders p q (entry.Take from number) h = h.1
 rule-of role orders p q (entry.Go rows outs) h = h.0
 rule-of role orders p q (entry.Grant n) h = h.0
@@ -39,7 +39,7 @@ rule-of role orders p q entry.Resume h = h.0
 rule-of role orders p q entry.Hold h = h.0
 rule-of role orders p q entry.Finish h = h.0
 
-offered-is : (role : Role) (orders : Orders) (offer : ℕ → List Batch) (p q : Position) (one : Entry) → Moves role orders p one q → TookFirst role offer q
+pub offered-is : (role : Role) (orders : Orders) (offer : ℕ → List Batch) (p q : Position) (one : Entry) → Moves role orders p one q → TookFirst role offer q
     → is_offered offer one ≡ true
 offered-is role orders offer p q (entry.Take from number) h first = ap (λ found. is_some found) (found-batch role orders offer p q from number h first)
 offered-is role orders offer p q (entry.Go rows outs) h first = refl
@@ -73,7 +73,7 @@ unfolding are_offered AreOffered
 are_offered-is query positions h =
     list_all-below _ (crew_of query.flow) (λ receiver less. offers-is query positions receiver (role_in query receiver).senders (h receiver less))
 
-known-all : (n : ℕ) (parts : List Part) → ((worker : ℕ) → list_any (λ part. eqb part.worker worker) parts ≡ true → worker < n)
+pub known-all : (n : ℕ) (parts : List Part) → ((worker : ℕ) → list_any (λ part. eqb part.worker worker) parts ≡ true → worker < n)
     → list_all (λ part. ltb part.worker n) parts ≡ true
 known-all n [] h = refl
 known-all n (part ∷ parts) h =
@@ -107,12 +107,12 @@ some-is : {A : Type 0} (xs : List A) → xs ≢ [] → not (is_empty xs) ≡ tru
 some-is [] h = absurd (h refl)
 some-is (x ∷ xs) h = refl
 
-may_close_run-is : (query : Query) (state : State) (closed : Close) → ClosesRun query state closed → may_close_run query state closed ≡ true
+pub may_close_run-is : (query : Query) (state : State) (closed : Close) → ClosesRun query state closed → may_close_run query state closed ≡ true
 unfolding may_close_run
 may_close_run-is query state close.Cut h = and_from _ _ (is_settled-is query state h.0) (and_from _ _ (le-leb _ _ h.1) (some-is (stops_in query state) h.2))
 may_close_run-is query state close.Long h = and_from _ _ (is_settled-is query state h.0) (and_from _ _ (eq-eqb _ _ h.1) (empty_from_nil (stops_in query state) h.2))
 
-may_close_end-is : (query : Query) (state : State) (closed : Close) → ClosesEnd query state closed → may_close_end query state closed ≡ true
+pub may_close_end-is : (query : Query) (state : State) (closed : Close) → ClosesEnd query state closed → may_close_end query state closed ≡ true
 unfolding may_close_end
 may_close_end-is query state close.Cut h = and_from _ _ (is_settled-is query state h.0) (and_from _ _ (le-leb _ _ h.1) h.2)
 may_close_end-is query state close.Long h = and_from _ _ (is_settled-is query state h.0) (and_from _ _ (eq-eqb _ _ h.1) (not_from_false _ h.2))

@@ -1,4 +1,5 @@
 pub mod Batches
+pub mod Chunks
 pub mod ExampleCases
 pub mod ExampleFiles
 pub mod ExampleFlows
@@ -10,11 +11,13 @@ pub mod ExampleSteps
 pub mod ExampleStops
 pub mod ExampleTexts
 pub mod Fronts
+pub mod Led
 pub mod LegalFrom
 pub mod LegalTests
 pub mod Lists
 pub mod OneState
 pub mod Operators
+pub mod Orderly
 pub mod Rest
 pub mod RuleTests
 pub mod Senders

@@ -7,22 +7,11 @@ use Rattle.std.proofs.lemmas.Nat.{div-add-mod', div-mul-add}
 use Rattle.amber_rows.specs.Chunks.{chunks_of, numbers_below, piece_of}
 use Rattle.amber_rows.specs.declared.value.Value.{Value}
 use Rattle.amber_rows.specs.declared.batch.Batch.{Batch}
-
--- the full batch with this number
-abbrev pub full_batch : ℕ → List (List Value) → ℕ → Batch
-full_batch size stream number = record { seq = number; rows = piece_of size stream number; last = false }
+use Rattle.amber_meaning.proofs.Chunks.{full_batch, fulls-longer}
 
 -- the rows that are left for the next batch
 abbrev pub left_over : ℕ → List (List Value) → List (List Value)
 left_over size stream = drop (length stream / size * size) stream
-
-map-below : {A : Type 0} (f g : ℕ → A) (n : ℕ) → ((k : ℕ) → k < n → f k ≡ g k) → map f (numbers_below n) ≡ map g (numbers_below n)
-unfolding numbers_below
-map-below f g zero h = refl
-map-below f g (suc n) h =
-    let front = map-below f g n (λ k less. h k (omega arith)) in
-    let last = h n (omega arith) in
-    rw (map-append f, map-append g, front, last)
 
 -- the stream's length by its batches and what is left
 pub length-left_over : (size : ℕ) (stream : List (List Value)) → length stream ≡ length stream / size * size + length (left_over size stream)
@@ -35,25 +24,6 @@ pub left_over-few : (size : ℕ) (stream : List (List Value)) → 0 < size → l
 left_over-few size stream some =
     let parts = div-add-mod' (length stream) size in
     omega (arith, length-drop (length stream / size * size) stream)
-
-full-below : (size n q : ℕ) (stream : List (List Value)) → n < q → q * size ≤ length stream → n * size + size ≤ length stream
-full-below size n q stream less within =
-    let more : (n + 1) * size ≤ q * size = mul-le-mul_right size (omega arith) in
-    omega arith
-
-piece-longer : (size n q : ℕ) (stream more : List (List Value)) → n < q → q * size ≤ length stream → piece_of size (stream ++ more) n ≡ piece_of size stream n
-piece-longer size n q stream more less within =
-    let all = full-below size n q stream less within in
-    let start : n * size ≤ length stream = omega arith in
-    let enough : size ≤ length (drop (n * size) stream) = omega (arith, length-drop (n * size) stream) in
-    rw (drop-append-le, take-append-le)
-
--- full batches stay as the stream grows
-fulls-longer : (size q : ℕ) (stream more : List (List Value)) → q * size ≤ length stream
-    → map (full_batch size (stream ++ more)) (numbers_below q) ≡ map (full_batch size stream) (numbers_below q)
-fulls-longer size q stream more within =
-    map-below (full_batch size (stream ++ more)) (full_batch size stream) q
-    (λ n less. ap (λ (rows : List (List Value)). record { seq = n; rows = rows; last = false }) (piece-longer size n q stream more less within))
 
 -- ---- a row more
 

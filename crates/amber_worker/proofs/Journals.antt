@@ -17,13 +17,6 @@ use Rattle.amber_worker.specs.Steps.{gone_on, with_go}
 
 -- ---- one entry more
 
--- an entry at the end leads on
-pub Leads-push : (role : Role) (orders : Orders) (start : Position) (journal : List Entry) (m : Position) (one : Entry) (q : Position)
-    → Leads role orders start journal m → Moves role orders m one q → Leads role orders start (journal ++ one ∷ []) q
-unfolding Leads
-Leads-push role orders start [] m one q leads moves = (q, rw leads moves, refl)
-Leads-push role orders start (first ∷ more) m one q leads moves = (leads.0, leads.1, Leads-push role orders leads.0 more m one q leads.2 moves)
-
 -- an entry that moves no row may stand at the end
 pub AreEntries-push : (gone : Bool) (journal : List Entry) (one : Entry) → AreEntries gone journal → IsEntry one → is_go one ≡ false → AreEntries gone (journal ++ one ∷ [])
 unfolding AreEntries

@@ -26,7 +26,8 @@ use Rattle.amber_worker.specs.Steps.{Becomes, Closes, all_done, columns_at_hand,
 use Rattle.amber_worker.specs.declared.duty.Duty.{Duty}
 use Rattle.amber_worker.specs.declared.duty.Duty.TheVariants as duty
 use Rattle.amber_worker.proofs.Chunked.{chunks-end, chunks-full, chunks-more, left_over, left_over-few}
-use Rattle.amber_worker.proofs.Journals.{AreEntries-push, AreEntries-with_go, Leads-out, Leads-push, Leads-row, not_counted, passes}
+use Rattle.amber_meaning.proofs.Led.{Leads-push}
+use Rattle.amber_worker.proofs.Journals.{AreEntries-push, AreEntries-with_go, Leads-out, Leads-row, not_counted, passes}
 use Rattle.amber_worker.proofs.Produced.{and-turned, kept-longer, kept-next, left-behind, left-next, left-nothing, left-within, not-complete, produce-next, product-is, product-open, same-test, take-next}
 use Rattle.amber_worker.proofs.States.{closing-is, does-more, has-more, rows-more}
 

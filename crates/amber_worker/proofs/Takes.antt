@@ -24,7 +24,8 @@ use Rattle.amber_worker.specs.Station.{Station}
 use Rattle.amber_worker.specs.Steps.{Closes, batch_taken}
 use Rattle.amber_worker.specs.declared.duty.Duty.{Duty}
 use Rattle.amber_worker.specs.declared.duty.Duty.TheVariants as duty
-use Rattle.amber_worker.proofs.Journals.{AreEntries-push, Leads-push}
+use Rattle.amber_meaning.proofs.Led.{Leads-push}
+use Rattle.amber_worker.proofs.Journals.{AreEntries-push}
 use Rattle.amber_worker.proofs.Moves.{IsWorking, all-ended, all-gone, closing-same, free-shown}
 use Rattle.amber_worker.proofs.Produced.{and-turned, kept-longer, left-behind, left-nothing, produce-longer, product-is, product-open, same-test}
 use Rattle.amber_worker.proofs.States.{closing-is, does-turned, has-turned}

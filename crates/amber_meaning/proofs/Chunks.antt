@@ -1,17 +1,20 @@
 -- The batches of a stream: only the last is marked, their rows are a front of the stream, and how many there are.
 use Rattle.std.proofs.Common.{◌≡◌, ℕ, zero, suc, ◌+◌, ◌*◌, ◌/◌, ◌<◌, ◌≤◌, List, [], ◌∷◌, ◌++◌, length, map, take, drop, Bool, true, false, refl, sym, ap, ◌∙◌, arith, append_assoc, length-append}
 use Rattle.std.specs.List.{flat_map, list_any}
-use Rattle.std.proofs.Math.Nat.{lt-div-mul-add, suc-mul, zero-mul}
+use Rattle.std.proofs.Math.Nat.{lt-div-mul-add, mul-le-mul_right, suc-mul, zero-mul}
 use Rattle.std.proofs.Math.Seq.{take-add}
 use Rattle.std.proofs.lemmas.Bool.{false≢true}
-use Rattle.std.proofs.lemmas.List.{append-nil, length-drop, length-map, take-append-drop, take_all}
+use Rattle.std.proofs.lemmas.List.{append-nil, drop-append-le, length-drop, length-map, map-append, take-append-drop, take-append-le, take_all}
 use Rattle.std.proofs.lemmas.List.Concat.{flat_map-append}
 use Rattle.std.proofs.lemmas.List.Folds.{flat_map-map}
 use Rattle.amber_rows.specs.Chunks.{chunks_of, numbers_below, piece_of}
 use Rattle.amber_rows.specs.declared.value.Value.{Value}
 use Rattle.amber_rows.specs.declared.batch.Batch.{Batch}
-use Rattle.amber_meaning.specs.Position.{one_if}
-use Rattle.amber_laws.proofs.Sound.{IsMarkedLast, marked-ends}
+use Rattle.amber_rows.specs.Crew.{crew_of}
+use Rattle.amber_meaning.specs.Legal.{AreOffered, Query, batches_for, role_in}
+use Rattle.amber_meaning.specs.Position.{Position, one_if, taken_from}
+use Rattle.amber_meaning.specs.State.{position_at}
+use Rattle.amber_meaning.proofs.Orderly.{IsMarkedLast, IsOrderly, marked-ends, marked-front}
 
 abbrev pub batch_rows : Batch → List (List Value)
 batch_rows batch = batch.rows
@@ -19,19 +22,19 @@ batch_rows batch = batch.rows
 abbrev pub is_marked : Batch → Bool
 is_marked batch = batch.last
 
--- a full batch of a stream
-abbrev full : ℕ → List (List Value) → ℕ → Batch
-full size stream number = record { seq = number; rows = piece_of size stream number; last = false }
+-- the full batch with this number
+abbrev pub full_batch : ℕ → List (List Value) → ℕ → Batch
+full_batch size stream number = record { seq = number; rows = piece_of size stream number; last = false }
 
-full-unmarked : (size : ℕ) (stream : List (List Value)) (ns : List ℕ) → list_any is_marked (map (full size stream) ns) ≡ false
+full-unmarked : (size : ℕ) (stream : List (List Value)) (ns : List ℕ) → list_any is_marked (map (full_batch size stream) ns) ≡ false
 full-unmarked size stream [] = refl
 full-unmarked size stream (n ∷ ns) = full-unmarked size stream ns
 
-marked-behind : (size : ℕ) (stream : List (List Value)) (ns : List ℕ) (b : Batch) → IsMarkedLast (map (full size stream) ns ++ b ∷ [])
+marked-behind : (size : ℕ) (stream : List (List Value)) (ns : List ℕ) (b : Batch) → IsMarkedLast (map (full_batch size stream) ns ++ b ∷ [])
 marked-behind size stream [] b = (λ e. refl, tt)
 marked-behind size stream (n ∷ ns) b = (λ e. absurd (false≢true e), marked-behind size stream ns b)
 
-marked-none : (size : ℕ) (stream : List (List Value)) (ns : List ℕ) → IsMarkedLast (map (full size stream) ns ++ [])
+marked-none : (size : ℕ) (stream : List (List Value)) (ns : List ℕ) → IsMarkedLast (map (full_batch size stream) ns ++ [])
 marked-none size stream [] = tt
 marked-none size stream (n ∷ ns) = (λ e. absurd (false≢true e), marked-none size stream ns)
 
@@ -49,8 +52,8 @@ pieces size stream (suc n) =
     flat_map-append (piece_of size stream) (numbers_below n) (n ∷ [])
     ∙ rw (pieces size stream n, append-nil (piece_of size stream n), suc-mul n size) (sym (take-add (n * size) size stream))
 
-full-rows : (size : ℕ) (stream : List (List Value)) (n : ℕ) → flat_map batch_rows (map (full size stream) (numbers_below n)) ≡ take (n * size) stream
-full-rows size stream n = flat_map-map batch_rows (full size stream) (numbers_below n) ∙ pieces size stream n
+full-rows : (size : ℕ) (stream : List (List Value)) (n : ℕ) → flat_map batch_rows (map (full_batch size stream) (numbers_below n)) ≡ take (n * size) stream
+full-rows size stream n = flat_map-map batch_rows (full_batch size stream) (numbers_below n) ∙ pieces size stream n
 
 -- what is left behind the full batches
 abbrev left_of : ℕ → List (List Value) → List (List Value)
@@ -62,14 +65,14 @@ chunks-whole size stream some =
     let q = length stream / size in
     let near : length stream < q * size + size = lt-div-mul-add some in
     let short : length (drop (q * size) stream) ≤ size = rw (length-drop (q * size) stream) (omega arith) in
-    flat_map-append batch_rows (map (full size stream) (numbers_below q)) _
+    flat_map-append batch_rows (map (full_batch size stream) (numbers_below q)) _
     ∙ rw (full-rows size stream q, take_all size (drop (q * size) stream) short, append-nil (drop (q * size) stream)) (take-append-drop (q * size) stream)
 
 chunks-part : (size : ℕ) (stream : List (List Value)) → flat_map batch_rows (chunks_of size stream false) ++ left_of size stream ≡ stream
 unfolding chunks_of
 chunks-part size stream =
     let q = length stream / size in
-    rw (append-nil (map (full size stream) (numbers_below q)), full-rows size stream q) (take-append-drop (q * size) stream)
+    rw (append-nil (map (full_batch size stream) (numbers_below q)), full-rows size stream q) (take-append-drop (q * size) stream)
 
 -- the first batches have the first rows
 pub front-rows : (size : ℕ) (stream : List (List Value)) (ended : Bool) (xs more : List Batch) → 0 < size → xs ++ more ≡ chunks_of size stream ended
@@ -97,16 +100,16 @@ numbers-length (suc n) = omega (arith, length-append (numbers_below n) (n ∷ []
 pub chunks-count : (size : ℕ) (stream : List (List Value)) (ended : Bool) → length (chunks_of size stream ended) ≡ length stream / size + one_if ended
 unfolding chunks_of
 chunks-count size stream true =
-    length-append (map (full size stream) (numbers_below (length stream / size))) _
-    ∙ rw (length-map (numbers_below (length stream / size)) (full size stream), numbers-length (length stream / size)) refl
+    length-append (map (full_batch size stream) (numbers_below (length stream / size))) _
+    ∙ rw (length-map (numbers_below (length stream / size)) (full_batch size stream), numbers-length (length stream / size)) refl
 chunks-count size stream false =
-    length-append (map (full size stream) (numbers_below (length stream / size))) []
-    ∙ rw (length-map (numbers_below (length stream / size)) (full size stream), numbers-length (length stream / size)) refl
+    length-append (map (full_batch size stream) (numbers_below (length stream / size))) []
+    ∙ rw (length-map (numbers_below (length stream / size)) (full_batch size stream), numbers-length (length stream / size)) refl
 
 chunks-unended : (size : ℕ) (stream : List (List Value)) → list_any is_marked (chunks_of size stream false) ≡ false
 unfolding chunks_of
 chunks-unended size stream =
-    ap (list_any is_marked) (append-nil (map (full size stream) (numbers_below (length stream / size)))) ∙ full-unmarked size stream (numbers_below (length stream / size))
+    ap (list_any is_marked) (append-nil (map (full_batch size stream) (numbers_below (length stream / size)))) ∙ full-unmarked size stream (numbers_below (length stream / size))
 
 pub front-whole : (size : ℕ) (stream : List (List Value)) (ended : Bool) (xs more : List Batch) → 0 < size → xs ++ more ≡ chunks_of size stream ended
     → list_any is_marked xs ≡ true → IsWhole size stream ended xs
@@ -130,3 +133,42 @@ front-count size stream ended xs more e =
     by : (b : Bool) → length (xs ++ more) ≡ length stream / size + one_if b → length xs ≤ length stream / size + 1
     by true all = let parts = length-append xs more in omega arith
     by false all = let parts = length-append xs more in omega arith
+
+-- ---- as the stream grows
+
+map-below : {A : Type 0} (f g : ℕ → A) (n : ℕ) → ((k : ℕ) → k < n → f k ≡ g k) → map f (numbers_below n) ≡ map g (numbers_below n)
+unfolding numbers_below
+map-below f g zero h = refl
+map-below f g (suc n) h =
+    let front = map-below f g n (λ k less. h k (omega arith)) in
+    let last = h n (omega arith) in
+    rw (map-append f, map-append g, front, last)
+
+full-below : (size n q : ℕ) (stream : List (List Value)) → n < q → q * size ≤ length stream → n * size + size ≤ length stream
+full-below size n q stream less within =
+    let more : (n + 1) * size ≤ q * size = mul-le-mul_right size (omega arith) in
+    omega arith
+
+piece-longer : (size n q : ℕ) (stream more : List (List Value)) → n < q → q * size ≤ length stream → piece_of size (stream ++ more) n ≡ piece_of size stream n
+piece-longer size n q stream more less within =
+    let all = full-below size n q stream less within in
+    let start : n * size ≤ length stream = omega arith in
+    let enough : size ≤ length (drop (n * size) stream) = omega (arith, length-drop (n * size) stream) in
+    rw (drop-append-le, take-append-le)
+
+-- full batches stay as the stream grows
+pub fulls-longer : (size q : ℕ) (stream more : List (List Value)) → q * size ≤ length stream
+    → map (full_batch size (stream ++ more)) (numbers_below q) ≡ map (full_batch size stream) (numbers_below q)
+fulls-longer size q stream more within =
+    map-below (full_batch size (stream ++ more)) (full_batch size stream) q
+    (λ n less. ap (λ (rows : List (List Value)). record { seq = n; rows = rows; last = false }) (piece-longer size n q stream more less within))
+
+-- ---- offered batches
+
+-- of each sender only the last batch may be marked
+pub offered-orderly : (query : Query) (positions : List Position) (worker : ℕ) → AreOffered query positions → worker < crew_of query.flow
+    → IsOrderly (role_in query worker) (position_at positions worker).taken
+unfolding AreOffered batches_for
+offered-orderly query positions worker offered less sender known =
+    let begins = offered worker less sender known in
+    marked-front (taken_from (position_at positions worker).taken sender) begins.0 (rw begins.1 (chunks-marked query.size _ _))

@@ -1,0 +1,162 @@
+-- Rows moved in two entries may stand as one.
+use Rattle.std.proofs.Common.{◌≡◌, ◌≢◌, ℕ, ◌+◌, ◌-◌, ◌<◌, ◌≤◌, ◌&&◌, eqb, List, [], ◌∷◌, ◌++◌, length, take, drop, replicate, Option, Bool, true, false, not, if◌then◌else◌, ◌⊎◌, inl, inr, refl, sym, ap, ◌∙◌, arith, append_assoc, length-append}
+use Rattle.std.specs.List.{list_all}
+use Rattle.std.proofs.Math.Seq.{take-add}
+use Rattle.std.proofs.lemmas.Bool.{and_from, cases_eq, ne_eqb}
+use Rattle.std.proofs.lemmas.List.{drop-append-le, drop-drop, length-drop, length-replicate, length-take, replicate-append-replicate, take-append-le}
+use Rattle.std.proofs.lemmas.List.Folds.{list_all-append}
+use Rattle.amber_rows.specs.declared.value.Value.{Value}
+use Rattle.amber_rows.specs.declared.cond.Cond.{Cond}
+use Rattle.amber_log.specs.declared.entry.Entry.TheVariants as entry
+use Rattle.amber_meaning.specs.Position.{Position, fed, product}
+use Rattle.amber_meaning.specs.Rules.{Leads, MayGo, Orders, is_watched, pass_by, produced_with, product_with, went}
+use Rattle.amber_meaning.specs.Task.{Role}
+use Rattle.amber_meaning.proofs.Led.{Leads-parts, Leads-push}
+use Rattle.amber_lines.specs.MovingLaws.{GoesJoin}
+use Rattle.amber_lines.proofs.Bounded.{product-later}
+
+-- ---- the position behind both
+
+hand-both : (counted : Bool) (hand outs others : ℕ)
+    → (if counted then (if counted then hand - outs else hand) - others else (if counted then hand - outs else hand)) ≡ (if counted then hand - (outs + others) else hand)
+hand-both true hand outs others = omega arith
+hand-both false hand outs others = refl
+
+waved-both : (waved : Bool) (outs others : ℕ) → ((waved && eqb outs 0) && eqb others 0) ≡ (waved && eqb (outs + others) 0)
+waved-both false outs others = refl
+waved-both true outs others = by (cases_eq outs 0) (cases_eq others 0)
+  where
+    by : (outs ≡ 0) ⊎ (outs ≡ 0 → ⊥) → (others ≡ 0) ⊎ (others ≡ 0 → ⊥) → (eqb outs 0 && eqb others 0) ≡ eqb (outs + others) 0
+    by (inl none) (inl e) = rw (none, e) refl
+    by (inl none) (inr some) = rw (none, ne_eqb others 0 some, ne_eqb (0 + others) 0 (λ e. some (omega arith))) refl
+    by (inr some) h = rw (ne_eqb outs 0 some, ne_eqb (outs + others) 0 (λ e. some (omega arith))) refl
+
+Position-path : (p q : Position) → p.taken ≡ q.taken → p.constants ≡ q.constants → p.fates ≡ q.fates → p.hand ≡ q.hand → p.held ≡ q.held → p.waved ≡ q.waved
+    → p.paused ≡ q.paused → p.finished ≡ q.finished → p ≡ q
+Position-path p q a b c d e f g h = λ i. record { taken = a i; constants = b i; fates = c i; hand = d i; held = e i; waved = f i; paused = g i; finished = h i }
+
+replicate-both : {A : Type 0} (xs : List A) (n m : ℕ) (x : A) → (xs ++ replicate n x) ++ replicate m x ≡ xs ++ replicate (n + m) x
+replicate-both xs n m x = append_assoc xs (replicate n x) (replicate m x) ∙ ap (λ l. xs ++ l) (replicate-append-replicate n m x)
+
+went-both : (orders : Orders) (p : Position) (rows outs more others : ℕ) → went orders more others (went orders rows outs p) ≡ went orders (rows + more) (outs + others) p
+went-both orders p rows outs more others =
+    Position-path (went orders more others (went orders rows outs p)) (went orders (rows + more) (outs + others) p)
+    refl (replicate-both p.constants rows more orders.constants) (replicate-both p.fates outs others true)
+    (hand-both orders.counted p.hand outs others) refl (waved-both p.waved outs others) refl refl
+
+-- ---- rows that pass by the condition
+
+pass-unwaved : (watch : Option Cond) (rows : List (List Value)) → pass_by watch false rows ≡ list_all (λ (row : List Value). not (is_watched watch row)) rows
+pass-unwaved watch [] = refl
+pass-unwaved watch (row ∷ rows) = refl
+
+pass-both : (watch : Option Cond) (waved : Bool) (n : ℕ) (xs ys : List (List Value)) → length xs ≡ n → pass_by watch waved xs ≡ true
+    → pass_by watch (waved && eqb n 0) ys ≡ true → pass_by watch waved (xs ++ ys) ≡ true
+pass-both watch true n [] ys size h k = rw (ap (λ (m : ℕ). pass_by watch (eqb m 0) ys) (sym size)) at k
+pass-both watch false n [] ys size h k = k
+pass-both watch true n (x ∷ xs) ys size h k =
+    let later = sym (pass-unwaved watch ys) ∙ sym (ap (λ b. pass_by watch b ys) (ne_eqb n 0 (λ none. omega arith))) ∙ k in
+    list_all-append (λ (row : List Value). not (is_watched watch row)) xs ys ∙ and_from _ _ h later
+pass-both watch false n (x ∷ xs) ys size h k =
+    list_all-append (λ (row : List Value). not (is_watched watch row)) (x ∷ xs) ys ∙ and_from _ _ h (sym (pass-unwaved watch ys) ∙ k)
+
+-- ---- both together
+
+product-both : (role : Role) (orders : Orders) (p : Position) (rows outs more : ℕ) → product_with role orders (went orders rows outs p) more ≡ product_with role orders p (rows + more)
+product-both role orders p rows outs more = ap (product role p.taken) (replicate-both p.constants rows more orders.constants)
+
+-- rows of a list that grows: the next ones of the old list, and then the next ones of the new
+rows-both : (fates outs others : ℕ) (rows more all : List (List Value)) → all ≡ rows ++ more → fates + outs ≤ length rows
+    → take (outs + others) (drop fates all) ≡ take outs (drop fates rows) ++ take others (drop (fates + outs) all)
+rows-both fates outs others rows more all is within =
+    let size = length-drop fates rows in
+    take-add outs others (drop fates all)
+    ∙ ap (λ (l : List (List Value)). take outs (drop fates l) ++ take others (drop outs (drop fates all))) is
+    ∙ ap (λ (l : List (List Value)). take outs l ++ take others (drop outs (drop fates all))) (drop-append-le fates rows more (omega arith))
+    ∙ ap (λ (l : List (List Value)). l ++ take others (drop outs (drop fates all))) (take-append-le outs (drop fates rows) more (omega arith))
+    ∙ ap (λ (l : List (List Value)). take outs (drop fates rows) ++ take others l) (drop-drop outs fates all)
+
+go-both : (role : Role) (orders : Orders) (p : Position) (rows outs more others : ℕ) → MayGo role orders p rows outs → MayGo role orders (went orders rows outs p) more others
+    → MayGo role orders p (rows + more) (outs + others)
+go-both role orders p rows outs more others a b =
+    record {
+      free = a.free;
+      within = within;
+      produced = produced;
+      drained = λ some. drained (cases_eq more 0) some;
+      in_hand = λ counted. in_hand counted;
+      before_taking = λ counted some. before_taking counted (cases_eq more 0) some;
+      no_stop = no_stop;
+    }
+  where
+    gone : length (p.fates ++ replicate outs true) ≡ length p.fates + outs
+    gone = length-append p.fates (replicate outs true) ∙ ap (λ (n : ℕ). length p.fates + n) (length-replicate outs true)
+
+    taken : length (p.constants ++ replicate rows orders.constants) ≡ length p.constants + rows
+    taken = length-append p.constants (replicate rows orders.constants) ∙ ap (λ (n : ℕ). length p.constants + n) (length-replicate rows orders.constants)
+
+    made : (n : ℕ) → produced_with role orders (went orders rows outs p) n ≡ produced_with role orders p (rows + n)
+    made n = ap length (product-both role orders p rows outs n)
+
+    within : length p.constants + (rows + more) ≤ length (fed role p.taken)
+    within = let h = b.within in let size = taken in omega arith
+
+    produced : length p.fates + (outs + others) ≤ produced_with role orders p (rows + more)
+    produced = let h = b.produced in let size = gone in let same = made more in omega arith
+
+    -- the rows before the last
+    before : more ≢ 0 → produced_with role orders (went orders rows outs p) (more - 1) ≡ produced_with role orders p (rows + more - 1)
+    before some = made (more - 1) ∙ ap (produced_with role orders p) (omega arith)
+
+    alone : more ≡ 0 → produced_with role orders p (rows + more - 1) ≡ produced_with role orders p (rows - 1)
+    alone none = ap (produced_with role orders p) (omega arith)
+
+    drained : (more ≡ 0) ⊎ (more ≡ 0 → ⊥) → 0 < rows + more → produced_with role orders p (rows + more - 1) ≤ length p.fates + (outs + others)
+    drained (inl none) some = let h = a.drained (omega arith) in let same = alone none in omega arith
+    drained (inr more_some) some = let h = b.drained (omega arith) in let size = gone in let same = before more_some in omega arith
+
+    hand-now : orders.counted ≡ true → (went orders rows outs p).hand ≡ p.hand - outs
+    hand-now counted = ap (λ (c : Bool). if c then p.hand - outs else p.hand) counted
+
+    in_hand : orders.counted ≡ true → outs + others ≤ p.hand
+    in_hand counted = let h = a.in_hand counted in let k = b.in_hand counted in let now = hand-now counted in omega arith
+
+    before_taking : orders.counted ≡ true → (more ≡ 0) ⊎ (more ≡ 0 → ⊥) → 0 < rows + more → produced_with role orders p (rows + more - 1) < length p.fates + p.hand
+    before_taking counted (inl none) some = let h = a.before_taking counted (omega arith) in let same = alone none in omega arith
+    before_taking counted (inr more_some) some =
+        let h = b.before_taking counted (omega arith) in
+        let k = a.in_hand counted in
+        let size = gone in
+        let now = hand-now counted in
+        let same = before more_some in
+        omega arith
+
+    all : List (List Value)
+    all = product_with role orders p (rows + more)
+
+    no_stop : pass_by orders.watch p.waved (take (outs + others) (drop (length p.fates) all)) ≡ true
+    no_stop =
+        let longer = product-later role p.taken (p.constants ++ replicate rows orders.constants) more orders.constants (let h = b.within in h) in
+        let is : all ≡ product_with role orders p rows ++ longer.0 = sym (product-both role orders p rows outs more) ∙ longer.1 in
+        let first : List (List Value) = take outs (drop (length p.fates) (product_with role orders p rows)) in
+        let second : List (List Value) = take others (drop (length p.fates + outs) all) in
+        let dropped = length-drop (length p.fates) (product_with role orders p rows) in
+        let size : length first ≡ outs = length-take outs (drop (length p.fates) (product_with role orders p rows)) ∙ (let h = a.produced in omega arith) in
+        let later : pass_by orders.watch (p.waved && eqb outs 0) second ≡ true =
+        ap (λ (rows : List (List Value)). pass_by orders.watch (p.waved && eqb outs 0) (take others rows))
+        (ap (λ (n : ℕ). drop n all) (sym gone) ∙ ap (drop (length (p.fates ++ replicate outs true))) (sym (product-both role orders p rows outs more))) ∙ b.no_stop in
+        ap (pass_by orders.watch p.waved) (rows-both (length p.fates) outs others (product_with role orders p rows) longer.0 all is a.produced)
+        ∙ pass-both orders.watch p.waved outs first second size a.no_stop later
+
+pub goes_join : GoesJoin
+unfolding Leads
+goes_join role orders start p q done rows outs more others leads moves =
+    let parts = Leads-parts role orders start p done (entry.Go rows outs ∷ []) leads in
+    joined parts.0 parts.1 parts.2.1.0 (sym parts.2.2 ∙ parts.2.1.1)
+  where
+    joined : (m : Position) → Leads role orders start done m → MayGo role orders m rows outs → p ≡ went orders rows outs m
+        → Leads role orders start (done ++ entry.Go (rows + more) (outs + others) ∷ []) q
+    joined m before may is =
+        let second : MayGo role orders (went orders rows outs m) more others = rw is at moves.0 in
+        let now : q ≡ went orders (rows + more) (outs + others) m = moves.1 ∙ ap (went orders more others) is ∙ went-both orders m rows outs more others in
+        Leads-push role orders start done m (entry.Go (rows + more) (outs + others)) q before (go-both role orders m rows outs more others may second, now)

@@ -1,0 +1,5 @@
+pub mod KeptStops
+pub mod LineLaws
+pub mod Lines
+pub mod Moving
+pub mod MovingLaws
