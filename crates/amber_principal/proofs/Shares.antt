@@ -4,7 +4,7 @@ use Rattle.std.specs.Prelude.{nat_lt}
 use Rattle.std.proofs.lemmas.Bool.{cases_lt, ne_eqb}
 use Rattle.std.proofs.lemmas.List.Sums.{count_by_more_no, count_by_more_yes}
 use Rattle.std.proofs.lemmas.List.{ext_get_or, get_or-set_other, get_or-set_same, length-set}
-use Rattle.amber_principal.specs.Shares.{even_share, is_able, is_starved, one_if, share_at, sharer_count, shares_from, shares_of}
+use Rattle.amber_principal.specs.Shares.{even_share, is_able, is_starved, unit_if, share_at, sharer_count, shares_from, shares_of}
 use Rattle.amber_principal.specs.Turns.{next_share}
 use Rattle.amber_principal.specs.declared.dividing.Need.TheVariants as need
 use Rattle.amber_principal.specs.declared.dividing.Turns.{Turns}
@@ -88,15 +88,15 @@ agrees-all full shares place most all =
 
 -- one more of the needs is counted
 pub counts-next : (p : Need → Bool) (needs : List Need) (place : ℕ) (one d : Need) → place < length needs → get_or needs place d ≡ one
-    → count_by p (take (place + 1) needs) ≡ count_by p (take place needs) + one_if (p one)
+    → count_by p (take (place + 1) needs) ≡ count_by p (take place needs) + unit_if (p one)
 counts-next p needs place one d less is = by (p (get_or needs place d)) refl
   where
-    by : (b : Bool) → p (get_or needs place d) ≡ b → count_by p (take (place + 1) needs) ≡ count_by p (take place needs) + one_if (p one)
-    by true yes_ = count_by_more_yes p needs place d less yes_ ∙ ap (λ b. count_by p (take place needs) + one_if b) (sym yes_ ∙ ap p is)
+    by : (b : Bool) → p (get_or needs place d) ≡ b → count_by p (take (place + 1) needs) ≡ count_by p (take place needs) + unit_if (p one)
+    by true yes_ = count_by_more_yes p needs place d less yes_ ∙ ap (λ b. count_by p (take place needs) + unit_if b) (sym yes_ ∙ ap p is)
     by false no_ =
-        count_by_more_no p needs place d less no_ ∙ sym (add-zero (count_by p (take place needs))) ∙ ap (λ b. count_by p (take place needs) + one_if b) (sym no_ ∙ ap p is)
+        count_by_more_no p needs place d less no_ ∙ sym (add-zero (count_by p (take place needs))) ∙ ap (λ b. count_by p (take place needs) + unit_if b) (sym no_ ∙ ap p is)
 
-even : (rest sharers before each left : ℕ) → 0 < sharers → each ≡ rest / sharers → left ≡ rest % sharers → each + one_if (nat_lt before left) ≡ even_share rest sharers before
+even : (rest sharers before each left : ℕ) → 0 < sharers → each ≡ rest / sharers → left ≡ rest % sharers → each + unit_if (nat_lt before left) ≡ even_share rest sharers before
 even rest sharers before each left some is_each is_left = rw (is_each, is_left, ne_eqb sharers 0 (λ e. omega (arith, some, e))) refl
 
 -- the next share is that of the place

@@ -7,7 +7,7 @@ use Rattle.std.proofs.lemmas.List.{append-nil, length-append}
 use Rattle.std.proofs.lemmas.List.Sums.{sum_by-append, sum_by-cons}
 use Rattle.std.proofs.Math.Nat.{div-add-mod, mod-lt, mul_comm, mul-add}
 use Rattle.std.proofs.Math.Seq.{take-append_seam}
-use Rattle.amber_principal.specs.Shares.{even_share, is_able, is_starved, one_if, share_at, sharer_count, shares_from, shares_of}
+use Rattle.amber_principal.specs.Shares.{even_share, is_able, is_starved, unit_if, share_at, sharer_count, shares_from, shares_of}
 use Rattle.amber_principal.specs.declared.dividing.Need.{Need}
 use Rattle.amber_principal.specs.declared.dividing.Need.TheVariants as need
 
@@ -18,11 +18,11 @@ nought = 0
 unfoldable least : ℕ → ℕ → ℕ
 least r n = if nat_lt n r then n else r
 
-least-more : (r n : ℕ) → least r (n + 1) ≡ least r n + one_if (nat_lt n r)
+least-more : (r n : ℕ) → least r (n + 1) ≡ least r n + unit_if (nat_lt n r)
 unfolding least
 least-more r n = by (nat_lt n r) (nat_lt (n + 1) r) refl refl
   where
-    by : (a b : Bool) → nat_lt n r ≡ a → nat_lt (n + 1) r ≡ b → (if nat_lt (n + 1) r then n + 1 else r) ≡ (if nat_lt n r then n else r) + one_if (nat_lt n r)
+    by : (a b : Bool) → nat_lt n r ≡ a → nat_lt (n + 1) r ≡ b → (if nat_lt (n + 1) r then n + 1 else r) ≡ (if nat_lt n r then n else r) + unit_if (nat_lt n r)
     by true true here next = rw (here, next) refl
     by true false here next =
         let most : r ≤ n + 1 = ltb-false (n + 1) r next in
@@ -50,16 +50,16 @@ least-none r = by (nat_lt 0 r) refl
     by true here = rw here refl
     by false here = rw here (omega (arith, ltb-false 0 r here))
 
-count-cons : (p : Need → Bool) (x : Need) (xs : List Need) → count_by p (x ∷ xs) ≡ one_if (p x) + count_by p xs
+count-cons : (p : Need → Bool) (x : Need) (xs : List Need) → count_by p (x ∷ xs) ≡ unit_if (p x) + count_by p xs
 count-cons p x xs = sum_by-cons (λ y. cond (p y) 1 0) x xs ∙ ap (λ n. n + count_by p xs) (by (p x))
   where
-    by : (b : Bool) → cond b 1 0 ≡ one_if b
+    by : (b : Bool) → cond b 1 0 ≡ unit_if b
     by true = refl
     by false = refl
 
-count-push : (p : Need → Bool) (xs : List Need) (x : Need) → count_by p (xs ++ x ∷ []) ≡ count_by p xs + one_if (p x)
+count-push : (p : Need → Bool) (xs : List Need) (x : Need) → count_by p (xs ++ x ∷ []) ≡ count_by p xs + unit_if (p x)
 count-push p xs x =
-    let one : count_by p (x ∷ []) ≡ one_if (p x) + count_by p [] = count-cons p x [] in
+    let one : count_by p (x ∷ []) ≡ unit_if (p x) + count_by p [] = count-cons p x [] in
     sum_by-append (λ y. cond (p y) 1 0) xs (x ∷ []) ∙ ap (λ n. count_by p xs + n) (one ∙ omega arith)
 
 length-push : (xs : List Need) (x : Need) → length (xs ++ x ∷ []) ≡ length xs + 1
@@ -73,9 +73,9 @@ record Divided (left each later : ℕ) (all done xs : List Need) : Type 0 where
 -- a worker that shares or not: what the shares behind it add up to, with it and without
 record Turn (left each share : ℕ) (all done : List Need) (x : Need) : Type 0 where
   one : share + least left (count_by is_starved done) + least left (count_by is_starved all + count_by is_able done)
-      ≡ each * (one_if (is_starved x) + one_if (is_able x)) + least left (count_by is_starved (done ++ x ∷ [])) + least left (count_by is_starved all + count_by is_able (done ++ x ∷ []))
+      ≡ each * (unit_if (is_starved x) + unit_if (is_able x)) + least left (count_by is_starved (done ++ x ∷ [])) + least left (count_by is_starved all + count_by is_able (done ++ x ∷ []))
 
-even-is : (rest sharers before : ℕ) → 0 < sharers → even_share rest sharers before ≡ rest / sharers + one_if (nat_lt before (rest % sharers))
+even-is : (rest sharers before : ℕ) → 0 < sharers → even_share rest sharers before ≡ rest / sharers + unit_if (nat_lt before (rest % sharers))
 even-is rest sharers before some = rw (ne_eqb sharers 0 (λ e. omega (arith, some, e))) refl
 
 -- a worker that does not share
@@ -86,13 +86,13 @@ none-more f each s a S n m is_s is_a =
     rw (same_s, same_a) (omega arith)
 
 -- a worker that is starved, and one that is able
-starved-more : (r each s a S n m share : ℕ) → share ≡ each + one_if (nat_lt s r) → n ≡ s + 1 → m ≡ a + 0
+starved-more : (r each s a S n m share : ℕ) → share ≡ each + unit_if (nat_lt s r) → n ≡ s + 1 → m ≡ a + 0
     → share + least r s + least r (S + a) ≡ each * (1 + 0) + least r n + least r (S + m)
 starved-more r each s a S n m share is is_s is_a =
     let same_a : m ≡ a = omega (arith, is_a) in
     rw (same_a, is_s, least-more r s, is) (omega arith)
 
-able-more : (r each s a S n m share : ℕ) → share ≡ each + one_if (nat_lt (S + a) r) → n ≡ s + 0 → m ≡ a + 1
+able-more : (r each s a S n m share : ℕ) → share ≡ each + unit_if (nat_lt (S + a) r) → n ≡ s + 0 → m ≡ a + 1
     → share + least r s + least r (S + a) ≡ each * (0 + 1) + least r n + least r (S + m)
 able-more r each s a S n m share is is_s is_a =
     let same_s : n ≡ s = omega (arith, is_s) in
@@ -119,7 +119,7 @@ counts-before rest all done xs need.Starved is some = record {
       (count_by is_starved (done ++ need.Starved ∷ [])) (count_by is_able (done ++ need.Starved ∷ []))
       (share_at rest all (length done) need.Starved)
       (even-is rest (sharer_count all) (count_by is_starved (take (length done) all)) some
-      ∙ ap (λ before. rest / sharer_count all + one_if (nat_lt (count_by is_starved before) (rest % sharer_count all))) (taken all done (need.Starved ∷ xs) is))
+      ∙ ap (λ before. rest / sharer_count all + unit_if (nat_lt (count_by is_starved before) (rest % sharer_count all))) (taken all done (need.Starved ∷ xs) is))
       (count-push is_starved done need.Starved) (count-push is_able done need.Starved);
 }
 counts-before rest all done xs need.Able is some = record {
@@ -127,11 +127,11 @@ counts-before rest all done xs need.Able is some = record {
       (count_by is_starved (done ++ need.Able ∷ [])) (count_by is_able (done ++ need.Able ∷ []))
       (share_at rest all (length done) need.Able)
       (even-is rest (sharer_count all) (count_by is_starved all + count_by is_able (take (length done) all)) some
-      ∙ ap (λ before. rest / sharer_count all + one_if (nat_lt (count_by is_starved all + count_by is_able before) (rest % sharer_count all))) (taken all done (need.Able ∷ xs) is))
+      ∙ ap (λ before. rest / sharer_count all + unit_if (nat_lt (count_by is_starved all + count_by is_able before) (rest % sharer_count all))) (taken all done (need.Able ∷ xs) is))
       (count-push is_starved done need.Able) (count-push is_able done need.Able);
 }
 
-sharers-cons : (x : Need) (xs : List Need) → sharer_count (x ∷ xs) ≡ (one_if (is_starved x) + one_if (is_able x)) + sharer_count xs
+sharers-cons : (x : Need) (xs : List Need) → sharer_count (x ∷ xs) ≡ (unit_if (is_starved x) + unit_if (is_able x)) + sharer_count xs
 sharers-cons x xs = omega (arith, count-cons is_starved x xs, count-cons is_able x xs)
 
 later-shares : (rest : ℕ) (all : List Need) → 0 < sharer_count all → (done xs : List Need) → all ≡ done ++ xs
@@ -150,7 +150,7 @@ later-shares rest all some done (x ∷ xs) is =
     let sums : sum (shares_from rest all (length done) (x ∷ xs)) ≡ share_at rest all (length done) x + sum (shares_from rest all (length done + 1) xs) =
     sum_by-cons (λ n. n) (share_at rest all (length done) x) (shares_from rest all (length done + 1) xs) in
     record {
-      whole = together each (sharer_count xs) (one_if (is_starved x) + one_if (is_able x)) (sharer_count (x ∷ xs)) _ _ _ _ _ _ _ _ _ _
+      whole = together each (sharer_count xs) (unit_if (is_starved x) + unit_if (is_able x)) (sharer_count (x ∷ xs)) _ _ _ _ _ _ _ _ _ _
           (sharers-cons x xs) sums (ap sum (sym place)) turn.one later.whole;
     }
   where
@@ -208,10 +208,10 @@ starved-counted [] any = absurd (false≢true any)
 starved-counted (x ∷ xs) any = by (is_starved x) refl (starved-counted xs)
   where
     by : (b : Bool) → is_starved x ≡ b → (list_any is_starved xs ≡ true → 0 < count_by is_starved xs) → 0 < count_by is_starved (x ∷ xs)
-    by true is later = omega (arith, count-cons is_starved x xs, ap one_if is)
+    by true is later = omega (arith, count-cons is_starved x xs, ap unit_if is)
     by false is later =
         let behind : list_any is_starved xs ≡ true = rw is at any in
-        omega (arith, count-cons is_starved x xs, ap one_if is, later behind)
+        omega (arith, count-cons is_starved x xs, ap unit_if is, later behind)
 
 -- where anyone is starved somebody shares
 pub starved-shares : (needs : List Need) → list_any is_starved needs ≡ true → 0 < sharer_count needs

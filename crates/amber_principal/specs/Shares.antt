@@ -20,13 +20,13 @@ abbrev pub sharer_count : List Need → ℕ
 sharer_count needs = count_by is_starved needs + count_by is_able needs
 
 -- 1 where it is so
-abbrev pub one_if : Bool → ℕ
-one_if true = 1
-one_if false = 0
+abbrev pub unit_if : Bool → ℕ
+unit_if true = 1
+unit_if false = 0
 
 -- an even share, and one unit more where fewer come before than units are left over; none where nobody shares
 abbrev pub even_share : ℕ → ℕ → ℕ → ℕ
-even_share rest sharers before = if sharers == 0 then 0 else rest / sharers + one_if (nat_lt before (rest % sharers))
+even_share rest sharers before = if sharers == 0 then 0 else rest / sharers + unit_if (nat_lt before (rest % sharers))
 
 -- the share of the worker at a place: before a starved one come the starved ones at earlier places, before an able one all that
 -- are starved and the able ones at earlier places
