@@ -65,7 +65,7 @@ opened {words = words} {views = views} {place = place} {chief = chief} h none =
 
 module _ (terms : Terms) (slots id : ℕ) (me : Me (Unit {0}) View) (is : me.0.role ≡ Chief) where
   pub draws : Allows (Rule terms) slots id me 1 (λ _. 0)
-      (λ n after. (after.0 ≡ drawn me.0 n) × (after.1 ≡ me.1) × (me.0.hand + n ≤ 2 ^ 40) × (me.0.made ≡ 0 → me.0.hand + n ≡ me.0.target))
+      (λ n after. (◌≡◌ {A = ℕ} 1 1) × (after.0 ≡ drawn me.0 n) × (after.1 ≡ me.1) × (me.0.hand + n ≤ 2 ^ 40) × (me.0.made ≡ 0 → me.0.hand + n ≡ me.0.target))
   draws s holds _ at _ =
       let h = by_chief holds id me.0 at is in
       let v' : View = drawn me.0 (unassigned s.words) in
@@ -74,10 +74,10 @@ module _ (terms : Terms) (slots id : ℕ) (me : Me (Unit {0}) View) (is : me.0.r
         keeps,
         tt,
         chief_stays h v' (record { role = is; target = refl; made = refl; kept = refl }) (unassigned_steps s.words h.size me.0.made me.0 v' refl refl 0 (omega arith)) h.seen h.all_seen,
-        (refl, refl, bound, opened h),
+        (refl, refl, refl, bound, opened h),
       )
 
-  pub puts_back : (k : ℕ) → me.0.hand ≡ k → Allows (Rule terms) slots id me 1 (λ n. (n + k) % 2 ^ 64) (λ n after. (after.0 ≡ put_back_of me.0) × (after.1 ≡ me.1))
+  pub puts_back : (k : ℕ) → me.0.hand ≡ k → Allows (Rule terms) slots id me 1 (λ n. (n + k) % 2 ^ 64) (λ n after. (◌≡◌ {A = ℕ} 1 1) × (after.0 ≡ put_back_of me.0) × (after.1 ≡ me.1))
   puts_back k hand s holds _ at _ =
       let h = by_chief holds id me.0 at is in
       let v' : View = put_back_of me.0 in
@@ -88,7 +88,7 @@ module _ (terms : Terms) (slots id : ℕ) (me : Me (Unit {0}) View) (is : me.0.r
         tt,
         subst (λ (y : ℕ). Conserved terms (set s.words 1 y) (set s.views id v')) small
             (chief_stays h v' (record { role = is; target = refl; made = refl; kept = refl }) (unassigned_steps s.words h.size me.0.made me.0 v' refl refl (x + k) (omega arith)) h.seen h.all_seen),
-        (refl, refl),
+        (refl, refl, refl),
       )
 
   pub grants : (worker k : ℕ) → worker < me.0.made → worker < 16 → k ≤ me.0.hand
@@ -139,7 +139,7 @@ module _ (terms : Terms) (slots id : ℕ) (me : Me (Unit {0}) View) (is : me.0.r
       )
 
 module _ (terms : Terms) (slots id : ℕ) (me : Me (Unit {0}) View) (number : ℕ) (is : me.0.role ≡ Worker number) (few : number < 16) where
-  pub claims : Allows (Rule terms) slots id me (2 + number) (λ _. 0) (λ n after. (after.0 ≡ claimed me.0 (number_of me.0.role) n) × (after.1 ≡ me.1) × (me.0.hand + n ≤ 2 ^ 40))
+  pub claims : Allows (Rule terms) slots id me (2 + number) (λ _. 0) (λ n after. (2 + number ≡ 2 + number_of me.0.role) × (after.0 ≡ claimed me.0 (number_of me.0.role) n) × (after.1 ≡ me.1) × (me.0.hand + n ≤ 2 ^ 40))
   claims s holds _ at _ =
       let h = holds.2 in
       let x : ℕ = allotment s.words number in
@@ -150,10 +150,10 @@ module _ (terms : Terms) (slots id : ℕ) (me : Me (Unit {0}) View) (number : �
         keeps,
         tt,
         worker_stays h id me.0 v' number at is refl (allotment_steps s.words h.size holds.1.made me.0 v' refl refl number 0 made few (omega arith)),
-        (refl, refl, bound),
+        (ap (λ (r : Role). 2 + number_of r) (sym is), refl, refl, bound),
       )
 
-  pub counts : 0 < me.0.hand → Allows (Rule terms) slots id me (18 + number) (λ n. (n + 1) % 2 ^ 64) (λ n after. (after.0 ≡ counted_one me.0 (number_of me.0.role)) × (after.1 ≡ me.1) × (me.0.mine + 1 ≤ 2 ^ 40))
+  pub counts : 0 < me.0.hand → Allows (Rule terms) slots id me (18 + number) (λ n. (n + 1) % 2 ^ 64) (λ n after. (18 + number ≡ 18 + number_of me.0.role) × (after.0 ≡ counted_one me.0 (number_of me.0.role)) × (after.1 ≡ me.1) × (me.0.mine + 1 ≤ 2 ^ 40))
   counts has s holds _ at _ =
       let h = holds.2 in
       let x : ℕ = counted s.words number in
@@ -170,10 +170,10 @@ module _ (terms : Terms) (slots id : ℕ) (me : Me (Unit {0}) View) (number : �
         tt,
         subst (λ (y : ℕ). Conserved terms (set s.words (18 + number) y) (set s.views id v')) small
             (worker_stays h id me.0 v' number at is refl (count_steps s.words holds.1.made number 1 me.0 v' h.size is refl made few (omega arith) refl)),
-        (refl, refl, bound),
+        (ap (λ (r : Role). 18 + number_of r) (sym is), refl, refl, bound),
       )
 
-  pub gives_back : (k : ℕ) → me.0.hand ≡ k → Allows (Rule terms) slots id me 1 (λ n. (n + k) % 2 ^ 64) (λ n after. (after.0 ≡ given_back me.0 (number_of me.0.role)) × (after.1 ≡ me.1))
+  pub gives_back : (k : ℕ) → me.0.hand ≡ k → Allows (Rule terms) slots id me 1 (λ n. (n + k) % 2 ^ 64) (λ n after. (◌≡◌ {A = ℕ} 1 1) × (after.0 ≡ given_back me.0 (number_of me.0.role)) × (after.1 ≡ me.1))
   gives_back k hand s holds _ at _ =
       let h = holds.2 in
       let v' : View = given_back me.0 (number_of me.0.role) in
@@ -184,5 +184,5 @@ module _ (terms : Terms) (slots id : ℕ) (me : Me (Unit {0}) View) (number : �
         tt,
         subst (λ (y : ℕ). Conserved terms (set s.words 1 y) (set s.views id v')) small
             (worker_stays h id me.0 v' number at is refl (unassigned_steps s.words h.size holds.1.made me.0 v' refl refl (x + k) (omega arith))),
-        (refl, refl),
+        (refl, refl, refl),
       )

@@ -4,3 +4,5 @@ pub mod Stays
 pub mod WordSteps
 pub mod Keeps
 pub mod Ends
+pub mod Splits
+pub mod Dealing

@@ -112,3 +112,11 @@ IsSeen v = (terms : Terms) (words : List ℕ) (views : List View) (k : ℕ) → 
 -- in every state that meets the rule and has this view of the chief, every unit is counted
 abbrev pub IsExact : View → Type 0
 IsExact v = (terms : Terms) (words : List ℕ) (views : List View) (k : ℕ) → Conserved terms words views → get_elem? views k ≡ some v → IsAllCounted terms.target words views
+
+-- ---- laws
+
+abbrev pub CountsAreMine : Type 0
+CountsAreMine = (v : View) (number : ℕ) → v.role ≡ Worker number → number < 16 → IsWord v
+
+abbrev pub SeenWasCounted : Type 0
+SeenWasCounted = (v : View) → v.role ≡ Chief → IsSeen v

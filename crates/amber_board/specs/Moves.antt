@@ -16,7 +16,7 @@ drawn v n = stepped_to v (v.hand + n) Draw
 
 -- the chief allotted n units to worker w
 abbrev pub granted : View → ℕ → ℕ → View
-granted v w n = stepped_to v (v.hand - n) (Grant w)
+granted v w n = stepped_to v (v.hand - n) (Grant w n)
 
 -- the chief made its hand unassigned
 abbrev pub put_back_of : View → View

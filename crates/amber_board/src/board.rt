@@ -4,7 +4,7 @@ ghost use Rattle.amber_board.specs.declared.TheConstants.{LARGEST_TARGET, MOST_W
 ghost use Rattle.amber_board.specs.declared.view.Role.TheVariants.{Chief};
 ghost use Rattle.amber_board.specs.Ledger.{first_view};
 ghost use Rattle.amber_board.specs.Moves.{after_split, new_seat, joined};
-ghost use Rattle.amber_board.specs.Opening.{IsMade, AreDealt};
+ghost use Rattle.amber_board.specs.Opening.{AreDealt, IsMade, all_unassigned, all_with, splits_after};
 ghost use Rattle.amber_board.specs.Seats.{IsChiefOf, IsSeatOf, chief_view, work_view, target_of, workers_of};
 
 use crate::kinds::{TakeIn, WithHand, WithNothing};
@@ -25,7 +25,8 @@ impl Board {
     ) -> Result<(Board, ChiefSeat, Vec<WorkSeat>), NoMemory>
         requires target { (1 ≤ target) × (target ≤ LARGEST_TARGET) }
         requires workers { (1 ≤ workers) × (workers ≤ MOST_WORKERS) }
-        ensures { IfOk result (λ made. IsMade made.0 made.1 made.2.items target workers (λ _. 0)) }
+        ensures { IfOk result
+            (λ made. IsMade made.0 made.1 made.2.items (all_unassigned target workers)) }
     {
         let (board, mut chief) = Board::open(alloc, target, workers)?;
         let seats = board.deal(alloc, &mut chief, workers, 0)?;
@@ -42,7 +43,8 @@ impl Board {
         requires target { (1 ≤ target) × (target ≤ LARGEST_TARGET) }
         requires workers { (1 ≤ workers) × (workers ≤ MOST_WORKERS) }
         requires worker { worker < workers }
-        ensures { IfOk result (λ made. IsMade made.0 made.1 made.2.items target workers (λ w. if w == worker then target else 0)) }
+        ensures { IfOk result
+            (λ made. IsMade made.0 made.1 made.2.items (all_with worker target workers)) }
     {
         let (board, mut chief) = Board::open(alloc, target, workers)?;
         chief.take_unassigned(&board);
@@ -71,6 +73,7 @@ impl Board {
     }
 
     // The workers' seats. The one at `favoured` takes what the chief has in hand.
+    #[tactic(auto, using(crate::proofs::Splits::splits_none))]
     fn deal(
         &self,
         alloc: Global,
@@ -84,6 +87,8 @@ impl Board {
         requires none { (chief_view chief.old).made ≡ 0 }
         ensures table { chief.new.seat.table_id ≡ chief.old.seat.table_id }
         ensures chief { IfOk result (λ _. ((chief_view chief.new).target ≡ (chief_view chief.old).target) × ((chief_view chief.new).seen ≡ (chief_view chief.old).seen) × ((chief_view chief.new).made ≡ workers) × ((chief_view chief.new).hand ≡ 0)) }
+        ensures did { IfOk result
+            (λ _. (chief_view chief.new).done ≡ splits_after (chief_view chief.old).done workers) }
         ensures all { IfOk result (λ seats. vec_len seats ≡ workers) }
         ensures seats { IfOk result (λ seats. AreDealt self.now seats.items (λ w. if w == favoured then (chief_view chief.old).hand else 0)) }
     {

@@ -1,6 +1,6 @@
 //! What the chief does.
 ghost use Rattle.std.specs.Prelude.{◌≡◌, ℕ, ◌^◌, ◌≤◌, ◌<◌, ◌↔◌, IsTrue, sum};
-ghost use Rattle.amber_board.specs.Ledger.{IsExact, IsSeen};
+ghost use Rattle.amber_board.specs.Ledger.{IsExact};
 ghost use Rattle.amber_board.specs.Moves.{drawn, granted, put_back_of, swept, watched};
 ghost use Rattle.amber_board.specs.Seats.{IsChiefOf, chief_view, workers_of};
 
@@ -87,7 +87,6 @@ impl ChiefSeat {
         requires worker { worker < workers_of board.now }
         ensures own { IsChiefOf board.now self.new }
         ensures watched { chief_view self.new ≡ watched (chief_view self.old) worker result }
-        ensures seen { IsSeen (chief_view self.new) }
     {
         let counted = board
             .table

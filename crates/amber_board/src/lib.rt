@@ -50,6 +50,7 @@
 mod board;
 mod chief;
 mod kinds;
+pub mod laws;
 mod rule;
 #[cfg(test)]
 mod tests;

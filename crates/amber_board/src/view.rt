@@ -17,8 +17,8 @@ pub enum Step {
     Split(u32),
     /// The chief took the unassigned units.
     Draw,
-    /// The chief allotted units to this worker.
-    Grant(u32),
+    /// The chief allotted so many units to this worker.
+    Grant(u32, u64),
     /// The chief made its hand unassigned.
     PutBack,
     /// The chief took back what this worker had not claimed.

@@ -1,6 +1,5 @@
 //! What a worker does.
 ghost use Rattle.std.specs.Prelude.{◌≡◌, ◌<◌};
-ghost use Rattle.amber_board.specs.Ledger.{IsWord};
 ghost use Rattle.amber_board.specs.Moves.{claimed, counted_one, given_back};
 ghost use Rattle.amber_board.specs.Seats.{IsSeatOf, work_view, worker_of};
 
@@ -29,7 +28,6 @@ impl WorkSeat {
         requires has { 0 < (work_view self.old).hand }
         ensures own { IsSeatOf board.now self.new }
         ensures counted { work_view self.new ≡ counted_one (work_view self.old) (worker_of self.old) }
-        ensures word { IsWord (work_view self.new) }
     {
         board
             .table

@@ -27,7 +27,7 @@ use Rattle.amber_worker.specs.Stands as stands
 use Rattle.amber_worker.specs.Stands.{AreAlone}
 use Rattle.amber_worker.specs.Stands.{HasShare, Stands, first_orders, post_of}
 use Rattle.amber_worker.specs.Station.{Station}
-use Rattle.amber_meaning.specs.Evaluator.{is_headed, records_at}
+use Rattle.amber_meaning.specs.ScanFiles.{is_headed, records_at}
 use Rattle.amber_meaning.specs.Position.{origin}
 use Rattle.amber_home.specs.declared.error.HomeErr.{HomeErr}
 use Rattle.amber_home.specs.Start.{HoldsRecords, NamesOperator, StandsAt, kind_at, schema_at}

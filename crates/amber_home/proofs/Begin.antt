@@ -9,7 +9,7 @@ use Rattle.amber_rows.specs.declared.flow.Operator.{Operator}
 use Rattle.amber_rows.specs.declared.flow.What.TheVariants as what
 use Rattle.amber_rows.specs.declared.record.RowFault.{RowFault}
 use Rattle.amber_rows.specs.declared.value.Value.{Value}
-use Rattle.amber_meaning.specs.Evaluator.{files_left, is_headed, records_at}
+use Rattle.amber_meaning.specs.ScanFiles.{files_left, is_headed, records_at}
 use Rattle.amber_meaning.specs.Legal.{query_over}
 use Rattle.amber_meaning.specs.Plain.{list_at, next_file, records_of, wrong_header}
 use Rattle.amber_meaning.specs.Position.{origin, taken_from}

@@ -9,7 +9,7 @@ use Rattle.amber_rows.specs.declared.record.RowFault.{RowFault}
 use Rattle.amber_rows.specs.declared.value.Value.{Value}
 use Rattle.amber_scan.specs.Shares.{share_of, with_numbers}
 use Rattle.amber_scan.specs.declared.share.Scanned.{Scanned}
-use Rattle.amber_meaning.specs.Evaluator.{is_headed}
+use Rattle.amber_meaning.specs.ScanFiles.{is_headed}
 use Rattle.amber_meaning.specs.Plain.{list_at}
 use Rattle.amber_meaning.specs.Position.{origin}
 use Rattle.amber_worker.specs.Stands.{AreAlone, Stands, first_orders, post_of}

@@ -2,7 +2,7 @@
 ghost use Rattle.std.specs.Prelude.{◌≡◌, ◌+◌, ◌<◌, ◌≤◌, ◌^◌, ℕ, List, Result, [], true, is_some, length, slice_index_or, All, IfOk};
 ghost use Rattle.amber_rows.specs.declared.record.RowFault.{RowFault as Fault};
 ghost use Rattle.amber_rows.specs.declared.value.Value.{Value as Cell};
-ghost use Rattle.amber_meaning.specs.Evaluator.{records_at};
+ghost use Rattle.amber_meaning.specs.ScanFiles.{records_at};
 ghost use Rattle.amber_meaning.specs.Legal.{query_over};
 ghost use Rattle.amber_meaning.specs.Plain.{is_scan, list_at};
 ghost use Rattle.amber_meaning.specs.Position.{origin};

@@ -1,5 +1,5 @@
 -- The files of a folder, where it tells them.
-use Rattle.std.specs.Prelude.{◌≡◌, ℕ, List, [], ◌++◌, ◌⊎◌, take, Option, None, Some, option_map, Result, Ok, Err, ⊤}
+use Rattle.std.specs.Prelude.{◌≡◌, ℕ, List, [], ◌++◌, ◌⊎◌, take, Option, None, Some, IsSome, option_map, Result, Ok, Err, ⊤}
 use Rattle.std.specs.Ordering.{nat_cmp}
 use Rattle.std.specs.Cmp.Lexicographic.{slice_cmp}
 use Rattle.std.specs.FinMap as finmap
@@ -23,6 +23,11 @@ Told (Some files) P = P files
 abbrev pub Lacks : Option Named → List ℕ → Type 0
 Lacks None name = ⊥
 Lacks (Some files) name = finmap.get files name ≡ None
+
+-- where the files are told, there is one of this name
+abbrev pub IsThere : Option Named → List ℕ → Type 0
+IsThere None name = ⊤
+IsThere (Some files) name = IsSome (finmap.get files name)
 
 -- where the files are told, that of this name begins with these bytes, and they are its first `most`, or all where it has fewer
 abbrev pub Gives : Option Named → List ℕ → ℕ → List ℕ → Type 0

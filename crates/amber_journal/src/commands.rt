@@ -2,28 +2,14 @@
 ghost use Rattle.std.specs.Prelude.{◌≡◌, [], ◌∷◌, ◌++◌, OnOk, decimal};
 ghost use Rattle.amber_log.specs.Grammar.{IsCommand};
 ghost use Rattle.amber_log.specs.LogText.{line_text};
-ghost use Rattle.amber_log.specs.Words.{constant_word, sign_of};
+ghost use Rattle.amber_log.specs.Words.{constant_word};
 ghost use Rattle.amber_log.specs.declared.line.Line.{Line};
 
 use crate::lines::{push_number, push_one, push_two};
-use amber_log::Command;
-use amber_rows::{Cmp, Cond, Value};
+use amber_log::{Command, sign};
+use amber_rows::{Cond, Value};
 use itoa::Buffer;
 use std::alloc::{AllocError, Global};
-
-/// The sign of a comparison.
-fn sign(comparison: Cmp) -> &'static [u8]
-    ensures { result.now ≡ sign_of comparison }
-{
-    match comparison {
-        Cmp::Eq => b"=",
-        Cmp::Ne => b"!=",
-        Cmp::Lt => b"<",
-        Cmp::Le => b"<=",
-        Cmp::Gt => b">",
-        Cmp::Ge => b">=",
-    }
-}
 
 /// A space and a constant.
 fn push_constant(alloc: Global, out: &mut Vec<u8>, constant: &Value) -> Result<(), AllocError>

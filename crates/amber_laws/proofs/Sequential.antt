@@ -24,7 +24,7 @@ use Rattle.amber_rows.specs.declared.flow.What.TheVariants as what
 use Rattle.amber_rows.specs.declared.flow.Operator.{Operator}
 use Rattle.amber_meaning.proofs.Lists.{list_all-every}
 use Rattle.amber_meaning.proofs.Operators.{list_at-is, records-here, rows-before, rows-here}
-use Rattle.amber_meaning.specs.Evaluator.{files_left, records_at}
+use Rattle.amber_meaning.specs.ScanFiles.{files_left, records_at}
 use Rattle.amber_meaning.specs.Legal.{Query, query_over}
 use Rattle.amber_meaning.specs.Plain.{is_scan, list_at, next_file, outputs, records_of, rows_of}
 use Rattle.amber_meaning.specs.Plan.{with_numbers}

@@ -14,6 +14,7 @@ pub mod leg;
 pub mod line;
 pub mod log;
 pub mod reading;
+mod signs;
 
 pub use command::{Command, Commands};
 pub use entry::{Entries, Entry};
@@ -22,3 +23,4 @@ pub use leg::{Close, Leg, Part, Parts};
 pub use line::Line;
 pub use log::{Item, Items, Log};
 pub use reading::{Place, Reading};
+pub use signs::sign;

@@ -1,6 +1,5 @@
 pub mod Batches
 pub mod Chunks
-pub mod Evaluated
 pub mod ExampleCases
 pub mod ExampleFiles
 pub mod ExampleFlows
@@ -21,7 +20,6 @@ pub mod Lists
 pub mod OneState
 pub mod Operators
 pub mod Orderly
-pub mod Records
 pub mod Rest
 pub mod RuleTests
 pub mod Senders

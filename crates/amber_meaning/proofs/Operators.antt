@@ -13,7 +13,7 @@ use Rattle.amber_rows.specs.declared.value.Value.{Value}
 use Rattle.amber_rows.specs.declared.record.RowFault.{RowFault}
 use Rattle.amber_rows.specs.declared.flow.Operator.{Operator}
 use Rattle.amber_meaning.specs.Plain.{files_after, first_list, is_scan, later_files, later_lists, list_at, next_file, outputs, records_of, refusals, refused_by, rows_of, wrong_header}
-use Rattle.amber_meaning.specs.Evaluator.{files_left, is_headed, records_at}
+use Rattle.amber_meaning.specs.ScanFiles.{files_left, is_headed, records_at}
 use Rattle.amber_meaning.specs.declared.answer.Refusal.{Refusal}
 
 abbrev pub Files : Type 0

@@ -1,4 +1,3 @@
-pub mod Evaluator
 pub mod Given
 pub mod Laws
 pub mod Legal
@@ -9,6 +8,7 @@ pub mod Position
 pub mod Replay
 pub mod Rules
 pub mod RuleTests
+pub mod ScanFiles
 pub mod State
 pub mod Stops
 pub mod Task

@@ -14,8 +14,8 @@ use Rattle.amber_rows.specs.declared.flow.Operator.{Operator}
 use Rattle.amber_meaning.specs.declared.answer.Answer.{Answer}
 use Rattle.amber_meaning.specs.declared.answer.Refusal.{Refusal}
 use Rattle.amber_meaning.specs.declared.answer.Refusal.TheVariants as refusal
-use Rattle.amber_meaning.specs.declared.evaluator.PlainErr.{PlainErr}
-use Rattle.amber_meaning.specs.declared.evaluator.PlainErr.TheVariants as plain_err
+use Rattle.amber_meaning.specs.declared.answer.PlainErr.{PlainErr}
+use Rattle.amber_meaning.specs.declared.answer.PlainErr.TheVariants as plain_err
 
 -- ---- the files of the scans
 

@@ -1,6 +1,9 @@
+// What a query answers, and why it may have no answer.
 ghost use Rattle.std.specs.Prelude.{◌≡◌};
+ghost use Rattle.amber_meaning.specs.declared.answer.PlainErr.TheVariants as plain_err;
 
 use amber_rows::{Row, RowFault, Rows, Schema};
+use std::alloc::AllocError;
 use std::marker::Model;
 
 /// Something that gave no row.
@@ -65,4 +68,23 @@ pub struct Answer {
     pub refused: Refusals,
     pub columns: Schema,
     pub rows: Rows,
+}
+
+/// Why a query has no answer.
+#[derive(Clone, Copy, Debug, PartialEq, Eq)]
+pub enum PlainErr {
+    /// The file of the scan with this number does not begin with the names of its columns; it is the first such scan.
+    Header(u32),
+    /// The operators give more rows together than may be.
+    Long,
+    /// Memory ran out.
+    NoMemory,
+}
+
+impl From<AllocError> for PlainErr {
+    ghost from_gives = { λ _ e. e ≡ plain_err.NoMemory };
+
+    fn from(_error: AllocError) -> PlainErr {
+        PlainErr::NoMemory
+    }
 }

@@ -1,35 +1,72 @@
--- The lines of what was refused, piece by piece.
-use Rattle.std.proofs.Common.{◌≡◌, ◌==◌, ℕ, List, [], ◌∷◌, ◌++◌, length, codes, true, false, refl, append_assoc, arith}
+-- Lines, word by word.
+use Rattle.std.proofs.Common.{◌≡◌, ◌==◌, ℕ, List, [], ◌∷◌, ◌++◌, length, codes, drop, get_or, ◌+◌, ◌<◌, ◌≤◌, true, false, refl, ap, ◌∙◌, sym, append_assoc, arith}
+use Rattle.std.specs.List.{flat_map}
 use Rattle.std.proofs.lemmas.Bool.Decides.{nat_tests}
+use Rattle.std.proofs.lemmas.List.{append-nil, drop_all, drop_more}
 use Rattle.amber_rows.specs.RowText.{row_text_of}
 use Rattle.amber_rows.specs.declared.value.Value.{Value}
-use Rattle.amber_rows.specs.declared.record.RowFault.{RowFault}
-use Rattle.amber_rows.specs.declared.record.RowFault.TheVariants as fault
-use Rattle.amber_meaning.specs.Texts.{fault_words, key_text, words_before, words_line}
+use Rattle.amber_meaning.specs.declared.view.WorkerView.{WorkerView}
+use Rattle.amber_meaning.specs.Texts.{after_blank, key_text, next_text, view_words, views_text, words_before, words_line}
+
+-- the words of a line behind the first have a blank each
+pub line_of : (word : List ℕ) (more : List (List ℕ)) → words_line (word ∷ more) ≡ word ++ (flat_map after_blank more ++ 10 ∷ [])
+unfolding words_line
+line_of word [] = refl
+line_of word (next ∷ more) =
+    ap (λ end. word ++ 32 ∷ end) (line_of next more ∙ sym (append_assoc next (flat_map after_blank more) (10 ∷ [])))
+
+-- a line of a word and more
+pub whole_line : (old word : List ℕ) (more : List (List ℕ)) → ((old ++ word) ++ flat_map after_blank more) ++ 10 ∷ [] ≡ old ++ words_line (word ∷ more)
+whole_line old word more = rw (line_of word more) (simp append_assoc)
 
 -- a line whose last words say why a record is no row
-record_words : (id number : List ℕ) (why : RowFault)
-    → words_line (codes "refused" ∷ codes "record" ∷ id ∷ number ∷ fault_words why) ≡ codes "refused record " ++ (id ++ 32 ∷ (number ++ 32 ∷ words_line (fault_words why)))
-unfolding words_line
-record_words id number fault.Width = refl
-record_words id number (fault.Int column) = refl
-record_words id number (fault.Utf8 column) = refl
-
-pub record_line : (old id number : List ℕ) (why : RowFault)
-    → (((((old ++ codes "refused record ") ++ id) ++ codes " ") ++ number) ++ codes " ") ++ words_line (fault_words why)
-    ≡ old ++ words_line (codes "refused" ∷ codes "record" ∷ id ∷ number ∷ fault_words why)
-record_line old id number why = rw (record_words id number why) (simp append_assoc)
+pub record_line : (old id number : List ℕ) (why : List (List ℕ))
+    → (((((old ++ codes "refused record") ++ after_blank id) ++ after_blank number) ++ flat_map after_blank why) ++ 10 ∷ [])
+    ≡ old ++ words_line (codes "refused" ∷ codes "record" ∷ id ∷ number ∷ why)
+record_line old id number why = rw (line_of (codes "refused") (codes "record" ∷ id ∷ number ∷ why)) (simp append_assoc)
 
 -- a line that ends with the record of a key
 pub group_line : (old id : List ℕ) (key : List Value) → (length key == 0) ≡ false
-    → (((old ++ codes "refused group ") ++ id) ++ codes " ") ++ row_text_of key ≡ old ++ key_text (codes "refused" ∷ codes "group" ∷ id ∷ []) key
+    → ((old ++ codes "refused group") ++ after_blank id) ++ after_blank (row_text_of key) ≡ old ++ key_text (codes "refused" ∷ codes "group" ∷ id ∷ []) key
 unfolding words_before
 group_line old id [] some = cc
 group_line old id (cell ∷ cells) some = simp append_assoc
 
 -- the line of a key without cells
 pub bare_line : (old id : List ℕ) (key : List Value) → (length key == 0) ≡ true
-    → ((old ++ codes "refused group ") ++ id) ++ codes "\n" ≡ old ++ key_text (codes "refused" ∷ codes "group" ∷ id ∷ []) key
+    → ((old ++ codes "refused group") ++ after_blank id) ++ 10 ∷ [] ≡ old ++ key_text (codes "refused" ∷ codes "group" ∷ id ∷ []) key
 unfolding words_line
 bare_line old id [] none = simp append_assoc
 bare_line old id (cell ∷ cells) none = grind (arith, nat_tests)
+
+-- pieces of a line, one behind the other, are its words
+worker_pieces : (f : List ℕ → List ℕ) (old w a t b r c o d p e s : List ℕ) (more : List (List ℕ))
+    → ((((((((old ++ w) ++ f a) ++ flat_map f (t ∷ b ∷ [])) ++ flat_map f (r ∷ c ∷ [])) ++ flat_map f (o ∷ d ∷ [])) ++ flat_map f (p ∷ e ∷ [])) ++ f s) ++ flat_map f more) ++ 10 ∷ []
+    ≡ old ++ (w ++ (flat_map f (a ∷ t ∷ b ∷ r ∷ c ∷ o ∷ d ∷ p ∷ e ∷ s ∷ more) ++ 10 ∷ []))
+worker_pieces f old w a t b r c o d p e s more = simp (append_assoc, append-nil)
+
+-- the line of a worker
+pub worker_line : (old worker taken rest out pending stand : List ℕ) (more : List (List ℕ))
+    → ((((((((old ++ codes "worker") ++ after_blank worker) ++ flat_map after_blank (codes "taken" ∷ taken ∷ [])) ++ flat_map after_blank (codes "rest" ∷ rest ∷ []))
+    ++ flat_map after_blank (codes "out" ∷ out ∷ [])) ++ flat_map after_blank (codes "pending" ∷ pending ∷ [])) ++ after_blank stand) ++ flat_map after_blank more) ++ 10 ∷ []
+    ≡ old ++ words_line (codes "worker" ∷ worker ∷ codes "taken" ∷ taken ∷ codes "rest" ∷ rest ∷ codes "out" ∷ out ∷ codes "pending" ∷ pending ∷ stand ∷ more)
+worker_line old worker taken rest out pending stand more =
+    worker_pieces after_blank old (codes "worker") worker (codes "taken") taken (codes "rest") rest (codes "out") out (codes "pending") pending stand more
+    ∙ ap (λ line. old ++ line)
+    (sym (line_of (codes "worker") (worker ∷ codes "taken" ∷ taken ∷ codes "rest" ∷ rest ∷ codes "out" ∷ out ∷ codes "pending" ∷ pending ∷ stand ∷ more)))
+
+-- one worker is told, and those behind it are left
+pub views_step : (old told : List ℕ) (views : List WorkerView) (worker : ℕ) (view : WorkerView) → worker < length views → view ≡ get_or views worker view
+    → told ≡ (old ++ words_line (view_words worker view)) ++ next_text view.next
+    → told ++ views_text (worker + 1) (drop (worker + 1) views) ≡ old ++ views_text worker (drop worker views)
+unfolding views_text
+views_step old told views worker view less is so =
+    let here : drop worker views ≡ view ∷ drop (worker + 1) views = drop_more views worker view less ∙ ap (λ v. v ∷ drop (worker + 1) views) (sym is) in
+    let left : List ℕ = views_text (worker + 1) (drop (worker + 1) views) in
+    ap (λ text. text ++ left) so ∙ append_assoc (old ++ words_line (view_words worker view)) (next_text view.next) left
+    ∙ append_assoc old (words_line (view_words worker view)) (next_text view.next ++ left) ∙ ap (λ more. old ++ views_text worker more) (sym here)
+
+-- all workers are told
+pub views_end : (told : List ℕ) (views : List WorkerView) (worker : ℕ) → length views ≤ worker → told ++ views_text worker (drop worker views) ≡ told
+unfolding views_text
+views_end told views worker most = ap (λ more. told ++ views_text worker more) (drop_all worker views most) ∙ append-nil told

@@ -2,29 +2,27 @@
 ghost use Rattle.std.specs.Prelude.{◌≡◌, [], ◌∷◌, ◌++◌, codes, length, IfOk, OnOk};
 ghost use Rattle.std.specs.List.{flat_map};
 ghost use Rattle.std.specs.Fmt.{decimal};
-ghost use Rattle.amber_meaning.specs.Texts.{answer_text, fault_words, key_text, refusal_text, words_line};
+ghost use Rattle.amber_meaning.specs.Texts.{after_blank, answer_text, fault_words, refusal_text, words_line};
 
-use crate::words::{id_of, push_number};
+use crate::words::{end_line, id_of, push_number, push_word};
 use amber_meaning::{Answer, Refusal};
 use amber_rows::{Bytes, Flow, Row, RowFault, append_names, append_rows, row_text};
 use std::alloc::{AllocError, Global};
 
-// Why a record is no row, and the end of the line.
-#[tactic(auto, unfolding(amber_meaning::specs::Texts::words_line))]
+// Why a record is no row.
 fn push_fault(text: &mut Vec<u8>, fault: RowFault) -> Result<(), AllocError>
-    ensures { OnOk result (text.new.items ≡ text.old.items ++ words_line (fault_words fault)) }
+    ensures { OnOk result
+        (text.new.items ≡ text.old.items ++ flat_map after_blank (fault_words fault)) }
 {
     match fault {
-        RowFault::Width => text.extend_from_slice(b"width\n"),
+        RowFault::Width => push_word(text, b"width"),
         RowFault::Int(column) => {
-            text.extend_from_slice(b"int ")?;
-            push_number(text, u64::from(column))?;
-            text.extend_from_slice(b"\n")
+            push_word(text, b"int")?;
+            push_number(text, u64::from(column))
         }
         RowFault::Utf8(column) => {
-            text.extend_from_slice(b"utf8 ")?;
-            push_number(text, u64::from(column))?;
-            text.extend_from_slice(b"\n")
+            push_word(text, b"utf8")?;
+            push_number(text, u64::from(column))
         }
     }
 }
@@ -40,13 +38,11 @@ fn push_record(
 ) -> Result<(), AllocError>
     ensures { OnOk result (text.new.items ≡ text.old.items ++ refusal_text flow.now (Refusal.Record op number fault)) }
 {
-    text.extend_from_slice(b"refused record ")?;
-    text.extend_from_slice(id_of(flow, op))?;
-    text.extend_from_slice(b" ")?;
+    text.extend_from_slice(b"refused record")?;
+    push_word(text, id_of(flow, op))?;
     push_number(text, number)?;
-    text.extend_from_slice(b" ")?;
     push_fault(text, fault)?;
-    Ok(())
+    end_line(text)
 }
 
 // The line of a group whose key has no row. A key without cells adds nothing to it.
@@ -60,15 +56,12 @@ fn push_group(
 ) -> Result<(), AllocError>
     ensures { OnOk result (text.new.items ≡ text.old.items ++ refusal_text flow.now (Refusal.Group op key.now)) }
 {
-    text.extend_from_slice(b"refused group ")?;
-    text.extend_from_slice(id_of(flow, op))?;
+    text.extend_from_slice(b"refused group")?;
+    push_word(text, id_of(flow, op))?;
     if key.get().is_empty() {
-        text.extend_from_slice(b"\n")?;
-        return Ok(());
+        return end_line(text);
     }
-    text.extend_from_slice(b" ")?;
-    text.extend_from_slice(row_text(alloc, key)?.as_slice())?;
-    Ok(())
+    push_word(text, row_text(alloc, key)?.as_slice())
 }
 
 fn push_refusal(
@@ -104,9 +97,9 @@ fn push_refusals(
 fn push_count(text: &mut Vec<u8>, rows: usize) -> Result<(), AllocError>
     ensures { OnOk result (text.new.items ≡ text.old.items ++ words_line (codes "rows" ∷ decimal rows ∷ [])) }
 {
-    text.extend_from_slice(b"rows ")?;
+    text.extend_from_slice(b"rows")?;
     push_number(text, rows as u64)?;
-    text.extend_from_slice(b"\n")
+    end_line(text)
 }
 
 /// The text of an answer: a line for each refused record and group, with its operator's id; how many rows

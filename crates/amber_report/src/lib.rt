@@ -4,7 +4,14 @@
 #![tactic(auto)]
 
 pub mod answer;
+mod conditions;
+pub mod inspect;
+pub mod ok;
+pub mod stops;
 mod words;
 
 pub use answer::answer_lines;
+pub use inspect::inspect_lines;
+pub use ok::ok_line;
 pub use std::alloc::AllocError as NoMemory;
+pub use stops::stop_lines;

@@ -1,6 +1,6 @@
 -- The workers so far stand at the start, and the first wrong header is that of the operators which are left.
 use Rattle.std.proofs.Common.{◌≡◌, ◌+◌, ◌<◌, ℕ, [], drop, take, length}
-use Rattle.amber_meaning.specs.Evaluator.{files_left}
+use Rattle.amber_meaning.specs.ScanFiles.{files_left}
 use Rattle.amber_meaning.specs.Plain.{records_of, wrong_header}
 use Rattle.amber_meaning.specs.Position.{origin}
 use Rattle.amber_worker.specs.Stands.{Stands, first_orders, post_of}

@@ -1,5 +1,5 @@
 use Rattle.std.proofs.Common.{◌≡◌, ◌<◌, ◌≤◌, ◌==◌, if◌then◌else◌, length}
-use Rattle.amber_board.specs.Opening.{AreDealt}
+use Rattle.amber_board.specs.Opening.{AreDealt, splits_after}
 use Rattle.amber_board.specs.Seats.{chief_view}
 use Rattle.amber_board.proofs.types.Board.deal.Given as goal
 
@@ -10,6 +10,7 @@ invariant-loop-number l = record {
   made : (chief_view l.chief).made ≡ l.number;
   target : (chief_view l.chief).target ≡ (chief_view l.initial.chief).target;
   seen : (chief_view l.chief).seen ≡ (chief_view l.initial.chief).seen;
+  did : (chief_view l.chief).done ≡ splits_after (chief_view l.initial.chief).done l.number;
   hand : l.number ≤ l.favoured → (chief_view l.chief).hand ≡ (chief_view l.initial.chief).hand;
   given : l.favoured < l.number → (chief_view l.chief).hand ≡ 0;
   count : length l.seats.items ≡ l.number;

@@ -1,7 +1,6 @@
 use Rattle.std.proofs.Common.{rules, ℕ, ◌≤◌, ◌^◌, List, slice_set, refl, ap, ◌∙◌}
 use Rattle.std.proofs.lemmas.List.Elements.{All-set}
 use Rattle.amber_board.specs.declared.view.View.{View}
-use Rattle.amber_board.proofs.Ends.{seen_exact}
 use Rattle.amber_board.proofs.Keeps.{watches}
 use Rattle.amber_board.proofs.types.ChiefSeat.watch.Goals as goal
 
@@ -23,6 +22,3 @@ invariant_of-self c =
       few = s.few;
       at_most = All-set (λ (n : ℕ). n ≤ 2 ^ 40) s.seen c.args.worker c.load-counted.result c.load-counted.ensures.2.2 s.at_most;
     }
-
-pub returns-clause-seen : goal.returns-clause-seen
-returns-clause-seen c = seen_exact _ (ap (λ (v : View). v.role) (c.load-counted.ensures.2.0 c.args.worker refl) ∙ c.args.self.now.is_chief)

@@ -1,0 +1,43 @@
+// The files of the scans, which stand in the order of the operators.
+ghost use Rattle.std.specs.Prelude.{◌≡◌, ◌≤◌, count_by, length, take};
+ghost use Rattle.amber_meaning.specs.Plain.{is_scan, next_file};
+ghost use Rattle.amber_meaning.specs.ScanFiles.{files_left};
+
+use amber_rows::{Files, Flow, Operator, What};
+
+/// Whether an operator is a scan.
+pub fn is_scan(what: &What) -> bool
+    ensures { result ≡ is_scan what.now }
+{
+    match what {
+        What::Scan { .. } => true,
+        What::Filter { .. }
+        | What::Project { .. }
+        | What::Join { .. }
+        | What::Group { .. }
+        | What::Sink { .. } => false,
+    }
+}
+
+/// How many of these operators are scans.
+fn scans_in(operators: &[Operator]) -> usize
+    ensures { result ≡ count_by (λ operator. is_scan operator.what) operators.now }
+{
+    operators
+        .iter()
+        .filter(|operator| is_scan(&operator.what))
+        .count()
+}
+
+/// The file that is next behind so many operators: that of the next scan.
+pub fn file_behind<'a>(flow: &Flow, files: &'a Files, before: usize) -> &'a [u8]
+    requires { before ≤ length flow.now }
+    ensures { result.now ≡ next_file (files_left files.now (take before flow.now)) }
+{
+    let operators = flow.get();
+    let scans = scans_in(&operators[..before]);
+    match files.get().get(scans) {
+        Some(file) => file.get(),
+        None => &[],
+    }
+}

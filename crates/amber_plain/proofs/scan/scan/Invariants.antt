@@ -1,0 +1,6 @@
+-- The records read so far were gathered.
+use Rattle.amber_plain.proofs.Records.{IsAt}
+use Rattle.amber_plain.proofs.scan.scan.Given as goal
+
+abbrev pub invariant-records : goal.invariant-records
+invariant-records l = IsAt l.file l.reader l.number l.op l.schema l.rows.items l.fn.refused.items l.refused.items

@@ -1,0 +1,20 @@
+-- The workflow is that of the examples.
+use Rattle.std.proofs.Common.{◌≡◌, refl, sym, ap, subst, ◌∙◌}
+use Rattle.amber_rows.specs.FlowRules.{IsFlow}
+use Rattle.amber_meaning.specs.Plain.{scan_count}
+use Rattle.amber_meaning.proofs.ExampleCases.{with_prices}
+use Rattle.amber_meaning.proofs.ExampleFlows.{with_prices-is-flow}
+use Rattle.amber_plain.proofs.tests.flows.prices.Goals as goal
+
+pub new-requires : goal.new-requires
+new-requires c =
+    let made : c.add-4.new.operators.items ≡ with_prices =
+    rw (c.in_ok-add-4.ensures, c.in_ok-add-3.ensures, c.in_ok-add-2.ensures, c.in_ok-add.ensures, c.new-operators.ensures.items, c.in_ok-file.ensures, c.in_ok-file-2.ensures, c.in_ok-numbers.ensures, c.in_ok-numbers-2.ensures) refl in
+    subst IsFlow (sym made) with_prices-is-flow
+
+pub returns : goal.returns
+unfolding scan_count
+returns c =
+    let made : c.add-4.new.operators.items ≡ with_prices =
+    rw (c.in_ok-add-4.ensures, c.in_ok-add-3.ensures, c.in_ok-add-2.ensures, c.in_ok-add.ensures, c.new-operators.ensures.items, c.in_ok-file.ensures, c.in_ok-file-2.ensures, c.in_ok-numbers.ensures, c.in_ok-numbers-2.ensures) refl in
+    ap (λ flow. scan_count flow) (c.new.ensures ∙ made)
