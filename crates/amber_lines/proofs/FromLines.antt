@@ -1,7 +1,8 @@
 -- Lines that are judged well are those of a legal log.
 use Rattle.std.proofs.Common.{◌≡◌, ℕ, ◌<◌, ◌≤◌, ◌&&◌, eqb, leb, ltb, List, [], ◌∷◌, ◌++◌, length, map, Some, Bool, true, false, refl, sym, ap, ◌∙◌, subst, arith, append_assoc, append-nil}
 use Rattle.std.specs.List.{flat_map}
-use Rattle.std.proofs.lemmas.Bool.{and_parts, eqb-true, false≢true, leb-true, ltb-true}
+use Rattle.std.proofs.lemmas.List.Folds.{list_any-append}
+use Rattle.std.proofs.lemmas.Bool.{and_parts, eq-eqb, eqb-true, false≢true, leb-true, ltb-true, or_left, or_right}
 use Rattle.amber_rows.specs.Crew.{crew_of}
 use Rattle.amber_log.specs.Fits.{fits_of}
 use Rattle.amber_log.specs.Grammar.{AreItems, AreParts, IsBatch, IsItem, IsLog, ends_over}
@@ -24,12 +25,13 @@ use Rattle.amber_meaning.proofs.Fronts.{legal_logs_grow}
 use Rattle.amber_meaning.proofs.Led.{Leads-push}
 use Rattle.amber_meaning.proofs.LegalFrom.{close_end-from, close_run-from}
 use Rattle.amber_meaning.proofs.Rest.{ends_close, legs_open, runs_close}
+use Rattle.amber_lines.specs.LineLaws.{FirstEntriesEnter, NextEntriesEnter}
 use Rattle.amber_lines.specs.Lines.{Between, Fresh, Progress, Within, judge, judge_all, may_enter, position_behind, state_behind}
 use Rattle.amber_lines.specs.Moving.{orders_in}
 use Rattle.amber_lines.proofs.Entered.{enters, placed-else, placed-here, placed-length}
 use Rattle.amber_lines.proofs.Growing.{open_legs_grow}
 use Rattle.amber_lines.proofs.Judged.{first-of, passes}
-use Rattle.amber_lines.proofs.Parts.{AreParts-front, AreParts-last, AreParts-shorter, entries-else, entries-last, known-push, part}
+use Rattle.amber_lines.proofs.Parts.{AreParts-front, AreParts-last, AreParts-shorter, entries-else, entries-last, known-front, known-push, part}
 
 -- a leg that goes on, in this state
 abbrev pub OpenAt : Query → Log → Bool → List Part → State → Type 0
@@ -105,6 +107,20 @@ longer-next query before worker done made inside known text = record {
       ∙ ap (λ (l : List Entry). l ++ made ∷ []) (sym (entries-last before worker done));
   others = λ other apart. entries-else before worker other (done ++ made ∷ []) apart ∙ sym (entries-else before worker other done apart);
 }
+
+pub first_entries_enter : FirstEntriesEnter
+first_entries_enter query log to_end parts worker made leg inside text may few =
+    enter-open query log to_end parts (parts ++ part worker (made ∷ []) ∷ []) worker made leg (longer-first query parts worker made inside leg.worked.known text) may few
+
+last-inside : (query : Query) (before : List Part) (worker : ℕ) (done : List Entry) → AreKnown query (before ++ part worker done ∷ []) → worker < crew_of query.flow
+last-inside query before worker done known =
+    known worker (list_any-append (λ (one : Part). eqb one.worker worker) before (part worker done ∷ []) ∙ or_right _ _ (or_left _ _ (eq-eqb worker worker refl)))
+
+pub next_entries_enter : NextEntriesEnter
+next_entries_enter query log to_end before worker done made leg text may few =
+    let known = leg.worked.known in
+    enter-open query log to_end (before ++ part worker done ∷ []) (before ++ part worker (done ++ made ∷ []) ∷ []) worker made leg
+    (longer-next query before worker done made (last-inside query before worker done known) (known-front query before (part worker done ∷ []) known) text) may few
 
 -- ---- the lines of a part
 

@@ -1,8 +1,9 @@
 -- Laws of logs that are judged line by line.
-use Rattle.std.specs.Prelude.{◌≡◌, ℕ, ◌+◌, ◌<◌, ◌↔◌, List, [], ◌∷◌, ◌++◌, length, take, Some, None, Bool, true, false}
+use Rattle.std.specs.Prelude.{◌≡◌, ℕ, ◌+◌, ◌<◌, ◌≤◌, ◌↔◌, List, [], ◌∷◌, ◌++◌, length, take, Some, None, Bool, true, false}
 use Rattle.amber_rows.specs.Crew.{crew_of}
 use Rattle.amber_log.specs.Grammar.{AreParts, IsLog, ends_over}
 use Rattle.amber_log.specs.LogText.{log_lines}
+use Rattle.amber_log.specs.ReadLines.{part_of}
 use Rattle.amber_log.specs.declared.entry.Entry.{Entry}
 use Rattle.amber_log.specs.declared.entry.Entry.TheVariants as entry
 use Rattle.amber_log.specs.declared.leg.Part.{Part}
@@ -13,9 +14,9 @@ use Rattle.amber_meaning.specs.Laws.{SendersFirst}
 use Rattle.amber_meaning.specs.Legal.{IsLegal, IsOpen, Query, role_in}
 use Rattle.amber_meaning.specs.Position.{Position}
 use Rattle.amber_meaning.specs.Rules.{Moves}
-use Rattle.amber_meaning.specs.State.{State, position_at}
+use Rattle.amber_meaning.specs.State.{State, position_at, steps_in}
 use Rattle.amber_lines.specs.Moving.{TakesOffered, orders_in}
-use Rattle.amber_lines.specs.Lines.{IsBeginning, illegal_line, may_enter, offers_in, open_lines}
+use Rattle.amber_lines.specs.Lines.{IsBeginning, illegal_line, may_enter, offers_in, open_lines, state_behind}
 
 -- the test of an entry is true exactly where it leads somewhere and the batch that it takes is there
 abbrev pub EntriesAreTested : Type 0
@@ -66,3 +67,19 @@ abbrev pub IllegalLinesAreFirst : Type 0
 IllegalLinesAreFirst = (query : Query) (log : Log) → SendersFirst query.flow → IsLog log
     → ((illegal_line query log ≡ None) ↔ IsLegal query log)
     × ((number : ℕ) → (illegal_line query log ≡ Some number) ↔ IsFirstIllegal query (log_lines log) number)
+
+-- ---- an entry more
+
+-- a leg that goes on still does where a worker begins its part with an entry that it may make, within the steps
+abbrev pub FirstEntriesEnter : Type 0
+FirstEntriesEnter = (query : Query) (log : Log) (to_end : Bool) (parts : List Part) (worker : ℕ) (made : Entry)
+    → (leg : IsOpen query log to_end parts) → worker < crew_of query.flow → AreParts 0 (parts ++ part_of worker (made ∷ []) ∷ [])
+    → may_enter query leg.now worker made ≡ true → steps_in (state_behind query leg.now worker made) ≤ query.most
+    → (grown : IsOpen query log to_end (parts ++ part_of worker (made ∷ []) ∷ [])) × (grown.now ≡ state_behind query leg.now worker made)
+
+-- and where the worker of the last part makes one more
+abbrev pub NextEntriesEnter : Type 0
+NextEntriesEnter = (query : Query) (log : Log) (to_end : Bool) (before : List Part) (worker : ℕ) (done : List Entry) (made : Entry)
+    → (leg : IsOpen query log to_end (before ++ part_of worker done ∷ [])) → AreParts 0 (before ++ part_of worker (done ++ made ∷ []) ∷ [])
+    → may_enter query leg.now worker made ≡ true → steps_in (state_behind query leg.now worker made) ≤ query.most
+    → (grown : IsOpen query log to_end (before ++ part_of worker (done ++ made ∷ []) ∷ [])) × (grown.now ≡ state_behind query leg.now worker made)

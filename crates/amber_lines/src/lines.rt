@@ -1,5 +1,5 @@
 //! Logs judged line by line. Each function does nothing; its contract is the law.
-ghost use Rattle.amber_lines.specs.LineLaws.{BeginningsHaveFronts, EntriesAreTested, IllegalLinesAreFirst, LegalLogsBegin, OpenLegsAreJudged, PartsAreBegun, WholeLogsAreJudged};
+ghost use Rattle.amber_lines.specs.LineLaws.{BeginningsHaveFronts, EntriesAreTested, FirstEntriesEnter, IllegalLinesAreFirst, LegalLogsBegin, NextEntriesEnter, OpenLegsAreJudged, PartsAreBegun, WholeLogsAreJudged};
 
 /// The test of an entry is true exactly where the worker's rule allows it and the batch that it takes is there.
 pub fn entries_are_tested()
@@ -35,4 +35,14 @@ pub fn parts_are_begun()
 /// is legal.
 pub fn illegal_lines_are_first()
     ensures { IllegalLinesAreFirst }
+{}
+
+/// A leg that goes on still does where a worker begins its part with an entry that it may make, within the steps.
+pub fn first_entries_enter()
+    ensures { FirstEntriesEnter }
+{}
+
+/// And where the worker of the last part makes one entry more that it may make.
+pub fn next_entries_enter()
+    ensures { NextEntriesEnter }
 {}
