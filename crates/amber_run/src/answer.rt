@@ -1,4 +1,4 @@
-ghost use Rattle.std.specs.Prelude.{◌≡◌, ℕ, Option};
+ghost use Rattle.std.specs.Prelude.{◌≡◌, ◌≢◌, ℕ, IfErr, Option};
 ghost use Rattle.amber_io.specs.Folder.{Named};
 ghost use Rattle.amber_run.specs.Answering.{AreInputs, IsAnswer, IsPlain, IsReady, Works, text_of};
 ghost use Rattle.amber_run.specs.Outcome.{Counts};
@@ -50,6 +50,7 @@ fn print_answer<O: Sink>(alloc: Global, flow: &Flow, files: &Files, out: &mut O)
     requires { AreInputs flow.now files.now }
     ensures works { (told : Option Named) → Works result (Job.Plain flow.now files.now) told told (O.written out.old) (O.written out.new) }
     ensures puts { Counts result (O.faults out.old) (O.faults out.new) }
+    ensures unlogged { IfErr result (λ stop. stop ≢ Stop.LogFault) }
     ensures still { (writes : ℕ) → CountsWrites result writes writes }
 {
     let text = answer_text(alloc, flow, files)?;
@@ -71,6 +72,7 @@ pub(crate) fn do_job<F: Folder, O: Sink>(
     ensures loads { F.load_faults folder.new ≡ F.load_faults folder.old }
     ensures same { IsPlain job → F.files folder.new ≡ F.files folder.old }
     ensures idle { IsPlain job → F.write_faults folder.new ≡ F.write_faults folder.old }
+    ensures unlogged { IsPlain job → IfErr result (λ stop. stop ≢ Stop.LogFault) }
 {
     match job {
         Job::Plain { flow, files } => print_answer(alloc, &flow, &files, out),

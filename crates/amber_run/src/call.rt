@@ -2,12 +2,13 @@ ghost use Rattle.std.specs.Prelude.{◌≡◌, ◌≢◌, ◌<◌, ◌⊎◌, ma
 ghost use Rattle.amber_io.specs.Counts.{Rose};
 ghost use Rattle.amber_io.specs.Folder.{Told};
 ghost use Rattle.amber_run.specs.Course.{IsReached, course_of};
-ghost use Rattle.amber_run.specs.Outcome.{Answers, AsksNoRun, Counts, Ended, IsSinkStatus, IsWithin, Runs, Succeeds, Worded};
+ghost use Rattle.amber_run.specs.Outcome.{Answers, AsksFor, AsksNoRun, Counts, Ended, IsSinkStatus, IsWithin, Runs, Succeeds, TellsLong, Worded};
 ghost use Rattle.amber_run.specs.Steps.{Names, Tells};
 ghost use Rattle.amber_run.specs.Words.{words_of};
 ghost use Rattle.amber_run.specs.Writing.{CountsWrites};
 
 use crate::answer::do_job;
+use crate::job::Job;
 use crate::prepare::prepare;
 use crate::refusal::refuse;
 use crate::status::Status;
@@ -29,6 +30,7 @@ fn run<F: Folder, O: Sink>(
     ensures writes { CountsWrites result (F.write_faults folder.old) (F.write_faults folder.new) }
     ensures words { Worded result (map string_bytes words.now) }
     ensures same { AsksNoRun (words_of (map string_bytes words.now)) → F.files folder.new ≡ F.files folder.old }
+    ensures unlogged { AsksNoRun (words_of (map string_bytes words.now)) → IfErr result (λ stop. stop ≢ Stop.LogFault) }
     ensures idle { AsksNoRun (words_of (map string_bytes words.now)) → F.write_faults folder.new ≡ F.write_faults folder.old }
 {
     let words = read_words(alloc, words)?;
@@ -56,7 +58,7 @@ fn run<F: Folder, O: Sink>(
 ///
 /// # Errors
 ///
-/// `NoMemory` may come at any point, and may then stand in for any other refusal.
+/// `NoMemory` may come at any point, and may then stand in for any other refusal but `OutFault`.
 pub fn amber<F: Folder, O: Sink>(
     alloc: Global,
     words: &[String],
@@ -78,6 +80,10 @@ pub fn amber<F: Folder, O: Sink>(
         → ¬ (Rose (F.write_faults folder.old) (F.write_faults folder.new)) → O.faults out.old < O.faults out.new
         → IsSinkStatus (course_of (map string_bytes words.now) files) result) }
 
+    ensures long { Told (F.files folder.old) (λ files. (job : Job) → AsksFor (map string_bytes words.now) files job
+        → ¬ (Rose (F.load_faults folder.old) (F.load_faults folder.new)) → ¬ (Rose (F.write_faults folder.old) (F.write_faults folder.new))
+        → TellsLong job result (F.files folder.old) (F.files folder.new)) }
+
     // Which status it is, over any files.
     ensures usage { result ≡ Status.Usage → words_of (map string_bytes words.now) ≡ None }
     ensures bad_words { words_of (map string_bytes words.now) ≡ None → (result ≡ Status.Usage) ⊎ (result ≡ Status.NoMemory) }
@@ -93,6 +99,7 @@ pub fn amber<F: Folder, O: Sink>(
     // What stays where no run is asked for, whatever the status is.
     ensures same { AsksNoRun (words_of (map string_bytes words.now)) → F.files folder.new ≡ F.files folder.old }
     ensures writes { AsksNoRun (words_of (map string_bytes words.now)) → F.write_faults folder.new ≡ F.write_faults folder.old }
+    ensures unlogged { AsksNoRun (words_of (map string_bytes words.now)) → result ≢ Status.LogFault }
 {
     match run(alloc, words, folder, out) {
         Ok(()) => Status::Ok,

@@ -1,5 +1,6 @@
 ghost use Rattle.std.specs.Prelude.{◌≡◌, ◌∷◌, [], List, Option, ℕ, IfErr, IfOk, false, true};
 ghost use Rattle.std.specs.Io.KnownBytes.{Appends};
+ghost use Rattle.amber_io.specs.Folder.{IsThere};
 ghost use Rattle.amber_rows.specs.FlowRules.{IsFlow};
 ghost use Rattle.amber_log.specs.Grammar.{IsBatch, ends_over};
 ghost use Rattle.amber_worker.specs.Stands.{AreAlone};
@@ -59,6 +60,7 @@ fn create_log<F: Folder>(name: &str, folder: &mut F) -> Result<(), Stop>
 
 // Writes a piece behind the log, in one call.
 fn append_piece<F: Folder>(name: &str, piece: &[u8], folder: &mut F) -> Result<(), Stop>
+    requires { IsThere (F.files folder.old) name.now }
     ensures wrote { Wrote result (F.files folder.old) (F.files folder.new) name.now piece.now }
     ensures writes { CountsWrites result (F.write_faults folder.old) (F.write_faults folder.new) }
     ensures loads { F.load_faults folder.new ≡ F.load_faults folder.old }
@@ -75,6 +77,7 @@ fn make_log<F: Folder>(alloc: Global, batch: u32, name: &str, folder: &mut F) ->
     requires { IsBatch batch }
     ensures made { (t : Task) (written : Option (List ℕ)) → t.name ≡ name.now → batch ≡ t.batch → F.files folder.old ≡ t.told → Appends t.before written []
         → Opens result t (record { batch = batch; items = [] }) (F.files folder.new) written }
+    ensures there { IfOk result (λ made. IsThere (F.files folder.new) name.now) }
     ensures writes { CountsWrites result (F.write_faults folder.old) (F.write_faults folder.new) }
     ensures loads { F.load_faults folder.new ≡ F.load_faults folder.old }
 {
@@ -94,6 +97,7 @@ fn do_command<F: Folder, O: Sink>(
     out: &mut O,
 ) -> Result<(), Stop>
     requires to_end { command.now ≡ Command.End }
+    requires there { IsThere (F.files folder.old) name.now }
     requires open { ends_over false debugger.old.log.items ≡ false }
     ensures did { (t : Task) (left : List Command) → t.name ≡ name.now → IsSession t debugger.old
         → Stands t (command.now ∷ left) debugger.old.log (F.files folder.old) (O.written out.old)
