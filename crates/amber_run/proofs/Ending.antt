@@ -265,10 +265,11 @@ line-whole : (s : Stop) (line rest : List ℕ) (c d e : ℕ) → Counts {A = Uni
 line-whole stop.OutFault line rest c d e n split rose quiet small = no-front line rest split
 line-whole other line rest c d e n split rose quiet small = absurd (unrisen c d e n quiet small rose)
 
-pub ended : (s : Stop) (words : List (List ℕ)) (told now : Option Named) (before mid got : Option (List ℕ)) (a b c d e : ℕ) (result : Status)
+pub ended : (s : Stop) (words : List (List ℕ)) (told now : Option Named) (before mid got : Option (List ℕ)) (a b w x c d e : ℕ) (result : Status)
     → Runs {A = Unit {0}} (Err s) words told now before mid a b → Counts {A = Unit {0}} (Err s) c d → Refuses result s mid got d e → IsToldAs s result
-    → Told told (λ files. Names s (IsReached words files)) → Ended words result told now before got a b c e
-ended s words told now before mid got a b c d e result r n (le, begun, inl (same, all, is)) tells named = record {
+    → Told told (λ files. Names s (IsReached words files))
+    → Ended words result (record { files = told; got = before; loads = a; writes = w; puts = c }) (record { files = now; got = got; loads = b; writes = x; puts = e })
+ended s words told now before mid got a b w x c d e result r n (le, begun, inl (same, all, is)) tells named = record {
   cause = s;
   answer = tells;
   line = line_of s;
@@ -278,7 +279,7 @@ ended s words told now before mid got a b c d e result r n (le, begun, inl (same
   left = stops-on s words (line_of s) [] told now before mid got a b (append-nil (line_of s)) all r;
   named = named;
 }
-ended s words told now before mid got a b c d e result r n (le, begun, inr (inl (same, none))) tells named = record {
+ended s words told now before mid got a b w x c d e result r n (le, begun, inr (inl (same, none))) tells named = record {
   cause = s;
   answer = tells;
   line = begun.0;
@@ -288,7 +289,7 @@ ended s words told now before mid got a b c d e result r n (le, begun, inr (inl 
   left = stops-on s words begun.0 begun.1 told now before mid got a b begun.2 begun.3 r;
   named = named;
 }
-ended s words told now before mid got a b c d e result r n (le, begun, inr (inr (rose, is))) tells named = record {
+ended s words told now before mid got a b w x c d e result r n (le, begun, inr (inr (rose, is))) tells named = record {
   cause = s;
   answer = tells;
   line = begun.0;

@@ -118,18 +118,26 @@ Stops words stop.Long line told now before got old new =
 Stops words stop.NoMemory line told now before got old new = IsUntouched line told now before got ⊎ ((new ≡ old) × Breaks words stop.NoMemory line told now before got)
 Stops words other line told now before got old new = IsCause words told other old new × IsUntouched line told now before got
 
--- why a call did not end with `Ok`, and what it left; a file in the line is one that the order of work loads, and the line is whole
+-- what the folder and the sink show: the files, what was put, and how many loads, writes and puts failed
+pub record World : Type 0 where
+  pub files : Option Named
+  pub got : Option (List ℕ)
+  pub loads : ℕ
+  pub writes : ℕ
+  pub puts : ℕ
+
+-- why a call did not end with `Ok`, and what it left; a file in the line is one that the order of work reaches, and the line is whole
 -- unless the sink failed or memory ran out
-pub record Ended (words : List (List ℕ)) (result : Status) (told now : Option Named) (before got : Option (List ℕ)) (loads loads_now faults faults_now : ℕ) : Type 0 where
+pub record Ended (words : List (List ℕ)) (result : Status) (old new : World) : Type 0 where
   pub cause : Stop
   pub answer : IsToldAs cause result
   -- what was put of the cause's line, and what was not
   pub line : List ℕ
   pub rest : List ℕ
   pub split : line ++ rest ≡ line_of cause
-  pub whole : result ≢ status.NoMemory → faults_now ≡ faults → faults < 2 ^ 64 - 1 → line ≡ line_of cause
-  pub left : Stops words cause line told now before got loads loads_now
-  pub named : Told told (λ files. Names cause (IsReached words files))
+  pub whole : result ≢ status.NoMemory → new.puts ≡ old.puts → old.puts < 2 ^ 64 - 1 → line ≡ line_of cause
+  pub left : Stops words cause line old.files new.files old.got new.got old.loads new.loads
+  pub named : Told old.files (λ files. Names cause (IsReached words files))
 
 -- ---- the steps of a call
 

@@ -6,6 +6,7 @@ ghost use Rattle.amber_run.specs.Steps.{Judges};
 ghost use Rattle.amber_run.specs.Writing.{CountsWrites};
 
 use crate::job::Job;
+use crate::printed::Printed;
 use crate::refusal::put_output;
 use crate::stop::Stop;
 use crate::work::work;
@@ -14,7 +15,6 @@ use amber_meaning::{Answer, PlainErr, plain};
 use amber_report::answer_lines;
 use amber_rows::{Bytes, Files, Flow};
 use std::alloc::Global;
-use std::mem;
 
 // How many rows all operators may give together.
 const MOST_ROWS: u64 = 1 << 40;
@@ -34,26 +34,36 @@ fn query(alloc: Global, flow: &Flow, files: &Files) -> Result<Answer, Stop>
 }
 
 // The text of the sequential answer.
-fn answer_text(alloc: Global, flow: &Flow, files: &Files) -> Result<Bytes, Stop>
+fn answer_text(
+    alloc: Global,
+    flow: &Flow,
+    files: &Files,
+    printed: &mut Printed,
+) -> Result<Bytes, Stop>
     requires { AreInputs flow.now files.now }
     ensures { Judges result (text_of flow.now files.now) }
 {
     let answer = query(alloc, flow, files)?;
     let text = answer_lines(alloc, flow, &answer)?;
-    // The program is about to end, so the rows are not freed one by one.
-    mem::forget(answer.rows);
+    printed.keep(answer.rows);
     Ok(text)
 }
 
 // Prints the sequential answer.
-fn print_answer<O: Sink>(alloc: Global, flow: &Flow, files: &Files, out: &mut O) -> Result<(), Stop>
+fn print_answer<O: Sink>(
+    alloc: Global,
+    flow: &Flow,
+    files: &Files,
+    out: &mut O,
+    printed: &mut Printed,
+) -> Result<(), Stop>
     requires { AreInputs flow.now files.now }
     ensures works { (told : Option Named) → Works result (Job.Plain flow.now files.now) told told (O.written out.old) (O.written out.new) }
     ensures puts { Counts result (O.faults out.old) (O.faults out.new) }
     ensures unlogged { IfErr result (λ stop. stop ≢ Stop.LogFault) }
     ensures still { (writes : ℕ) → CountsWrites result writes writes }
 {
-    let text = answer_text(alloc, flow, files)?;
+    let text = answer_text(alloc, flow, files, printed)?;
     put_output(out, text.get())?;
     Ok(())
 }
@@ -64,6 +74,7 @@ pub(crate) fn do_job<F: Folder, O: Sink>(
     job: Job,
     folder: &mut F,
     out: &mut O,
+    printed: &mut Printed,
 ) -> Result<(), Stop>
     requires { IsReady job }
     ensures works { Works result job (F.files folder.old) (F.files folder.new) (O.written out.old) (O.written out.new) }
@@ -75,13 +86,13 @@ pub(crate) fn do_job<F: Folder, O: Sink>(
     ensures unlogged { IsPlain job → IfErr result (λ stop. stop ≢ Stop.LogFault) }
 {
     match job {
-        Job::Plain { flow, files } => print_answer(alloc, &flow, &files, out),
+        Job::Plain { flow, files } => print_answer(alloc, &flow, &files, out, printed),
         Job::Run {
             flow,
             files,
             log,
             threads,
             batch,
-        } => work(alloc, flow, files, log.get(), threads, batch, folder, out),
+        } => work(alloc, flow, files, log.get(), threads, batch, folder, out, printed),
     }
 }

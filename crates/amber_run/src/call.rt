@@ -10,6 +10,7 @@ ghost use Rattle.amber_run.specs.Writing.{CountsWrites};
 use crate::answer::do_job;
 use crate::job::Job;
 use crate::prepare::prepare;
+use crate::printed::Printed;
 use crate::refusal::refuse;
 use crate::status::Status;
 use crate::stop::Stop;
@@ -22,6 +23,7 @@ fn run<F: Folder, O: Sink>(
     words: &[String],
     folder: &mut F,
     out: &mut O,
+    printed: &mut Printed,
 ) -> Result<(), Stop>
     ensures ran { Runs result (map string_bytes words.now) (F.files folder.old) (F.files folder.new) (O.written out.old) (O.written out.new)
         (F.load_faults folder.old) (F.load_faults folder.new) }
@@ -30,12 +32,13 @@ fn run<F: Folder, O: Sink>(
     ensures writes { CountsWrites result (F.write_faults folder.old) (F.write_faults folder.new) }
     ensures words { Worded result (map string_bytes words.now) }
     ensures same { AsksNoRun (words_of (map string_bytes words.now)) → F.files folder.new ≡ F.files folder.old }
-    ensures unlogged { AsksNoRun (words_of (map string_bytes words.now)) → IfErr result (λ stop. stop ≢ Stop.LogFault) }
+    ensures unlogged { AsksNoRun (words_of (map string_bytes words.now))
+        → IfErr result (λ stop. stop ≢ Stop.LogFault) }
     ensures idle { AsksNoRun (words_of (map string_bytes words.now)) → F.write_faults folder.new ≡ F.write_faults folder.old }
 {
     let words = read_words(alloc, words)?;
     let job = prepare(alloc, words, folder)?;
-    do_job(alloc, job, folder, out)
+    do_job(alloc, job, folder, out, printed)
 }
 
 /// Does what the words after the program's name say.
@@ -53,6 +56,8 @@ fn run<F: Folder, O: Sink>(
 /// head in one call; then, for each command, the item is appended in one call, and the reply is put in one call. A
 /// leg that comes to 2^40 steps is appended before the call ends with `Long`.
 ///
+/// The rows of an answer that was printed stay in `printed`, for the caller to let go.
+///
 /// The first refusal ends the call. After one other than `OutFault` a line is put that tells it, in pieces and
 /// without taking memory; after a put that was refused nothing more is put. No file but LOG is changed.
 ///
@@ -64,11 +69,15 @@ pub fn amber<F: Folder, O: Sink>(
     words: &[String],
     folder: &mut F,
     out: &mut O,
+    printed: &mut Printed,
 ) -> Status
     ensures ok { result ≡ Status.Ok → Told (F.files folder.old)
         (λ files. Succeeds (map string_bytes words.now) files (F.files folder.old) (F.files folder.new) (O.written out.old) (O.written out.new)) }
-    ensures ended { result ≢ Status.Ok → Ended (map string_bytes words.now) result (F.files folder.old) (F.files folder.new) (O.written out.old) (O.written out.new)
-        (F.load_faults folder.old) (F.load_faults folder.new) (O.faults out.old) (O.faults out.new) }
+    ensures ended { result ≢ Status.Ok → Ended (map string_bytes words.now) result
+        (record { files = F.files folder.old; got = O.written out.old; loads = F.load_faults folder.old;
+            writes = F.write_faults folder.old; puts = O.faults out.old })
+        (record { files = F.files folder.new; got = O.written out.new; loads = F.load_faults folder.new;
+            writes = F.write_faults folder.new; puts = O.faults out.new }) }
 
     // Which status it is, over files that are told.
     ensures course { Told (F.files folder.old) (λ files. Answers (course_of (map string_bytes words.now) files) result
@@ -81,7 +90,8 @@ pub fn amber<F: Folder, O: Sink>(
         → IsSinkStatus (course_of (map string_bytes words.now) files) result) }
 
     ensures long { Told (F.files folder.old) (λ files. (job : Job) → AsksFor (map string_bytes words.now) files job
-        → ¬ (Rose (F.load_faults folder.old) (F.load_faults folder.new)) → ¬ (Rose (F.write_faults folder.old) (F.write_faults folder.new))
+        → ¬ (Rose (F.load_faults folder.old) (F.load_faults folder.new))
+        → ¬ (Rose (F.write_faults folder.old) (F.write_faults folder.new))
         → TellsLong job result (F.files folder.old) (F.files folder.new)) }
 
     // Which status it is, over any files.
@@ -101,7 +111,7 @@ pub fn amber<F: Folder, O: Sink>(
     ensures writes { AsksNoRun (words_of (map string_bytes words.now)) → F.write_faults folder.new ≡ F.write_faults folder.old }
     ensures unlogged { AsksNoRun (words_of (map string_bytes words.now)) → result ≢ Status.LogFault }
 {
-    match run(alloc, words, folder, out) {
+    match run(alloc, words, folder, out, printed) {
         Ok(()) => Status::Ok,
         Err(stop) => refuse(out, &stop),
     }

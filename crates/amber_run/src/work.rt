@@ -11,6 +11,7 @@ ghost use Rattle.amber_run.specs.Task.{IsSession, Task, most_steps, task_of};
 ghost use Rattle.amber_run.specs.Words.{AreSizes};
 ghost use Rattle.amber_run.specs.Writing.{CountsWrites, Made, Wrote};
 
+use crate::printed::Printed;
 use crate::refusal::put_output;
 use crate::stop::Stop;
 use amber_debug::{DebugErr, Debugger, HomeErr};
@@ -95,6 +96,7 @@ fn do_command<F: Folder, O: Sink>(
     name: &str,
     folder: &mut F,
     out: &mut O,
+    printed: &mut Printed,
 ) -> Result<(), Stop>
     requires to_end { command.now ≡ Command.End }
     requires there { IsThere (F.files folder.old) name.now }
@@ -110,6 +112,9 @@ fn do_command<F: Folder, O: Sink>(
         Ok(done) => {
             append_piece(name, done.item.get(), folder)?;
             put_output(out, done.reply.get())?;
+            if let Some(rows) = done.rows {
+                printed.keep(rows);
+            }
             Ok(())
         }
         // The leg is in the log before it is told that it was too long.
@@ -132,6 +137,7 @@ pub(crate) fn work<F: Folder, O: Sink>(
     batch: u32,
     folder: &mut F,
     out: &mut O,
+    printed: &mut Printed,
 ) -> Result<(), Stop>
     requires inputs { AreInputs flow files }
     requires sizes { AreSizes threads batch }
@@ -144,6 +150,6 @@ pub(crate) fn work<F: Folder, O: Sink>(
 {
     let mut debugger = begin(alloc, flow, files, threads, batch)?;
     make_log(alloc, batch, name, folder)?;
-    do_command(alloc, &mut debugger, &Command::End, name, folder, out)?;
+    do_command(alloc, &mut debugger, &Command::End, name, folder, out, printed)?;
     Ok(())
 }

@@ -16,7 +16,7 @@ returns-in-Err-clause-ok g c =
 
 pub returns-in-Err-clause-ended : goal.returns-in-Err-clause-ended
 returns-in-Err-clause-ended g c =
-    λ failed. ended c.in-Err.stop (map string_bytes c.args.words.now) (g.F.Folder.files c.args.folder.now) (g.F.Folder.files c.run.new.folder) (g.O.Sink.written c.args.out.now) (g.O.Sink.written c.run.new.out) (g.O.Sink.written c.refuse.new.out) (g.F.Folder.load_faults c.args.folder.now) (g.F.Folder.load_faults c.run.new.folder) (g.O.Sink.faults c.args.out.now) (g.O.Sink.faults c.run.new.out) (g.O.Sink.faults c.refuse.new.out) c.refuse.result c.in-Err.ensures.ran c.in-Err.ensures.puts c.refuse.ensures.refuses c.refuse.ensures.told c.in-Err.ensures.named
+    λ failed. ended c.in-Err.stop (map string_bytes c.args.words.now) (g.F.Folder.files c.args.folder.now) (g.F.Folder.files c.run.new.folder) (g.O.Sink.written c.args.out.now) (g.O.Sink.written c.run.new.out) (g.O.Sink.written c.refuse.new.out) (g.F.Folder.load_faults c.args.folder.now) (g.F.Folder.load_faults c.run.new.folder) (g.F.Folder.write_faults c.args.folder.now) (g.F.Folder.write_faults c.run.new.folder) (g.O.Sink.faults c.args.out.now) (g.O.Sink.faults c.run.new.out) (g.O.Sink.faults c.refuse.new.out) c.refuse.result c.in-Err.ensures.ran c.in-Err.ensures.puts c.refuse.ensures.refuses c.refuse.ensures.told c.in-Err.ensures.named
 
 pub returns-in-Err-clause-course : goal.returns-in-Err-clause-course
 returns-in-Err-clause-course g c =
