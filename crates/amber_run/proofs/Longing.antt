@@ -64,14 +64,20 @@ left-long told now before got flow files log batch result h is =
 left-short : (told now : Option Named) (before got : Option (List ℕ)) (flow : List Operator) (files : List (List ℕ)) (log : List ℕ) (batch : ℕ) (result : Status)
     → IsLeft (task_of told before flow files log batch) stop.OutFault [] now got → result ≡ status.OutFault → RunsLong result told now log
 left-short told now before got flow files log batch result h is =
-    inr (record { batch = h.batch; items = h.done ++ h.last }, (h.bytes, h.place, h.read),
-    ((λ e. absurd (let two : status.OutFault ≡ status.Long = sym is ∙ e in cc)), (λ long. absurd (let two : false ≡ true = sym h.closed ∙ long in cc))))
+    inr (
+      record { batch = h.batch; items = h.done ++ h.last },
+      (h.bytes, h.place, h.read),
+      ((λ e. absurd (let two : status.OutFault ≡ status.Long = sym is ∙ e in cc)), (λ long. absurd (let two : false ≡ true = sym h.closed ∙ long in cc))),
+    )
 
 done-short : (told now : Option Named) (before got : Option (List ℕ)) (flow : List Operator) (files : List (List ℕ)) (log : List ℕ) (batch : ℕ)
     → IsDone (task_of told before flow files log batch) now got → RunsLong status.Ok told now log
 done-short told now before got flow files log batch h =
-    inr (h.0, (log_text h.0, h.1.place, reads-whole h.0 h.1.legal.text),
-    ((λ e. cc), (λ long. absurd (let two : false ≡ true = sym h.1.short ∙ long in cc))))
+    inr (
+      h.0,
+      (log_text h.0, h.1.place, reads-whole h.0 h.1.legal.text),
+      ((λ e. cc), (λ long. absurd (let two : false ≡ true = sym h.1.short ∙ long in cc))),
+    )
 
 broke-long : (one : Job) (told now : Option Named) (before got : Option (List ℕ)) (flow : List Operator) (files : List (List ℕ)) (log : List ℕ) (threads batch : ℕ) (result : Status)
     → one ≡ job.Run flow files log threads batch → BreaksOff one stop.Long [] told now before got → result ≡ status.Long → RunsLong result told now log

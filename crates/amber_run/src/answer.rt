@@ -45,7 +45,7 @@ fn answer_text(
 {
     let answer = query(alloc, flow, files)?;
     let text = answer_lines(alloc, flow, &answer)?;
-    printed.keep(answer.rows);
+    printed.keep(Some(answer.rows));
     Ok(text)
 }
 
@@ -93,6 +93,16 @@ pub(crate) fn do_job<F: Folder, O: Sink>(
             log,
             threads,
             batch,
-        } => work(alloc, flow, files, log.get(), threads, batch, folder, out, printed),
+        } => work(
+            alloc,
+            flow,
+            files,
+            log.get(),
+            threads,
+            batch,
+            folder,
+            out,
+            printed,
+        ),
     }
 }

@@ -74,10 +74,20 @@ pub fn amber<F: Folder, O: Sink>(
     ensures ok { result ≡ Status.Ok → Told (F.files folder.old)
         (λ files. Succeeds (map string_bytes words.now) files (F.files folder.old) (F.files folder.new) (O.written out.old) (O.written out.new)) }
     ensures ended { result ≢ Status.Ok → Ended (map string_bytes words.now) result
-        (record { files = F.files folder.old; got = O.written out.old; loads = F.load_faults folder.old;
-            writes = F.write_faults folder.old; puts = O.faults out.old })
-        (record { files = F.files folder.new; got = O.written out.new; loads = F.load_faults folder.new;
-            writes = F.write_faults folder.new; puts = O.faults out.new }) }
+        (record {
+          files = F.files folder.old;
+          got = O.written out.old;
+          loads = F.load_faults folder.old;
+          writes = F.write_faults folder.old;
+          puts = O.faults out.old;
+        })
+        (record {
+          files = F.files folder.new;
+          got = O.written out.new;
+          loads = F.load_faults folder.new;
+          writes = F.write_faults folder.new;
+          puts = O.faults out.new;
+        }) }
 
     // Which status it is, over files that are told.
     ensures course { Told (F.files folder.old) (λ files. Answers (course_of (map string_bytes words.now) files) result

@@ -15,8 +15,11 @@ impl Printed {
         Printed { rows: None }
     }
 
-    // Keeps these rows, and lets earlier ones go.
-    pub(crate) fn keep(&mut self, rows: Rows) {
-        self.rows = Some(rows);
+    // Keeps the rows of a reply, where it has some, and lets earlier ones go.
+    pub(crate) fn keep(&mut self, rows: Option<Rows>) {
+        match rows {
+            Some(rows) => self.rows = Some(rows),
+            None => {}
+        }
     }
 }

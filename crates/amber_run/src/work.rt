@@ -112,9 +112,7 @@ fn do_command<F: Folder, O: Sink>(
         Ok(done) => {
             append_piece(name, done.item.get(), folder)?;
             put_output(out, done.reply.get())?;
-            if let Some(rows) = done.rows {
-                printed.keep(rows);
-            }
+            printed.keep(done.rows);
             Ok(())
         }
         // The leg is in the log before it is told that it was too long.
@@ -150,6 +148,14 @@ pub(crate) fn work<F: Folder, O: Sink>(
 {
     let mut debugger = begin(alloc, flow, files, threads, batch)?;
     make_log(alloc, batch, name, folder)?;
-    do_command(alloc, &mut debugger, &Command::End, name, folder, out, printed)?;
+    do_command(
+        alloc,
+        &mut debugger,
+        &Command::End,
+        name,
+        folder,
+        out,
+        printed,
+    )?;
     Ok(())
 }

@@ -81,7 +81,7 @@ returns-clause-course g c =
     let h : length c.args.flow.now ≤ c.loop-i.i = rw c.get-operators.ensures.operators at c.loop-i-test.false in (
       c.loop-i.invariant.loads,
       rw c.new.ensures (scan-end c.args.flow.now c.loop-i.i c.loop-i.left c.loop-i.files.items (scans_of c.args.flow.now) (g.F.Folder.files c.args.folder.now) h
-      (walked-all c.args.flow.now c.loop-i.i c.loop-i.left c.loop-i.files.items (g.F.Folder.files c.args.folder.now) c.loop-i.invariant.course)),
+          (walked-all c.args.flow.now c.loop-i.i c.loop-i.left c.loop-i.files.items (g.F.Folder.files c.args.folder.now) c.loop-i.invariant.course)),
     )
 
 pub returns-clause-inputs : goal.returns-clause-inputs
