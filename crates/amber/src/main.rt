@@ -64,7 +64,7 @@ fn words<R: Env + AllocGlobal>(rt: &R) -> io::Result<Vec<String>> {
 }
 
 // The words could not be read: memory ran out, or one of them is no text, which no form has.
-fn no_words<R: Files + Print + AllocGlobal>(rt: &R, kind: ErrorKind) -> Status {
+fn no_words<R: Files + Print + Eprint + AllocGlobal>(rt: &R, kind: ErrorKind) -> Status {
     if kind == ErrorKind::OutOfMemory {
         let _ = rt.print("error 10 memory\n");
         return Status::NoMemory;
@@ -72,7 +72,7 @@ fn no_words<R: Files + Print + AllocGlobal>(rt: &R, kind: ErrorKind) -> Status {
     call(rt, &[])
 }
 
-fn answer<R: Files + Print + AllocGlobal>(rt: &R, words: &[String]) -> Status {
+fn answer<R: Files + Print + Eprint + AllocGlobal>(rt: &R, words: &[String]) -> Status {
     if let [word] = words {
         match word.as_str() {
             "--help" => return show(rt, HELP),
@@ -90,7 +90,7 @@ fn show<R: Print>(rt: &R, text: &str) -> Status {
     }
 }
 
-fn call<R: Files + Print + AllocGlobal>(rt: &R, words: &[String]) -> Status {
+fn call<R: Files + Print + Eprint + AllocGlobal>(rt: &R, words: &[String]) -> Status {
     let mut folder = RealFolder::new(rt.alloc(), rt);
     let mut out = RealSink::new(rt);
     let mut printed = Printed::new();
