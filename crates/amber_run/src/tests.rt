@@ -65,7 +65,8 @@ fn call(
     }
     let mut folder = folder(alloc, files, loads)?;
     let mut out = MemSink::new(alloc, fails(alloc, &[], puts, keep)?);
-    let status = amber(alloc, texts.as_slice(), &mut folder, &mut out);
+    let mut printed = Printed::new();
+    let status = amber(alloc, texts.as_slice(), &mut folder, &mut out, &mut printed);
     Ok((status, out))
 }
 
