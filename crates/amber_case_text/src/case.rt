@@ -1,4 +1,6 @@
 // A case.
+ghost use Rattle.std.specs.Prelude.{◌≡◌, []};
+
 use crate::case_text::CaseText;
 use std::alloc::Global;
 
@@ -49,7 +51,11 @@ pub struct Case {
 
 impl Case {
     /// A case of this name in which nothing is given.
-    pub fn new(alloc: Global, name: String) -> Case {
+    pub fn new(alloc: Global, name: String) -> Case
+        ensures name { result.name ≡ name }
+        ensures words { result.words.items ≡ [] }
+        ensures files { result.files.items ≡ [] }
+    {
         Case {
             name,
             words: Vec::new(alloc),

@@ -1,4 +1,6 @@
 // A text of a case.
+ghost use Rattle.std.specs.Prelude.{◌≡◌, []};
+
 use std::alloc::{AllocError, Global};
 
 /// A piece of a text.
@@ -24,7 +26,9 @@ pub struct CaseText {
 
 impl CaseText {
     /// The text without a piece.
-    pub fn new(alloc: Global) -> CaseText {
+    pub fn new(alloc: Global) -> CaseText
+        ensures { result.pieces.items ≡ [] }
+    {
         CaseText {
             pieces: Vec::new(alloc),
         }
