@@ -25,9 +25,5 @@ mod scans;
 pub mod script;
 pub mod status;
 pub mod stop;
-#[cfg(test)]
-mod tests;
-#[cfg(test)]
-mod tests_run;
 pub mod words;
 mod work;
