@@ -1,7 +1,7 @@
 // The runs of a case.
 use amber_case_text::{Case, CaseText, Left, compare_answer, compare_bytes};
 use amber_io::{Fails, MemFolder, MemSink, NamedFiles, Numbers};
-use amber_run::amber;
+use amber_run::{Printed, amber};
 use std::alloc::{AllocError, Global};
 
 // What a run has given.
@@ -14,7 +14,8 @@ struct Given {
 
 // Runs the top call: this is the one place that calls it.
 fn call(alloc: Global, words: &[String], mut folder: MemFolder, mut out: MemSink) -> Given {
-    let status = amber(alloc, words, &mut folder, &mut out).code();
+    let mut printed = Printed::new();
+    let status = amber(alloc, words, &mut folder, &mut out, &mut printed).code();
     Given {
         status,
         folder,

@@ -21,7 +21,11 @@ mod keys;
 #[cfg(test)]
 mod ops;
 #[cfg(test)]
+mod plain;
+#[cfg(test)]
 mod records;
+#[cfg(test)]
+mod report;
 #[cfg(test)]
 mod rows;
 #[cfg(test)]
