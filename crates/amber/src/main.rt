@@ -3,13 +3,16 @@
 #![tactic(auto)]
 
 use amber_io::{RealFolder, RealSink};
-use amber_run::{Status, amber};
+use amber_run::{Printed, Status, amber};
 use std::io::ErrorKind;
 use std::process::ExitCode;
 use std::rt::{Env, Files};
-use std::{env, io};
+use std::{env, io, mem};
 
 const VERSION: &str = "amber 0.1.0\n";
+
+// It follows `error 1 usage`, on the standard error.
+const USAGE_HINT: &str = "amber: `amber --help` prints the forms of a call\n";
 
 const HELP: &str = "amber answers queries over CSV files.
 
@@ -17,7 +20,7 @@ const HELP: &str = "amber answers queries over CSV files.
   amber run WORKFLOW SCRIPT LOG THREADS BATCH
                          runs the workflow and prints its answer; what was done is written into the
                          file LOG. A script has no commands yet: it is empty, or has comments. THREADS
-                         is 1 to 64, and BATCH, the rows of a batch, 1 to 65536
+                         is 1 to 64, and changes nothing yet; BATCH, the rows of a batch, is 1 to 65536
   amber --help           prints this text
   amber --version        prints the version
 
@@ -25,7 +28,15 @@ A workflow is a JSON text with a list of operators: scans of CSV files, filters,
 groups and a sink. The answer is the sink's rows in their order, behind their number and the columns'
 names. Records that are no rows are told before it.
 
-Whatever is refused is told in one line on the standard output. The exit code is
+LOG is made anew: what stood in that file is gone. It is none of the files that are read, under whatever
+path or link; such a run ends with 5 and leaves the file as it was.
+
+WORKFLOW and SCRIPT have at most 1 MiB each, and the files of all scans at most 32 MiB together. A query's
+operators give at most 2^40 rows together, and a run makes at most 2^40 steps.
+
+Whatever is refused is told in one line on the standard output, unless that failed: `error`, the exit
+code, a word for what was refused, and then what it was, as in `error 4 read orders.csv` or
+`error 2 flow 1 Header`, which names an operator by its number. The exit code is
 
    0  all was done and printed
    1  the words are no form of a call
@@ -34,10 +45,10 @@ Whatever is refused is told in one line on the standard output. The exit code is
    4  a file was not there, or could not be read
    5  the log could not be written
    6  the output could not be written
-   7  the log was refused
    8  the work went past its limit
    9  a file was too large
   10  memory ran out
+  70  the launcher could not build the program
 ";
 
 fn main(rt: HostRuntime) -> ExitCode {
@@ -53,7 +64,7 @@ fn words<R: Env + AllocGlobal>(rt: &R) -> io::Result<Vec<String>> {
 }
 
 // The words could not be read: memory ran out, or one of them is no text, which no form has.
-fn no_words<R: Files + Print + AllocGlobal>(rt: &R, kind: ErrorKind) -> Status {
+fn no_words<R: Files + Print + Eprint + AllocGlobal>(rt: &R, kind: ErrorKind) -> Status {
     if kind == ErrorKind::OutOfMemory {
         let _ = rt.print("error 10 memory\n");
         return Status::NoMemory;
@@ -61,7 +72,7 @@ fn no_words<R: Files + Print + AllocGlobal>(rt: &R, kind: ErrorKind) -> Status {
     call(rt, &[])
 }
 
-fn answer<R: Files + Print + AllocGlobal>(rt: &R, words: &[String]) -> Status {
+fn answer<R: Files + Print + Eprint + AllocGlobal>(rt: &R, words: &[String]) -> Status {
     if let [word] = words {
         match word.as_str() {
             "--help" => return show(rt, HELP),
@@ -79,8 +90,15 @@ fn show<R: Print>(rt: &R, text: &str) -> Status {
     }
 }
 
-fn call<R: Files + Print + AllocGlobal>(rt: &R, words: &[String]) -> Status {
-    let mut folder = RealFolder::new(rt);
+fn call<R: Files + Print + Eprint + AllocGlobal>(rt: &R, words: &[String]) -> Status {
+    let mut folder = RealFolder::new(rt.alloc(), rt);
     let mut out = RealSink::new(rt);
-    amber(rt.alloc(), words, &mut folder, &mut out)
+    let mut printed = Printed::new();
+    let status = amber(rt.alloc(), words, &mut folder, &mut out, &mut printed);
+    // The program ends, and the system takes the rows back faster than they could be freed one by one.
+    mem::forget(printed);
+    if status == Status::Usage {
+        let _ = rt.eprint(USAGE_HINT);
+    }
+    status
 }

@@ -46,12 +46,12 @@ leg-text : (old new : Estate) (closed : Close) (text : List ℕ) → (leg : Clos
 unfolding IsLastText
 leg-text old new closed text leg last = last old.log.items (end_item leg.parts closed) (ap (λ (e : Estate). e.log.items) leg.is)
 
-pub ends-ok : (old new : Estate) (item reply : List ℕ) (flow : List Operator) → (leg : Closes old new close.Cut) → IsLastText new.log item → flow ≡ new.flow
-    → reply ≡ answer_text flow (answer_in (query_of old) (state_after (query_of old) new.log.items))
-    → EndsAs (Ok (record { item = item; reply = reply })) old new
-ends-ok old new item reply flow leg last flow-is reply-is = (
+pub ends-ok : (old new : Estate) (done : Done) (flow : List Operator) → (leg : Closes old new close.Cut) → IsLastText new.log done.item → flow ≡ new.flow
+    → done.reply ≡ answer_text flow (answer_in (query_of old) (state_after (query_of old) new.log.items))
+    → EndsAs (Ok done) old new
+ends-ok old new done flow leg last flow-is reply-is = (
   leg,
-  leg-text old new close.Cut item leg last,
+  leg-text old new close.Cut done.item leg last,
   reply-is ∙ ap (λ f. answer_text f (answer_in (query_of old) (state_after (query_of old) new.log.items))) (flow-is ∙ ap (λ (e : Estate). e.flow) leg.is),
 )
 

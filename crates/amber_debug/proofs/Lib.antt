@@ -1,2 +1,1 @@
 pub mod Endings
-mod JoinedFlow

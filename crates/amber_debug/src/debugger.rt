@@ -16,7 +16,6 @@ use amber_report::answer_lines;
 use amber_rows::{Bytes, Files, Flow};
 use std::alloc::{AllocError, Global};
 use std::marker::Model;
-use std::mem;
 
 /// A run to which commands are given, seen as a `Session`.
 #[derive(Debug, Drop)]
@@ -61,9 +60,11 @@ fn do_end(alloc: Global, home: &mut Home) -> Result<Done, EndErr>
         Ok(answer) => {
             let item = last_text(alloc, home.log())?;
             let reply = answer_lines(alloc, home.flow(), &answer)?;
-            // Nothing follows the last leg: freeing each row would take longer than printing it.
-            mem::forget(answer.rows);
-            Ok(Done { item, reply })
+            Ok(Done {
+                item,
+                reply,
+                rows: Some(answer.rows),
+            })
         }
         Err(LegErr::Long) => {
             let item = last_text(alloc, home.log())?;

@@ -2,7 +2,7 @@ ghost use Rattle.std.specs.Prelude.{◌≡◌};
 ghost use Rattle.amber_debug.specs.declared.done.DebugErr.TheVariants as debug_err;
 ghost use Rattle.amber_debug.specs.declared.done.EndErr.TheVariants as end_err;
 
-use amber_rows::Bytes;
+use amber_rows::{Bytes, Rows};
 use std::alloc::AllocError;
 
 /// What came of a command.
@@ -12,6 +12,9 @@ pub struct Done {
     pub item: Bytes,
     /// The text that is printed.
     pub reply: Bytes,
+    /// The rows of the answer, where the reply has them. Freeing a million rows takes longer than printing them, so the
+    /// caller may let them go later, or never.
+    pub rows: Option<Rows>,
 }
 
 /// Why a command was not done.

@@ -8,6 +8,3 @@ pub use amber_home::HomeErr;
 pub use debugger::Debugger;
 pub use done::{DebugErr, Done};
 pub use std::alloc::AllocError as NoMemory;
-
-#[cfg(test)]
-mod tests;

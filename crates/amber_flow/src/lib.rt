@@ -21,8 +21,6 @@ mod read;
 mod readers;
 mod scan;
 mod sink;
-#[cfg(test)]
-mod tests;
 
 pub use error::{FlowErr, FlowWhy};
 pub use read::read_flow;

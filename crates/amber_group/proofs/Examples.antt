@@ -1,4 +1,4 @@
--- Groups on literals: the cases of the table of the tests, by their names there.
+-- Groups on literals, each named by what it shows.
 use Rattle.std.specs.Prelude.{⊤}
 use Rattle.std.proofs.Common.{◌≡◌, ℕ, ◌-◌, pos, negsuc, List, [], ◌∷◌, ◌++◌, length, codes, refl}
 use Rattle.amber_rows.specs.Operators.{agg_value, agg_values, first_keys, greatest_of, grouped, least_of, picked, refused_keys, total_of}

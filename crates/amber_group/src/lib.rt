@@ -19,6 +19,3 @@ mod totals;
 pub use finish::Grouped;
 pub use state::GroupState;
 pub use std::alloc::AllocError as NoMemory;
-
-#[cfg(test)]
-mod tests;

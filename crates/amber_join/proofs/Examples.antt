@@ -1,4 +1,4 @@
--- Joins on literals: the cases of the table of the tests, by their names there.
+-- Joins on literals, each named by what it shows.
 use Rattle.std.specs.Prelude.{⊤}
 use Rattle.std.proofs.Common.{◌≡◌, ℕ, ◌-◌, pos, negsuc, List, [], ◌∷◌, length, codes, refl}
 use Rattle.amber_rows.specs.Operators.{first_keys, joined, matches_of, picked}

@@ -15,6 +15,3 @@ pub mod state;
 
 pub use state::JoinState;
 pub use std::alloc::AllocError as NoMemory;
-
-#[cfg(test)]
-mod tests;

@@ -11,6 +11,3 @@ mod lines;
 mod write;
 
 pub use write::{write_head, write_item};
-
-#[cfg(test)]
-mod tests;

@@ -10,6 +10,3 @@ mod key;
 
 pub use key::Key;
 pub use std::alloc::AllocError as NoMemory;
-
-#[cfg(test)]
-mod tests;

@@ -17,6 +17,3 @@ pub use filter::FilterState;
 pub use project::ProjectState;
 pub use sink::SinkState;
 pub use std::alloc::AllocError as NoMemory;
-
-#[cfg(test)]
-mod tests;

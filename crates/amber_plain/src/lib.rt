@@ -11,6 +11,3 @@ mod scan;
 
 pub use evaluator::plain;
 pub use std::alloc::AllocError as NoMemory;
-
-#[cfg(test)]
-mod tests;

@@ -38,8 +38,3 @@ pub use std::alloc::AllocError as NoMemory;
 pub use suiting::suits;
 pub use text::{Bytes, Text};
 pub use value::Value;
-
-#[cfg(test)]
-mod tests;
-#[cfg(test)]
-mod tests_records;

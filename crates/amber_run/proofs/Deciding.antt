@@ -1,5 +1,5 @@
 -- Which status a call ends with.
-use Rattle.std.proofs.Common.{◌≡◌, ℕ, ◌<◌, ◌≤◌, ◌⊎◌, inl, inr, List, [], Option, None, Result, Ok, Err, IsOk, IsSome, refl, arith}
+use Rattle.std.proofs.Common.{◌≡◌, ◌≢◌, ℕ, ◌<◌, ◌≤◌, ◌⊎◌, inl, inr, List, [], Option, None, Result, Ok, Err, IsOk, IsSome, refl, arith}
 use Rattle.amber_io.specs.Counts.{Rose}
 use Rattle.amber_io.specs.Folder.{Named, Told}
 use Rattle.amber_meaning.specs.Legal.{query_over}
@@ -269,3 +269,9 @@ pub writes-grow : (s : Stop) (w x : ℕ) (result : Status) → CountsWrites {A =
 writes-grow s w x result n (inr none) h = inr none
 writes-grow stop.LogFault w x result n (inl is) h = inl is
 writes-grow other w x result n (inl is) h = absurd (omega (arith, n, h))
+
+-- a status other than of a log that failed
+pub log-unasked : (s : Stop) (result : Status) → s ≢ stop.LogFault → (result ≡ status_of s) ⊎ (result ≡ status.NoMemory) → result ≢ status.LogFault
+log-unasked s result other (inr none) e = cc
+log-unasked stop.LogFault result other (inl is) e = other refl
+log-unasked others result other (inl is) e = cc

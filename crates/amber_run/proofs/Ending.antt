@@ -13,7 +13,7 @@ use Rattle.amber_run.specs.Course.{IsLoaded, IsReached, course_of, job_of, limit
 use Rattle.amber_run.specs.Outcome.{AsksNoRun, Breaks, Counts, Ended, IsCause, Refuses, Runs, Stops, Succeeds, Worded}
 use Rattle.amber_run.specs.Standing.{IsBare, IsLeft, Leaves}
 use Rattle.amber_run.specs.Steps.{AreRead, Follows, Names, Tells}
-use Rattle.amber_run.specs.Stop.{line_of, status_of}
+use Rattle.amber_run.specs.Stop.{IsToldAs, line_of, status_of}
 use Rattle.amber_run.specs.Task.{Task, query_at}
 use Rattle.amber_run.specs.Words.{words_of}
 use Rattle.amber_run.specs.Writing.{CountsWrites}
@@ -39,7 +39,7 @@ unfolding course_of
 course-none words files e = rw e refl
 
 -- a job was prepared, and this is said of it
-course-job : (words : List (List ℕ)) (read : Words) (files : Named) (job : Job) (said : Result Job Stop) → words_of words ≡ Some read → job_of read files ≡ Ok job → limited job ≡ said
+pub course-job : (words : List (List ℕ)) (read : Words) (files : Named) (job : Job) (said : Result Job Stop) → words_of words ≡ Some read → job_of read files ≡ Ok job → limited job ≡ said
     → course_of words files ≡ said
 course-job words read files job said e j l = course-read words read files e ∙ then-ok (job_of read files) job limited said j l
 
@@ -135,6 +135,17 @@ pub reached-works : (r : Result (Unit {0}) Stop) (words : List (List ℕ)) (told
 reached-works (Ok u) words told now job before got h = told-all told (λ files. ⊤) (λ files. tt)
 reached-works (Err (stop.ReadFault file)) words told now job before got h = absurd h
 reached-works (Err other) words told now job before got h = told-all told (λ files. ⊤) (λ files. tt)
+
+-- words that were refused, and no job, have nothing to do with the log
+pub words-unlogged : (s : Stop) (words : List (List ℕ)) → AreRead (Err s) (words_of words) → s ≢ stop.LogFault
+words-unlogged stop.LogFault words h e = h
+words-unlogged stop.Usage words h e = cc
+words-unlogged stop.NoMemory words h e = cc
+words-unlogged other words h e = h
+
+pub stop-unlogged : (s : Stop) (told : Option Named) (meant : Named → Result Job Stop) (a b : ℕ) → Follows {A = Job} (Err s) told meant a b → s ≢ stop.LogFault
+stop-unlogged stop.LogFault told meant a b h e = h
+stop-unlogged other told meant a b h e = cc
 
 pub worded-words : (s : Stop) (words : List (List ℕ)) → AreRead (Err s) (words_of words) → Worded {A = Unit {0}} (Err s) words
 worded-words stop.Usage words h = h
@@ -254,12 +265,13 @@ line-whole : (s : Stop) (line rest : List ℕ) (c d e : ℕ) → Counts {A = Uni
 line-whole stop.OutFault line rest c d e n split rose quiet small = no-front line rest split
 line-whole other line rest c d e n split rose quiet small = absurd (unrisen c d e n quiet small rose)
 
-pub ended : (s : Stop) (words : List (List ℕ)) (told now : Option Named) (before mid got : Option (List ℕ)) (a b c d e : ℕ) (result : Status)
-    → Runs {A = Unit {0}} (Err s) words told now before mid a b → Counts {A = Unit {0}} (Err s) c d → Refuses result s mid got d e
-    → Told told (λ files. Names s (IsReached words files)) → Ended words result told now before got a b c e
-ended s words told now before mid got a b c d e result r n (le, begun, inl (same, all, is)) named = record {
+pub ended : (s : Stop) (words : List (List ℕ)) (told now : Option Named) (before mid got : Option (List ℕ)) (a b w x c d e : ℕ) (result : Status)
+    → Runs {A = Unit {0}} (Err s) words told now before mid a b → Counts {A = Unit {0}} (Err s) c d → Refuses result s mid got d e → IsToldAs s result
+    → Told told (λ files. Names s (IsReached words files))
+    → Ended words result (record { files = told; got = before; loads = a; writes = w; puts = c }) (record { files = now; got = got; loads = b; writes = x; puts = e })
+ended s words told now before mid got a b w x c d e result r n (le, begun, inl (same, all, is)) tells named = record {
   cause = s;
-  answer = inl is;
+  answer = tells;
   line = line_of s;
   rest = [];
   split = append-nil (line_of s);
@@ -267,9 +279,9 @@ ended s words told now before mid got a b c d e result r n (le, begun, inl (same
   left = stops-on s words (line_of s) [] told now before mid got a b (append-nil (line_of s)) all r;
   named = named;
 }
-ended s words told now before mid got a b c d e result r n (le, begun, inr (inl (same, none))) named = record {
+ended s words told now before mid got a b w x c d e result r n (le, begun, inr (inl (same, none))) tells named = record {
   cause = s;
-  answer = inr none;
+  answer = tells;
   line = begun.0;
   rest = begun.1;
   split = begun.2;
@@ -277,9 +289,9 @@ ended s words told now before mid got a b c d e result r n (le, begun, inr (inl 
   left = stops-on s words begun.0 begun.1 told now before mid got a b begun.2 begun.3 r;
   named = named;
 }
-ended s words told now before mid got a b c d e result r n (le, begun, inr (inr (rose, is))) named = record {
+ended s words told now before mid got a b w x c d e result r n (le, begun, inr (inr (rose, is))) tells named = record {
   cause = s;
-  answer = inl is;
+  answer = tells;
   line = begun.0;
   rest = begun.1;
   split = begun.2;

@@ -25,6 +25,11 @@ pub told-both : (told : Option Named) (P Q R : Named → Type 0) → ((files : N
 told-both None P Q R h p q = tt
 told-both (Some files) P Q R h p q = h files p q
 
+pub told-three : (told : Option Named) (P Q R S : Named → Type 0) → ((files : Named) → P files → Q files → R files → S files)
+    → Told told P → Told told Q → Told told R → Told told S
+told-three None P Q R S h p q r = tt
+told-three (Some files) P Q R S h p q r = h files p q r
+
 pub tells-map : (told : Option Named) (P Q : Named → Type 0) → ((files : Named) → P files → Q files) → Tells told P → Tells told Q
 tells-map None P Q h p = p
 tells-map (Some files) P Q h p = h files p
@@ -188,7 +193,7 @@ names-map other P Q f h = tt
 
 -- the workflow was read, so one of its scans is named
 pub scan-named : (s : Stop) (told : Option Named) (name : List ℕ) (flow : List Operator) → Told told (λ files. workflow_in name files ≡ Ok flow)
-    → Names s (IsScanFile flow) → Told told (λ files. Names s (IsScanned name files))
+    → Told told (λ files. Names s (IsScanFile flow files)) → Told told (λ files. Names s (IsScanned name files))
 scan-named s told name flow reads h =
-    told-map told (λ files. workflow_in name files ≡ Ok flow) (λ files. Names s (IsScanned name files))
-    (λ files e. names-map s (IsScanFile flow) (IsScanned name files) (λ file is. (flow, e, is)) h) reads
+    told-both told (λ files. workflow_in name files ≡ Ok flow) (λ files. Names s (IsScanFile flow files)) (λ files. Names s (IsScanned name files))
+    (λ files e one. names-map s (IsScanFile flow files) (IsScanned name files) (λ file is. (flow, e, is)) one) reads h

@@ -8,3 +8,4 @@ pub mod Ending
 pub mod Working
 pub mod Finishing
 pub mod Deciding
+pub mod Longing

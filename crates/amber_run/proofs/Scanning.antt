@@ -1,6 +1,6 @@
 -- A walk over the operators that loads the files of the scans.
-use Rattle.std.proofs.Common.{◌≡◌, ℕ, ◌+◌, ◌-◌, ◌<◌, ◌≤◌, List, [], ◌∷◌, ◌++◌, length, get_or, drop, Bool, true, false, cond, Option, None, Some, Result, Ok, Err, refl, sym, ap, ◌∙◌, append_assoc, zero-add, arith}
-use Rattle.std.proofs.lemmas.List.{append-nil, drop_all, drop_more, length_push}
+use Rattle.std.proofs.Common.{◌≡◌, ℕ, ◌+◌, ◌-◌, ◌<◌, ◌≤◌, List, [], ◌∷◌, ◌++◌, length, get_or, drop, take, Bool, true, false, cond, Option, None, Some, Result, Ok, Err, IsOk, refl, sym, ap, ◌∙◌, append_assoc, zero-add, arith}
+use Rattle.std.proofs.lemmas.List.{append-nil, drop_all, drop_more, length_push, take-append-drop, take_more}
 use Rattle.std.proofs.lemmas.List.Sums.{sum_by-cons}
 use Rattle.std.specs.Result.{IfOk}
 use Rattle.amber_io.specs.Folder.{Named, Told}
@@ -11,12 +11,12 @@ use Rattle.amber_rows.specs.declared.flow.What.TheVariants as what
 use Rattle.amber_rows.specs.declared.flow.Operator.{Operator}
 use Rattle.amber_meaning.specs.Plain.{is_scan, scan_count, wrong_header}
 use Rattle.amber_run.specs.Answering.{AreInputs}
-use Rattle.amber_run.specs.Course.{file_before, headed, scan_before, scan_file, scans_from, then_on}
-use Rattle.amber_run.specs.Steps.{Follows, Judges, Tells}
+use Rattle.amber_run.specs.Course.{IsScanFile, file_before, headed, most_scanned, scan_before, scan_file, scans_from, scans_of, then_on}
+use Rattle.amber_run.specs.Steps.{Follows, Judges, Names, Tells}
 use Rattle.amber_run.specs.declared.stop.Reason.TheVariants as reason
 use Rattle.amber_run.specs.declared.stop.Stop.{Stop}
 use Rattle.amber_run.specs.declared.stop.Stop.TheVariants as stop
-use Rattle.amber_run.proofs.Following.{stopped-map, tells-both, told-both}
+use Rattle.amber_run.proofs.Following.{names-map, stopped-map, tells-both, told-both, told-map}
 
 -- files that were loaded, before those of later scans
 abbrev pub after_files : List (List ℕ) → Result (List (List ℕ)) Stop → Result (List (List ℕ)) Stop
@@ -48,17 +48,68 @@ scan-is : (op left : ℕ) (w : What) (name : List ℕ) (columns : List Column) (
     → scan_before op left w columns files later ≡ then_on (scan_file op left name columns files) (λ bytes. file_before bytes (later (left - length bytes)))
 scan-is op left w name columns files later e = rw e refl
 
+-- what the first operators give, whatever comes behind them: their scans' files, and then those of later scans
+abbrev pub IsWalked : List Operator → ℕ → ℕ → List (List ℕ) → Named → Type 0
+IsWalked ops i left done files = (behind : List Operator) → scans_of (take i ops ++ behind) files ≡ after_files done (scans_from (i + 1) left behind files)
+
+pub walk-none : (ops : List Operator) (files : Named) → IsWalked ops 0 most_scanned [] files
+unfolding scans_of
+walk-none ops files behind = after-none (scans_from 1 most_scanned behind files)
+
+take-here : (ops behind : List Operator) (i : ℕ) (o : Operator) → i < length ops → o ≡ get_or ops i o → take (i + 1) ops ++ behind ≡ take i ops ++ o ∷ behind
+take-here ops behind i o h is =
+    ap (λ front. front ++ behind) (take_more ops i o h ∙ ap (λ x. take i ops ++ x ∷ []) (sym is)) ∙ append_assoc (take i ops) (o ∷ []) behind
+
+-- the next operator, before any others
+step-before : (i left : ℕ) (o : Operator) (behind : List Operator) (files : Named)
+    → scans_from (i + 1) left (o ∷ behind) files ≡ scan_before (i + 1) left o.what o.schema files (λ rest. scans_from (i + 1 + 1) rest behind files)
+unfolding scans_from
+step-before i left o behind files = refl
+
 -- a scan whose file was loaded
-pub scan-next : (ops : List Operator) (i left : ℕ) (o : Operator) (name bytes : List ℕ) (done : List (List ℕ)) (whole : Named → Result (List (List ℕ)) Stop) (told : Option Named)
+walk-scan : (ops : List Operator) (i left : ℕ) (o : Operator) (name bytes : List ℕ) (done : List (List ℕ)) (files : Named)
+    → i < length ops → o ≡ get_or ops i o → o.what ≡ what.Scan name → scan_file (i + 1) left name o.schema files ≡ Ok bytes
+    → IsWalked ops i left done files → IsWalked ops (i + 1) (left - length bytes) (done ++ bytes ∷ []) files
+walk-scan ops i left o name bytes done files h is w load sofar behind =
+    ap (λ walked. scans_of walked files) (take-here ops behind i o h is) ∙ sofar (o ∷ behind)
+    ∙ rw (step-before i left o behind files, scan-is (i + 1) left o.what name o.schema files (λ rest. scans_from (i + 1 + 1) rest behind files) w, load)
+    (after-one done bytes (scans_from (i + 1 + 1) (left - length bytes) behind files))
+
+pub scan-next : (ops : List Operator) (i left : ℕ) (o : Operator) (name bytes : List ℕ) (done : List (List ℕ)) (told : Option Named)
     → i < length ops → o ≡ get_or ops i o → o.what ≡ what.Scan name → Told told (λ files. scan_file (i + 1) left name o.schema files ≡ Ok bytes)
-    → Told told (λ files. whole files ≡ after_files done (scans_at ops i left files))
-    → Told told (λ files. whole files ≡ after_files (done ++ bytes ∷ []) (scans_at ops (i + 1) (left - length bytes) files))
-scan-next ops i left o name bytes done whole told h is w =
-    told-both told (λ files. scan_file (i + 1) left name o.schema files ≡ Ok bytes) (λ files. whole files ≡ after_files done (scans_at ops i left files))
-    (λ files. whole files ≡ after_files (done ++ bytes ∷ []) (scans_at ops (i + 1) (left - length bytes) files))
-    (λ files load sofar. sofar
-    ∙ rw (step-at ops i left o files h is, scan-is (i + 1) left o.what name o.schema files (λ rest. scans_at ops (i + 1) rest files) w, load)
-    (after-one done bytes (scans_at ops (i + 1) (left - length bytes) files)))
+    → Told told (IsWalked ops i left done) → Told told (IsWalked ops (i + 1) (left - length bytes) (done ++ bytes ∷ []))
+scan-next ops i left o name bytes done told h is w =
+    told-both told (λ files. scan_file (i + 1) left name o.schema files ≡ Ok bytes) (IsWalked ops i left done) (IsWalked ops (i + 1) (left - length bytes) (done ++ bytes ∷ []))
+    (λ files load sofar. walk-scan ops i left o name bytes done files h is w load sofar)
+
+-- what the whole workflow gives
+pub walked-all : (ops : List Operator) (i left : ℕ) (done : List (List ℕ)) (told : Option Named) → Told told (IsWalked ops i left done)
+    → Told told (λ files. scans_of ops files ≡ after_files done (scans_at ops i left files))
+walked-all ops i left done told =
+    told-map told (IsWalked ops i left done) (λ files. scans_of ops files ≡ after_files done (scans_at ops i left files))
+    (λ files walked. ap (λ all. scans_of all files) (sym (take-append-drop i ops)) ∙ walked (drop i ops))
+
+-- the scans before this operator are right
+front-right : (ops : List Operator) (i left : ℕ) (done : List (List ℕ)) (files : Named) → IsWalked ops i left done files → IsOk (scans_of (take i ops) files)
+unfolding scans_from
+front-right ops i left done files walked =
+    let whole : scans_of (take i ops) files ≡ Ok (done ++ []) = ap (λ all. scans_of all files) (sym (append-nil (take i ops))) ∙ walked [] in
+    rw whole refl
+
+-- the file of a scan that was not loaded
+pub scan-names : (s : Stop) (ops : List Operator) (i left : ℕ) (o : Operator) (file : List ℕ) (done : List (List ℕ)) (told : Option Named)
+    → i < length ops → o ≡ get_or ops i o → o.what ≡ what.Scan file → Told told (IsWalked ops i left done) → Names s (λ name. name ≡ file)
+    → Told told (λ files. Names s (IsScanFile ops files))
+scan-names s ops i left o file done told h is w walked named =
+    told-map told (IsWalked ops i left done) (λ files. Names s (IsScanFile ops files))
+    (λ files one. names-map s (λ name. name ≡ file) (IsScanFile ops files) (λ name same. record {
+      front = take i ops;
+      operator = o;
+      behind = drop (i + 1) ops;
+      split = sym (take-append-drop i ops) ∙ ap (λ rest. take i ops ++ rest) (drop-here ops i o h is);
+      names = rw same w;
+      right = front-right ops i left done files one;
+    }) named) walked
 
 scan-stops : (ops : List Operator) (i left : ℕ) (o : Operator) (name : List ℕ) (done : List (List ℕ)) (whole : Result (List (List ℕ)) Stop) (s : Stop) (files : Named)
     → i < length ops → o ≡ get_or ops i o → o.what ≡ what.Scan name → scan_file (i + 1) left name o.schema files ≡ Err s
@@ -84,13 +135,16 @@ scan-skips op left (what.Scan name) columns files later h = cc
 scan-skips op left other columns files later h = refl
 
 -- an operator that is no scan
-pub scan-skip : (ops : List Operator) (i left : ℕ) (o : Operator) (done : List (List ℕ)) (whole : Named → Result (List (List ℕ)) Stop) (told : Option Named)
-    → i < length ops → o ≡ get_or ops i o → is_scan o.what ≡ false
-    → Told told (λ files. whole files ≡ after_files done (scans_at ops i left files))
-    → Told told (λ files. whole files ≡ after_files done (scans_at ops (i + 1) left files))
-scan-skip ops i left o done whole None h is w sofar = tt
-scan-skip ops i left o done whole (Some files) h is w sofar =
-    rw (step-at ops i left o files h is, scan-skips (i + 1) left o.what o.schema files (λ rest. scans_at ops (i + 1) rest files) w) at sofar
+walk-skip : (ops : List Operator) (i left : ℕ) (o : Operator) (done : List (List ℕ)) (files : Named) → i < length ops → o ≡ get_or ops i o → is_scan o.what ≡ false
+    → IsWalked ops i left done files → IsWalked ops (i + 1) left done files
+walk-skip ops i left o done files h is w sofar behind =
+    ap (λ walked. scans_of walked files) (take-here ops behind i o h is) ∙ sofar (o ∷ behind)
+    ∙ rw (step-before i left o behind files, scan-skips (i + 1) left o.what o.schema files (λ rest. scans_from (i + 1 + 1) rest behind files) w) refl
+
+pub scan-skip : (ops : List Operator) (i left : ℕ) (o : Operator) (done : List (List ℕ)) (told : Option Named)
+    → i < length ops → o ≡ get_or ops i o → is_scan o.what ≡ false → Told told (IsWalked ops i left done) → Told told (IsWalked ops (i + 1) left done)
+scan-skip ops i left o done told h is w =
+    told-map told (IsWalked ops i left done) (IsWalked ops (i + 1) left done) (λ files sofar. walk-skip ops i left o done files h is w sofar)
 
 -- past the last operator
 pub scan-end : (ops : List Operator) (i left : ℕ) (done : List (List ℕ)) (whole : Named → Result (List (List ℕ)) Stop) (told : Option Named) → length ops ≤ i

@@ -1,5 +1,5 @@
 -- From a job to what is printed.
-use Rattle.std.proofs.Common.{◌≡◌, ℕ, ◌<◌, ◌≤◌, List, nat_le, Bool, true, false, cond, Option, Result, Ok, Err, inl, inr, refl, arith}
+use Rattle.std.proofs.Common.{◌≡◌, ◌≢◌, ℕ, ◌<◌, ◌≤◌, List, nat_le, Bool, true, false, cond, Option, Result, Ok, Err, inl, inr, refl, arith}
 use Rattle.std.proofs.lemmas.Bool.Decides.{nat_tests}
 use Rattle.amber_io.specs.Folder.{Named}
 use Rattle.amber_rows.specs.declared.flow.Operator.{Operator}
@@ -62,6 +62,10 @@ works-stop other flow files told got h = absurd (let e = (cut-err (nat_le (row_t
 pub judged-counts : (s : Stop) (meant : Result (List ℕ) Stop) (n : ℕ) → Judges {A = List ℕ} (Err s) meant → Counts {A = Unit {0}} (Err s) n n
 judged-counts stop.OutFault meant n h = absurd h
 judged-counts other meant n h = refl
+
+pub judged-unlogged : (s : Stop) (meant : Result (List ℕ) Stop) → Judges {A = List ℕ} (Err s) meant → s ≢ stop.LogFault
+judged-unlogged stop.LogFault meant h e = h
+judged-unlogged other meant h e = cc
 
 pub judged-writes : (s : Stop) (meant : Result (List ℕ) Stop) (n : ℕ) → Judges {A = List ℕ} (Err s) meant → CountsWrites {A = Unit {0}} (Err s) n n
 judged-writes stop.LogFault meant n h = absurd h

@@ -1,5 +1,5 @@
 -- The course of a call: its first refusal in the order of work, or the job to do. It is judged over the words and the files alone.
-use Rattle.std.specs.Prelude.{◌≡◌, ℕ, ◌+◌, ◌-◌, ◌^◌, ◌⊎◌, nat_le, Contains, List, [], ◌∷◌, length, bytes_eq, Bool, false, Option, Some, None, Result, Ok, Err, if◌then◌else◌}
+use Rattle.std.specs.Prelude.{◌≡◌, ℕ, ◌+◌, ◌-◌, ◌^◌, ◌⊎◌, nat_le, List, [], ◌∷◌, ◌++◌, length, bytes_eq, Bool, false, Option, Some, None, Result, Ok, Err, IsOk, if◌then◌else◌}
 use Rattle.std.specs.FinMap as finmap
 use Rattle.amber_io.specs.Folder.{Named}
 use Rattle.amber_rows.specs.Record.{has_header}
@@ -14,6 +14,7 @@ use Rattle.amber_run.specs.Script.{first_said, script_read}
 use Rattle.amber_run.specs.Words.{words_of}
 use Rattle.amber_run.specs.declared.job.Job.{Job}
 use Rattle.amber_run.specs.declared.job.Job.TheVariants as job
+use Rattle.amber_run.specs.declared.words.RunWords.{RunWords}
 use Rattle.amber_run.specs.declared.words.Words.{Words}
 use Rattle.amber_run.specs.declared.words.Words.TheVariants as form
 use Rattle.amber_run.specs.declared.stop.Reason.TheVariants as reason
@@ -139,22 +140,28 @@ course_of words files = then_on (words_read (words_of words)) (λ read. then_on 
 
 -- ---- the files that the order of work loads
 
--- the file of one of these operators, which is a scan
-abbrev pub IsScanFile : List Operator → List ℕ → Type 0
-IsScanFile flow file = (operator : Operator) × Contains flow operator × (operator.what ≡ what.Scan file)
+-- the file of a scan among these operators, where the files of the scans before it are there and right
+pub record IsScanFile (flow : List Operator) (files : Named) (file : List ℕ) : Type 0 where
+  pub front : List Operator
+  pub operator : Operator
+  pub behind : List Operator
+  pub split : flow ≡ front ++ operator ∷ behind
+  pub names : operator.what ≡ what.Scan file
+  pub right : IsOk (scans_of front files)
 
 -- the file of a scan of the workflow, where it is one
 abbrev pub IsScanned : List ℕ → Named → List ℕ → Type 0
-IsScanned workflow files file = (flow : List Operator) × (workflow_in workflow files ≡ Ok flow) × IsScanFile flow file
+IsScanned workflow files file = (flow : List Operator) × (workflow_in workflow files ≡ Ok flow) × IsScanFile flow files file
 
 -- the script of a run, where its workflow stands, and the file of a scan of it, where the script stands too
-abbrev pub IsBehind : List ℕ → List ℕ → List ℕ → Named → List ℕ → Type 0
-IsBehind workflow script log files file =
-    (flow : List Operator) × (run_flow workflow log files ≡ Ok flow) × ((file ≡ script) ⊎ ((script_in script files ≡ Ok tt) × IsScanFile flow file))
+abbrev pub IsBehind : RunWords → Named → List ℕ → Type 0
+IsBehind words files file = (flow : List Operator) × (run_flow words.workflow words.log files ≡ Ok flow)
+    × ((file ≡ words.script) ⊎ ((script_in words.script files ≡ Ok tt) × IsScanFile flow files file))
 
 abbrev pub IsLoaded : Words → Named → List ℕ → Type 0
 IsLoaded (form.Plain workflow) files file = (file ≡ workflow) ⊎ IsScanned workflow files file
-IsLoaded (form.Run words) files file = (file ≡ words.workflow) ⊎ IsBehind words.workflow words.script words.log files file
+IsLoaded (form.Run words) files file = (file ≡ words.workflow) ⊎ IsBehind words files file
 
+-- a file that the order of work reaches: what comes before it is there and right
 abbrev pub IsReached : List (List ℕ) → Named → List ℕ → Type 0
 IsReached words files file = (read : Words) × (words_of words ≡ Some read) × IsLoaded read files file

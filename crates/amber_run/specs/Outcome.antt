@@ -1,19 +1,22 @@
 -- What the status of a call says, and what the call leaves.
-use Rattle.std.specs.Prelude.{◌≡◌, ◌≢◌, ℕ, ◌-◌, ◌^◌, ◌<◌, ◌≤◌, ◌⊎◌, List, [], ◌++◌, Option, None, Some, Result, Ok, Err, IsSome, ⊤}
+use Rattle.std.specs.Prelude.{◌≡◌, ◌≢◌, ℕ, ◌-◌, ◌^◌, ◌<◌, ◌≤◌, ◌⊎◌, List, [], ◌++◌, Option, None, Some, Result, Ok, Err, IsSome, true, false, ◌↔◌, ⊤}
 use Rattle.std.specs.Io.KnownBytes.{Appends}
 use Rattle.amber_io.specs.Counts.{Rose}
-use Rattle.amber_io.specs.Folder.{Named, Told}
+use Rattle.amber_io.specs.Folder.{Named, Told, with_file}
 use Rattle.amber_io.specs.Sink.{Begins}
+use Rattle.amber_log.specs.ReadAs.{IsReadAs}
+use Rattle.amber_log.specs.declared.log.Log.{Log}
 use Rattle.amber_meaning.specs.Legal.{query_over}
+use Rattle.amber_meaning.specs.Plain.{row_total}
 use Rattle.amber_meaning.specs.Total.{step_total}
 use Rattle.amber_run.specs.Answering.{BreaksOff, Fulfils, IsUntouched}
-use Rattle.amber_run.specs.Course.{IsReached, course_of}
-use Rattle.amber_run.specs.Task.{most_steps}
+use Rattle.amber_run.specs.Course.{IsReached, course_of, job_of, most_rows}
+use Rattle.amber_run.specs.Task.{ends_long, most_steps}
 use Rattle.amber_run.specs.Words.{words_of}
 use Rattle.amber_run.specs.declared.job.Job.{Job}
 use Rattle.amber_run.specs.declared.job.Job.TheVariants as job
 use Rattle.amber_run.specs.Steps.{Names, Stopped, Tells}
-use Rattle.amber_run.specs.Stop.{line_of, status_of}
+use Rattle.amber_run.specs.Stop.{IsToldAs, line_of, status_of}
 use Rattle.amber_run.specs.declared.status.Status.{Status}
 use Rattle.amber_run.specs.declared.status.Status.TheVariants as status
 use Rattle.amber_run.specs.declared.stop.Stop.{Stop}
@@ -67,6 +70,30 @@ AsksNoRun None = ⊤
 AsksNoRun (Some (form.Plain workflow)) = ⊤
 AsksNoRun (Some (form.Run words)) = ⊥
 
+-- the words ask for this job, and all that is loaded for it is there and right
+abbrev pub AsksFor : List (List ℕ) → Named → Job → Type 0
+AsksFor words files job = (read : Words) × (words_of words ≡ Some read) × (job_of read files ≡ Ok job)
+
+-- ---- `Long`
+
+-- a file reads as this log, and all others are as before
+abbrev pub Holds : Option Named → Option Named → List ℕ → Log → Type 0
+Holds told now name log = (bytes : List ℕ) × (now ≡ with_file told name bytes) × IsReadAs bytes log
+
+-- the status is `Long` where this holds, and only there, but for want of memory
+abbrev pub IsLongWhere : Status → Type 0 → Type 0
+IsLongWhere result P = (result ≡ status.NoMemory) ⊎ ((result ≡ status.Long) ↔ P)
+
+-- LOG reads as a log, and the status is `Long` where the last leg of it closes with `long`, and only there
+abbrev pub RunsLong : Status → Option Named → Option Named → List ℕ → Type 0
+RunsLong result told now name =
+    (result ≡ status.NoMemory) ⊎ ((log : Log) × Holds told now name log × ((result ≡ status.Long) ↔ (ends_long false log.items ≡ true)))
+
+-- when a job is too long: `plain` where the operators give more rows than they may, a run where its log says so
+abbrev pub TellsLong : Job → Status → Option Named → Option Named → Type 0
+TellsLong (job.Plain flow files) result told now = IsLongWhere result (most_rows < row_total flow files)
+TellsLong (job.Run flow files log threads batch) result told now = RunsLong result told now log
+
 -- ---- what a call leaves
 
 -- the course has a job, and it is done
@@ -91,18 +118,26 @@ Stops words stop.Long line told now before got old new =
 Stops words stop.NoMemory line told now before got old new = IsUntouched line told now before got ⊎ ((new ≡ old) × Breaks words stop.NoMemory line told now before got)
 Stops words other line told now before got old new = IsCause words told other old new × IsUntouched line told now before got
 
--- why a call did not end with `Ok`, and what it left; a file in the line is one that the order of work loads, and the line is whole
+-- what the folder and the sink show: the files, what was put, and how many loads, writes and puts failed
+pub record World : Type 0 where
+  pub files : Option Named
+  pub got : Option (List ℕ)
+  pub loads : ℕ
+  pub writes : ℕ
+  pub puts : ℕ
+
+-- why a call did not end with `Ok`, and what it left; a file in the line is one that the order of work reaches, and the line is whole
 -- unless the sink failed or memory ran out
-pub record Ended (words : List (List ℕ)) (result : Status) (told now : Option Named) (before got : Option (List ℕ)) (loads loads_now faults faults_now : ℕ) : Type 0 where
+pub record Ended (words : List (List ℕ)) (result : Status) (old new : World) : Type 0 where
   pub cause : Stop
-  pub answer : (result ≡ status_of cause) ⊎ (result ≡ status.NoMemory)
+  pub answer : IsToldAs cause result
   -- what was put of the cause's line, and what was not
   pub line : List ℕ
   pub rest : List ℕ
   pub split : line ++ rest ≡ line_of cause
-  pub whole : result ≢ status.NoMemory → faults_now ≡ faults → faults < 2 ^ 64 - 1 → line ≡ line_of cause
-  pub left : Stops words cause line told now before got loads loads_now
-  pub named : Told told (λ files. Names cause (IsReached words files))
+  pub whole : result ≢ status.NoMemory → new.puts ≡ old.puts → old.puts < 2 ^ 64 - 1 → line ≡ line_of cause
+  pub left : Stops words cause line old.files new.files old.got new.got old.loads new.loads
+  pub named : Told old.files (λ files. Names cause (IsReached words files))
 
 -- ---- the steps of a call
 

@@ -1,5 +1,5 @@
 -- The status and the error line of a call that ended early.
-use Rattle.std.specs.Prelude.{ℕ, List, [], ◌++◌, codes}
+use Rattle.std.specs.Prelude.{◌≡◌, ◌⊎◌, ℕ, List, [], ◌++◌, codes}
 use Rattle.std.specs.Fmt.{decimal}
 use Rattle.amber_flow.specs.Words.{why_word}
 use Rattle.amber_run.specs.declared.script.ScriptWhy.{ScriptWhy}
@@ -21,6 +21,11 @@ status_of stop.OutFault = status.OutFault
 status_of stop.Long = status.Long
 status_of (stop.TooLarge name) = status.TooLarge
 status_of stop.NoMemory = status.NoMemory
+
+-- the status that tells a stop. Want of memory may stand in for any, but not for a sink that failed
+abbrev pub IsToldAs : Stop → Status → Type 0
+IsToldAs stop.OutFault result = result ≡ status.OutFault
+IsToldAs other result = (result ≡ status_of other) ⊎ (result ≡ status.NoMemory)
 
 -- ---- error lines
 

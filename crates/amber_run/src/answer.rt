@@ -1,4 +1,4 @@
-ghost use Rattle.std.specs.Prelude.{◌≡◌, ℕ, Option};
+ghost use Rattle.std.specs.Prelude.{◌≡◌, ◌≢◌, ℕ, IfErr, Option};
 ghost use Rattle.amber_io.specs.Folder.{Named};
 ghost use Rattle.amber_run.specs.Answering.{AreInputs, IsAnswer, IsPlain, IsReady, Works, text_of};
 ghost use Rattle.amber_run.specs.Outcome.{Counts};
@@ -6,6 +6,7 @@ ghost use Rattle.amber_run.specs.Steps.{Judges};
 ghost use Rattle.amber_run.specs.Writing.{CountsWrites};
 
 use crate::job::Job;
+use crate::printed::Printed;
 use crate::refusal::put_output;
 use crate::stop::Stop;
 use crate::work::work;
@@ -15,7 +16,6 @@ use amber_plain::plain;
 use amber_report::answer_lines;
 use amber_rows::{Bytes, Files, Flow};
 use std::alloc::Global;
-use std::mem;
 
 // How many rows all operators may give together.
 const MOST_ROWS: u64 = 1 << 40;
@@ -35,25 +35,36 @@ fn query(alloc: Global, flow: &Flow, files: &Files) -> Result<Answer, Stop>
 }
 
 // The text of the sequential answer.
-fn answer_text(alloc: Global, flow: &Flow, files: &Files) -> Result<Bytes, Stop>
+fn answer_text(
+    alloc: Global,
+    flow: &Flow,
+    files: &Files,
+    printed: &mut Printed,
+) -> Result<Bytes, Stop>
     requires { AreInputs flow.now files.now }
     ensures { Judges result (text_of flow.now files.now) }
 {
     let answer = query(alloc, flow, files)?;
     let text = answer_lines(alloc, flow, &answer)?;
-    // The program is about to end, so the rows are not freed one by one.
-    mem::forget(answer.rows);
+    printed.keep(Some(answer.rows));
     Ok(text)
 }
 
 // Prints the sequential answer.
-fn print_answer<O: Sink>(alloc: Global, flow: &Flow, files: &Files, out: &mut O) -> Result<(), Stop>
+fn print_answer<O: Sink>(
+    alloc: Global,
+    flow: &Flow,
+    files: &Files,
+    out: &mut O,
+    printed: &mut Printed,
+) -> Result<(), Stop>
     requires { AreInputs flow.now files.now }
     ensures works { (told : Option Named) → Works result (Job.Plain flow.now files.now) told told (O.written out.old) (O.written out.new) }
     ensures puts { Counts result (O.faults out.old) (O.faults out.new) }
+    ensures unlogged { IfErr result (λ stop. stop ≢ Stop.LogFault) }
     ensures still { (writes : ℕ) → CountsWrites result writes writes }
 {
-    let text = answer_text(alloc, flow, files)?;
+    let text = answer_text(alloc, flow, files, printed)?;
     put_output(out, text.get())?;
     Ok(())
 }
@@ -64,6 +75,7 @@ pub(crate) fn do_job<F: Folder, O: Sink>(
     job: Job,
     folder: &mut F,
     out: &mut O,
+    printed: &mut Printed,
 ) -> Result<(), Stop>
     requires { IsReady job }
     ensures works { Works result job (F.files folder.old) (F.files folder.new) (O.written out.old) (O.written out.new) }
@@ -72,15 +84,26 @@ pub(crate) fn do_job<F: Folder, O: Sink>(
     ensures loads { F.load_faults folder.new ≡ F.load_faults folder.old }
     ensures same { IsPlain job → F.files folder.new ≡ F.files folder.old }
     ensures idle { IsPlain job → F.write_faults folder.new ≡ F.write_faults folder.old }
+    ensures unlogged { IsPlain job → IfErr result (λ stop. stop ≢ Stop.LogFault) }
 {
     match job {
-        Job::Plain { flow, files } => print_answer(alloc, &flow, &files, out),
+        Job::Plain { flow, files } => print_answer(alloc, &flow, &files, out, printed),
         Job::Run {
             flow,
             files,
             log,
             threads,
             batch,
-        } => work(alloc, flow, files, log.get(), threads, batch, folder, out),
+        } => work(
+            alloc,
+            flow,
+            files,
+            log.get(),
+            threads,
+            batch,
+            folder,
+            out,
+            printed,
+        ),
     }
 }

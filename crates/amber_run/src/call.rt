@@ -2,13 +2,15 @@ ghost use Rattle.std.specs.Prelude.{◌≡◌, ◌≢◌, ◌<◌, ◌⊎◌, ma
 ghost use Rattle.amber_io.specs.Counts.{Rose};
 ghost use Rattle.amber_io.specs.Folder.{Told};
 ghost use Rattle.amber_run.specs.Course.{IsReached, course_of};
-ghost use Rattle.amber_run.specs.Outcome.{Answers, AsksNoRun, Counts, Ended, IsSinkStatus, IsWithin, Runs, Succeeds, Worded};
+ghost use Rattle.amber_run.specs.Outcome.{Answers, AsksFor, AsksNoRun, Counts, Ended, IsSinkStatus, IsWithin, Runs, Succeeds, TellsLong, Worded};
 ghost use Rattle.amber_run.specs.Steps.{Names, Tells};
 ghost use Rattle.amber_run.specs.Words.{words_of};
 ghost use Rattle.amber_run.specs.Writing.{CountsWrites};
 
 use crate::answer::do_job;
+use crate::job::Job;
 use crate::prepare::prepare;
+use crate::printed::Printed;
 use crate::refusal::refuse;
 use crate::status::Status;
 use crate::stop::Stop;
@@ -21,6 +23,7 @@ fn run<F: Folder, O: Sink>(
     words: &[String],
     folder: &mut F,
     out: &mut O,
+    printed: &mut Printed,
 ) -> Result<(), Stop>
     ensures ran { Runs result (map string_bytes words.now) (F.files folder.old) (F.files folder.new) (O.written out.old) (O.written out.new)
         (F.load_faults folder.old) (F.load_faults folder.new) }
@@ -29,11 +32,13 @@ fn run<F: Folder, O: Sink>(
     ensures writes { CountsWrites result (F.write_faults folder.old) (F.write_faults folder.new) }
     ensures words { Worded result (map string_bytes words.now) }
     ensures same { AsksNoRun (words_of (map string_bytes words.now)) → F.files folder.new ≡ F.files folder.old }
+    ensures unlogged { AsksNoRun (words_of (map string_bytes words.now))
+        → IfErr result (λ stop. stop ≢ Stop.LogFault) }
     ensures idle { AsksNoRun (words_of (map string_bytes words.now)) → F.write_faults folder.new ≡ F.write_faults folder.old }
 {
     let words = read_words(alloc, words)?;
     let job = prepare(alloc, words, folder)?;
-    do_job(alloc, job, folder, out)
+    do_job(alloc, job, folder, out, printed)
 }
 
 /// Does what the words after the program's name say.
@@ -51,22 +56,38 @@ fn run<F: Folder, O: Sink>(
 /// head in one call; then, for each command, the item is appended in one call, and the reply is put in one call. A
 /// leg that comes to 2^40 steps is appended before the call ends with `Long`.
 ///
+/// The rows of an answer that was printed stay in `printed`, for the caller to let go.
+///
 /// The first refusal ends the call. After one other than `OutFault` a line is put that tells it, in pieces and
 /// without taking memory; after a put that was refused nothing more is put. No file but LOG is changed.
 ///
 /// # Errors
 ///
-/// `NoMemory` may come at any point, and may then stand in for any other refusal.
+/// `NoMemory` may come at any point, and may then stand in for any other refusal but `OutFault`.
 pub fn amber<F: Folder, O: Sink>(
     alloc: Global,
     words: &[String],
     folder: &mut F,
     out: &mut O,
+    printed: &mut Printed,
 ) -> Status
     ensures ok { result ≡ Status.Ok → Told (F.files folder.old)
         (λ files. Succeeds (map string_bytes words.now) files (F.files folder.old) (F.files folder.new) (O.written out.old) (O.written out.new)) }
-    ensures ended { result ≢ Status.Ok → Ended (map string_bytes words.now) result (F.files folder.old) (F.files folder.new) (O.written out.old) (O.written out.new)
-        (F.load_faults folder.old) (F.load_faults folder.new) (O.faults out.old) (O.faults out.new) }
+    ensures ended { result ≢ Status.Ok → Ended (map string_bytes words.now) result
+        (record {
+          files = F.files folder.old;
+          got = O.written out.old;
+          loads = F.load_faults folder.old;
+          writes = F.write_faults folder.old;
+          puts = O.faults out.old;
+        })
+        (record {
+          files = F.files folder.new;
+          got = O.written out.new;
+          loads = F.load_faults folder.new;
+          writes = F.write_faults folder.new;
+          puts = O.faults out.new;
+        }) }
 
     // Which status it is, over files that are told.
     ensures course { Told (F.files folder.old) (λ files. Answers (course_of (map string_bytes words.now) files) result
@@ -77,6 +98,11 @@ pub fn amber<F: Folder, O: Sink>(
     ensures puts_grew { Told (F.files folder.old) (λ files. ¬ (Rose (F.load_faults folder.old) (F.load_faults folder.new))
         → ¬ (Rose (F.write_faults folder.old) (F.write_faults folder.new)) → O.faults out.old < O.faults out.new
         → IsSinkStatus (course_of (map string_bytes words.now) files) result) }
+
+    ensures long { Told (F.files folder.old) (λ files. (job : Job) → AsksFor (map string_bytes words.now) files job
+        → ¬ (Rose (F.load_faults folder.old) (F.load_faults folder.new))
+        → ¬ (Rose (F.write_faults folder.old) (F.write_faults folder.new))
+        → TellsLong job result (F.files folder.old) (F.files folder.new)) }
 
     // Which status it is, over any files.
     ensures usage { result ≡ Status.Usage → words_of (map string_bytes words.now) ≡ None }
@@ -93,8 +119,9 @@ pub fn amber<F: Folder, O: Sink>(
     // What stays where no run is asked for, whatever the status is.
     ensures same { AsksNoRun (words_of (map string_bytes words.now)) → F.files folder.new ≡ F.files folder.old }
     ensures writes { AsksNoRun (words_of (map string_bytes words.now)) → F.write_faults folder.new ≡ F.write_faults folder.old }
+    ensures unlogged { AsksNoRun (words_of (map string_bytes words.now)) → result ≢ Status.LogFault }
 {
-    match run(alloc, words, folder, out) {
+    match run(alloc, words, folder, out, printed) {
         Ok(()) => Status::Ok,
         Err(stop) => refuse(out, &stop),
     }

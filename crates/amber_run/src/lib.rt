@@ -7,6 +7,7 @@
 
 pub use call::amber;
 pub use job::Job;
+pub use printed::Printed;
 pub use script::ScriptWhy;
 pub use status::Status;
 pub use stop::{Reason, Stop};
@@ -18,14 +19,11 @@ mod inputs;
 pub mod job;
 mod log_name;
 mod prepare;
+mod printed;
 mod refusal;
 mod scans;
 pub mod script;
 pub mod status;
 pub mod stop;
-#[cfg(test)]
-mod tests;
-#[cfg(test)]
-mod tests_run;
 pub mod words;
 mod work;

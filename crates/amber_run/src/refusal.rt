@@ -1,8 +1,8 @@
-ghost use Rattle.std.specs.Prelude.{◌≡◌, ◌++◌, codes};
+ghost use Rattle.std.specs.Prelude.{◌≡◌, ◌++◌, IsOk, codes};
 ghost use Rattle.std.specs.Fmt.{decimal};
 ghost use Rattle.amber_run.specs.Outcome.{Refuses};
 ghost use Rattle.amber_run.specs.Steps.{Lined, Sent};
-ghost use Rattle.amber_run.specs.Stop.{line_of};
+ghost use Rattle.amber_run.specs.Stop.{IsToldAs, line_of};
 
 use crate::status::Status;
 use crate::stop::Stop;
@@ -43,7 +43,9 @@ fn put_file_line<O: Sink>(out: &mut O, words: &[u8], name: &str) -> Result<(), I
 
 // The line of a stop; a sink that failed gets none.
 fn put_line<O: Sink>(out: &mut O, stop: &Stop) -> Result<(), IoErr>
-    ensures { Lined result (O.written out.old) (O.written out.new) (O.faults out.old) (O.faults out.new) (line_of stop.now) }
+    ensures lined { Lined result (O.written out.old) (O.written out.new)
+        (O.faults out.old) (O.faults out.new) (line_of stop.now) }
+    ensures none { stop.now ≡ Stop.OutFault → IsOk result }
 {
     match stop {
         Stop::Usage => put_piece(out, b"error 1 usage\n"),
@@ -67,7 +69,9 @@ fn put_line<O: Sink>(out: &mut O, stop: &Stop) -> Result<(), IoErr>
 
 // Prints the line of a stop and answers the status. A put that fails leaves the status as it is.
 pub(crate) fn refuse<O: Sink>(out: &mut O, stop: &Stop) -> Status
-    ensures { Refuses result stop.now (O.written out.old) (O.written out.new) (O.faults out.old) (O.faults out.new) }
+    ensures refuses { Refuses result stop.now (O.written out.old) (O.written out.new)
+        (O.faults out.old) (O.faults out.new) }
+    ensures told { IsToldAs stop.now result }
 {
     match put_line(out, stop) {
         Ok(()) | Err(IoErr::Failed) => stop.status(),

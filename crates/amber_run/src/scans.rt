@@ -1,4 +1,5 @@
 ghost use Rattle.std.specs.Prelude.{◌≡◌, ◌≤◌, ◌<◌, ◌^◌, length, true, IfErr, IfOk};
+ghost use Rattle.amber_io.specs.Folder.{Told};
 ghost use Rattle.amber_rows.specs.FlowRules.{IsFlow};
 ghost use Rattle.amber_rows.specs.Record.{has_header};
 ghost use Rattle.amber_run.specs.Answering.{AreInputs};
@@ -58,7 +59,8 @@ pub(crate) fn load_scans<F: Folder>(
     ensures course { Follows result (F.files folder.old) (scans_of flow.now) (F.load_faults folder.old) (F.load_faults folder.new) }
     ensures inputs { IfOk result (λ files. AreInputs flow.now files) }
     ensures flow { IsFlow flow.now }
-    ensures named { IfErr result (λ stop. Names stop (IsScanFile flow.now)) }
+    ensures named { Told (F.files folder.old)
+        (λ files. IfErr result (λ stop. Names stop (IsScanFile flow.now files))) }
     ensures same { F.files folder.new ≡ F.files folder.old }
     ensures writes { F.write_faults folder.new ≡ F.write_faults folder.old }
 {

@@ -1,5 +1,6 @@
 ghost use Rattle.std.specs.Prelude.{◌≡◌, ◌∷◌, [], List, Option, ℕ, IfErr, IfOk, false, true};
 ghost use Rattle.std.specs.Io.KnownBytes.{Appends};
+ghost use Rattle.amber_io.specs.Folder.{IsThere};
 ghost use Rattle.amber_rows.specs.FlowRules.{IsFlow};
 ghost use Rattle.amber_log.specs.Grammar.{IsBatch, ends_over};
 ghost use Rattle.amber_worker.specs.Stands.{AreAlone};
@@ -10,6 +11,7 @@ ghost use Rattle.amber_run.specs.Task.{IsSession, Task, most_steps, task_of};
 ghost use Rattle.amber_run.specs.Words.{AreSizes};
 ghost use Rattle.amber_run.specs.Writing.{CountsWrites, Made, Wrote};
 
+use crate::printed::Printed;
 use crate::refusal::put_output;
 use crate::stop::Stop;
 use amber_debug::{DebugErr, Debugger, HomeErr};
@@ -59,6 +61,7 @@ fn create_log<F: Folder>(name: &str, folder: &mut F) -> Result<(), Stop>
 
 // Writes a piece behind the log, in one call.
 fn append_piece<F: Folder>(name: &str, piece: &[u8], folder: &mut F) -> Result<(), Stop>
+    requires { IsThere (F.files folder.old) name.now }
     ensures wrote { Wrote result (F.files folder.old) (F.files folder.new) name.now piece.now }
     ensures writes { CountsWrites result (F.write_faults folder.old) (F.write_faults folder.new) }
     ensures loads { F.load_faults folder.new ≡ F.load_faults folder.old }
@@ -75,6 +78,7 @@ fn make_log<F: Folder>(alloc: Global, batch: u32, name: &str, folder: &mut F) ->
     requires { IsBatch batch }
     ensures made { (t : Task) (written : Option (List ℕ)) → t.name ≡ name.now → batch ≡ t.batch → F.files folder.old ≡ t.told → Appends t.before written []
         → Opens result t (record { batch = batch; items = [] }) (F.files folder.new) written }
+    ensures there { IfOk result (λ made. IsThere (F.files folder.new) name.now) }
     ensures writes { CountsWrites result (F.write_faults folder.old) (F.write_faults folder.new) }
     ensures loads { F.load_faults folder.new ≡ F.load_faults folder.old }
 {
@@ -92,8 +96,10 @@ fn do_command<F: Folder, O: Sink>(
     name: &str,
     folder: &mut F,
     out: &mut O,
+    printed: &mut Printed,
 ) -> Result<(), Stop>
     requires to_end { command.now ≡ Command.End }
+    requires there { IsThere (F.files folder.old) name.now }
     requires open { ends_over false debugger.old.log.items ≡ false }
     ensures did { (t : Task) (left : List Command) → t.name ≡ name.now → IsSession t debugger.old
         → Stands t (command.now ∷ left) debugger.old.log (F.files folder.old) (O.written out.old)
@@ -106,6 +112,7 @@ fn do_command<F: Folder, O: Sink>(
         Ok(done) => {
             append_piece(name, done.item.get(), folder)?;
             put_output(out, done.reply.get())?;
+            printed.keep(done.rows);
             Ok(())
         }
         // The leg is in the log before it is told that it was too long.
@@ -128,6 +135,7 @@ pub(crate) fn work<F: Folder, O: Sink>(
     batch: u32,
     folder: &mut F,
     out: &mut O,
+    printed: &mut Printed,
 ) -> Result<(), Stop>
     requires inputs { AreInputs flow files }
     requires sizes { AreSizes threads batch }
@@ -140,6 +148,14 @@ pub(crate) fn work<F: Folder, O: Sink>(
 {
     let mut debugger = begin(alloc, flow, files, threads, batch)?;
     make_log(alloc, batch, name, folder)?;
-    do_command(alloc, &mut debugger, &Command::End, name, folder, out)?;
+    do_command(
+        alloc,
+        &mut debugger,
+        &Command::End,
+        name,
+        folder,
+        out,
+        printed,
+    )?;
     Ok(())
 }

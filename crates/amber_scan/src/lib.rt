@@ -14,6 +14,3 @@ pub mod share;
 pub use dealing::{ScanErr, deal};
 pub use share::{Scanned, Share};
 pub use std::alloc::AllocError as NoMemory;
-
-#[cfg(test)]
-mod tests;

@@ -1,5 +1,5 @@
 -- The leg stands in the log with its text, and the answer with its.
-use Rattle.std.proofs.Common.{ap, subst, ◌∙◌}
+use Rattle.std.proofs.Common.{Some, ap, subst, ◌∙◌}
 use Rattle.amber_meaning.specs.Texts.{answer_text}
 use Rattle.amber_debug.specs.Ending.{IsLastText}
 use Rattle.amber_debug.proofs.Endings.{ends-long, ends-ok}
@@ -8,7 +8,8 @@ use Rattle.amber_debug.proofs.debugger.do_end.Goals as goal
 pub returns-in_ok-reply-in-Ok-clause-ends : goal.returns-in_ok-reply-in-Ok-clause-ends
 returns-in_ok-reply-in-Ok-clause-ends c =
     let ends = c.in-Ok.ensures.ends in
-    ends-ok c.args.home.now c.run_to_end.new.self c.in_ok-item-in-Ok.item c.in_ok-reply-in-Ok.reply c.flow.result.now ends.0
+    ends-ok c.args.home.now c.run_to_end.new.self
+    (record { item = c.in_ok-item-in-Ok.item; reply = c.in_ok-reply-in-Ok.reply; rows = Some c.in-Ok.answer.rows }) c.flow.result.now ends.0
     (subst (λ log. IsLastText log c.in_ok-item-in-Ok.item) c.log.ensures.log c.in_ok-item-in-Ok.ensures) c.flow.ensures
     (c.in_ok-reply-in-Ok.ensures ∙ ap (answer_text c.flow.result.now) ends.2)
 

@@ -1,7 +1,7 @@
 -- The text, and what was put of it.
 use Rattle.std.proofs.Common.{◌≡◌, Err, rules}
 use Rattle.amber_run.specs.Answering.{text_of}
-use Rattle.amber_run.proofs.Texting.{judged-counts, judged-writes, works-stop}
+use Rattle.amber_run.proofs.Texting.{judged-counts, judged-unlogged, judged-writes, works-stop}
 use Rattle.amber_run.proofs.answer.print_answer.Goals as goal
 
 pub returns-in_err-text-clause-works : goal.returns-in_err-text-clause-works
@@ -20,3 +20,8 @@ returns-in_err-text-clause-still g c =
     λ writes.
     let e : c.from_residual.result ≡ Err c.in_err-text.field-0.0 = search rules in
     rw e (judged-writes c.in_err-text.field-0.0 (text_of c.args.flow.now c.args.files.now) writes c.in_err-text.ensures)
+
+pub returns-in_err-text-clause-unlogged : goal.returns-in_err-text-clause-unlogged
+returns-in_err-text-clause-unlogged g c =
+    let e : c.from_residual.result ≡ Err c.in_err-text.field-0.0 = search rules in
+    rw e (judged-unlogged c.in_err-text.field-0.0 (text_of c.args.flow.now c.args.files.now) c.in_err-text.ensures)

@@ -1,6 +1,6 @@
 -- The words, the job, and what was done of it.
 use Rattle.std.proofs.Common.{◌≡◌, map, string_bytes, Err, ◌∙◌, rules}
-use Rattle.amber_run.proofs.Ending.{plain-job, reached-stop, reached-words, reached-works, run-stop, run-words, run-works, stop-counts, stop-writes, words-counts, words-writes, worded-stop, worded-words, worded-works}
+use Rattle.amber_run.proofs.Ending.{plain-job, reached-stop, reached-words, reached-works, run-stop, run-words, run-works, stop-counts, stop-unlogged, stop-writes, words-counts, words-unlogged, words-writes, worded-stop, worded-words, worded-works}
 use Rattle.amber_run.specs.Course.{job_of}
 use Rattle.amber_run.specs.Words.{words_of}
 use Rattle.amber_run.proofs.call.run.Goals as goal
@@ -29,6 +29,17 @@ pub returns-in_err-words-clause-writes : goal.returns-in_err-words-clause-writes
 returns-in_err-words-clause-writes g c =
     let e : c.from_residual.result ≡ Err c.in_err-words.field-0.0 = search rules in
     rw e (words-writes c.in_err-words.field-0.0 (map string_bytes c.args.words.now) (g.F.Folder.write_faults c.args.folder.now) c.in_err-words.ensures.read)
+
+pub returns-in_err-words-clause-unlogged : goal.returns-in_err-words-clause-unlogged
+returns-in_err-words-clause-unlogged g c =
+    let e : c.from_residual.result ≡ Err c.in_err-words.field-0.0 = search rules in
+    λ none. rw e (words-unlogged c.in_err-words.field-0.0 (map string_bytes c.args.words.now) c.in_err-words.ensures.read)
+
+pub returns-in_err-job-clause-unlogged : goal.returns-in_err-job-clause-unlogged
+returns-in_err-job-clause-unlogged g c =
+    let e : c.from_residual-in_err-job.result ≡ Err c.in_err-job.field-0.0 = search rules in
+    λ none. rw e (stop-unlogged c.in_err-job.field-0.0 (g.F.Folder.files c.args.folder.now) (job_of c.in_ok-words.words)
+    (g.F.Folder.load_faults c.args.folder.now) (g.F.Folder.load_faults c.prepare.new.folder) c.in_err-job.ensures.course)
 
 pub returns-in_err-job-clause-ran : goal.returns-in_err-job-clause-ran
 returns-in_err-job-clause-ran g c =
@@ -85,3 +96,7 @@ returns-clause-same g c =
 pub returns-clause-idle : goal.returns-clause-idle
 returns-clause-idle g c =
     λ none. c.do_job.ensures.idle (plain-job (words_of (map string_bytes c.args.words.now)) c.in_ok-words.words c.in_ok-job.job c.in_ok-words.ensures.read none c.in_ok-job.ensures.form) ∙ c.in_ok-job.ensures.writes
+
+pub returns-clause-unlogged : goal.returns-clause-unlogged
+returns-clause-unlogged g c =
+    λ none. c.do_job.ensures.unlogged (plain-job (words_of (map string_bytes c.args.words.now)) c.in_ok-words.words c.in_ok-job.job c.in_ok-words.ensures.read none c.in_ok-job.ensures.form)

@@ -50,4 +50,4 @@ returns-in_err-files-clause-named g c =
     rw e (told-map (g.F.Folder.files c.args.folder.now) (λ files. Names c.in_err-files.field-0.0 (IsScanned c.args.workflow.now files))
     (λ files. Names c.in_err-files.field-0.0 (IsLoaded (form.Plain c.args.workflow.now) files))
     (λ files. names-map c.in_err-files.field-0.0 (IsScanned c.args.workflow.now files) (IsLoaded (form.Plain c.args.workflow.now) files) (λ file is. inr is))
-    (scan-named c.in_err-files.field-0.0 (g.F.Folder.files c.args.folder.now) c.args.workflow.now c.in_ok-flow.flow c.in_ok-flow.ensures.course.1 c.in_err-files.ensures.named))
+    (scan-named c.in_err-files.field-0.0 (g.F.Folder.files c.args.folder.now) c.args.workflow.now c.in_ok-flow.flow c.in_ok-flow.ensures.course.1 (rw c.load_flow.ensures.same at c.in_err-files.ensures.named)))

@@ -4,7 +4,7 @@ use Rattle.amber_run.specs.Course.{IsLoaded, IsScanFile, job_of, run_flow, scans
 use Rattle.amber_run.specs.Steps.{Names}
 use Rattle.amber_run.specs.declared.job.Job.TheVariants as job
 use Rattle.amber_run.specs.declared.words.Words.TheVariants as form
-use Rattle.amber_run.proofs.Following.{follows-judged, follows-on, follows-stop, names-map, told-all, told-both, told-map}
+use Rattle.amber_run.proofs.Following.{follows-judged, follows-on, follows-stop, names-map, told-all, told-map, told-three}
 use Rattle.amber_run.proofs.prepare.prepare_run.Goals as goal
 
 pub returns-in_err-flow-clause-course : goal.returns-in_err-flow-clause-course
@@ -90,7 +90,9 @@ returns-in_err-files-clause-named g c =
     let e : c.from_residual-in_err-files.result ≡ Err c.in_err-files.field-0.0 = search rules in
     let flow-ok = (rw (workflow, log) at c.in_ok-flow.ensures.course) in
     let script-ok = rw (script, c.load_run_flow.ensures.same) at c.in_ok-load_script.ensures.course in
-    rw e (told-both (g.F.Folder.files c.args.folder.now) (λ files. run_flow c.args.words.workflow c.args.words.log files ≡ Ok c.in_ok-flow.flow) (λ files. script_in c.args.words.script files ≡ Ok c.in_ok-load_script.field-0)
+    let names = rw (c.load_script.ensures.same, c.load_run_flow.ensures.same) at c.in_err-files.ensures.named in
+    rw e (told-three (g.F.Folder.files c.args.folder.now) (λ files. run_flow c.args.words.workflow c.args.words.log files ≡ Ok c.in_ok-flow.flow)
+    (λ files. script_in c.args.words.script files ≡ Ok c.in_ok-load_script.field-0) (λ files. Names c.in_err-files.field-0.0 (IsScanFile c.in_ok-flow.flow files))
     (λ files. Names c.in_err-files.field-0.0 (IsLoaded (form.Run c.args.words) files))
-    (λ files reads said. names-map c.in_err-files.field-0.0 (IsScanFile c.in_ok-flow.flow) (IsLoaded (form.Run c.args.words) files)
-    (λ file is. inr (c.in_ok-flow.flow, reads, inr (said, is))) c.in_err-files.ensures.named) flow-ok.1 script-ok.1)
+    (λ files reads said one. names-map c.in_err-files.field-0.0 (IsScanFile c.in_ok-flow.flow files) (IsLoaded (form.Run c.args.words) files)
+    (λ file is. inr (c.in_ok-flow.flow, reads, inr (said, is))) one) flow-ok.1 script-ok.1 names)

@@ -1,13 +1,12 @@
 -- The files of the scans so far, and nothing else has changed.
 use Rattle.std.proofs.Common.{◌≡◌, ◌≤◌, ◌^◌}
 use Rattle.amber_io.specs.Folder.{Told}
-use Rattle.amber_run.specs.Course.{scans_of}
-use Rattle.amber_run.proofs.Scanning.{AreInputsSoFar, after_files, scans_at}
+use Rattle.amber_run.proofs.Scanning.{AreInputsSoFar, IsWalked}
 use Rattle.amber_run.proofs.scans.load_scans.Given as goal
 
 abbrev pub invariant-loop-i : goal.invariant-loop-i
 invariant-loop-i g l = record {
-  course : Told (g.F.Folder.files l.fn.folder) (λ files. scans_of l.flow files ≡ after_files l.files.items (scans_at l.flow l.i l.left files));
+  course : Told (g.F.Folder.files l.fn.folder) (IsWalked l.flow l.i l.left l.files.items);
   inputs : AreInputsSoFar l.flow l.i l.files.items;
   few : l.left ≤ 2 ^ 25;
   same : g.F.Folder.files l.folder ≡ g.F.Folder.files l.fn.folder;

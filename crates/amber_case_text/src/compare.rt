@@ -1,0 +1,116 @@
+// What was found beside what is expected.
+ghost use Rattle.std.specs.Prelude.{◌≡◌, ◌↔◌, IsOk};
+
+use std::fmt;
+
+/// The first line that differs, counted from 1, as it is expected and as it was found.
+#[derive(Clone, Copy, Debug)]
+pub struct LineDifference<'a> {
+    pub line: u64,
+    pub wanted: &'a [u8],
+    pub found: &'a [u8],
+}
+
+/// What differs first in an answer.
+#[derive(Clone, Copy, Debug)]
+pub enum Difference<'a> {
+    Status { wanted: u8, found: u8 },
+    Output(LineDifference<'a>),
+}
+
+impl fmt::Display for LineDifference<'_> {
+    fn fmt<W: fmt::Write>(&self, f: &mut fmt::Formatter<W>) -> fmt::Result {
+        let line = self.line;
+        write!(f, "line {line} is `")?;
+        write!(f, "{}", shown(self.found).escape_ascii())?;
+        write!(f, "` and not `")?;
+        write!(f, "{}", shown(self.wanted).escape_ascii())?;
+        write!(f, "`")
+    }
+}
+
+impl fmt::Display for Difference<'_> {
+    fn fmt<W: fmt::Write>(&self, f: &mut fmt::Formatter<W>) -> fmt::Result {
+        match self {
+            Difference::Status { wanted, found } => {
+                write!(f, "the status is {found} and not {wanted}")
+            }
+            Difference::Output(line) => write!(f, "in the output {line}"),
+        }
+    }
+}
+
+// How many bytes of a line are shown.
+const SHOWN: usize = 120;
+
+// The bytes of a line that are shown.
+fn shown(line: &[u8]) -> &[u8] {
+    line.get(..SHOWN).unwrap_or(line)
+}
+
+// How many first bytes two texts share.
+fn shared_length(first: &[u8], second: &[u8]) -> usize {
+    first.iter().zip(second).take_while(|(a, b)| a == b).count()
+}
+
+// Where the line begins in which a place stands.
+fn line_start(bytes: &[u8], place: usize) -> usize {
+    let before = bytes.get(..place).unwrap_or(bytes);
+    match before.iter().rposition(|byte| *byte == b'\n') {
+        Some(feed) => feed.saturating_add(1),
+        None => 0,
+    }
+}
+
+// The line that begins at a place, with its line feed.
+fn line_at(bytes: &[u8], start: usize) -> &[u8] {
+    let rest = bytes.get(start..).unwrap_or(b"");
+    match rest.iter().position(|byte| *byte == b'\n') {
+        Some(feed) => rest.get(..=feed).unwrap_or(rest),
+        None => rest,
+    }
+}
+
+// The first line that differs.
+fn line_difference<'a>(wanted: &'a [u8], found: &'a [u8]) -> LineDifference<'a> {
+    let shared = shared_length(wanted, found);
+    let start = line_start(wanted, shared);
+    let before = wanted.get(..start).unwrap_or(wanted);
+    let feeds = before.iter().filter(|byte| **byte == b'\n').count() as u64;
+    LineDifference {
+        line: feeds.saturating_add(1),
+        wanted: line_at(wanted, start),
+        found: line_at(found, start),
+    }
+}
+
+/// Compares bytes with those that are expected.
+pub fn compare_bytes<'a>(wanted: &'a [u8], found: &'a [u8]) -> Result<(), LineDifference<'a>>
+    ensures { IsOk result ↔ (wanted.now ≡ found.now) }
+{
+    if wanted == found {
+        return Ok(());
+    }
+    Err(line_difference(wanted, found))
+}
+
+/// Compares a status and an output with those that are expected.
+pub fn compare_answer<'a>(
+    wanted_status: u8,
+    status: u8,
+    wanted: &'a [u8],
+    out: &'a [u8],
+) -> Result<(), Difference<'a>>
+    ensures { IsOk result ↔ ((wanted_status ≡ status) × (wanted.now ≡ out.now)) }
+{
+    if wanted_status != status {
+        return Err(Difference::Status {
+            wanted: wanted_status,
+            found: status,
+        });
+    }
+    match compare_bytes(wanted, out) {
+        Ok(()) => Ok(()),
+        Err(line) => Err(Difference::Output(line)),
+    }
+}

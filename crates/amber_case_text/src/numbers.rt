@@ -1,0 +1,67 @@
+// The numbers of a line.
+use crate::fault::Why;
+use std::alloc::Global;
+
+/// A number.
+pub(crate) fn number(written: &str) -> Result<u64, Why> {
+    match written.parse::<u64>() {
+        Ok(number) => Ok(number),
+        Err(_) => Err(Why::Number),
+    }
+}
+
+/// A status, 0 to 255.
+pub(crate) fn status(written: &str) -> Result<u8, Why> {
+    match written.trim().parse::<u8>() {
+        Ok(status) => Ok(status),
+        Err(_) => Err(Why::Number),
+    }
+}
+
+/// At least one number, with blanks between them.
+pub(crate) fn add_numbers(all: &mut Vec<u64>, written: &str) -> Result<(), Why> {
+    let mut found = false;
+    for one in written.split_whitespace() {
+        all.push(number(one)?)?;
+        found = true;
+    }
+    if found { Ok(()) } else { Err(Why::Number) }
+}
+
+/// The first word, a number, and all that follows the blank behind it.
+pub(crate) fn number_and_rest(written: &str) -> Result<(u64, &str), Why> {
+    let Some((first, rest)) = written.split_once(' ') else {
+        return Err(Why::Number);
+    };
+    match number(first) {
+        Ok(number) => Ok((number, rest)),
+        Err(why) => Err(why),
+    }
+}
+
+/// A line with a range in braces: what stands before it, its two numbers, and what stands behind it.
+pub(crate) struct RangeLine<'a> {
+    pub before: &'a str,
+    pub least: u64,
+    pub most: u64,
+    pub behind: &'a str,
+}
+
+/// Reads a line with a range.
+pub(crate) fn ranged(written: &str) -> Result<RangeLine<'_>, Why> {
+    let Some((before, rest)) = written.split_once('{') else {
+        return Err(Why::Number);
+    };
+    let Some((range, behind)) = rest.split_once('}') else {
+        return Err(Why::Number);
+    };
+    let Some((least, most)) = range.split_once("..") else {
+        return Err(Why::Number);
+    };
+    Ok(RangeLine {
+        before,
+        least: number(least)?,
+        most: number(most)?,
+        behind,
+    })
+}

@@ -1,0 +1,329 @@
+// The reader of case files.
+use crate::case::{After, Case, Left, NamedText};
+use crate::case_text::{CaseText, Piece};
+use crate::escapes::{unescaped, words};
+use crate::fault::{Broken, Why};
+use crate::names::Names;
+use crate::numbers::{RangeLine, add_numbers, number_and_rest, ranged, status};
+use std::alloc::Global;
+use std::mem;
+
+// Where the lines of a text belong.
+#[derive(Clone, Copy)]
+enum Place {
+    // No text has begun.
+    Nowhere,
+    Shared,
+    File,
+    Out,
+    After,
+}
+
+/// Reads files of cases, one after another. What is shared, and the names of all cases, are kept from
+/// file to file.
+#[derive(Drop)]
+pub struct Reader {
+    alloc: Global,
+    shared: Vec<NamedText>,
+    names: Names,
+    // The cases of the file that is being read.
+    cases: Vec<Case>,
+    place: Place,
+}
+
+impl Reader {
+    /// A reader that has read nothing.
+    pub fn new(alloc: Global) -> Reader {
+        Reader {
+            alloc,
+            shared: Vec::new(alloc),
+            names: Names::new(alloc),
+            cases: Vec::new(alloc),
+            place: Place::Nowhere,
+        }
+    }
+
+    /// The cases of a file. After a line that is refused none of them is given.
+    pub fn read(&mut self, text: &str) -> Result<Vec<Case>, Broken> {
+        self.cases.clear();
+        self.place = Place::Nowhere;
+        let mut line = 0u64;
+        for written in text.lines() {
+            line = line.saturating_add(1);
+            if let Err(why) = self.read_line(written.trim_start()) {
+                return Err(Broken { line, why });
+            }
+        }
+        match self.end_case() {
+            Ok(()) => Ok(mem::replace(&mut self.cases, Vec::new(self.alloc))),
+            Err(why) => Err(Broken { line, why }),
+        }
+    }
+
+    fn read_line(&mut self, line: &str) -> Result<(), Why> {
+        let (head, rest) = line.split_once(' ').unwrap_or((line, ""));
+        match head {
+            "" | "#" => Ok(()),
+            "text" => self.begin_shared(rest),
+            "case" => self.begin_case(rest),
+            "file" => self.begin_file(rest),
+            "out" => self.begin_out(rest),
+            "after" => self.begin_after(rest),
+            "words" | "status" | "loads" | "writes" | "puts" | "keep" => {
+                self.place = Place::Nowhere;
+                match self.cases.last_mut() {
+                    Some(case) => read_values(case, self.alloc, head, rest),
+                    None => Err(Why::NoCase),
+                }
+            }
+            "=" => self.add_shared(rest),
+            "~" => self.add_range(rest),
+            _ => self.add_piece(read_piece(self.alloc, head, rest)?),
+        }
+    }
+
+    // A case ends, which has to have words.
+    fn end_case(&self) -> Result<(), Why> {
+        match self.cases.last() {
+            Some(case) if case.words.is_empty() => Err(Why::NoWords),
+            _ => Ok(()),
+        }
+    }
+
+    fn begin_case(&mut self, rest: &str) -> Result<(), Why> {
+        self.end_case()?;
+        let name = named(rest)?;
+        self.names.add(String::from_str(self.alloc, name)?)?;
+        let name = String::from_str(self.alloc, name)?;
+        self.cases.push(Case::new(self.alloc, name))?;
+        self.place = Place::Nowhere;
+        Ok(())
+    }
+
+    fn begin_shared(&mut self, rest: &str) -> Result<(), Why> {
+        self.end_case()?;
+        let name = named(rest)?;
+        if self.find_shared(name).is_some() {
+            return Err(Why::Repeated);
+        }
+        self.shared.push(NamedText {
+            name: String::from_str(self.alloc, name)?,
+            text: CaseText::new(self.alloc),
+        })?;
+        self.place = Place::Shared;
+        Ok(())
+    }
+
+    fn begin_file(&mut self, rest: &str) -> Result<(), Why> {
+        let (name, shared) = name_and_shared(rest);
+        let name = named(name)?;
+        let alloc = self.alloc;
+        let Some(case) = self.cases.last_mut() else {
+            return Err(Why::NoCase);
+        };
+        if case.file(name).is_some() {
+            return Err(Why::Repeated);
+        }
+        case.files.push(NamedText {
+            name: String::from_str(alloc, name)?,
+            text: CaseText::new(alloc),
+        })?;
+        self.place = Place::File;
+        self.add_named(shared)
+    }
+
+    fn begin_out(&mut self, rest: &str) -> Result<(), Why> {
+        let shared = rest.strip_prefix("= ");
+        if shared.is_none() && !rest.trim().is_empty() {
+            return Err(Why::Word);
+        }
+        let text = CaseText::new(self.alloc);
+        match self.cases.last_mut() {
+            Some(case) => case.out.push(text)?,
+            None => return Err(Why::NoCase),
+        }
+        self.place = Place::Out;
+        self.add_named(shared)
+    }
+
+    fn begin_after(&mut self, rest: &str) -> Result<(), Why> {
+        let (name, shared) = name_and_shared(rest);
+        let (name, left) = name_and_left(self.alloc, name);
+        let name = named(name)?;
+        let alloc = self.alloc;
+        let Some(case) = self.cases.last_mut() else {
+            return Err(Why::NoCase);
+        };
+        if case.left(name).is_some() {
+            return Err(Why::Repeated);
+        }
+        let name = String::from_str(alloc, name)?;
+        case.after.push(After { name, left })?;
+        self.place = Place::After;
+        self.add_named(shared)
+    }
+
+    // The shared text of this name.
+    fn find_shared(&self, name: &str) -> Option<&CaseText> {
+        for one in self.shared.iter() {
+            if one.name.as_str() == name {
+                return Some(&one.text);
+            }
+        }
+        None
+    }
+
+    // Adds the shared text that the first line of a text names, where it names one.
+    fn add_named(&mut self, shared: Option<&str>) -> Result<(), Why> {
+        match shared {
+            Some(name) => self.add_shared(name),
+            None => Ok(()),
+        }
+    }
+
+    // Adds a shared text to the text that has begun.
+    fn add_shared(&mut self, name: &str) -> Result<(), Why> {
+        let copy = match self.find_shared(name.trim()) {
+            Some(text) => text.clone()?,
+            None => return Err(Why::Unknown),
+        };
+        for piece in copy.pieces {
+            self.add_piece(piece)?;
+        }
+        Ok(())
+    }
+
+    // Adds a line with a number in a range.
+    fn add_range(&mut self, rest: &str) -> Result<(), Why> {
+        let alloc = self.alloc;
+        let RangeLine {
+            before,
+            least,
+            most,
+            behind,
+        } = ranged(rest)?;
+        let before = Vec::from_slice(alloc, before.as_bytes())?;
+        self.add_piece(Piece::Bytes(before))?;
+        self.add_piece(Piece::Number { least, most })?;
+        self.add_piece(Piece::Bytes(whole_line(alloc, behind)?))
+    }
+
+    // Adds a piece to the text that has begun.
+    fn add_piece(&mut self, piece: Piece) -> Result<(), Why> {
+        if let Place::Shared = self.place {
+            return match self.shared.last_mut() {
+                Some(shared) => push_piece(&mut shared.text, piece),
+                None => Err(Why::NoText),
+            };
+        }
+        let Some(case) = self.cases.last_mut() else {
+            return Err(Why::NoText);
+        };
+        match self.place {
+            Place::File if is_open(&piece) => Err(Why::NotExpected),
+            Place::File => match case.files.last_mut() {
+                Some(file) => push_piece(&mut file.text, piece),
+                None => Err(Why::NoText),
+            },
+            Place::Out => match case.out.last_mut() {
+                Some(text) => push_piece(text, piece),
+                None => Err(Why::NoText),
+            },
+            Place::After => match case.after.last_mut() {
+                Some(
+                    After {
+                        left: Left::Text(text),
+                        ..
+                    },
+                ) => push_piece(text, piece),
+                _ => Err(Why::NoText),
+            },
+            Place::Shared | Place::Nowhere => Err(Why::NoText),
+        }
+    }
+}
+
+// A name, which is not empty.
+fn named(written: &str) -> Result<&str, Why> {
+    let name = written.trim();
+    if name.is_empty() {
+        return Err(Why::NoName);
+    }
+    Ok(name)
+}
+
+// A name, and that of a shared text behind ` = `.
+fn name_and_shared(written: &str) -> (&str, Option<&str>) {
+    match written.split_once(" = ") {
+        Some((name, shared)) => (name, Some(shared)),
+        None => (written, None),
+    }
+}
+
+// A name, and what is expected of its file.
+fn name_and_left(alloc: Global, written: &str) -> (&str, Left) {
+    let written = written.trim_end();
+    if let Some(name) = written.strip_suffix(" absent") {
+        return (name, Left::Absent);
+    }
+    if let Some(name) = written.strip_suffix(" unchanged") {
+        return (name, Left::Unchanged);
+    }
+    (written, Left::Text(CaseText::new(alloc)))
+}
+
+// Whether a piece leaves open which bytes it is.
+fn is_open(piece: &Piece) -> bool {
+    matches!(piece, Piece::Number { .. } | Piece::Front)
+}
+
+fn push_piece(text: &mut CaseText, piece: Piece) -> Result<(), Why> {
+    text.pieces.push(piece)?;
+    Ok(())
+}
+
+// A line of a case that is no text.
+fn read_values(case: &mut Case, alloc: Global, head: &str, rest: &str) -> Result<(), Why> {
+    match head {
+        "words" => {
+            case.words.push(words(alloc, rest)?)?;
+            Ok(())
+        }
+        "status" => {
+            case.status = status(rest)?;
+            Ok(())
+        }
+        "loads" => add_numbers(&mut case.loads, rest),
+        "writes" => add_numbers(&mut case.writes, rest),
+        "puts" => add_numbers(&mut case.puts, rest),
+        "keep" => add_numbers(&mut case.keep, rest),
+        _ => Err(Why::Word),
+    }
+}
+
+// A line of a text with its line feed.
+fn whole_line(alloc: Global, line: &str) -> Result<Vec<u8>, Why> {
+    let mut bytes = Vec::from_slice(alloc, line.as_bytes())?;
+    bytes.push(b'\n')?;
+    Ok(bytes)
+}
+
+// A line of a text.
+fn read_piece(alloc: Global, head: &str, rest: &str) -> Result<Piece, Why> {
+    match head {
+        "|" => Ok(Piece::Bytes(whole_line(alloc, rest)?)),
+        "\\" => Ok(Piece::Bytes(unescaped(alloc, rest)?)),
+        "front" => Ok(Piece::Front),
+        "*" => {
+            let (times, piece) = number_and_rest(rest)?;
+            let bytes = unescaped(alloc, piece)?;
+            Ok(Piece::Repeated { times, bytes })
+        }
+        "to" => {
+            let (length, piece) = number_and_rest(rest)?;
+            let bytes = unescaped(alloc, piece)?;
+            Ok(Piece::Filled { length, bytes })
+        }
+        _ => Err(Why::Word),
+    }
+}

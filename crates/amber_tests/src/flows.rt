@@ -1,0 +1,46 @@
+// A workflow that is read.
+use amber_flow::{FlowErr, FlowWhy, read_flow};
+use std::test::Fail;
+
+// A workflow of all kinds.
+const WORKFLOW: &str = r#"{"operators":[
+{"id":"p","kind":"scan","file":"p.csv","columns":[["name","text"],["price","int"]]},
+{"id":"o","kind":"scan","file":"o.csv","columns":[["id","int"],["item","text"],["qty","int"]]},
+{"id":"f","kind":"filter","input":"o","column":"qty","op":">=","constant":0},
+{"id":"q","kind":"project","input":"f","columns":[["qty","n"],["item","thing"]]},
+{"id":"j","kind":"join","build":"p","probe":"q","build_keys":["name","price"],"probe_keys":["thing","n"]},
+{"id":"g","kind":"group","input":"j","keys":["price","thing"],"aggregates":["max:name","count","sum:n","min:n"]},
+{"id":"s","kind":"sink","input":"g"}]}"#;
+
+// What each of its operators is read as.
+const READ: &str =
+    r#"Some(Operator { id: Text { inner: "p" }, what: Scan { file: Text { inner: "p.csv" } }, schema: Schema { inner: [Column { name: Text { inner: "name" }, kind: Text }, Column { name: Text { inner: "price" }, kind: Int }] }, workers: 1 })
+Some(Operator { id: Text { inner: "o" }, what: Scan { file: Text { inner: "o.csv" } }, schema: Schema { inner: [Column { name: Text { inner: "id" }, kind: Int }, Column { name: Text { inner: "item" }, kind: Text }, Column { name: Text { inner: "qty" }, kind: Int }] }, workers: 1 })
+Some(Operator { id: Text { inner: "f" }, what: Filter { input: 2, cond: Cond { column: 3, op: Ge, constant: Int(0) } }, schema: Schema { inner: [Column { name: Text { inner: "id" }, kind: Int }, Column { name: Text { inner: "item" }, kind: Text }, Column { name: Text { inner: "qty" }, kind: Int }] }, workers: 1 })
+Some(Operator { id: Text { inner: "q" }, what: Project { input: 3, from: Cols { inner: [3, 2] } }, schema: Schema { inner: [Column { name: Text { inner: "n" }, kind: Int }, Column { name: Text { inner: "thing" }, kind: Text }] }, workers: 1 })
+Some(Operator { id: Text { inner: "j" }, what: Join { build: 1, probe: 4, build_keys: Cols { inner: [1, 2] }, probe_keys: Cols { inner: [2, 1] } }, schema: Schema { inner: [Column { name: Text { inner: "n" }, kind: Int }, Column { name: Text { inner: "thing" }, kind: Text }, Column { name: Text { inner: "name" }, kind: Text }, Column { name: Text { inner: "price" }, kind: Int }] }, workers: 1 })
+Some(Operator { id: Text { inner: "g" }, what: Group { input: 5, keys: Cols { inner: [4, 2] }, aggs: Aggs { inner: [Max(3), Count, Sum(1), Min(1)] } }, schema: Schema { inner: [Column { name: Text { inner: "price" }, kind: Int }, Column { name: Text { inner: "thing" }, kind: Text }, Column { name: Text { inner: "max:name" }, kind: Text }, Column { name: Text { inner: "count" }, kind: Int }, Column { name: Text { inner: "sum:n" }, kind: Int }, Column { name: Text { inner: "min:n" }, kind: Int }] }, workers: 1 })
+Some(Operator { id: Text { inner: "s" }, what: Sink { input: 6 }, schema: Schema { inner: [Column { name: Text { inner: "price" }, kind: Int }, Column { name: Text { inner: "thing" }, kind: Text }, Column { name: Text { inner: "max:name" }, kind: Text }, Column { name: Text { inner: "count" }, kind: Int }, Column { name: Text { inner: "sum:n" }, kind: Int }, Column { name: Text { inner: "min:n" }, kind: Int }] }, workers: 1 })"#;
+
+#[test]
+fn each_kind_is_read_whole(rt: HostRuntime) -> Result<(), Fail> {
+    let flow = read_flow(rt.alloc(), WORKFLOW.as_bytes())?;
+    let mut op = 1;
+    for wanted in READ.lines() {
+        let operator = flow.operator(op);
+        assert_eq!(rt; format!(in rt.alloc(); "{operator:?}")?.as_str(), wanted);
+        op = op.saturating_add(1);
+    }
+    Ok(())
+}
+
+#[test]
+fn errors_are_shown(rt: HostRuntime) -> Result<(), Fail> {
+    let error = FlowErr::Bad {
+        op: 3,
+        why: FlowWhy::SinkPlace,
+    };
+    let text = error.to_string(rt.alloc())?;
+    assert_eq!(rt; text.as_str(), "operator 3: SinkPlace");
+    Ok(())
+}
