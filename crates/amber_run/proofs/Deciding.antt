@@ -5,22 +5,22 @@ use Rattle.amber_io.specs.Folder.{Named, Told}
 use Rattle.amber_meaning.specs.Legal.{query_over}
 use Rattle.amber_meaning.specs.Total.{step_total}
 use Rattle.amber_run.specs.Answering.{BreaksOff, IsUntouched}
-use Rattle.amber_run.specs.Course.{course_of}
+use Rattle.amber_course.specs.Course.{course_of}
 use Rattle.amber_run.specs.Outcome.{Answers, Breaks, Counts, IsOpen, IsRunStatus, IsSinkStatus, IsWithin, Runs, Succeeds, Worded}
 use Rattle.amber_run.specs.Standing.{Leaves}
-use Rattle.amber_run.specs.Steps.{Tells}
-use Rattle.amber_run.specs.Stop.{status_of}
+use Rattle.amber_course.specs.Steps.{Tells}
+use Rattle.amber_course.specs.Stop.{status_of}
 use Rattle.amber_run.specs.Task.{Task, most_steps}
-use Rattle.amber_run.specs.Words.{words_of}
+use Rattle.amber_course.specs.Words.{words_of}
 use Rattle.amber_run.specs.Writing.{CountsWrites}
-use Rattle.amber_run.specs.declared.job.Job.{Job}
-use Rattle.amber_run.specs.declared.job.Job.TheVariants as job
-use Rattle.amber_run.specs.declared.status.Status.{Status}
-use Rattle.amber_run.specs.declared.status.Status.TheVariants as status
-use Rattle.amber_run.specs.declared.stop.Stop.{Stop}
-use Rattle.amber_run.specs.declared.stop.Stop.TheVariants as stop
+use Rattle.amber_course.specs.declared.job.Job.{Job}
+use Rattle.amber_course.specs.declared.job.Job.TheVariants as job
+use Rattle.amber_course.specs.declared.status.Status.{Status}
+use Rattle.amber_course.specs.declared.status.Status.TheVariants as status
+use Rattle.amber_course.specs.declared.stop.Stop.{Stop}
+use Rattle.amber_course.specs.declared.stop.Stop.TheVariants as stop
 use Rattle.amber_run.proofs.Ending.{course-none, told-tells}
-use Rattle.amber_run.proofs.Following.{tells-map, told-all, told-map}
+use Rattle.amber_course.proofs.Following.{tells-map, told-all, told-map}
 
 -- ---- the course decides
 

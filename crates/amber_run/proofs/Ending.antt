@@ -8,25 +8,27 @@ use Rattle.amber_io.specs.Counts.{Rose}
 use Rattle.amber_io.specs.Folder.{Named, Told}
 use Rattle.amber_io.specs.Sink.{Begins}
 use Rattle.amber_meaning.specs.Transcript.{transcript_of}
-use Rattle.amber_run.specs.Answering.{BreaksOff, IsAskedBy, IsPlain, IsUntouched, Works}
-use Rattle.amber_run.specs.Course.{IsLoaded, IsReached, course_of, job_of, limited, then_on}
-use Rattle.amber_run.specs.Outcome.{AsksNoRun, Breaks, Counts, Ended, IsCause, Refuses, Runs, Stops, Succeeds, Worded}
+use Rattle.amber_run.specs.Answering.{BreaksOff, IsUntouched, Works}
+use Rattle.amber_course.specs.Ready.{IsAskedBy, WritesNothing}
+use Rattle.amber_course.specs.Course.{IsLoaded, IsReached, course_of, job_of, limited, then_on}
+use Rattle.amber_run.specs.Outcome.{AsksNoRun, Breaks, Counts, Ended, IsCause, Runs, Stops, Succeeds, Worded}
+use Rattle.amber_course.specs.Told.{Refuses}
 use Rattle.amber_run.specs.Standing.{IsBare, IsLeft, Leaves}
-use Rattle.amber_run.specs.Steps.{AreRead, Follows, Names, Tells}
-use Rattle.amber_run.specs.Stop.{IsToldAs, line_of, status_of}
+use Rattle.amber_course.specs.Steps.{AreRead, Follows, Names, Tells}
+use Rattle.amber_course.specs.Stop.{IsToldAs, line_of, status_of}
 use Rattle.amber_run.specs.Task.{Task, query_at}
-use Rattle.amber_run.specs.Words.{words_of}
+use Rattle.amber_course.specs.Words.{words_of}
 use Rattle.amber_run.specs.Writing.{CountsWrites}
-use Rattle.amber_run.specs.declared.job.Job.{Job}
-use Rattle.amber_run.specs.declared.job.Job.TheVariants as job
-use Rattle.amber_run.specs.declared.words.Words.{Words}
-use Rattle.amber_run.specs.declared.words.Words.TheVariants as form
-use Rattle.amber_run.specs.declared.status.Status.{Status}
-use Rattle.amber_run.specs.declared.status.Status.TheVariants as status
-use Rattle.amber_run.specs.declared.stop.Stop.{Stop}
-use Rattle.amber_run.specs.declared.stop.Stop.TheVariants as stop
-use Rattle.amber_run.proofs.Lines.{appends-on, appends-same}
-use Rattle.amber_run.proofs.Following.{names-map, stopped-map, tells-map, then-err, then-ok, told-all, told-map}
+use Rattle.amber_course.specs.declared.job.Job.{Job}
+use Rattle.amber_course.specs.declared.job.Job.TheVariants as job
+use Rattle.amber_course.specs.declared.words.Words.{Words}
+use Rattle.amber_course.specs.declared.words.Words.TheVariants as form
+use Rattle.amber_course.specs.declared.status.Status.{Status}
+use Rattle.amber_course.specs.declared.status.Status.TheVariants as status
+use Rattle.amber_course.specs.declared.stop.Stop.{Stop}
+use Rattle.amber_course.specs.declared.stop.Stop.TheVariants as stop
+use Rattle.amber_course.proofs.Lines.{appends-on, appends-same}
+use Rattle.amber_course.proofs.Following.{names-map, stopped-map, tells-map, then-err, then-ok, told-all, told-map}
 
 -- ---- the run
 
@@ -164,7 +166,7 @@ worded-works (Err stop.Usage) words read told now job before got e h = absurd h
 worded-works (Err other) words read told now job before got e h = rw e refl
 
 -- words that ask for no run have a job that writes no file
-pub plain-job : (meant : Option Words) (read : Words) (j : Job) → meant ≡ Some read → AsksNoRun meant → IsAskedBy read j → IsPlain j
+pub plain-job : (meant : Option Words) (read : Words) (j : Job) → meant ≡ Some read → AsksNoRun meant → IsAskedBy read j → WritesNothing j
 plain-job meant (form.Plain workflow) j e none is = is
 plain-job meant (form.Run words) j e none is = absurd (rw e at none)
 

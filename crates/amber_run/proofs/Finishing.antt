@@ -23,9 +23,9 @@ use Rattle.amber_debug.specs.Session.{Session, command_of, is_long_item}
 use Rattle.amber_run.specs.Outcome.{Counts}
 use Rattle.amber_run.specs.Standing.{Did, Halts, HasAnswer, IsBare, IsDone, IsLeft, Leaves, Opens, Stands}
 use Rattle.amber_run.specs.Task.{IsSession, Task, end_alone, ends_long, most_steps, query_at}
-use Rattle.amber_run.specs.declared.stop.Stop.{Stop}
-use Rattle.amber_run.specs.declared.stop.Stop.TheVariants as stop
-use Rattle.amber_run.proofs.Lines.{appends-same}
+use Rattle.amber_course.specs.declared.stop.Stop.{Stop}
+use Rattle.amber_course.specs.declared.stop.Stop.TheVariants as stop
+use Rattle.amber_course.proofs.Lines.{appends-same}
 use Rattle.amber_run.proofs.Working.{ends_long-push, last-is}
 
 -- ---- the last item

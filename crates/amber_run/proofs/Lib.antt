@@ -1,8 +1,3 @@
-pub mod Lines
-pub mod Following
-pub mod Numbers
-pub mod Scanning
-pub mod Scripts
 pub mod Texting
 pub mod Ending
 pub mod Working

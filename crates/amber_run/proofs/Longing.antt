@@ -1,7 +1,5 @@
 -- Where the answer of a call is `Long`.
-use Rattle.std.proofs.Common.{◌≡◌, ◌≢◌, ℕ, ◌<◌, ◌≤◌, ◌⊎◌, inl, inr, List, [], ◌++◌, Option, Result, Ok, Err, Bool, true, false, nat_le, refl, sym, subst, ◌∙◌, arith}
-use Rattle.std.specs.Prelude.{◌↔◌}
-use Rattle.std.proofs.lemmas.Bool.{cases_Bool}
+use Rattle.std.proofs.Common.{◌≡◌, ◌≢◌, ℕ, ◌<◌, ◌⊎◌, inl, inr, List, [], ◌++◌, Option, Result, Ok, Err, Bool, true, false, nat_le, refl, sym, subst, ◌∙◌, arith}
 use Rattle.std.proofs.lemmas.Bool.Decides.{nat_tests}
 use Rattle.amber_io.specs.Counts.{Rose}
 use Rattle.amber_io.specs.Folder.{Named, Told}
@@ -10,20 +8,20 @@ use Rattle.amber_log.specs.LogText.{log_text}
 use Rattle.amber_log.proofs.Torn.{reads-whole}
 use Rattle.amber_meaning.specs.Plain.{row_total}
 use Rattle.amber_run.specs.Answering.{BreaksOff, Fulfils, IsUntouched}
-use Rattle.amber_run.specs.Course.{course_of, limited, most_rows}
+use Rattle.amber_course.specs.Course.{course_of, limited, most_rows}
 use Rattle.amber_run.specs.Outcome.{Answers, AsksFor, Breaks, IsLongWhere, IsPrintStatus, Runs, RunsLong, Succeeds, TellsLong}
 use Rattle.amber_run.specs.Standing.{IsDone, IsLeft}
-use Rattle.amber_run.specs.Stop.{status_of}
-use Rattle.amber_run.specs.Task.{ends_long, task_of}
+use Rattle.amber_course.specs.Stop.{status_of}
+use Rattle.amber_run.specs.Task.{task_of}
 use Rattle.amber_run.specs.Writing.{CountsWrites}
-use Rattle.amber_run.specs.declared.job.Job.{Job}
-use Rattle.amber_run.specs.declared.job.Job.TheVariants as job
-use Rattle.amber_run.specs.declared.status.Status.{Status}
-use Rattle.amber_run.specs.declared.status.Status.TheVariants as status
-use Rattle.amber_run.specs.declared.stop.Stop.{Stop}
-use Rattle.amber_run.specs.declared.stop.Stop.TheVariants as stop
+use Rattle.amber_course.specs.declared.job.Job.{Job}
+use Rattle.amber_course.specs.declared.job.Job.TheVariants as job
+use Rattle.amber_course.specs.declared.status.Status.{Status}
+use Rattle.amber_course.specs.declared.status.Status.TheVariants as status
+use Rattle.amber_course.specs.declared.stop.Stop.{Stop}
+use Rattle.amber_course.specs.declared.stop.Stop.TheVariants as stop
 use Rattle.amber_run.proofs.Ending.{course-job, course-none, told-tells}
-use Rattle.amber_run.proofs.Following.{told-all, told-both, told-map}
+use Rattle.amber_course.proofs.Following.{told-all, told-both, told-map}
 
 -- ---- rows
 

@@ -7,16 +7,16 @@ use Rattle.amber_meaning.specs.Plain.{answer_of, row_total}
 use Rattle.amber_meaning.specs.Texts.{answer_text}
 use Rattle.amber_meaning.specs.declared.answer.Answer.{Answer}
 use Rattle.amber_run.specs.Answering.{IsAnswer, Works, text_of}
-use Rattle.amber_run.specs.Course.{most_rows}
+use Rattle.amber_course.specs.Course.{most_rows}
 use Rattle.amber_run.specs.Outcome.{Counts}
 use Rattle.amber_run.specs.Standing.{Worked}
-use Rattle.amber_run.specs.Steps.{Judges, Sent}
+use Rattle.amber_course.specs.Steps.{Judges, Sent}
 use Rattle.amber_run.specs.Task.{task_of}
 use Rattle.amber_run.specs.Writing.{CountsWrites}
-use Rattle.amber_run.specs.declared.job.Job.TheVariants as job
-use Rattle.amber_run.specs.declared.stop.Stop.{Stop}
-use Rattle.amber_run.specs.declared.stop.Stop.TheVariants as stop
-use Rattle.amber_run.proofs.Lines.{appends-same, keeps-nil}
+use Rattle.amber_course.specs.declared.job.Job.TheVariants as job
+use Rattle.amber_course.specs.declared.stop.Stop.{Stop}
+use Rattle.amber_course.specs.declared.stop.Stop.TheVariants as stop
+use Rattle.amber_course.proofs.Lines.{appends-same, keeps-nil}
 
 -- ---- how many rows there are
 

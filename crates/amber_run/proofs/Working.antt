@@ -25,12 +25,12 @@ use Rattle.amber_debug.specs.Session.{Does, Grew, Session, command_of, is_long_i
 use Rattle.amber_debug.specs.declared.done.DebugErr.TheVariants as debug_err
 use Rattle.amber_debug.specs.declared.done.Done.{Done}
 use Rattle.amber_run.specs.Standing.{ClosesAs, Halts, IsBare, IsLeft, Opens, Stands}
-use Rattle.amber_run.specs.Steps.{Sent}
+use Rattle.amber_course.specs.Steps.{Sent}
 use Rattle.amber_run.specs.Task.{IsSession, Task, ends_long, query_at}
 use Rattle.amber_run.specs.Writing.{Made, Wrote}
-use Rattle.amber_run.specs.declared.stop.Stop.{Stop}
-use Rattle.amber_run.specs.declared.stop.Stop.TheVariants as stop
-use Rattle.amber_run.proofs.Lines.{appends-on, appends-same, keeps-nil}
+use Rattle.amber_course.specs.declared.stop.Stop.{Stop}
+use Rattle.amber_course.specs.declared.stop.Stop.TheVariants as stop
+use Rattle.amber_course.proofs.Lines.{appends-on, appends-same, keeps-nil}
 
 -- ---- lists
 

@@ -1,43 +1,19 @@
 -- What the steps of a job give.
-use Rattle.std.specs.Prelude.{◌≡◌, ℕ, ◌<◌, ◌≤◌, ◌⊎◌, nat_le, List, [], None, Option, Result, Ok, Err, if◌then◌else◌, length, ⊤}
+use Rattle.std.specs.Prelude.{◌≡◌, ℕ, ◌<◌, ◌≤◌, ◌⊎◌, nat_le, List, [], Option, Result, Ok, Err, if◌then◌else◌, ⊤}
 use Rattle.std.specs.Io.KnownBytes.{Appends}
-use Rattle.amber_flow.specs.Alone.{AreAlone}
 use Rattle.amber_io.specs.Folder.{Named}
 use Rattle.amber_io.specs.Sink.{Begins}
-use Rattle.amber_rows.specs.FlowRules.{IsFlow}
 use Rattle.amber_rows.specs.declared.flow.Operator.{Operator}
-use Rattle.amber_meaning.specs.Plain.{answer_of, row_total, scan_count, wrong_header}
+use Rattle.amber_meaning.specs.Plain.{answer_of, row_total}
 use Rattle.amber_meaning.specs.Texts.{answer_text}
 use Rattle.amber_meaning.specs.declared.answer.Answer.{Answer}
-use Rattle.amber_run.specs.Course.{limited, most_rows}
+use Rattle.amber_course.specs.Course.{limited, most_rows}
 use Rattle.amber_run.specs.Standing.{IsDone, Leaves}
 use Rattle.amber_run.specs.Task.{task_of}
-use Rattle.amber_run.specs.Words.{AreSizes}
-use Rattle.amber_run.specs.declared.job.Job.{Job}
-use Rattle.amber_run.specs.declared.job.Job.TheVariants as job
-use Rattle.amber_run.specs.declared.words.Words.{Words}
-use Rattle.amber_run.specs.declared.words.Words.TheVariants as form
-use Rattle.amber_run.specs.declared.stop.Stop.{Stop}
-use Rattle.amber_run.specs.declared.stop.Stop.TheVariants as stop
-
--- there is a file for each scan, and each begins with the names of its columns
-pub record AreInputs (flow : List Operator) (files : List (List ℕ)) : Type 0 where
-  pub count : length files ≡ scan_count flow
-  pub headed : wrong_header 1 files flow ≡ None
-
-abbrev pub IsReady : Job → Type 0
-IsReady (job.Plain flow files) = AreInputs flow files
-IsReady (job.Run flow files log threads batch) = AreInputs flow files × AreSizes threads batch × AreAlone flow × IsFlow flow
-
--- a job that writes no file
-abbrev pub IsPlain : Job → Type 0
-IsPlain (job.Plain flow files) = ⊤
-IsPlain (job.Run flow files log threads batch) = ⊥
-
--- words that ask for no run have a job that writes no file
-abbrev pub IsAskedBy : Words → Job → Type 0
-IsAskedBy (form.Plain workflow) job = IsPlain job
-IsAskedBy (form.Run words) job = ⊤
+use Rattle.amber_course.specs.declared.job.Job.{Job}
+use Rattle.amber_course.specs.declared.job.Job.TheVariants as job
+use Rattle.amber_course.specs.declared.stop.Stop.{Stop}
+use Rattle.amber_course.specs.declared.stop.Stop.TheVariants as stop
 
 -- the sequential answer, or that there are too many rows
 abbrev pub IsAnswer : Result Answer Stop → List Operator → List (List ℕ) → Type 0

@@ -1,11 +1,5 @@
-pub mod Status
-pub mod Stop
-pub mod Words
-pub mod Script
-pub mod Course
 pub mod Answering
 pub mod Outcome
-pub mod Steps
 pub mod Task
 pub mod Standing
 pub mod Writing

@@ -1,28 +1,26 @@
 -- What the status of a call says, and what the call leaves.
 use Rattle.std.specs.Prelude.{◌≡◌, ◌≢◌, ℕ, ◌-◌, ◌^◌, ◌<◌, ◌≤◌, ◌⊎◌, List, [], ◌++◌, Option, None, Some, Result, Ok, Err, IsSome, true, false, ◌↔◌, ⊤}
-use Rattle.std.specs.Io.KnownBytes.{Appends}
 use Rattle.amber_io.specs.Counts.{Rose}
 use Rattle.amber_io.specs.Folder.{Named, Told, with_file}
-use Rattle.amber_io.specs.Sink.{Begins}
 use Rattle.amber_log.specs.ReadAs.{IsReadAs}
 use Rattle.amber_log.specs.declared.log.Log.{Log}
 use Rattle.amber_meaning.specs.Legal.{query_over}
 use Rattle.amber_meaning.specs.Plain.{row_total}
 use Rattle.amber_meaning.specs.Total.{step_total}
 use Rattle.amber_run.specs.Answering.{BreaksOff, Fulfils, IsUntouched}
-use Rattle.amber_run.specs.Course.{IsReached, course_of, job_of, most_rows}
+use Rattle.amber_course.specs.Course.{IsReached, course_of, job_of, most_rows}
 use Rattle.amber_run.specs.Task.{ends_long, most_steps}
-use Rattle.amber_run.specs.Words.{words_of}
-use Rattle.amber_run.specs.declared.job.Job.{Job}
-use Rattle.amber_run.specs.declared.job.Job.TheVariants as job
-use Rattle.amber_run.specs.Steps.{Names, Stopped, Tells}
-use Rattle.amber_run.specs.Stop.{IsToldAs, line_of, status_of}
-use Rattle.amber_run.specs.declared.status.Status.{Status}
-use Rattle.amber_run.specs.declared.status.Status.TheVariants as status
-use Rattle.amber_run.specs.declared.stop.Stop.{Stop}
-use Rattle.amber_run.specs.declared.stop.Stop.TheVariants as stop
-use Rattle.amber_run.specs.declared.words.Words.{Words}
-use Rattle.amber_run.specs.declared.words.Words.TheVariants as form
+use Rattle.amber_course.specs.Words.{words_of}
+use Rattle.amber_course.specs.declared.job.Job.{Job}
+use Rattle.amber_course.specs.declared.job.Job.TheVariants as job
+use Rattle.amber_course.specs.Steps.{Names, Stopped, Tells}
+use Rattle.amber_course.specs.Stop.{IsToldAs, line_of, status_of}
+use Rattle.amber_course.specs.declared.status.Status.{Status}
+use Rattle.amber_course.specs.declared.status.Status.TheVariants as status
+use Rattle.amber_course.specs.declared.stop.Stop.{Stop}
+use Rattle.amber_course.specs.declared.stop.Stop.TheVariants as stop
+use Rattle.amber_course.specs.declared.words.Words.{Words}
+use Rattle.amber_course.specs.declared.words.Words.TheVariants as form
 
 -- ---- the status
 
@@ -157,8 +155,3 @@ abbrev pub Worded : {A : Type 0} → Result A Stop → List (List ℕ) → Type 
 Worded (Ok x) words = IsSome (words_of words)
 Worded (Err stop.Usage) words = words_of words ≡ None
 Worded (Err other) words = IsSome (words_of words)
-
--- a refusal was told: its line, or for want of memory a front part of it
-abbrev pub Refuses : Status → Stop → Option (List ℕ) → Option (List ℕ) → ℕ → ℕ → Type 0
-Refuses result s before got old new = (old ≤ new) × Begins before got (line_of s)
-    × (((new ≡ old) × Appends before got (line_of s) × (result ≡ status_of s)) ⊎ ((new ≡ old) × (result ≡ status.NoMemory)) ⊎ (Rose old new × (result ≡ status_of s)))

@@ -15,8 +15,8 @@ use Rattle.amber_meaning.specs.Total.{step_total}
 use Rattle.amber_meaning.specs.Transcript.{replies, reply_of, transcript_of}
 use Rattle.amber_debug.specs.Session.{Session, command_of}
 use Rattle.amber_run.specs.Task.{Task, ends_long, most_steps, query_at}
-use Rattle.amber_run.specs.declared.stop.Stop.{Stop}
-use Rattle.amber_run.specs.declared.stop.Stop.TheVariants as stop
+use Rattle.amber_course.specs.declared.stop.Stop.{Stop}
+use Rattle.amber_course.specs.declared.stop.Stop.TheVariants as stop
 
 -- ---- between two commands
 

@@ -1,15 +1,14 @@
 ghost use Rattle.std.specs.Prelude.{◌≡◌, ◌≢◌, ℕ, IfErr, Option};
 ghost use Rattle.amber_io.specs.Folder.{Named};
-ghost use Rattle.amber_run.specs.Answering.{AreInputs, IsAnswer, IsPlain, IsReady, Works, text_of};
+ghost use Rattle.amber_course.specs.Ready.{AreInputs, WritesNothing, IsReady};
+ghost use Rattle.amber_run.specs.Answering.{IsAnswer, Works, text_of};
 ghost use Rattle.amber_run.specs.Outcome.{Counts};
-ghost use Rattle.amber_run.specs.Steps.{Judges};
+ghost use Rattle.amber_course.specs.Steps.{Judges};
 ghost use Rattle.amber_run.specs.Writing.{CountsWrites};
 
-use crate::job::Job;
 use crate::printed::Printed;
-use crate::refusal::put_output;
-use crate::stop::Stop;
 use crate::work::work;
+use amber_course::{Job, Stop, put_output};
 use amber_io::{Folder, Sink};
 use amber_meaning::{Answer, PlainErr};
 use amber_plain::plain;
@@ -82,9 +81,9 @@ pub(crate) fn do_job<F: Folder, O: Sink>(
     ensures writes { CountsWrites result (F.write_faults folder.old) (F.write_faults folder.new) }
     ensures puts { Counts result (O.faults out.old) (O.faults out.new) }
     ensures loads { F.load_faults folder.new ≡ F.load_faults folder.old }
-    ensures same { IsPlain job → F.files folder.new ≡ F.files folder.old }
-    ensures idle { IsPlain job → F.write_faults folder.new ≡ F.write_faults folder.old }
-    ensures unlogged { IsPlain job → IfErr result (λ stop. stop ≢ Stop.LogFault) }
+    ensures same { WritesNothing job → F.files folder.new ≡ F.files folder.old }
+    ensures idle { WritesNothing job → F.write_faults folder.new ≡ F.write_faults folder.old }
+    ensures unlogged { WritesNothing job → IfErr result (λ stop. stop ≢ Stop.LogFault) }
 {
     match job {
         Job::Plain { flow, files } => print_answer(alloc, &flow, &files, out, printed),

@@ -1,20 +1,15 @@
 ghost use Rattle.std.specs.Prelude.{◌≡◌, ◌≢◌, ◌<◌, ◌⊎◌, map, None, IfErr, Err, string_bytes, ℕ, List};
 ghost use Rattle.amber_io.specs.Counts.{Rose};
 ghost use Rattle.amber_io.specs.Folder.{Told};
-ghost use Rattle.amber_run.specs.Course.{IsReached, course_of};
+ghost use Rattle.amber_course.specs.Course.{IsReached, course_of};
 ghost use Rattle.amber_run.specs.Outcome.{Answers, AsksFor, AsksNoRun, Counts, Ended, IsSinkStatus, IsWithin, Runs, Succeeds, TellsLong, Worded};
-ghost use Rattle.amber_run.specs.Steps.{Names, Tells};
-ghost use Rattle.amber_run.specs.Words.{words_of};
+ghost use Rattle.amber_course.specs.Steps.{Names, Tells};
+ghost use Rattle.amber_course.specs.Words.{words_of};
 ghost use Rattle.amber_run.specs.Writing.{CountsWrites};
 
 use crate::answer::do_job;
-use crate::job::Job;
-use crate::prepare::prepare;
 use crate::printed::Printed;
-use crate::refusal::refuse;
-use crate::status::Status;
-use crate::stop::Stop;
-use crate::words::read_words;
+use amber_course::{Job, Status, Stop, prepare, read_words, refuse};
 use amber_io::{Folder, Sink};
 use std::alloc::Global;
 

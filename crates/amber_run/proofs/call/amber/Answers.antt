@@ -1,12 +1,12 @@
 -- What the run did, and the error line behind it.
 use Rattle.std.proofs.Common.{◌≡◌, ◌<◌, ◌⊎◌, inl, map, string_bytes, refl, arith}
 use Rattle.amber_io.specs.Counts.{Rose}
-use Rattle.amber_run.specs.Course.{course_of}
+use Rattle.amber_course.specs.Course.{course_of}
 use Rattle.amber_run.specs.Outcome.{IsSinkStatus, IsWithin}
-use Rattle.amber_run.specs.declared.status.Status.TheVariants as status
+use Rattle.amber_course.specs.declared.status.Status.TheVariants as status
 use Rattle.amber_run.proofs.Deciding.{answers, answers-ok, complete, lates, loads-grow, log-rose, log-unasked, out-rose, puts-grow, read-is, usage-is, words-bad, words-ok, writes-grow}
 use Rattle.amber_run.proofs.Ending.{ended, not-ok, refused-as}
-use Rattle.amber_run.proofs.Following.{told-all}
+use Rattle.amber_course.proofs.Following.{told-all}
 use Rattle.amber_run.proofs.Longing.{long-done, long-stopped}
 use Rattle.amber_run.proofs.call.amber.Goals as goal
 

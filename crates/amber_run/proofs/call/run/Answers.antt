@@ -1,8 +1,8 @@
 -- The words, the job, and what was done of it.
 use Rattle.std.proofs.Common.{◌≡◌, map, string_bytes, Err, ◌∙◌, rules}
 use Rattle.amber_run.proofs.Ending.{plain-job, reached-stop, reached-words, reached-works, run-stop, run-words, run-works, stop-counts, stop-unlogged, stop-writes, words-counts, words-unlogged, words-writes, worded-stop, worded-words, worded-works}
-use Rattle.amber_run.specs.Course.{job_of}
-use Rattle.amber_run.specs.Words.{words_of}
+use Rattle.amber_course.specs.Course.{job_of}
+use Rattle.amber_course.specs.Words.{words_of}
 use Rattle.amber_run.proofs.call.run.Goals as goal
 
 pub returns-in_err-words-clause-ran : goal.returns-in_err-words-clause-ran

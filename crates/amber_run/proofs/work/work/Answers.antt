@@ -2,7 +2,7 @@
 use Rattle.std.proofs.Common.{◌≡◌, [], Err, Ok, refl, rules}
 use Rattle.amber_run.specs.Task.{task_of}
 use Rattle.amber_run.proofs.Finishing.{all-done, command-stop, opens-counts, opens-stop, run-command}
-use Rattle.amber_run.proofs.Lines.{appends-same}
+use Rattle.amber_course.proofs.Lines.{appends-same}
 use Rattle.amber_run.proofs.work.work.Goals as goal
 
 pub returns-in_err-make_log-clause-worked : goal.returns-in_err-make_log-clause-worked

@@ -1,0 +1,5 @@
+pub mod Following
+pub mod Lines
+pub mod Numbers
+pub mod Scanning
+pub mod Scripts

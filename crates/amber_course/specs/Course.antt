@@ -1,0 +1,167 @@
+-- The course of a call: its first refusal in the order of work, or the job to do. It is judged over the words and the files alone.
+use Rattle.std.specs.Prelude.{◌≡◌, ℕ, ◌+◌, ◌-◌, ◌^◌, ◌⊎◌, nat_le, List, [], ◌∷◌, ◌++◌, length, bytes_eq, Bool, false, Option, Some, None, Result, Ok, Err, IsOk, if◌then◌else◌}
+use Rattle.std.specs.FinMap as finmap
+use Rattle.amber_io.specs.Folder.{Named}
+use Rattle.amber_rows.specs.Record.{has_header}
+use Rattle.amber_rows.specs.declared.column.Column.{Column}
+use Rattle.amber_rows.specs.declared.flow.What.{What}
+use Rattle.amber_rows.specs.declared.flow.What.TheVariants as what
+use Rattle.amber_rows.specs.declared.flow.Operator.{Operator}
+use Rattle.amber_flow.specs.Workflow.{workflow_of}
+use Rattle.amber_flow.specs.declared.error.Fault.{Fault}
+use Rattle.amber_meaning.specs.Plain.{row_total}
+use Rattle.amber_course.specs.Script.{first_said, script_read}
+use Rattle.amber_course.specs.Words.{words_of}
+use Rattle.amber_course.specs.declared.job.Job.{Job}
+use Rattle.amber_course.specs.declared.job.Job.TheVariants as job
+use Rattle.amber_course.specs.declared.words.RunWords.{RunWords}
+use Rattle.amber_course.specs.declared.words.Words.{Words}
+use Rattle.amber_course.specs.declared.words.Words.TheVariants as form
+use Rattle.amber_course.specs.declared.stop.Reason.TheVariants as reason
+use Rattle.amber_course.specs.declared.stop.Stop.{Stop}
+use Rattle.amber_course.specs.declared.stop.Stop.TheVariants as stop
+
+-- one step after another; a refusal is the last
+abbrev pub then_on : {A B : Type 0} → Result A Stop → (A → Result B Stop) → Result B Stop
+then_on (Ok x) next = next x
+then_on (Err s) next = Err s
+
+-- ---- limits
+
+-- how many bytes a workflow or a script may have
+abbrev pub most_text : ℕ
+most_text = 2 ^ 20
+
+-- how many bytes the files of all scans may have together
+abbrev pub most_scanned : ℕ
+most_scanned = 2 ^ 25
+
+-- how many rows all operators of a query may give together
+abbrev pub most_rows : ℕ
+most_rows = 2 ^ 40
+
+-- ---- files
+
+-- a file has to be there, and may have so many bytes
+abbrev pub sized : ℕ → List ℕ → Option (List ℕ) → Result (List ℕ) Stop
+sized most name None = Err (stop.ReadFault name)
+sized most name (Some bytes) = if nat_le (length bytes) most then Ok bytes else Err (stop.TooLarge name)
+
+-- a file of this name
+unfoldable pub load_of : ℕ → List ℕ → Named → Result (List ℕ) Stop
+load_of most name files = sized most name (finmap.get files name)
+
+-- the workflow that was read, or the first reason against it
+abbrev pub flow_read : Result (List Operator) Fault → Result (List Operator) Stop
+flow_read (Ok flow) = Ok flow
+flow_read (Err fault) = Err (stop.BadFlow fault.op (reason.Flow fault.why))
+
+-- the workflow in the file of this name
+unfoldable pub workflow_in : List ℕ → Named → Result (List Operator) Stop
+workflow_in name files = then_on (load_of most_text name files) (λ bytes. flow_read (workflow_of bytes))
+
+-- the script in the file of this name
+unfoldable pub script_in : List ℕ → Named → Result (Unit {0}) Stop
+script_in name files = then_on (load_of most_text name files) (λ bytes. script_read (first_said bytes))
+
+-- ---- the log
+
+-- whether a scan reads this file
+abbrev pub reads : List ℕ → What → Bool
+reads log (what.Scan file) = bytes_eq file log
+reads log other = false
+
+-- the first scan, of the operators from this number on, that reads the log
+unfoldable pub log_scan : ℕ → List ℕ → List Operator → Option ℕ
+log_scan op log [] = None
+log_scan op log (operator ∷ more) = if reads log operator.what then Some op else log_scan (op + 1) log more
+
+-- the log has to be none of the scans' files
+abbrev pub apart_from : List Operator → Option ℕ → Result (List Operator) Stop
+apart_from flow None = Ok flow
+apart_from flow (Some op) = Err (stop.BadFlow op reason.LogName)
+
+-- the workflow of a run, whose scans do not read the log
+unfoldable pub run_flow : List ℕ → List ℕ → Named → Result (List Operator) Stop
+run_flow workflow log files = then_on (workflow_in workflow files) (λ flow. apart_from flow (log_scan 1 log flow))
+
+-- ---- scans
+
+-- a scan's file has to begin with the names of its columns
+abbrev pub headed : ℕ → List Column → List ℕ → Result (List ℕ) Stop
+headed op columns bytes = if has_header columns bytes then Ok bytes else Err (stop.BadFlow op reason.Header)
+
+-- the file of a scan, where all scans from it on may have so many bytes together
+unfoldable pub scan_file : ℕ → ℕ → List ℕ → List Column → Named → Result (List ℕ) Stop
+scan_file op left name columns files = then_on (load_of left name files) (headed op columns)
+
+-- a file before those of later scans
+abbrev pub file_before : List ℕ → Result (List (List ℕ)) Stop → Result (List (List ℕ)) Stop
+file_before bytes (Ok others) = Ok (bytes ∷ others)
+file_before bytes (Err s) = Err s
+
+-- the file of an operator, where it is a scan, before those of later scans, which may have the bytes that it leaves
+abbrev pub scan_before : ℕ → ℕ → What → List Column → Named → (ℕ → Result (List (List ℕ)) Stop) → Result (List (List ℕ)) Stop
+scan_before op left (what.Scan name) columns files later = then_on (scan_file op left name columns files) (λ bytes. file_before bytes (later (left - length bytes)))
+scan_before op left other columns files later = later left
+
+-- the files of the scans among the operators from this number on
+unfoldable pub scans_from : ℕ → ℕ → List Operator → Named → Result (List (List ℕ)) Stop
+scans_from op left [] files = Ok []
+scans_from op left (operator ∷ more) files = scan_before op left operator.what operator.schema files (λ rest. scans_from (op + 1) rest more files)
+
+-- the files of a workflow's scans
+unfoldable pub scans_of : List Operator → Named → Result (List (List ℕ)) Stop
+scans_of flow files = scans_from 1 most_scanned flow files
+
+-- ---- the order of work
+
+abbrev pub words_read : Option Words → Result Words Stop
+words_read None = Err stop.Usage
+words_read (Some words) = Ok words
+
+-- the job that words ask for: the workflow is loaded and read; for a run its scans' files are compared with the log, and the script is
+-- loaded and read; each scan's file is loaded and its header compared
+unfoldable pub job_of : Words → Named → Result Job Stop
+job_of (form.Plain workflow) files =
+    then_on (workflow_in workflow files) (λ flow. then_on (scans_of flow files) (λ inputs. Ok (job.Plain flow inputs)))
+job_of (form.Run words) files =
+    then_on (run_flow words.workflow words.log files)
+    (λ flow. then_on (script_in words.script files) (λ read. then_on (scans_of flow files) (λ inputs. Ok (job.Run flow inputs words.log words.threads words.batch))))
+
+-- the operators of a query that is printed at once give no more rows than they may
+abbrev pub limited : Job → Result Job Stop
+limited (job.Plain flow inputs) = if nat_le (row_total flow inputs) most_rows then Ok (job.Plain flow inputs) else Err stop.Long
+limited (job.Run flow inputs log threads batch) = Ok (job.Run flow inputs log threads batch)
+
+-- the words are read; the files are loaded and read; for `plain` the rows of all operators are counted
+unfoldable pub course_of : List (List ℕ) → Named → Result Job Stop
+course_of words files = then_on (words_read (words_of words)) (λ read. then_on (job_of read files) limited)
+
+-- ---- the files that the order of work loads
+
+-- the file of a scan among these operators, where the files of the scans before it are there and right
+pub record IsScanFile (flow : List Operator) (files : Named) (file : List ℕ) : Type 0 where
+  pub front : List Operator
+  pub operator : Operator
+  pub behind : List Operator
+  pub split : flow ≡ front ++ operator ∷ behind
+  pub names : operator.what ≡ what.Scan file
+  pub right : IsOk (scans_of front files)
+
+-- the file of a scan of the workflow, where it is one
+abbrev pub IsScanned : List ℕ → Named → List ℕ → Type 0
+IsScanned workflow files file = (flow : List Operator) × (workflow_in workflow files ≡ Ok flow) × IsScanFile flow files file
+
+-- the script of a run, where its workflow stands, and the file of a scan of it, where the script stands too
+abbrev pub IsBehind : RunWords → Named → List ℕ → Type 0
+IsBehind words files file = (flow : List Operator) × (run_flow words.workflow words.log files ≡ Ok flow)
+    × ((file ≡ words.script) ⊎ ((script_in words.script files ≡ Ok tt) × IsScanFile flow files file))
+
+abbrev pub IsLoaded : Words → Named → List ℕ → Type 0
+IsLoaded (form.Plain workflow) files file = (file ≡ workflow) ⊎ IsScanned workflow files file
+IsLoaded (form.Run words) files file = (file ≡ words.workflow) ⊎ IsBehind words files file
+
+-- a file that the order of work reaches: what comes before it is there and right
+abbrev pub IsReached : List (List ℕ) → Named → List ℕ → Type 0
+IsReached words files file = (read : Words) × (words_of words ≡ Some read) × IsLoaded read files file

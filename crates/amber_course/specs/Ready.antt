@@ -1,0 +1,30 @@
+-- What a job is made of, and which words ask for it.
+use Rattle.std.specs.Prelude.{◌≡◌, ⊤, List, None, length, ℕ}
+use Rattle.amber_flow.specs.Alone.{AreAlone}
+use Rattle.amber_rows.specs.FlowRules.{IsFlow}
+use Rattle.amber_rows.specs.declared.flow.Operator.{Operator}
+use Rattle.amber_meaning.specs.Plain.{scan_count, wrong_header}
+use Rattle.amber_course.specs.Words.{AreSizes}
+use Rattle.amber_course.specs.declared.job.Job.{Job}
+use Rattle.amber_course.specs.declared.job.Job.TheVariants as job
+use Rattle.amber_course.specs.declared.words.Words.{Words}
+use Rattle.amber_course.specs.declared.words.Words.TheVariants as form
+
+-- there is a file for each scan, and each begins with the names of its columns
+pub record AreInputs (flow : List Operator) (files : List (List ℕ)) : Type 0 where
+  pub count : length files ≡ scan_count flow
+  pub headed : wrong_header 1 files flow ≡ None
+
+abbrev pub IsReady : Job → Type 0
+IsReady (job.Plain flow files) = AreInputs flow files
+IsReady (job.Run flow files log threads batch) = AreInputs flow files × AreSizes threads batch × AreAlone flow × IsFlow flow
+
+-- a job that writes no file
+abbrev pub WritesNothing : Job → Type 0
+WritesNothing (job.Plain flow files) = ⊤
+WritesNothing (job.Run flow files log threads batch) = ⊥
+
+-- words that ask for no run have a job that writes no file
+abbrev pub IsAskedBy : Words → Job → Type 0
+IsAskedBy (form.Plain workflow) job = WritesNothing job
+IsAskedBy (form.Run words) job = ⊤

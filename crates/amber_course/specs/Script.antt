@@ -1,0 +1,25 @@
+-- The script of a run. So far no command is known, so each line that says something is refused.
+use Rattle.std.specs.Prelude.{ℕ, ◌+◌, ◌==◌, ◌||◌, not, List, [], ◌∷◌, Bool, false, Option, Some, None, Result, Ok, Err, if◌then◌else◌}
+use Rattle.std.specs.List.{position, slice_split}
+use Rattle.std.specs.Str.Lines.{strip_carriage_return}
+use Rattle.amber_course.specs.declared.script.ScriptWhy.TheVariants as why
+use Rattle.amber_course.specs.declared.stop.Stop.{Stop}
+use Rattle.amber_course.specs.declared.stop.Stop.TheVariants as stop
+
+-- a space or a tab
+abbrev pub is_blank : ℕ → Bool
+is_blank b = (b == 32) || (b == 9)
+
+-- a line has a byte other than a blank, and the first such byte is no `#`
+unfoldable pub says : List ℕ → Bool
+says [] = false
+says (b ∷ bs) = if is_blank b then says bs else not (b == 35)
+
+-- the place of the first line that says something. Lines end with a line feed, before which one carriage return is dropped
+unfoldable pub first_said : List ℕ → Option ℕ
+first_said bytes = position (λ line. says (strip_carriage_return line)) (slice_split (λ b. b == 10) bytes)
+
+-- the script was read; lines are numbered from 1
+abbrev pub script_read : Option ℕ → Result (Unit {0}) Stop
+script_read None = Ok tt
+script_read (Some place) = Err (stop.BadScript (place + 1) why.Word)

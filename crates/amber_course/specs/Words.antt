@@ -1,0 +1,47 @@
+-- What the words of a call ask for.
+use Rattle.std.specs.Prelude.{ℕ, ◌<◌, ◌≤◌, ◌&&◌, ◌||◌, nat_le, List, [], ◌∷◌, codes, bytes_eq, Option, Some, None, if◌then◌else◌, ⊤}
+use Rattle.std.specs.Fmt.{decimal}
+use Rattle.std.specs.Str.Parse.{digits_value}
+use Rattle.amber_course.specs.declared.words.Words.{Words}
+use Rattle.amber_course.specs.declared.words.Words.TheVariants as form
+
+-- a number, where it is from 1 to `most` and the word is its decimal
+abbrev pub number_where : ℕ → List ℕ → ℕ → Option ℕ
+number_where most word n = if bytes_eq (decimal n) word && nat_le 1 n && nat_le n most then Some n else None
+
+-- the number from 1 to `most` whose decimal, without leading zeros, a word is
+unfoldable pub number_of : ℕ → List ℕ → Option ℕ
+number_of most word = number_where most word (digits_value 10 word)
+
+-- how many threads a run may have, and how many rows a batch
+abbrev pub most_threads : ℕ
+most_threads = 64
+
+abbrev pub most_batch : ℕ
+most_batch = 65536
+
+-- the words of a run, whose log is none of its other files
+abbrev pub run_words : List ℕ → List ℕ → List ℕ → Option ℕ → Option ℕ → Option Words
+run_words workflow script log None batch = None
+run_words workflow script log (Some threads) None = None
+run_words workflow script log (Some threads) (Some batch) =
+    if bytes_eq log workflow || bytes_eq log script then None
+    else Some (form.Run (record { workflow = workflow; script = script; log = log; threads = threads; batch = batch }))
+
+-- the words are `plain` and the name of a workflow, or `run` and the names of a workflow, a script and a log and two numbers
+unfoldable pub words_of : List (List ℕ) → Option Words
+words_of (word ∷ workflow ∷ []) = if bytes_eq word (codes "plain") then Some (form.Plain workflow) else None
+words_of (word ∷ workflow ∷ script ∷ log ∷ threads ∷ batch ∷ []) =
+    if bytes_eq word (codes "run") then run_words workflow script log (number_of most_threads threads) (number_of most_batch batch) else None
+words_of others = None
+
+-- the numbers of a run are in their ranges
+pub record AreSizes (threads batch : ℕ) : Type 0 where
+  pub some_threads : 0 < threads
+  pub few_threads : threads ≤ most_threads
+  pub some_batch : 0 < batch
+  pub few_batch : batch ≤ most_batch
+
+abbrev pub AreSound : Words → Type 0
+AreSound (form.Plain workflow) = ⊤
+AreSound (form.Run words) = AreSizes words.threads words.batch

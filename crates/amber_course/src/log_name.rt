@@ -1,0 +1,64 @@
+ghost use Rattle.std.specs.Prelude.{◌≡◌, IfErr, IfOk};
+ghost use Rattle.amber_flow.specs.Alone.{AreAlone};
+ghost use Rattle.amber_course.specs.Course.{apart_from, log_scan, reads, run_flow};
+ghost use Rattle.amber_course.specs.Steps.{Follows, Judges, Names};
+
+use crate::inputs::load_flow;
+use crate::stop::{Reason, Stop};
+use amber_io::Folder;
+use amber_rows::{Flow, What};
+use std::alloc::Global;
+
+// Whether an operator is a scan of this file.
+fn reads(what: &What, log: &str) -> bool
+    ensures { result ≡ reads log.now what.now }
+{
+    match what {
+        What::Scan { file } => file.get() == log,
+        _ => false,
+    }
+}
+
+// The first scan that reads the log.
+fn log_scan(flow: &Flow, log: &str) -> Option<u32>
+    ensures { result ≡ log_scan 1 log.now flow.now }
+{
+    let operators = flow.get();
+    for (i, operator) in operators.iter().enumerate() {
+        if reads(&operator.what, log) {
+            return Some(i as u32 + 1);
+        }
+    }
+    None
+}
+
+// A workflow, where none of its scans reads the log.
+fn apart_from(flow: Flow, log: &str) -> Result<Flow, Stop>
+    ensures flow { Judges result (apart_from flow (log_scan 1 log.now flow)) }
+    ensures same { IfOk result (λ kept. kept ≡ flow) }
+{
+    match log_scan(&flow, log) {
+        Some(op) => Err(Stop::BadFlow {
+            op,
+            why: Reason::LogName,
+        }),
+        None => Ok(flow),
+    }
+}
+
+/// The workflow in a file, where none of its scans reads the log.
+pub(crate) fn load_run_flow<F: Folder>(
+    alloc: Global,
+    workflow: &str,
+    log: &str,
+    folder: &mut F,
+) -> Result<Flow, Stop>
+    ensures course { Follows result (F.files folder.old) (run_flow workflow.now log.now) (F.load_faults folder.old) (F.load_faults folder.new) }
+    ensures alone { IfOk result (λ flow. AreAlone flow) }
+    ensures named { IfErr result (λ stop. Names stop (λ file. file ≡ workflow.now)) }
+    ensures same { F.files folder.new ≡ F.files folder.old }
+    ensures writes { F.write_faults folder.new ≡ F.write_faults folder.old }
+{
+    let flow = load_flow(alloc, workflow, folder)?;
+    apart_from(flow, log)
+}

@@ -1,0 +1,123 @@
+ghost use Rattle.std.specs.Prelude.{◌≡◌, ◌<◌, ◌≤◌, map, string_bytes, IfOk, IfSome, Some};
+ghost use Rattle.amber_course.specs.Steps.{AreRead};
+ghost use Rattle.amber_course.specs.Words.{AreSound, number_of, number_where, run_words, words_of};
+
+use crate::stop::Stop;
+use amber_rows::Text;
+use itoa::Buffer;
+use std::alloc::{AllocError, Global};
+
+// How many threads a run may have.
+const MOST_THREADS: u32 = 64;
+
+// How many rows a batch may have.
+const MOST_BATCH: u32 = 65_536;
+
+/// The words of a run: the names of its workflow, its script and its log, on how many threads it works, from 1 to
+/// 64, and how many rows a batch has, from 1 to 65,536.
+#[derive(Debug, Drop)]
+pub struct RunWords {
+    pub workflow: Text,
+    pub script: Text,
+    pub log: Text,
+    pub threads: u32,
+    pub batch: u32,
+}
+
+/// What the words of a call ask for.
+#[derive(Debug, Drop)]
+pub enum Words {
+    /// To print the answer of the workflow in the file of this name.
+    Plain { workflow: Text },
+    /// To do a run and to write its log.
+    Run(RunWords),
+}
+
+// A number, where it is from 1 to `most` and the word is its decimal.
+fn number_where(word: &str, most: u32, number: u32) -> Option<u32>
+    ensures number { result ≡ number_where most word.now number }
+    ensures range { IfSome result (λ number. (0 < number) × (number ≤ most)) }
+{
+    let mut buffer = Buffer::new();
+    if number == 0 || number > most || buffer.format(number) != word {
+        return None;
+    }
+    Some(number)
+}
+
+// The number from 1 to `most` that a word is, without leading zeros.
+fn read_number(word: &str, most: u32) -> Option<u32>
+    ensures number { result ≡ number_of most word.now }
+    ensures range { IfSome result (λ number. (0 < number) × (number ≤ most)) }
+{
+    match word.parse::<u32>() {
+        Ok(number) => number_where(word, most, number),
+        Err(_) => None,
+    }
+}
+
+// A word as a text of its own.
+fn copied(alloc: Global, word: &str) -> Result<Text, AllocError>
+    ensures { IfOk result (λ text. text ≡ word.now) }
+{
+    Ok(Text::new(String::from_str(alloc, word)?))
+}
+
+// The words behind `plain`.
+fn read_plain(alloc: Global, workflow: &str) -> Result<Words, Stop>
+    ensures read { AreRead result (Some (Words.Plain workflow.now)) }
+    ensures sound { IfOk result AreSound }
+{
+    let workflow = copied(alloc, workflow)?;
+    Ok(Words::Plain { workflow })
+}
+
+// The words behind `run`.
+fn read_run(
+    alloc: Global,
+    workflow: &str,
+    script: &str,
+    log: &str,
+    threads: &str,
+    batch: &str,
+) -> Result<Words, Stop>
+    ensures read { AreRead result (run_words workflow.now script.now log.now (number_of 64 threads.now) (number_of 65536 batch.now)) }
+    ensures sound { IfOk result AreSound }
+{
+    let Some(threads) = read_number(threads, MOST_THREADS) else {
+        return Err(Stop::Usage);
+    };
+    let Some(batch) = read_number(batch, MOST_BATCH) else {
+        return Err(Stop::Usage);
+    };
+    if log == workflow || log == script {
+        return Err(Stop::Usage);
+    }
+    Ok(Words::Run(RunWords {
+        workflow: copied(alloc, workflow)?,
+        script: copied(alloc, script)?,
+        log: copied(alloc, log)?,
+        threads,
+        batch,
+    }))
+}
+
+// Reads the words after the program's name.
+#[tactic(auto, unfolding(crate::specs::Words::words_of))]
+pub fn read_words(alloc: Global, words: &[String]) -> Result<Words, Stop>
+    ensures read { AreRead result (words_of (map string_bytes words.now)) }
+    ensures sound { IfOk result AreSound }
+{
+    match words {
+        [form, workflow] if form.as_str() == "plain" => read_plain(alloc, workflow.as_str()),
+        [form, workflow, script, log, threads, batch] if form.as_str() == "run" => read_run(
+            alloc,
+            workflow.as_str(),
+            script.as_str(),
+            log.as_str(),
+            threads.as_str(),
+            batch.as_str(),
+        ),
+        _ => Err(Stop::Usage),
+    }
+}
