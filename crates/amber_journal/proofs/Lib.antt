@@ -1,1 +1,3 @@
 pub mod ItemText
+pub mod Kept
+pub mod Pieces

@@ -8,6 +8,9 @@
 mod commands;
 mod legs;
 mod lines;
+mod parting;
+mod whole;
 mod write;
 
+pub use whole::whole_items;
 pub use write::{write_head, write_item};
