@@ -5,9 +5,19 @@
 //! definitions and the grammar stand in `amber_log`.
 #![tactic(auto)]
 
+mod command_lines;
 mod commands;
+mod constants;
 mod legs;
 mod lines;
+mod numbers;
+mod parting;
+mod read;
+mod steps;
+mod whole;
+mod words;
 mod write;
 
+pub use read::{LogErr, read_log};
+pub use whole::whole_items;
 pub use write::{write_head, write_item};

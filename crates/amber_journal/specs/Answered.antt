@@ -1,0 +1,21 @@
+-- What reading a log's file answers.
+use Rattle.std.specs.Prelude.{◌≡◌, ℕ, Result, Ok, Err, ◌⊎◌, ⊤}
+use Rattle.amber_log.specs.declared.log.Log.{Log}
+use Rattle.amber_journal.specs.declared.read.LogErr.{LogErr}
+use Rattle.amber_journal.specs.declared.read.LogErr.TheVariants.{NoMemory, Text}
+
+-- the log that was found, or the number of the first bad line; or nothing, for want of memory
+abbrev pub Gives : Result Log LogErr → Result Log ℕ → Type 0
+Gives (Ok log) found = found ≡ Ok log
+Gives (Err (Text line)) found = found ≡ Err line
+Gives (Err NoMemory) found = ⊤
+
+-- P of the line, where one is named
+abbrev pub IfText : Result Log LogErr → (ℕ → Type 0) → Type 0
+IfText (Ok log) P = ⊤
+IfText (Err (Text line)) P = P line
+IfText (Err NoMemory) P = ⊤
+
+-- this answer, unless memory ran out
+abbrev pub IsUnlessNoMemory : Result Log LogErr → Result Log LogErr → Type 0
+IsUnlessNoMemory result wanted = (result ≡ wanted) ⊎ (result ≡ Err NoMemory)

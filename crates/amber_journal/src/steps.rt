@@ -1,0 +1,259 @@
+//! What is read of a log with one more line.
+ghost use Rattle.std.specs.Prelude.{◌≡◌, ◌++◌, ◌∷◌, [], length, IfOk, Some, false, MatchOption, ℕ, Ok, Err};
+ghost use Rattle.amber_log.specs.ReadLines.{closed, finish, part_of, start, step, step_at, step_inside, step_opened, step_outside};
+ghost use Rattle.amber_log.specs.Grammar.{is_go};
+ghost use Rattle.amber_log.specs.declared.reading.Place.TheVariants as place;
+ghost use Rattle.amber_journal.specs.ReadBack.{reading_at};
+
+use amber_log::{Close, Entries, Entry, Item, Items, Leg, Line, Log, Part, Parts, Place, Reading};
+use std::alloc::{AllocError, Global};
+
+/// Behind the head.
+pub fn start(alloc: Global, line: Line) -> Option<Reading>
+    ensures { result ≡ start line }
+{
+    match line {
+        Line::Head(batch) => Some(Reading {
+            batch,
+            items: Items::new(Vec::new(alloc)),
+            place: Place::Outside,
+        }),
+        Line::Do(_) | Line::Run | Line::End | Line::Worker(_) | Line::Entry(_) | Line::Close(_) =>
+            None,
+    }
+}
+
+/// Behind an item: a command, or the start of a leg.
+fn step_outside(batch: u32, mut items: Items, line: Line) -> Result<Option<Reading>, AllocError>
+    ensures { IfOk result (λ next. next
+        ≡ step_outside (reading_at batch items place.Outside) line) }
+{
+    let place = match line {
+        Line::Do(command) => {
+            items.push(Item::Do(command))?;
+            Place::Outside
+        }
+        Line::Run => Place::Opened { end: false },
+        Line::End => Place::Opened { end: true },
+        Line::Head(_) | Line::Worker(_) | Line::Entry(_) | Line::Close(_) => return Ok(None),
+    };
+    Ok(Some(Reading {
+        batch,
+        items,
+        place,
+    }))
+}
+
+/// Behind the end of a leg of these parts.
+fn closed(batch: u32, mut items: Items, end: bool, leg: Leg) -> Result<Reading, AllocError>
+    ensures { IfOk result (λ next. next
+        ≡ closed (reading_at batch items place.Outside) end leg.parts leg.close) }
+{
+    let over = end || leg.close == Close::Long;
+    items.push(if end { Item::End(leg) } else { Item::Run(leg) })?;
+    let place = if over { Place::Over } else { Place::Outside };
+    Ok(Reading {
+        batch,
+        items,
+        place,
+    })
+}
+
+/// Behind the start of a leg: a worker's part begins, or the leg ends.
+fn step_opened(
+    alloc: Global,
+    batch: u32,
+    items: Items,
+    end: bool,
+    line: Line,
+) -> Result<Option<Reading>, AllocError>
+    ensures { IfOk result (λ next. next
+        ≡ step_opened (reading_at batch items (place.Opened end)) end line) }
+{
+    let parts = Parts::new(Vec::new(alloc));
+    match line {
+        Line::Worker(worker) => {
+            let entries = Entries::new(Vec::new(alloc));
+            let place = Place::Inside {
+                end,
+                parts,
+                worker,
+                entries,
+                gone: false,
+            };
+            Ok(Some(Reading {
+                batch,
+                items,
+                place,
+            }))
+        }
+        Line::Close(close) => {
+            let next = closed(batch, items, end, Leg { parts, close })?;
+            Ok(Some(next))
+        }
+        Line::Head(_) | Line::Do(_) | Line::Run | Line::End | Line::Entry(_) => Ok(None),
+    }
+}
+
+/// Whether an entry takes or emits rows.
+fn is_go(entry: Entry) -> bool
+    ensures { result ≡ is_go entry }
+{
+    match entry {
+        Entry::Go { .. } => true,
+        Entry::Take { .. }
+        | Entry::Grant { .. }
+        | Entry::Back { .. }
+        | Entry::Pause
+        | Entry::Resume
+        | Entry::Hold
+        | Entry::Finish => false,
+    }
+}
+
+/// The parts with one more.
+fn with_part(parts: Parts, worker: u32, entries: Entries) -> Result<Parts, AllocError>
+    ensures { IfOk result (λ more. more ≡ parts ++ part_of worker entries ∷ []) }
+{
+    let mut parts = parts.into_vec();
+    parts.push(Part { worker, entries })?;
+    Ok(Parts::new(parts))
+}
+
+/// The entries with one more.
+fn with_entry(entries: Entries, entry: Entry) -> Result<Entries, AllocError>
+    ensures { IfOk result (λ more. more ≡ entries ++ entry ∷ []) }
+{
+    let mut entries = entries.into_vec();
+    entries.push(entry)?;
+    Ok(Entries::new(entries))
+}
+
+/// The part of a worker.
+struct OpenPart {
+    end: bool,
+    parts: Parts,
+    worker: u32,
+    entries: Entries,
+    gone: bool,
+}
+
+/// Behind a line of the part at hand: one more entry, the part of a worker with a greater number, or the leg's end.
+fn step_inside(
+    alloc: Global,
+    batch: u32,
+    items: Items,
+    part: OpenPart,
+    line: Line,
+) -> Result<Option<Reading>, AllocError>
+    ensures { IfOk result (λ next. next
+        ≡ step_inside (reading_at batch items place.Outside) part.end part.parts part.worker part.entries part.gone line) }
+{
+    let OpenPart {
+        end,
+        parts,
+        worker,
+        entries,
+        gone,
+    } = part;
+    match line {
+        Line::Entry(entry) => {
+            let goes = is_go(entry);
+            if gone && goes {
+                return Ok(None);
+            }
+            let entries = with_entry(entries, entry)?;
+            let place = Place::Inside {
+                end,
+                parts,
+                worker,
+                entries,
+                gone: goes,
+            };
+            Ok(Some(Reading {
+                batch,
+                items,
+                place,
+            }))
+        }
+        Line::Worker(next) => {
+            if entries.get().is_empty() || next <= worker {
+                return Ok(None);
+            }
+            let parts = with_part(parts, worker, entries)?;
+            let entries = Entries::new(Vec::new(alloc));
+            let place = Place::Inside {
+                end,
+                parts,
+                worker: next,
+                entries,
+                gone: false,
+            };
+            Ok(Some(Reading {
+                batch,
+                items,
+                place,
+            }))
+        }
+        Line::Close(close) => {
+            if entries.get().is_empty() {
+                return Ok(None);
+            }
+            let parts = with_part(parts, worker, entries)?;
+            let next = closed(batch, items, end, Leg { parts, close })?;
+            Ok(Some(next))
+        }
+        Line::Head(_) | Line::Do(_) | Line::Run | Line::End => Ok(None),
+    }
+}
+
+/// What is read with one more line, where that line may stand there.
+#[tactic(auto, unfolding(amber_log::specs::ReadLines::step))]
+pub fn step(alloc: Global, reading: Reading, line: Line) -> Result<Option<Reading>, AllocError>
+    ensures { IfOk result (λ next. next ≡ step reading line) }
+{
+    let Reading {
+        batch,
+        items,
+        place,
+    } = reading;
+    match place {
+        Place::Outside => step_outside(batch, items, line),
+        Place::Over => Ok(None),
+        Place::Opened { end } => step_opened(alloc, batch, items, end, line),
+        Place::Inside {
+            end,
+            parts,
+            worker,
+            entries,
+            gone,
+        } => {
+            let part = OpenPart {
+                end,
+                parts,
+                worker,
+                entries,
+                gone,
+            };
+            step_inside(alloc, batch, items, part, line)
+        }
+    }
+}
+
+/// The log, where no line is left. A leg may not be open.
+#[tactic(auto, unfolding(amber_log::specs::ReadLines::finish))]
+pub fn finish(reading: Reading) -> Option<Log>
+    ensures { MatchOption result
+        ((number : ℕ) → finish number reading ≡ Err number)
+        (λ log. (number : ℕ) → finish number reading ≡ Ok log) }
+{
+    let Reading {
+        batch,
+        items,
+        place,
+    } = reading;
+    match place {
+        Place::Outside | Place::Over => Some(Log { batch, items }),
+        Place::Opened { .. } | Place::Inside { .. } => None,
+    }
+}
