@@ -1,0 +1,4 @@
+pub mod Examples
+pub mod Joining
+pub mod Targets
+pub mod Texts

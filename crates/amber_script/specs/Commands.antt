@@ -1,5 +1,5 @@
 -- The command that words mean, or the first reason why they mean none.
-use Rattle.std.specs.Prelude.{ℕ, suc, ◌==◌, ◌||◌, ◌&&◌, not, List, [], ◌∷◌, codes, decimal, bytes_eq, position, Option, Some, None, option_map, ok_or, Result, Ok, Err, Bool, true, false, if◌then◌else◌}
+use Rattle.std.specs.Prelude.{ℕ, suc, ◌==◌, ◌||◌, ◌&&◌, not, List, [], ◌∷◌, codes, decimal, bytes_eq, position, Option, Some, None, option_map, option_and_then, ok_or, Result, Ok, Err, Bool, true, false, if◌then◌else◌}
 use Rattle.std.specs.List.{list_all}
 use Rattle.std.specs.Str.{is_utf8}
 use Rattle.std.specs.Str.Parse.{digits_value}
@@ -36,9 +36,13 @@ column_named columns name = ok_or (option_map suc (position (λ column. bytes_eq
 abbrev pub canonical : List ℕ → Result ℕ ScriptWhy
 canonical word = if bytes_eq (decimal (digits_value 10 word)) word then Ok (digits_value 10 word) else Err why.Number
 
--- a number of rows, 1 to 2^40
-unfoldable pub target_of : List ℕ → Result ℕ ScriptWhy
-target_of word = canonical word >>= (λ n. if is_target n then Ok n else Err why.Number)
+-- a number of rows, 1 to 2^40, where the word is its decimal
+abbrev pub target_where : List ℕ → ℕ → Option ℕ
+target_where word n = if bytes_eq (decimal n) word && is_target n then Some n else None
+
+-- the number of rows that a word is
+unfoldable pub target_of : List ℕ → Option ℕ
+target_of word = target_where word (digits_value 10 word)
 
 -- the number of one of an operator's workers
 abbrev pub worker_of : Option Operator → List ℕ → Result ℕ ScriptWhy
@@ -79,7 +83,7 @@ abbrev pub on_rows : (ℕ → ℕ → Command) → List Operator → List ℕ �
 on_rows make flow id word = do
   op ← operator_named flow id
   emits ← require (is_source (numbered flow op)) why.Kind
-  n ← target_of word
+  n ← ok_or (target_of word) why.Number
   Ok (make op n)
 
 -- a command on one of an operator's workers
@@ -148,7 +152,10 @@ unfoldable pub built_command_of : List Operator → List (List ℕ) → Result C
 built_command_of flow [] = Err why.Word
 built_command_of flow (name ∷ words) = if is_unbuilt name then Err why.Word else any_command_of flow (name ∷ words)
 
--- the command of a line's words, each of which is UTF-8. There are none where a quote or a backslash stands wrong
+-- the words, where each of them is UTF-8
+abbrev pub texts_of : List (List ℕ) → Option (List (List ℕ))
+texts_of words = if list_all is_utf8 words then Some words else None
+
+-- the command of a line's words, which are UTF-8. There are none where a quote or a backslash stands wrong
 unfoldable pub command_of : List Operator → Option (List (List ℕ)) → Result Command ScriptWhy
-command_of flow None = Err why.Word
-command_of flow (Some words) = if list_all is_utf8 words then built_command_of flow words else Err why.Word
+command_of flow words = ok_or (option_and_then texts_of words) why.Word >>= built_command_of flow

@@ -1,1 +1,29 @@
 //! Numbers of rows.
+ghost use Rattle.std.specs.Prelude.{◌≡◌};
+ghost use Rattle.amber_script.specs.Commands.{target_of, target_where};
+
+use itoa::Buffer;
+
+// The most rows that a command may ask for.
+const MOST: u64 = 1 << 40;
+
+// A number of rows, where the word is its decimal.
+fn target_where(word: &str, number: u64) -> Option<u64>
+    ensures { result ≡ target_where word.now number }
+{
+    let mut buffer = Buffer::new();
+    if number == 0 || number > MOST || buffer.format(number) != word {
+        return None;
+    }
+    Some(number)
+}
+
+/// The number of rows that a word is: 1 to 2^40, without leading zeros.
+pub fn read_target(word: &str) -> Option<u64>
+    ensures { result ≡ target_of word.now }
+{
+    match word.parse::<u64>() {
+        Ok(number) => target_where(word, number),
+        Err(_) => None,
+    }
+}
