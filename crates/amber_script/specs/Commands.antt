@@ -1,5 +1,5 @@
 -- The command that words mean, or the first reason why they mean none.
-use Rattle.std.specs.Prelude.{ℕ, suc, ◌==◌, ◌||◌, ◌&&◌, not, List, [], ◌∷◌, codes, decimal, bytes_eq, position, Option, Some, None, option_map, option_and_then, ok_or, Result, Ok, Err, Bool, true, false, if◌then◌else◌}
+use Rattle.std.specs.Prelude.{ℕ, ◌+◌, ◌==◌, ◌||◌, ◌&&◌, not, List, [], ◌∷◌, codes, decimal, bytes_eq, position, Option, Some, None, option_map, option_and_then, ok_or, Result, Ok, Err, Bool, true, false, if◌then◌else◌}
 use Rattle.std.specs.List.{list_all}
 use Rattle.std.specs.Str.{is_utf8}
 use Rattle.std.specs.Str.Parse.{digits_value}
@@ -26,11 +26,11 @@ use Rattle.amber_script.specs.declared.error.ScriptWhy.TheVariants as why
 
 -- the number of the operator with this id, from 1
 abbrev pub operator_named : List Operator → List ℕ → Result ℕ ScriptWhy
-operator_named flow id = ok_or (option_map suc (position (λ operator. bytes_eq operator.id id) flow)) why.Operator
+operator_named flow id = ok_or (option_map (λ place. place + 1) (position (λ operator. bytes_eq operator.id id) flow)) why.Operator
 
 -- the number of the column with this name, from 1
 abbrev pub column_named : List Column → List ℕ → Result ℕ ScriptWhy
-column_named columns name = ok_or (option_map suc (position (λ column. bytes_eq column.name name) columns)) why.Column
+column_named columns name = ok_or (option_map (λ place. place + 1) (position (λ column. bytes_eq column.name name) columns)) why.Column
 
 -- the number of which a word is the decimal, without leading zeros
 abbrev pub canonical : List ℕ → Result ℕ ScriptWhy

@@ -8,6 +8,7 @@ mod commands;
 mod error;
 mod lexer;
 mod numbers;
+mod operators;
 mod place;
 mod read;
 
