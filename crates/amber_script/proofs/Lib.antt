@@ -1,4 +1,7 @@
 pub mod Examples
 pub mod Joining
+pub mod Leading
+pub mod Pieces
+pub mod Saying
 pub mod Targets
 pub mod Texts

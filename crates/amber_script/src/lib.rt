@@ -7,10 +7,11 @@
 mod commands;
 mod error;
 mod lexer;
+mod lines;
 mod numbers;
 mod operators;
 mod place;
 mod read;
 
 pub use error::{ScriptErr, ScriptWhy};
-//pub use read::read_script;
+pub use read::read_script;
