@@ -1,6 +1,6 @@
 -- Scripts read on literals.
 use Rattle.std.specs.Prelude.{⊤}
-use Rattle.std.proofs.Common.{◌≡◌, ◌+◌, ◌^◌, ℕ, ℤ, pos, negsuc, List, [], ◌∷◌, ◌++◌, codes, decimal, Option, None, Some, Result, Ok, Err, refl}
+use Rattle.std.proofs.Common.{◌≡◌, ℕ, pos, negsuc, List, [], ◌∷◌, ◌++◌, codes, Option, None, Some, Result, Ok, Err, refl}
 use Rattle.std.specs.List.{flat_map}
 use Rattle.std.specs.Fmt.{digits}
 use Rattle.std.specs.Str.{chars, is_utf8}
@@ -17,7 +17,6 @@ use Rattle.amber_log.specs.declared.command.Command.TheVariants as command
 use Rattle.amber_script.specs.Commands.{any_command_of, built_command_of, command_of, is_unbuilt, target_of}
 use Rattle.amber_script.specs.Script.{commands_from, says, script_of}
 use Rattle.amber_script.specs.Words.{words_from, words_of}
-use Rattle.amber_script.specs.declared.error.BadLine.{BadLine}
 use Rattle.amber_script.specs.declared.error.ScriptWhy.{ScriptWhy}
 use Rattle.amber_script.specs.declared.error.ScriptWhy.TheVariants as why
 

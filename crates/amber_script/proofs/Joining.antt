@@ -1,5 +1,5 @@
 -- The words read so far, and the rest of a line.
-use Rattle.std.proofs.Common.{◌≡◌, ℕ, List, [], ◌∷◌, ◌++◌, Option, None, Some, option_map, refl, ap, ◌∙◌, sym, append_assoc, arith}
+use Rattle.std.proofs.Common.{◌≡◌, ℕ, List, [], ◌∷◌, ◌++◌, Option, None, Some, option_map, refl, ap, ◌∙◌, sym, append_assoc}
 use Rattle.std.specs.List.{onto_first}
 use Rattle.amber_script.specs.Lexing.{joined, onto_word}
 

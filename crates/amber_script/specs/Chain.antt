@@ -11,4 +11,3 @@ Err e >>= f = Err e
 abbrev pub require : {E : Type 0} → Bool → E → Result ⊤ E
 require true why = Ok tt
 require false why = Err why
-

@@ -1,5 +1,5 @@
 -- The command that words mean, or the first reason why they mean none.
-use Rattle.std.specs.Prelude.{ℕ, ◌+◌, ◌==◌, ◌||◌, ◌&&◌, not, List, [], ◌∷◌, codes, decimal, bytes_eq, position, Option, Some, None, option_map, option_and_then, ok_or, Result, Ok, Err, Bool, true, false, if◌then◌else◌}
+use Rattle.std.specs.Prelude.{ℕ, ◌+◌, ◌||◌, ◌&&◌, List, [], ◌∷◌, codes, decimal, bytes_eq, position, Option, Some, None, option_map, option_and_then, ok_or, Result, Ok, Err, Bool, if◌then◌else◌}
 use Rattle.std.specs.List.{list_all}
 use Rattle.std.specs.Str.{is_utf8}
 use Rattle.std.specs.Str.Parse.{digits_value}

@@ -1,5 +1,5 @@
 -- What one byte does to the word that is being read.
-use Rattle.std.specs.Prelude.{◌≡◌, ℕ, List, [], ◌∷◌, ◌++◌, Option, Some, None, option_map, Bool, true, false, ⊤}
+use Rattle.std.specs.Prelude.{◌≡◌, ℕ, List, [], ◌∷◌, ◌++◌, Option, None, option_map, Bool, true, false, ⊤}
 use Rattle.std.specs.List.{onto_first}
 use Rattle.amber_script.specs.Words.{words_from}
 use Rattle.amber_script.specs.declared.place.Place.{Place}

@@ -12,7 +12,9 @@ use std::alloc::AllocError;
 fn place_of(flow: &Flow, id: &str) -> Option<usize>
     ensures { result ≡ position (λ operator. bytes_eq operator.id id.now) flow.now }
 {
-    flow.get().iter().position(|operator| operator.id.get() == id)
+    flow.get()
+        .iter()
+        .position(|operator| operator.id.get() == id)
 }
 
 /// The number of the operator with this id.
