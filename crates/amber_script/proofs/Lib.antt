@@ -1,4 +1,5 @@
 pub mod Examples
+pub mod Fitting
 pub mod Joining
 pub mod Leading
 pub mod Pieces

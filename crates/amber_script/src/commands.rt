@@ -1,5 +1,6 @@
 //! The command that a line's words mean.
-ghost use Rattle.std.specs.Prelude.{◌≡◌, IfOk, false};
+ghost use Rattle.std.specs.Prelude.{◌≡◌, IfOk, false, true};
+ghost use Rattle.amber_log.specs.Fits.{fits_of};
 ghost use Rattle.amber_log.specs.declared.command.Command.TheVariants as command;
 ghost use Rattle.amber_script.specs.Commands.{built_command_of, is_unbuilt, of_three, of_two, on_rows, set_of};
 
@@ -10,8 +11,10 @@ use amber_log::Command;
 use amber_rows::{Flow, Text};
 use std::alloc::AllocError;
 
+#[tactic(auto, unfolding(amber_log::specs::Fits::fits_of))]
 fn read_pause(flow: &Flow, id: &str, word: &str) -> Result<Command, ScriptWhy>
-    ensures { result ≡ on_rows (λ op n. command.Pause op n) flow.now id.now word.now }
+    ensures command { result ≡ on_rows (λ op n. command.Pause op n) flow.now id.now word.now }
+    ensures fits { IfOk result (λ command. fits_of flow.now command ≡ true) }
 {
     let op = match find_operator(flow, id) {
         Ok(op) => op,
@@ -26,8 +29,10 @@ fn read_pause(flow: &Flow, id: &str, word: &str) -> Result<Command, ScriptWhy>
     }
 }
 
+#[tactic(auto, using(crate::proofs::Fitting::is_taken), unfolding(amber_log::specs::Fits::fits_of))]
 fn read_set(flow: &Flow, id: &str, word: &Text) -> Result<Result<Command, ScriptWhy>, AllocError>
-    ensures { IfOk result (λ read. read ≡ set_of flow.now id.now word.now) }
+    ensures command { IfOk result (λ read. read ≡ set_of flow.now id.now word.now) }
+    ensures fits { IfOk result (λ read. IfOk read (λ command. fits_of flow.now command ≡ true)) }
 {
     let op = match find_operator(flow, id) {
         Ok(op) => op,
@@ -42,8 +47,10 @@ fn read_set(flow: &Flow, id: &str, word: &Text) -> Result<Result<Command, Script
     }
 }
 
+#[tactic(auto, unfolding(amber_log::specs::Fits::fits_of))]
 fn read_two(flow: &Flow, name: &str, id: &str) -> Result<Command, ScriptWhy>
-    ensures { result ≡ of_two flow.now name.now id.now }
+    ensures command { result ≡ of_two flow.now name.now id.now }
+    ensures fits { IfOk result (λ command. fits_of flow.now command ≡ true) }
 {
     let clears = name == "clear";
     if !clears && name != "inspect" {
@@ -65,7 +72,8 @@ fn read_three(
     word: &Text,
 ) -> Result<Result<Command, ScriptWhy>, AllocError>
     requires { is_unbuilt name.now ≡ false }
-    ensures { IfOk result (λ read. read ≡ of_three flow.now name.now id.now word.now) }
+    ensures command { IfOk result (λ read. read ≡ of_three flow.now name.now id.now word.now) }
+    ensures fits { IfOk result (λ read. IfOk read (λ command. fits_of flow.now command ≡ true)) }
 {
     match name {
         "pause" => Ok(read_pause(flow, id, word.get())),
@@ -83,9 +91,10 @@ fn is_unbuilt(name: &str) -> bool
 }
 
 /// The command of these words, where runs do it, or the first reason why they mean none.
-#[tactic(auto, unfolding(crate::specs::Commands::built_command_of, crate::specs::Commands::any_command_of, crate::specs::Commands::is_unbuilt))]
+#[tactic(auto, unfolding(crate::specs::Commands::built_command_of, crate::specs::Commands::any_command_of, crate::specs::Commands::is_unbuilt, amber_log::specs::Fits::fits_of))]
 pub fn read_command(flow: &Flow, words: &[Text]) -> Result<Result<Command, ScriptWhy>, AllocError>
-    ensures { IfOk result (λ read. read ≡ built_command_of flow.now words.now) }
+    ensures command { IfOk result (λ read. read ≡ built_command_of flow.now words.now) }
+    ensures fits { IfOk result (λ read. IfOk read (λ command. fits_of flow.now command ≡ true)) }
 {
     match words {
         [name, ..] if is_unbuilt(name.get()) => Ok(Err(ScriptWhy::Word)),

@@ -1,5 +1,6 @@
 //! Numbers of rows.
-ghost use Rattle.std.specs.Prelude.{◌≡◌};
+ghost use Rattle.std.specs.Prelude.{◌≡◌, true, IfSome};
+ghost use Rattle.amber_log.specs.Fits.{is_target};
 ghost use Rattle.amber_script.specs.Commands.{target_of, target_where};
 
 use itoa::Buffer;
@@ -9,7 +10,8 @@ const MOST: u64 = 1 << 40;
 
 // A number of rows, where the word is its decimal.
 fn target_where(word: &str, number: u64) -> Option<u64>
-    ensures { result ≡ target_where word.now number }
+    ensures number { result ≡ target_where word.now number }
+    ensures range { IfSome result (λ n. is_target n ≡ true) }
 {
     let mut buffer = Buffer::new();
     if number == 0 || number > MOST || buffer.format(number) != word {
@@ -20,7 +22,8 @@ fn target_where(word: &str, number: u64) -> Option<u64>
 
 /// The number of rows that a word is: 1 to 2^40, without leading zeros.
 pub fn read_target(word: &str) -> Option<u64>
-    ensures { result ≡ target_of word.now }
+    ensures number { result ≡ target_of word.now }
+    ensures range { IfSome result (λ n. is_target n ≡ true) }
 {
     match word.parse::<u64>() {
         Ok(number) => target_where(word, number),

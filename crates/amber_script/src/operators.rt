@@ -1,8 +1,9 @@
 //! Operators and constants that a command names.
-ghost use Rattle.std.specs.Prelude.{◌≡◌, bytes_eq, position, IfOk};
+ghost use Rattle.std.specs.Prelude.{◌≡◌, ◌<◌, bytes_eq, length, position, true, IfOk, IfSome};
 ghost use Rattle.amber_rows.specs.Cond.{numbered};
-ghost use Rattle.amber_rows.specs.FlowRules.{is_sink};
-ghost use Rattle.amber_log.specs.Fits.{is_source};
+ghost use Rattle.amber_rows.specs.FlowRules.{is_sink, kind_of};
+ghost use Rattle.amber_rows.specs.Suits.{same_kind};
+ghost use Rattle.amber_log.specs.Fits.{is_source, is_there};
 ghost use Rattle.amber_script.specs.Commands.{constant_of, filtered_kind, kind_at, operator_named, settable_kind};
 
 use crate::error::ScriptWhy;
@@ -10,7 +11,8 @@ use amber_rows::{ColKind, Flow, Schema, Text, Value, What, read_int};
 use std::alloc::AllocError;
 
 fn place_of(flow: &Flow, id: &str) -> Option<usize>
-    ensures { result ≡ position (λ operator. bytes_eq operator.id id.now) flow.now }
+    ensures place { result ≡ position (λ operator. bytes_eq operator.id id.now) flow.now }
+    ensures there { IfSome result (λ place. place < length flow.now) }
 {
     flow.get()
         .iter()
@@ -18,8 +20,10 @@ fn place_of(flow: &Flow, id: &str) -> Option<usize>
 }
 
 /// The number of the operator with this id.
+#[tactic(auto, using(crate::proofs::Fitting::is_found))]
 pub fn find_operator(flow: &Flow, id: &str) -> Result<u32, ScriptWhy>
-    ensures { result ≡ operator_named flow.now id.now }
+    ensures number { result ≡ operator_named flow.now id.now }
+    ensures there { IfOk result (λ op. is_there (numbered flow.now op) ≡ true) }
 {
     let _operators = flow.get();
     match place_of(flow, id) {
@@ -88,7 +92,8 @@ pub fn settable_kind(flow: &Flow, op: u32) -> Option<ColKind>
 
 /// The constant that a word is in a column of this kind.
 pub fn read_constant(kind: ColKind, word: &Text) -> Result<Result<Value, ScriptWhy>, AllocError>
-    ensures { IfOk result (λ read. read ≡ constant_of kind word.now) }
+    ensures constant { IfOk result (λ read. read ≡ constant_of kind word.now) }
+    ensures kind { IfOk result (λ read. IfOk read (λ constant. same_kind kind (kind_of constant) ≡ true)) }
 {
     match kind {
         ColKind::Int => match read_int(word.get().as_bytes()) {

@@ -1,5 +1,7 @@
 //! Reads a script, line by line.
-ghost use Rattle.std.specs.Prelude.{◌≡◌, ◌+◌, ◌∷◌, List, ℕ, IfOk};
+ghost use Rattle.std.specs.Prelude.{◌≡◌, ◌+◌, ◌∷◌, List, ℕ, IfOk, true};
+ghost use Rattle.std.specs.List.{list_all};
+ghost use Rattle.amber_log.specs.Fits.{fits_of};
 ghost use Rattle.std.specs.Str.Lines.{strip_carriage_return};
 ghost use Rattle.amber_script.specs.Answers.{Answers, Leads, after};
 ghost use Rattle.amber_script.specs.Commands.{command_of};
@@ -21,7 +23,8 @@ fn read_line(
     line: &[u8],
     flow: &Flow,
 ) -> Result<Result<Command, ScriptWhy>, AllocError>
-    ensures { IfOk result (λ read. read ≡ command_of flow.now (words_of line.now)) }
+    ensures command { IfOk result (λ read. read ≡ command_of flow.now (words_of line.now)) }
+    ensures fits { IfOk result (λ read. IfOk read (λ command. fits_of flow.now command ≡ true)) }
 {
     let Some(words) = read_words(alloc, line)? else {
         return Ok(Err(ScriptWhy::Word));
@@ -33,7 +36,7 @@ fn read_line(
 }
 
 // Adds the command of the line with this number, where it says something.
-#[tactic(auto, using(crate::proofs::Leading::reads_command, crate::proofs::Leading::reads_none, crate::proofs::Leading::skips))]
+#[tactic(auto, using(crate::proofs::Leading::reads_command, crate::proofs::Leading::reads_none, crate::proofs::Leading::skips, crate::proofs::Fitting::all_fit_more))]
 fn add_line(
     alloc: Global,
     line: &[u8],
@@ -41,9 +44,11 @@ fn add_line(
     flow: &Flow,
     commands: &mut Vec<Command>,
 ) -> Result<(), ScriptErr>
-    ensures { (more : List (List ℕ)) → Leads result
+    requires { list_all (fits_of flow.now) commands.old.items ≡ true }
+    ensures leads { (more : List (List ℕ)) → Leads result
         (after commands.old.items (commands_from number flow.now (line.now ∷ more)))
         (after commands.new.items (commands_from (number + 1) flow.now more)) }
+    ensures fits { list_all (fits_of flow.now) commands.new.items ≡ true }
 {
     if !says_something(line) {
         return Ok(());
@@ -62,7 +67,8 @@ fn add_line(
 /// a workflow, or which is the first bad line and why.
 #[tactic(auto, unfolding(crate::specs::Script::script_of), using(crate::proofs::Leading::after_none))]
 pub fn read_script(alloc: Global, bytes: &[u8], flow: &Flow) -> Result<Commands, ScriptErr>
-    ensures { Answers result (script_of bytes.now flow.now) }
+    ensures answer { Answers result (script_of bytes.now flow.now) }
+    ensures fits { IfOk result (λ commands. list_all (fits_of flow.now) commands ≡ true) }
 {
     let mut commands = Vec::new(alloc);
     let mut number: u64 = 1;

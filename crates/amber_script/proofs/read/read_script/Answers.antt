@@ -12,12 +12,13 @@ loop-more-preserved c =
     let left : lines_left c.loop-more.more c.loop-more.rest.now ≡ c.without_return.result.now ∷ [] =
     rw c.loop-more-test.true (line ∙ ap (λ (one : List ℕ). one ∷ []) (sym c.without_return.ensures)) in
     record {
-      meant = c.loop-more.invariant.meant ∙ ap meaning left ∙ c.in-Ok.ensures [] ∙ after_end c.add_line.new.commands.items (c.loop-more.number + 1) c.args.flow.now ∙ sym (after_end c.add_line.new.commands.items c.loop-more.number c.args.flow.now);
+      meant = c.loop-more.invariant.meant ∙ ap meaning left ∙ c.in-Ok.ensures.leads [] ∙ after_end c.add_line.new.commands.items (c.loop-more.number + 1) c.args.flow.now ∙ sym (after_end c.add_line.new.commands.items c.loop-more.number c.args.flow.now);
+      fit = c.in-Ok.ensures.fits;
       numbered = c.loop-more.invariant.numbered;
     }
 
-pub returns : goal.returns
-returns c =
+pub returns-clause-answer : goal.returns-clause-answer
+returns-clause-answer c =
     let none : lines_left c.loop-more.more c.loop-more.rest.now ≡ [] = rw c.loop-more-test.false refl in
     c.loop-more.invariant.meant ∙ ap (λ (lines : List (List ℕ)). after c.loop-more.commands.items (commands_from c.loop-more.number c.args.flow.now lines)) none
     ∙ after_end c.loop-more.commands.items c.loop-more.number c.args.flow.now ∙ ap Ok (sym c.new.ensures)
