@@ -31,4 +31,6 @@ mod rows;
 #[cfg(test)]
 mod scans;
 #[cfg(test)]
+mod script;
+#[cfg(test)]
 mod written;

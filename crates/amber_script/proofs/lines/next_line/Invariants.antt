@@ -1,0 +1,7 @@
+-- No line feed so far.
+use Rattle.std.proofs.Common.{◌≡◌, take, true}
+use Rattle.amber_script.proofs.Pieces.{lacks}
+use Rattle.amber_script.proofs.lines.next_line.Given as goal
+
+abbrev pub invariant-loop-place : goal.invariant-loop-place
+invariant-loop-place l = lacks 10 (take l.place l.fn.bytes) ≡ true

@@ -1,0 +1,68 @@
+//! Why a script is refused.
+ghost use Rattle.std.specs.Prelude.{◌≡◌, Some, codes};
+ghost use Rattle.amber_script.specs.Reasons.{why_word};
+
+use std::fmt;
+use thiserror::Error;
+
+/// Why a line is no command, in the order in which the reasons are looked for.
+#[derive(Clone, Copy, Debug, PartialEq, Eq)]
+pub enum ScriptWhy {
+    /// It is not UTF-8, a quote or a backslash stands wrong, or its words are no command.
+    Word,
+    /// There is no operator with this id.
+    Operator,
+    /// The operator is not of a kind that takes the command.
+    Kind,
+    /// A number is not written as it must be, or is out of range.
+    Number,
+    /// The operator has no column of this name.
+    Column,
+    /// The constant is not of its column's kind.
+    Mismatch,
+    /// The operator has no worker of this number.
+    Worker,
+}
+
+impl ScriptWhy {
+    /// The reason's word, as error lines have it.
+    pub fn word(self) -> &'static str
+        ensures { result.now ≡ why_word self }
+    {
+        match self {
+            ScriptWhy::Word => "Word",
+            ScriptWhy::Operator => "Operator",
+            ScriptWhy::Kind => "Kind",
+            ScriptWhy::Number => "Number",
+            ScriptWhy::Column => "Column",
+            ScriptWhy::Mismatch => "Mismatch",
+            ScriptWhy::Worker => "Worker",
+        }
+    }
+}
+
+impl fmt::Display for ScriptWhy {
+    ghost output = { λ why. Some (why_word why) };
+
+    fn fmt<W: fmt::Write>(&self, f: &mut fmt::Formatter<W>) -> fmt::Result {
+        f.write_str(self.word())
+    }
+}
+
+/// Why no script was read.
+#[derive(Debug, Drop, Error)]
+pub enum ScriptErr {
+    /// The first bad line, from 1, and its first reason.
+    #[error("line {line}: {why}")]
+    Bad { line: u64, why: ScriptWhy },
+    /// Memory ran out.
+    #[error("out of memory")]
+    NoMemory,
+}
+
+/// A bad line, from 1, and its first reason.
+#[derive(Clone, Copy, Debug, PartialEq, Eq)]
+pub struct BadLine {
+    pub line: u64,
+    pub why: ScriptWhy,
+}

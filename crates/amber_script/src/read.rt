@@ -1,0 +1,92 @@
+//! Reads a script, line by line.
+ghost use Rattle.std.specs.Prelude.{◌≡◌, ◌+◌, ◌∷◌, List, ℕ, IfOk, true};
+ghost use Rattle.std.specs.List.{list_all};
+ghost use Rattle.amber_log.specs.Fits.{fits_of};
+ghost use Rattle.std.specs.Str.Lines.{strip_carriage_return};
+ghost use Rattle.amber_script.specs.Answers.{Answers, Leads, after};
+ghost use Rattle.amber_script.specs.Commands.{command_of};
+ghost use Rattle.amber_script.specs.Script.{commands_from, script_of};
+ghost use Rattle.amber_script.specs.Words.{words_of};
+
+use crate::commands::read_command;
+use crate::error::{ScriptErr, ScriptWhy};
+use crate::lexer::{read_texts, read_words};
+use crate::lines::{next_line, says_something, without_return};
+use amber_log::{Command, Commands};
+use amber_rows::Flow;
+use std::alloc::{AllocError, Global};
+
+// The command of a line, or the first reason why it has none.
+#[tactic(auto, unfolding(crate::specs::Commands::command_of))]
+fn read_line(
+    alloc: Global,
+    line: &[u8],
+    flow: &Flow,
+) -> Result<Result<Command, ScriptWhy>, AllocError>
+    ensures command { IfOk result (λ read. read ≡ command_of flow.now (words_of line.now)) }
+    ensures fits { IfOk result (λ read. IfOk read (λ command. fits_of flow.now command ≡ true)) }
+{
+    let Some(words) = read_words(alloc, line)? else {
+        return Ok(Err(ScriptWhy::Word));
+    };
+    let Some(texts) = read_texts(alloc, words.as_slice())? else {
+        return Ok(Err(ScriptWhy::Word));
+    };
+    read_command(flow, texts.as_slice())
+}
+
+// Adds the command of the line with this number, where it says something.
+#[tactic(auto, using(crate::proofs::Leading::reads_command, crate::proofs::Leading::reads_none, crate::proofs::Leading::skips, crate::proofs::Fitting::all_fit_more))]
+fn add_line(
+    alloc: Global,
+    line: &[u8],
+    number: u64,
+    flow: &Flow,
+    commands: &mut Vec<Command>,
+) -> Result<(), ScriptErr>
+    requires { list_all (fits_of flow.now) commands.old.items ≡ true }
+    ensures leads { (more : List (List ℕ)) → Leads result
+        (after commands.old.items (commands_from number flow.now (line.now ∷ more)))
+        (after commands.new.items (commands_from (number + 1) flow.now more)) }
+    ensures fits { list_all (fits_of flow.now) commands.new.items ≡ true }
+{
+    if !says_something(line) {
+        return Ok(());
+    }
+    match read_line(alloc, line, flow) {
+        Ok(Ok(command)) => match commands.push(command) {
+            Ok(()) => Ok(()),
+            Err(_) => Err(ScriptErr::NoMemory),
+        },
+        Ok(Err(why)) => Err(ScriptErr::Bad { line: number, why }),
+        Err(_) => Err(ScriptErr::NoMemory),
+    }
+}
+
+/// Reads a script: a command a line. The definition `script_of` in `specs/` says which commands the bytes mean for
+/// a workflow, or which is the first bad line and why.
+#[tactic(auto, unfolding(crate::specs::Script::script_of), using(crate::proofs::Leading::after_none))]
+pub fn read_script(alloc: Global, bytes: &[u8], flow: &Flow) -> Result<Commands, ScriptErr>
+    ensures answer { Answers result (script_of bytes.now flow.now) }
+    ensures fits { IfOk result (λ commands. list_all (fits_of flow.now) commands ≡ true) }
+{
+    let mut commands = Vec::new(alloc);
+    let mut number: u64 = 1;
+    let mut rest = bytes;
+    let mut more = true;
+    while more {
+        let (line, behind) = next_line(rest);
+        match add_line(alloc, without_return(line), number, flow, &mut commands) {
+            Ok(()) => {}
+            Err(why) => return Err(why),
+        }
+        match behind {
+            Some(text) => {
+                rest = text;
+                number += 1;
+            }
+            None => more = false,
+        }
+    }
+    Ok(Commands::new(commands))
+}
