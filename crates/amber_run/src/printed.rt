@@ -1,6 +1,10 @@
-use amber_rows::Rows;
+// The rows that a call has printed.
+ghost use Rattle.std.specs.Prelude.{◌≡◌, IfSome, IfNone, None, Some};
 
-/// The rows that a call has printed, for its caller to let go.
+use amber_rows::Rows;
+use std::marker::Model;
+
+/// The rows that a call has printed, for its caller to let go, if there are some.
 ///
 /// Freeing a million rows takes longer than printing them. A program that ends behind the call may forget them, since the
 /// system takes all its memory back at once; any other drops them.
@@ -9,14 +13,28 @@ pub struct Printed {
     rows: Option<Rows>,
 }
 
+impl Model for Printed {
+    ghost use Rattle.std.specs.Prelude.{List, Option};
+    ghost use Rattle.amber_rows.specs.declared.value.Value.{Value as Cell};
+
+    ghost Value = { Option (List (List Cell)) };
+
+    ghost view = { λ a. a.rows };
+}
+
 impl Printed {
     /// No rows yet.
-    pub fn new() -> Printed {
+    pub fn new() -> Printed
+        ensures { result ≡ None }
+    {
         Printed { rows: None }
     }
 
     // Keeps the rows of a reply, where it has some, and lets earlier ones go.
-    pub(crate) fn keep(&mut self, rows: Option<Rows>) {
+    pub(crate) fn keep(&mut self, rows: Option<Rows>)
+        ensures kept { IfSome rows (λ printed. self.new ≡ Some printed) }
+        ensures none { IfNone rows (self.new ≡ self.old) }
+    {
         match rows {
             Some(rows) => self.rows = Some(rows),
             None => {}
