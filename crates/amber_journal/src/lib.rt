@@ -1,4 +1,4 @@
-//! The text of a log: what is appended to its file, item by item.
+//! The text of a log: what is appended to its file, item by item, and that file read back.
 //!
 //! The log is ASCII text in lines that end with a line feed. Every number is a decimal without leading
 //! zeros, the words of a line have one space between each two, and each item has one spelling. The
