@@ -8,6 +8,7 @@
 mod command_lines;
 mod commands;
 mod constants;
+mod laws;
 mod legs;
 mod lines;
 mod numbers;
@@ -18,6 +19,7 @@ mod whole;
 mod words;
 mod write;
 
+pub use laws::commands_have_text;
 pub use read::{LogErr, read_log};
 pub use whole::whole_items;
 pub use write::{write_head, write_item};
