@@ -1,4 +1,4 @@
-//! The text of a log: what is appended to its file, item by item.
+//! The text of a log: what is appended to its file, item by item, and that file read back.
 //!
 //! The log is ASCII text in lines that end with a line feed. Every number is a decimal without leading
 //! zeros, the words of a line have one space between each two, and each item has one spelling. The
@@ -8,6 +8,7 @@
 mod command_lines;
 mod commands;
 mod constants;
+mod laws;
 mod legs;
 mod lines;
 mod numbers;
@@ -18,6 +19,7 @@ mod whole;
 mod words;
 mod write;
 
+pub use laws::commands_have_text;
 pub use read::{LogErr, read_log};
 pub use whole::whole_items;
 pub use write::{write_head, write_item};
