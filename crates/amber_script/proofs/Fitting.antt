@@ -1,5 +1,5 @@
 -- Commands that are read fit the workflow.
-use Rattle.std.proofs.Common.{◌≡◌, ◌+◌, ◌-◌, ◌<◌, ◌==◌, ℕ, zero, suc, Bool, true, false, List, [], ◌∷◌, ◌++◌, length, Option, None, Some, option_map, refl, sym, subst, ap, ◌∙◌, arith}
+use Rattle.std.proofs.Common.{◌≡◌, ◌+◌, ◌-◌, ◌<◌, ◌==◌, ℕ, zero, suc, true, false, List, [], ◌∷◌, ◌++◌, length, Option, None, Some, option_map, refl, sym, subst, ◌∙◌, arith}
 use Rattle.std.specs.Prelude.{◌&&◌, slice_get}
 use Rattle.std.specs.List.{list_all}
 use Rattle.std.proofs.lemmas.Bool.{and_from, ne_eqb}
@@ -15,7 +15,7 @@ use Rattle.amber_rows.specs.declared.flow.What.TheVariants as what
 use Rattle.amber_rows.specs.declared.flow.Operator.{Operator}
 use Rattle.amber_log.specs.Fits.{constant_of, fits_of, is_cell_of, is_there, takes_constant}
 use Rattle.amber_log.specs.declared.command.Command.{Command}
-use Rattle.amber_script.specs.Commands.{filtered_kind, kind_at, settable_kind}
+use Rattle.amber_script.specs.Commands.{filtered_kind, settable_kind}
 
 -- ---- operators
 

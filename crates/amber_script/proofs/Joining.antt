@@ -7,7 +7,8 @@ onto_more : (begun : List ℕ) (byte : ℕ) (words : List (List ℕ)) → onto_w
 onto_more [] byte words = refl
 onto_more (b ∷ begun) byte words = ap (onto_first b) (onto_more begun byte words)
 
-onto_end : (begun : List ℕ) (words : List (List ℕ)) → onto_word begun ([] ∷ words) ≡ begun ∷ words
+-- the end of the word that has begun
+pub onto_end : (begun : List ℕ) (words : List (List ℕ)) → onto_word begun ([] ∷ words) ≡ begun ∷ words
 onto_end [] words = refl
 onto_end (b ∷ begun) words = ap (onto_first b) (onto_end begun words)
 

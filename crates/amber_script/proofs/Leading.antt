@@ -4,9 +4,8 @@ use Rattle.amber_rows.specs.declared.flow.Operator.{Operator}
 use Rattle.amber_log.specs.declared.command.Command.{Command}
 use Rattle.amber_script.specs.Answers.{after}
 use Rattle.amber_script.specs.Commands.{command_of}
-use Rattle.amber_script.specs.Script.{before, commands_from, says}
+use Rattle.amber_script.specs.Script.{BadLine, before, commands_from, says}
 use Rattle.amber_script.specs.Words.{words_of}
-use Rattle.amber_script.specs.declared.error.BadLine.{BadLine}
 use Rattle.amber_script.specs.declared.error.ScriptWhy.{ScriptWhy}
 
 -- a command after those before it

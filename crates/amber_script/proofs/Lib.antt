@@ -6,3 +6,4 @@ pub mod Pieces
 pub mod Saying
 pub mod Targets
 pub mod Texts
+pub mod WordLaws

@@ -1,8 +1,7 @@
 -- What the reader answers.
 use Rattle.std.specs.Prelude.{◌≡◌, ◌++◌, ℕ, List, [], Bool, true, false, Result, Ok, Err, ⊤}
 use Rattle.amber_log.specs.declared.command.Command.{Command}
-use Rattle.amber_script.specs.Script.{lines_of}
-use Rattle.amber_script.specs.declared.error.BadLine.{BadLine}
+use Rattle.amber_script.specs.Script.{BadLine, lines_of}
 use Rattle.amber_script.specs.declared.error.ScriptErr.{ScriptErr}
 use Rattle.amber_script.specs.declared.error.ScriptErr.TheVariants.{Bad, NoMemory}
 

@@ -2,6 +2,7 @@
 use Rattle.std.specs.Prelude.{◌≡◌, ℕ, List, [], ◌∷◌, ◌++◌, Option, None, option_map, Bool, true, false, ⊤}
 use Rattle.std.specs.List.{onto_first}
 use Rattle.amber_script.specs.Words.{words_from}
+use Rattle.amber_script.specs.declared.lexer.Lexer.{Lexer}
 use Rattle.amber_script.specs.declared.place.Place.{Place}
 use Rattle.amber_script.specs.declared.place.Place.TheVariants.{Between, Bare, Quoted, Escape, Closed}
 use Rattle.amber_script.specs.declared.place.Turn.{Turn}
@@ -36,3 +37,16 @@ onto_word (byte ∷ bytes) words = onto_first byte (onto_word bytes words)
 -- the words read so far, then those whose first goes on the word that has begun
 abbrev pub joined : List (List ℕ) → List ℕ → Option (List (List ℕ)) → Option (List (List ℕ))
 joined words begun more = option_map (λ rest. words ++ onto_word begun rest) more
+
+-- the words of a line of which this has been read, and this is left
+abbrev pub words_with : Lexer → List ℕ → Option (List (List ℕ))
+words_with lexer rest = joined lexer.words.items lexer.begun.items (words_from lexer.place rest)
+
+-- between words no word has begun
+abbrev pub IsClear : Lexer → Type 0
+IsClear lexer = is_between lexer.place ≡ true → lexer.begun.items ≡ []
+
+-- a byte that may stand there is read; behind another there are no words
+abbrev pub Reads : Bool → ℕ → Lexer → Lexer → Type 0
+Reads true byte before behind = (rest : List ℕ) → words_with before (byte ∷ rest) ≡ words_with behind rest
+Reads false byte before behind = (rest : List ℕ) → words_with before (byte ∷ rest) ≡ None

@@ -1,6 +1,7 @@
 pub mod Answers
 pub mod Chain
 pub mod Commands
+pub mod Laws
 pub mod Lexing
 pub mod Reasons
 pub mod Script

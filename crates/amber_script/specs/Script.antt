@@ -6,7 +6,6 @@ use Rattle.amber_rows.specs.declared.flow.Operator.{Operator}
 use Rattle.amber_log.specs.declared.command.Command.{Command}
 use Rattle.amber_script.specs.Commands.{command_of}
 use Rattle.amber_script.specs.Words.{is_blank, words_of}
-use Rattle.amber_script.specs.declared.error.BadLine.{BadLine}
 use Rattle.amber_script.specs.declared.error.ScriptWhy.{ScriptWhy}
 
 -- the lines of a text, which end with a line feed; the last may lack it. One carriage return at a line's end is dropped
@@ -17,6 +16,11 @@ lines_of bytes = map strip_carriage_return (slice_split (λ byte. byte == 10) by
 unfoldable pub says : List ℕ → Bool
 says [] = false
 says (byte ∷ bytes) = if is_blank byte then says bytes else not (byte == 35)
+
+-- a bad line, numbered from 1, and its first reason
+pub record BadLine : Type 0 where
+  pub line : ℕ
+  pub why : ScriptWhy
 
 -- a command before the others, or the reason of the line with this number
 abbrev pub before : ℕ → Result Command ScriptWhy → Result (List Command) BadLine → Result (List Command) BadLine

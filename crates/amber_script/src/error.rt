@@ -59,10 +59,3 @@ pub enum ScriptErr {
     #[error("out of memory")]
     NoMemory,
 }
-
-/// A bad line, from 1, and its first reason.
-#[derive(Clone, Copy, Debug, PartialEq, Eq)]
-pub struct BadLine {
-    pub line: u64,
-    pub why: ScriptWhy,
-}

@@ -1,15 +1,16 @@
 //! The words of a line.
-ghost use Rattle.std.specs.Prelude.{◌≡◌, ◌∷◌, ◌++◌, [], IfOk, OnOk, ℕ, List, None, if◌then◌else◌, option_map, true};
+ghost use Rattle.std.specs.Prelude.{◌≡◌, ◌∷◌, ◌++◌, [], IfOk, OnOk, option_map, true};
 ghost use Rattle.amber_script.specs.Commands.{texts_of};
-ghost use Rattle.amber_script.specs.Lexing.{is_between, joined, words_behind};
-ghost use Rattle.amber_script.specs.Words.{words_from, words_of};
+ghost use Rattle.amber_script.specs.Lexing.{IsClear, Reads, words_with};
+ghost use Rattle.amber_script.specs.Words.{words_of};
 
 use crate::place::{Place, Turn, turn_at};
 use amber_rows::{Bytes, Text};
 use std::alloc::{AllocError, Global};
 use std::str;
 
-/// The words of a line that have been read, the bytes of the one that has begun, and where in it the next byte stands.
+/// The words of a line that have been read, the bytes of the one that has begun, and where the next
+/// byte stands.
 #[derive(Drop)]
 struct Lexer {
     words: Vec<Bytes>,
@@ -33,7 +34,8 @@ impl Lexer {
 
     // Ends the word that has begun.
     fn end_word(&mut self) -> Result<(), AllocError>
-        ensures words { OnOk result (self.new.words.items ≡ self.old.words.items ++ self.old.begun.items ∷ []) }
+        ensures words { OnOk result
+            (self.new.words.items ≡ self.old.words.items ++ self.old.begun.items ∷ []) }
         ensures begun { OnOk result (self.new.begun.items ≡ []) }
         ensures place { OnOk result (self.new.place ≡ Place.Between) }
     {
@@ -47,11 +49,9 @@ impl Lexer {
     // Reads a byte; false where it must not stand there.
     #[tactic(auto, using(crate::proofs::Joining::joined_add, crate::proofs::Joining::joined_end))]
     fn step(&mut self, byte: u8) -> Result<bool, AllocError>
-        requires { is_between self.old.place ≡ true → self.old.begun.items ≡ [] }
-        ensures words { IfOk result (λ good. (rest : List ℕ) →
-            joined self.old.words.items self.old.begun.items (words_from self.old.place (byte ∷ rest))
-            ≡ (if good then joined self.new.words.items self.new.begun.items (words_from self.new.place rest) else None)) }
-        ensures clear { IfOk result (λ good. good ≡ true → is_between self.new.place ≡ true → self.new.begun.items ≡ []) }
+        requires { IsClear self.old }
+        ensures words { IfOk result (λ good. Reads good byte self.old self.new) }
+        ensures clear { IfOk result (λ good. good ≡ true → IsClear self.new) }
     {
         match turn_at(self.place, byte) {
             Turn::Go(place) => self.place = place,
@@ -68,9 +68,8 @@ impl Lexer {
     // The words of a line that ends here; none where it must not end.
     #[tactic(auto, using(crate::proofs::Joining::joined_last), unfolding(crate::specs::Words::words_from))]
     fn finish(self) -> Result<Option<Vec<Bytes>>, AllocError>
-        requires { is_between self.place ≡ true → self.begun.items ≡ [] }
-        ensures { IfOk result (λ read. option_map (λ words. words.items) read
-            ≡ joined self.words.items self.begun.items (words_from self.place [])) }
+        requires { IsClear self }
+        ensures { IfOk result (λ read. option_map (λ words. words.items) read ≡ words_with self []) }
     {
         let Lexer {
             mut words,

@@ -6,6 +6,7 @@
 
 mod commands;
 mod error;
+pub mod laws;
 mod lexer;
 mod lines;
 mod numbers;

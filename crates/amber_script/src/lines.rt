@@ -12,7 +12,8 @@ pub fn next_line(bytes: &[u8]) -> (&[u8], Option<&[u8]>)
     ensures line { MatchOption result.1
         (lines_of bytes.now ≡ strip_carriage_return result.0.now ∷ [])
         (λ rest. lines_of bytes.now ≡ strip_carriage_return result.0.now ∷ lines_of rest.now) }
-    ensures shorter { IfSome result.1 (λ rest. length bytes.now ≡ length result.0.now + (length rest.now + 1)) }
+    ensures shorter { IfSome result.1
+        (λ rest. length bytes.now ≡ length result.0.now + (length rest.now + 1)) }
 {
     for place in 0..bytes.len() {
         if bytes[place] == b'\n' {

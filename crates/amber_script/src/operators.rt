@@ -93,7 +93,8 @@ pub fn settable_kind(flow: &Flow, op: u32) -> Option<ColKind>
 /// The constant that a word is in a column of this kind.
 pub fn read_constant(kind: ColKind, word: &Text) -> Result<Result<Value, ScriptWhy>, AllocError>
     ensures constant { IfOk result (λ read. read ≡ constant_of kind word.now) }
-    ensures kind { IfOk result (λ read. IfOk read (λ constant. same_kind kind (kind_of constant) ≡ true)) }
+    ensures kind { IfOk result (λ read.
+        IfOk read (λ constant. same_kind kind (kind_of constant) ≡ true)) }
 {
     match kind {
         ColKind::Int => match read_int(word.get().as_bytes()) {
