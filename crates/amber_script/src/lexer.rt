@@ -69,7 +69,8 @@ impl Lexer {
     #[tactic(auto, using(crate::proofs::Joining::joined_last), unfolding(crate::specs::Words::words_from))]
     fn finish(self) -> Result<Option<Vec<Bytes>>, AllocError>
         requires { IsClear self }
-        ensures { IfOk result (λ read. option_map (λ words. words.items) read ≡ words_with self []) }
+        ensures { IfOk result (λ read.
+            option_map (λ words. words.items) read ≡ words_with self []) }
     {
         let Lexer {
             mut words,
