@@ -2,6 +2,7 @@
 use Rattle.std.proofs.Common.{◌≡◌, ℕ, ◌+◌, ◌-◌, ◌≤◌, ◌++◌, Bool, true, false, List, [], ◌∷◌, length, refl, sym, ap, ◌∙◌, arith, length-append}
 use Rattle.std.proofs.lemmas.Bool.{false≢true}
 use Rattle.amber_log.specs.LogText.{unlines}
+use Rattle.amber_log.proofs.Longest.{whole_items_are_longest}
 use Rattle.amber_log.specs.ReadAs.{closes, cut_back, keep, lines_of, whole_items, whole_lines}
 
 -- how many bytes are whole, where `whole` are up to here and these lines, which stand from this place on, are kept
@@ -69,3 +70,10 @@ whole-end all rest whole total none e = e ∙ ap (λ (l : List (List ℕ)). late
 pub whole-none : (all : List ℕ) → lines_of all ≡ [] → length (whole_items all) ≡ 0
 unfolding whole_items whole_lines
 whole-none all none = ap (λ (l : List (List ℕ)). length (unlines (whole_lines l))) none
+
+-- they are no more than there are
+pub whole-inside : (bytes : List ℕ) (n : ℕ) → n ≡ length (whole_items bytes) → n ≤ length bytes
+whole-inside bytes n e =
+    let longest = whole_items_are_longest bytes in
+    let parts : length (whole_items bytes) + length longest.rest ≡ length bytes = sym (length-append (whole_items bytes) longest.rest) ∙ ap (λ (b : List ℕ). length b) longest.begins in
+    omega (arith, e, parts)

@@ -1,5 +1,5 @@
 -- Reading the whole items of a file is reading the file.
-use Rattle.std.proofs.Common.{◌≡◌, ℕ, inl, inr, List, length, take, Result, Ok, Err, refl, sym, ap, ◌∙◌, subst, arith, length-append, ◌≤◌, ◌+◌}
+use Rattle.std.proofs.Common.{◌≡◌, ℕ, inl, inr, List, length, take, Result, Ok, Err, refl, sym, ap, ◌∙◌, subst}
 use Rattle.std.proofs.Math.Seq.{take-append_seam}
 use Rattle.std.specs.Prelude.{IfOk}
 use Rattle.amber_log.specs.ReadAs.{IsReadAs, lines_of, read_of, whole_items, whole_lines}
@@ -18,12 +18,6 @@ whole-taken : (bytes : List ℕ) → take (length (whole_items bytes)) bytes ≡
 whole-taken bytes =
     let longest = whole_items_are_longest bytes in
     ap (λ (b : List ℕ). take (length (whole_items bytes)) b) (sym longest.begins) ∙ take-append_seam (whole_items bytes) longest.rest
-
-pub whole-inside : (bytes : List ℕ) (n : ℕ) → n ≡ length (whole_items bytes) → n ≤ length bytes
-whole-inside bytes n e =
-    let longest = whole_items_are_longest bytes in
-    let parts : length (whole_items bytes) + length longest.rest ≡ length bytes = sym (length-append (whole_items bytes) longest.rest) ∙ ap (λ (b : List ℕ). length b) longest.begins in
-    omega (arith, e, parts)
 
 -- the lines of what is whole are read
 pub read-whole : (bytes : List ℕ) (n : ℕ) → n ≡ length (whole_items bytes) → read_lines (lines_of (take n bytes)) ≡ read_of bytes

@@ -1,5 +1,7 @@
 -- What reading a log's file answers.
-use Rattle.std.specs.Prelude.{◌≡◌, ℕ, Result, Ok, Err, ◌⊎◌, ⊤}
+use Rattle.std.specs.Prelude.{◌≡◌, ℕ, List, Result, Ok, Err, ◌⊎◌, ⊤}
+use Rattle.amber_log.specs.ReadAs.{lines_of, whole_lines}
+use Rattle.amber_log.specs.TextLaws.{IsFirstBadLine}
 use Rattle.amber_log.specs.declared.log.Log.{Log}
 use Rattle.amber_journal.specs.declared.read.LogErr.{LogErr}
 use Rattle.amber_journal.specs.declared.read.LogErr.TheVariants.{NoMemory, Text}
@@ -19,3 +21,7 @@ IfText (Err NoMemory) P = ⊤
 -- this answer, unless memory ran out
 abbrev pub IsUnlessNoMemory : Result Log LogErr → Result Log LogErr → Type 0
 IsUnlessNoMemory result wanted = (result ≡ wanted) ⊎ (result ≡ Err NoMemory)
+
+-- the number of the first line of a file's whole items with which the lines begin those of no log
+abbrev pub IsBadLineOf : List ℕ → ℕ → Type 0
+IsBadLineOf bytes line = IsFirstBadLine (whole_lines (lines_of bytes)) line

@@ -1,11 +1,10 @@
 //! A log's file, read back.
 ghost use Rattle.std.specs.Prelude.{◌≡◌, ℕ, IfOk, Ok, Err, option_and_then};
-ghost use Rattle.amber_log.specs.ReadAs.{IsReadAs, lines_of, whole_lines};
+ghost use Rattle.amber_log.specs.ReadAs.{IsReadAs, lines_of};
 ghost use Rattle.amber_log.specs.ReadLines.{read_lines, start, step};
 ghost use Rattle.amber_log.specs.ReadWords.{parse};
-ghost use Rattle.amber_log.specs.TextLaws.{IsFirstBadLine};
 ghost use Rattle.amber_log.specs.declared.log.Log.{Log};
-ghost use Rattle.amber_journal.specs.Answered.{Gives, IfText, IsUnlessNoMemory};
+ghost use Rattle.amber_journal.specs.Answered.{Gives, IfText, IsBadLineOf, IsUnlessNoMemory};
 ghost use Rattle.amber_journal.specs.declared.read.LogErr.TheVariants.{NoMemory, Text};
 
 use crate::parting::next_line;
@@ -86,9 +85,9 @@ fn read_lines(alloc: Global, bytes: &[u8]) -> Result<Log, LogErr>
 /// batches of 400 rows. Each result but `NoMemory` comes exactly where its meaning holds.
 pub fn read_log(alloc: Global, bytes: &[u8]) -> Result<Log, LogErr>
     ensures found { IfOk result (λ log. IsReadAs bytes.now log) }
-    ensures bad { IfText result (λ line. IsFirstBadLine (whole_lines (lines_of bytes.now)) line) }
+    ensures bad { IfText result (λ line. IsBadLineOf bytes.now line) }
     ensures reads { (log : Log) → IsReadAs bytes.now log → IsUnlessNoMemory result (Ok log) }
-    ensures refuses { (line : ℕ) → IsFirstBadLine (whole_lines (lines_of bytes.now)) line → IsUnlessNoMemory result (Err (Text line)) }
+    ensures refuses { (line : ℕ) → IsBadLineOf bytes.now line → IsUnlessNoMemory result (Err (Text line)) }
 {
     let whole = whole_items(bytes);
     read_lines(alloc, &bytes[..whole])

@@ -1,5 +1,5 @@
 //! How much of a log's file is whole.
-ghost use Rattle.std.specs.Prelude.{◌≡◌, length};
+ghost use Rattle.std.specs.Prelude.{◌≡◌, ◌≤◌, length};
 ghost use Rattle.amber_log.specs.ReadAs.{closes, whole_items};
 
 use crate::parting::next_line;
@@ -15,7 +15,8 @@ fn closes(line: &[u8]) -> bool
 /// How many bytes of a log's file are read: the most that are none, or end with the first line or with a line that
 /// ends an item. What stands behind them was torn. It takes no memory.
 pub fn whole_items(bytes: &[u8]) -> usize
-    ensures { result ≡ length (whole_items bytes.now) }
+    ensures value { result ≡ length (whole_items bytes.now) }
+    ensures inside { result ≤ length bytes.now }
 {
     let Some((_, mut rest)) = next_line(bytes) else {
         return 0;

@@ -1,10 +1,10 @@
 -- Each line that is passed is kept if it ends an item, and with it the lines before it.
 use Rattle.std.proofs.Common.{arith, sym, ◌∙◌}
-use Rattle.amber_journal.proofs.Kept.{whole-closing, whole-end, whole-first, whole-none, whole-open}
+use Rattle.amber_journal.proofs.Kept.{whole-closing, whole-end, whole-first, whole-inside, whole-none, whole-open}
 use Rattle.amber_journal.proofs.whole.whole_items.Goals as goal
 
-pub returns-in_default : goal.returns-in_default
-returns-in_default c = sym (whole-none c.args.bytes.now c.in_default.ensures.line)
+pub returns-in_default-clause-value : goal.returns-in_default-clause-value
+returns-in_default-clause-value c = sym (whole-none c.args.bytes.now c.in_default.ensures.line)
 
 pub loop-line-init : goal.loop-line-init
 loop-line-init c =
@@ -33,5 +33,8 @@ loop-line-preserved c =
       whole-open all rest line behind c.loop-line.whole _ c.in-Some-next_line.ensures.line shorter c.loop-line.invariant.0 (sym c.closes.ensures ∙ c.if-closes.false) c.loop-line.invariant.1,
     )
 
-pub returns : goal.returns
-returns c = sym (whole-end c.args.bytes.now c.loop-line.rest.now c.loop-line.whole _ c.in_default-next_line.ensures.line c.loop-line.invariant.1)
+pub returns-clause-value : goal.returns-clause-value
+returns-clause-value c = sym (whole-end c.args.bytes.now c.loop-line.rest.now c.loop-line.whole _ c.in_default-next_line.ensures.line c.loop-line.invariant.1)
+
+pub returns-clause-inside : goal.returns-clause-inside
+returns-clause-inside c = whole-inside c.args.bytes.now c.loop-line.whole (sym (whole-end c.args.bytes.now c.loop-line.rest.now c.loop-line.whole _ c.in_default-next_line.ensures.line c.loop-line.invariant.1))
