@@ -1,10 +1,10 @@
-ghost use Rattle.std.specs.Prelude.{◌≡◌};
+ghost use Rattle.std.specs.Prelude.{◌≡◌, ◌↔◌, IsTrue};
 
 use amber_rows::{Cond, Value};
 use std::marker::Model;
 
 /// A command to a paused run. Operators and columns are numbered from 1, an operator's workers from 0.
-#[derive(Debug, Drop)]
+#[derive(Debug, Drop, PartialEq, Eq)]
 pub enum Command {
     /// Runs until something stops the workers. A log keeps this as a leg.
     Run,
@@ -26,6 +26,15 @@ pub enum Command {
     Inspect { op: u32 },
     /// Loses a worker, which is then built again from the log.
     Lose { op: u32, worker: u32 },
+}
+
+impl Command {
+    /// Whether another command is the same: `==`, as a fact on what both say.
+    pub fn is_same(&self, other: &Command) -> bool
+        ensures { IsTrue result ↔ (self.now ≡ other.now) }
+    {
+        self == other
+    }
 }
 
 /// Commands in the order in which they are given, seen as a list.

@@ -33,7 +33,7 @@ impl Cmp {
 }
 
 /// A condition on one column of a row. Columns are numbered from 1.
-#[derive(Debug, Drop)]
+#[derive(Debug, Drop, PartialEq, Eq)]
 pub struct Cond {
     pub column: u32,
     pub op: Cmp,
