@@ -23,7 +23,11 @@ fn main(rt: HostRuntime) -> io::Result<ExitCode> {
         broken: 0,
     };
     try_folder(&rt, folder.as_str(), &mut counts)?;
-    let Counts { good, wrong, broken } = counts;
+    let Counts {
+        good,
+        wrong,
+        broken,
+    } = counts;
     println!(rt; "{good} as expected, {wrong} WRONG, {broken} BROKEN")?;
     if wrong == 0 && broken == 0 {
         Ok(ExitCode::SUCCESS)

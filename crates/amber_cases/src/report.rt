@@ -31,12 +31,7 @@ pub fn tell_case(
 }
 
 /// Prints the line of a broken file, and counts it.
-pub fn tell_broken(
-    rt: &impl Print,
-    counts: &mut Counts,
-    file: &str,
-    why: &str,
-) -> io::Result<()> {
+pub fn tell_broken(rt: &impl Print, counts: &mut Counts, file: &str, why: &str) -> io::Result<()> {
     counts.broken = counts.broken.saturating_add(1);
     println!(rt; "{file}: BROKEN: {why}")
 }
