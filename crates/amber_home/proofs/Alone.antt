@@ -26,7 +26,7 @@ use Rattle.amber_worker.specs.Fields.{handed_of}
 use Rattle.amber_worker.specs.Stands as stands
 use Rattle.amber_worker.specs.Stands.{AreAlone}
 use Rattle.amber_worker.specs.Stands.{HasShare, Stands, first_orders, post_of}
-use Rattle.amber_worker.specs.Station.{Station}
+use Rattle.amber_worker.specs.WorkerState.{WorkerState}
 use Rattle.amber_meaning.specs.ScanFiles.{is_headed, records_at}
 use Rattle.amber_meaning.specs.Position.{origin}
 use Rattle.amber_home.specs.declared.error.HomeErr.{HomeErr}
@@ -136,7 +136,7 @@ share-same records = shared-same 1 0 1 records
 
 -- ---- a worker that was made for an operator
 
-abbrev Stood : List Operator → List Records → ℕ → ℕ → Station → Type 0
+abbrev Stood : List Operator → List Records → ℕ → ℕ → WorkerState → Type 0
 Stood flow records size k w = Stands (post_of flow records size k) (first_orders flow k) w origin origin (λ _. [])
 
 role-share : (flow : List Operator) (records : List Records) (k : ℕ) → AreAlone flow → k < length flow
@@ -150,7 +150,7 @@ role-share flow records k alone h =
     ∙ ap (plan.share_of (plain.list_at records (k + 1)) 1) none
 
 -- of a scan, from its share
-pub stands-scan : (flow : List Operator) (k size : ℕ) (o : Operator) (file : List ℕ) (share : List Scanned) (w : Station) → AreAlone flow → k < length flow → o ≡ get_or flow k o
+pub stands-scan : (flow : List Operator) (k size : ℕ) (o : Operator) (file : List ℕ) (share : List Scanned) (w : WorkerState) → AreAlone flow → k < length flow → o ≡ get_or flow k o
     → HoldsRecords (records_at o.what o.schema file) share
     → ((records : List Records) → HasShare (Some share) (plan.role_of flow records k) → Stood flow records size k w)
     → StandsAt flow k size (records_at (kind_at flow k) (schema_at flow k) file) w
@@ -161,7 +161,7 @@ stands-scan flow k size o file share w alone h is holds made records own =
     ∙ sym (role-share flow records k alone h))
 
 -- of another operator
-pub stands-other : (flow : List Operator) (k size : ℕ) (file : List ℕ) (w : Station)
+pub stands-other : (flow : List Operator) (k size : ℕ) (file : List ℕ) (w : WorkerState)
     → ((records : List Records) → HasShare None (plan.role_of flow records k) → Stood flow records size k w)
     → StandsAt flow k size (records_at (kind_at flow k) (schema_at flow k) file) w
 stands-other flow k size file w made records own = made records tt

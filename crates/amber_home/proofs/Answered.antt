@@ -21,7 +21,7 @@ use Rattle.amber_meaning.specs.State.{position_at}
 use Rattle.amber_meaning.specs.Task.{Handed, Task}
 use Rattle.amber_meaning.specs.Views.{answer_in, by_number, insert_numbered, op_refuses, refusal_in, refused_in, rows_in, sink_rows, taken_by, taken_of, worker_refuses}
 use Rattle.amber_worker.specs.Stands.{AreAlone, kept_of, post_of}
-use Rattle.amber_worker.specs.Station.{Station}
+use Rattle.amber_worker.specs.WorkerState.{WorkerState}
 use Rattle.amber_worker.proofs.Shares.{by_number-share}
 use Rattle.amber_home.specs.Answers.{IsGatheredFrom, ShowAll, refused_at, rows_before}
 use Rattle.amber_home.specs.Parts.{reached}
@@ -184,7 +184,7 @@ sink-alone query positions ok alone =
 
 -- ---- together
 
-pub answered : (query : Query) (crew : List Station) (positions : ℕ → Position) (answer : Answer) → IsFlow query.flow → AreAlone query.flow → length crew ≡ length query.flow
+pub answered : (query : Query) (crew : List WorkerState) (positions : ℕ → Position) (answer : Answer) → IsFlow query.flow → AreAlone query.flow → length crew ≡ length query.flow
     → ShowAll query crew positions → IsGatheredFrom query.flow crew answer → answer ≡ answer_in query (reached query positions)
 unfolding IsGatheredFrom answer_in
 answered query crew positions answer ok alone long shows gathered =

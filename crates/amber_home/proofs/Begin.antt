@@ -19,21 +19,21 @@ use Rattle.amber_worker.specs.Incoming.{Incoming}
 use Rattle.amber_worker.specs.Outgoing.{Outgoing}
 use Rattle.amber_worker.specs.Links.{waiting_from}
 use Rattle.amber_worker.specs.Stands.{AreAlone, Stands, first_orders, post_of}
-use Rattle.amber_worker.specs.Station.{Station}
+use Rattle.amber_worker.specs.WorkerState.{WorkerState}
 use Rattle.amber_home.specs.declared.error.HomeErr.{HomeErr}
 use Rattle.amber_home.specs.declared.error.HomeErr.TheVariants as home_err
 use Rattle.amber_home.specs.Estate.{NamesScan}
 use Rattle.amber_home.specs.Start.{AreEmpty, NamesOperator, StandsAt, kind_at, schema_at}
-use Rattle.amber_home.specs.Standing.{Standing, no_station, sent_by, station_at}
+use Rattle.amber_home.specs.Standing.{Standing, no_worker_state, sent_by, worker_state_at}
 use Rattle.amber_home.proofs.Alone.{crew-alone, kind-here, schema-here}
 
 abbrev pub Records : Type 0
 Records = List (List (Result (List Value) RowFault))
 
 -- the first so many workers stand at the start
-abbrev pub HaveBegun : List Operator → Records → ℕ → List Station → ℕ → Type 0
+abbrev pub HaveBegun : List Operator → Records → ℕ → List WorkerState → ℕ → Type 0
 HaveBegun flow records size crew count = (worker : ℕ) → worker < count
-    → Stands (post_of flow records size worker) (first_orders flow worker) (station_at crew worker) origin origin (λ _. [])
+    → Stands (post_of flow records size worker) (first_orders flow worker) (worker_state_at crew worker) origin origin (λ _. [])
 
 -- an operator that is not there
 pub d : Operator
@@ -70,30 +70,30 @@ module _ (flow : List Operator) (files : List (List ℕ)) (i : ℕ) (inside : i 
 
 -- ---- one worker more
 
-at-push : (crew : List Station) (w : Station) (P : ℕ → Station → Type 0) → ((k : ℕ) → k < length crew → P k (station_at crew k)) → P (length crew) w
-    → ((k : ℕ) → length crew < k → P k no_station) → (k : ℕ) → P k (station_at (crew ++ w ∷ []) k)
+at-push : (crew : List WorkerState) (w : WorkerState) (P : ℕ → WorkerState → Type 0) → ((k : ℕ) → k < length crew → P k (worker_state_at crew k)) → P (length crew) w
+    → ((k : ℕ) → length crew < k → P k no_worker_state) → (k : ℕ) → P k (worker_state_at (crew ++ w ∷ []) k)
 at-push crew w P before here behind k = by (cases_lt k (length crew)) (eqb_tells k (length crew))
   where
     by : (k < length crew) ⊎ (length crew ≤ k) → ((nat_eq k (length crew) ≡ true) × (k ≡ length crew)) ⊎ ((nat_eq k (length crew) ≡ false) × (k ≢ length crew))
-        → P k (station_at (crew ++ w ∷ []) k)
-    by (inl less) same = subst (P k) (sym (get_or_append_left crew (w ∷ []) no_station k less)) (before k less)
-    by (inr more) (inl same) = subst (P k) (sym (get_or_push crew w no_station k (sym same.1))) (subst (λ n. P n w) (sym same.1) here)
+        → P k (worker_state_at (crew ++ w ∷ []) k)
+    by (inl less) same = subst (P k) (sym (get_or_append_left crew (w ∷ []) no_worker_state k less)) (before k less)
+    by (inr more) (inl same) = subst (P k) (sym (get_or_push crew w no_worker_state k (sym same.1))) (subst (λ n. P n w) (sym same.1) here)
     by (inr more) (inr other) = let ne = other.1 in
-        subst (P k) (sym (get_or-eq_default (crew ++ w ∷ []) no_station (rw (length_push crew w) (omega arith)))) (behind k (omega arith))
+        subst (P k) (sym (get_or-eq_default (crew ++ w ∷ []) no_worker_state (rw (length_push crew w) (omega arith)))) (behind k (omega arith))
 
-pub empty-none : AreEmpty no_station
+pub empty-none : AreEmpty no_worker_state
 empty-none = (All-nil (λ (one : Incoming). one.waiting ≡ []), All-nil (λ (one : Outgoing). one.waiting ≡ []))
 
-pub empty-more : (crew longer : List Station) (w : Station) → longer ≡ crew ++ w ∷ [] → ((k : ℕ) → AreEmpty (station_at crew k)) → AreEmpty w → (k : ℕ) → AreEmpty (station_at longer k)
+pub empty-more : (crew longer : List WorkerState) (w : WorkerState) → longer ≡ crew ++ w ∷ [] → ((k : ℕ) → AreEmpty (worker_state_at crew k)) → AreEmpty w → (k : ℕ) → AreEmpty (worker_state_at longer k)
 empty-more crew longer w is before here k =
-    subst (λ (xs : List Station). AreEmpty (station_at xs k)) (sym is) (at-push crew w (λ _ v. AreEmpty v) (λ j _. before j) here (λ _ _. empty-none) k)
+    subst (λ (xs : List WorkerState). AreEmpty (worker_state_at xs k)) (sym is) (at-push crew w (λ _ v. AreEmpty v) (λ j _. before j) here (λ _ _. empty-none) k)
 
-pub begun-more : (flow : List Operator) (files : List (List ℕ)) (size count : ℕ) (crew longer : List Station) (w : Station) (file : List ℕ) → longer ≡ crew ++ w ∷ []
+pub begun-more : (flow : List Operator) (files : List (List ℕ)) (size count : ℕ) (crew longer : List WorkerState) (w : WorkerState) (file : List ℕ) → longer ≡ crew ++ w ∷ []
     → length crew ≡ count → count < length flow → file ≡ next_file (files_left files (take count flow))
     → HaveBegun flow (records_of files flow) size crew count → StandsAt flow count size (records_at (kind_at flow count) (schema_at flow count) file) w
     → HaveBegun flow (records_of files flow) size longer (count + 1)
 begun-more flow files size count crew longer w file is long inside file-is before stands worker below =
-    subst (λ (xs : List Station). Stands (post_of flow (records_of files flow) size worker) (first_orders flow worker) (station_at xs worker) origin origin (λ _. [])) (sym is)
+    subst (λ (xs : List WorkerState). Stands (post_of flow (records_of files flow) size worker) (first_orders flow worker) (worker_state_at xs worker) origin origin (λ _. [])) (sym is)
     (at-push crew w (λ k v. k < count + 1 → Stands (post_of flow (records_of files flow) size k) (first_orders flow k) v origin origin (λ _. []))
     (λ k less _. before k (rw (← long) less))
     (λ _. subst (λ n. Stands (post_of flow (records_of files flow) size n) (first_orders flow n) w origin origin (λ _. [])) (sym long) (stands (records_of files flow) own))
@@ -116,17 +116,17 @@ none-waits sender (one ∷ ins) h = by (nat_eq one.from sender) (none-waits send
     by true rest = h 0 one (omega arith)
     by false rest = rest
 
-none-sent : (crew : List Station) (sender receiver : ℕ) → ((k : ℕ) → AreEmpty (station_at crew k)) → sent_by crew (λ _. origin) sender receiver ≡ []
+none-sent : (crew : List WorkerState) (sender receiver : ℕ) → ((k : ℕ) → AreEmpty (worker_state_at crew k)) → sent_by crew (λ _. origin) sender receiver ≡ []
 unfolding taken_from
-none-sent crew sender receiver empty = none-waits sender (station_at crew receiver).ins (empty receiver).0
+none-sent crew sender receiver empty = none-waits sender (worker_state_at crew receiver).ins (empty receiver).0
 
-pub all-begun : (flow : List Operator) (files : List (List ℕ)) (size most : ℕ) (crew : List Station) → AreAlone flow → length crew ≡ length flow
-    → ((k : ℕ) → AreEmpty (station_at crew k)) → HaveBegun flow (records_of files flow) size crew (length flow)
+pub all-begun : (flow : List Operator) (files : List (List ℕ)) (size most : ℕ) (crew : List WorkerState) → AreAlone flow → length crew ≡ length flow
+    → ((k : ℕ) → AreEmpty (worker_state_at crew k)) → HaveBegun flow (records_of files flow) size crew (length flow)
     → Standing (query_over flow files size most) crew (λ _. origin)
 all-begun flow files size most crew alone long empty begun = record {
   all = long ∙ sym (crew-alone flow alone);
   each = λ worker below.
-      subst (λ sent. Stands (post_of flow (records_of files flow) size worker) (first_orders flow worker) (station_at crew worker) origin origin sent)
+      subst (λ sent. Stands (post_of flow (records_of files flow) size worker) (first_orders flow worker) (worker_state_at crew worker) origin origin sent)
       (λ i receiver. sym (none-sent crew worker receiver empty) i)
       (begun worker (rw (← crew-alone flow alone) below));
 }

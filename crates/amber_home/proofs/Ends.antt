@@ -18,13 +18,13 @@ use Rattle.amber_meaning.proofs.OneState.{legal_logs_have_one_state}
 use Rattle.amber_meaning.proofs.Senders.{flows_send_forward}
 use Rattle.amber_worker.specs.Links.{waiting_for, waiting_from}
 use Rattle.amber_worker.specs.Stands.{first_orders, post_of}
-use Rattle.amber_worker.specs.Station.{Station}
+use Rattle.amber_worker.specs.WorkerState.{WorkerState}
 use Rattle.amber_worker.proofs.Settling.{sent-made, steps-shown}
 use Rattle.amber_home.specs.Estate.{end_item}
 use Rattle.amber_home.specs.Finish.{IsClosed}
 use Rattle.amber_home.specs.Leg.{IsDone}
 use Rattle.amber_home.specs.Parts.{parts_from, reached}
-use Rattle.amber_home.specs.Standing.{AreAtWork, Standing, sent_by, station_at, steps_by}
+use Rattle.amber_home.specs.Standing.{AreAtWork, Standing, sent_by, worker_state_at, steps_by}
 use Rattle.amber_home.proofs.Links.{receives}
 use Rattle.amber_home.proofs.PartFacts.{are-parts, entries-at, part-above}
 use Rattle.amber_home.proofs.Reached.{all-finished, hand-stays, length-listed, listed-at, not-finished, start-orders, start-position, start-uncounted, steps-listed}
@@ -38,26 +38,26 @@ unfolding AreItems Reaches
 empty-legal query batch = record { text = record { batch = batch; items = tt }; batch = refl; after = start_of query.flow; reached = refl }
 
 -- what each worker took of each sender are the first batches that the sender has made for it
-offered : (query : Query) (crew : List Station) (positions : ℕ → Position) → Standing query crew positions → AreOffered query (reached query positions).positions
+offered : (query : Query) (crew : List WorkerState) (positions : ℕ → Position) → Standing query crew positions → AreOffered query (reached query positions).positions
 unfolding AreOffered batches_for stream_of post_of role_of
 offered query crew positions standing receiver inside sender known =
     let member = receives query.flow sender receiver inside known in
     let stands = standing.each sender member.1 in
-    let made = sent-made (post_of query.flow query.records query.size sender) (first_orders query.flow sender) (station_at crew sender) origin (positions sender) (sent_by crew positions sender) receiver stands member.0 in (
-      waiting_from sender (station_at crew receiver).ins ++ waiting_for receiver (station_at crew sender).outs,
+    let made = sent-made (post_of query.flow query.records query.size sender) (first_orders query.flow sender) (worker_state_at crew sender) origin (positions sender) (sent_by crew positions sender) receiver stands member.0 in (
+      waiting_from sender (worker_state_at crew receiver).ins ++ waiting_for receiver (worker_state_at crew sender).outs,
       rw (listed-at positions (crew_of query.flow) receiver inside, listed-at positions (crew_of query.flow) sender member.1)
-          (sym (append_assoc (taken_from (positions receiver).taken sender) (waiting_from sender (station_at crew receiver).ins) (waiting_for receiver (station_at crew sender).outs)) ∙ made),
+          (sym (append_assoc (taken_from (positions receiver).taken sender) (waiting_from sender (worker_state_at crew receiver).ins) (waiting_for receiver (worker_state_at crew sender).outs)) ∙ made),
     )
 
-leads-at : (query : Query) (crew : List Station) (positions : ℕ → Position) → Standing query crew positions → (worker : ℕ) → worker < crew_of query.flow
-    → Leads (role_in query worker) (first_orders query.flow worker) origin (station_at crew worker).journal (positions worker)
+leads-at : (query : Query) (crew : List WorkerState) (positions : ℕ → Position) → Standing query crew positions → (worker : ℕ) → worker < crew_of query.flow
+    → Leads (role_in query worker) (first_orders query.flow worker) origin (worker_state_at crew worker).journal (positions worker)
 unfolding post_of
 leads-at query crew positions standing worker inside = (standing.each worker inside).leads
 
-entries-here : (crew : List Station) (worker : ℕ) → entries_of (parts_from 0 crew) worker ≡ (station_at crew worker).journal
+entries-here : (crew : List WorkerState) (worker : ℕ) → entries_of (parts_from 0 crew) worker ≡ (worker_state_at crew worker).journal
 entries-here crew worker = ap (entries_of (parts_from 0 crew)) (sym (zero-add worker)) ∙ entries-at 0 crew worker
 
-worked : (query : Query) (crew : List Station) (positions : ℕ → Position) → Standing query crew positions
+worked : (query : Query) (crew : List WorkerState) (positions : ℕ → Position) → Standing query crew positions
     → IsWorked query (begun_to_end (start_of query.flow)) (parts_from 0 crew) (reached query positions)
 worked query crew positions standing = record {
   same_arms = refl;
@@ -69,24 +69,24 @@ worked query crew positions standing = record {
   offered = offered query crew positions standing;
 }
 
-settled : (query : Query) (crew : List Station) (positions : ℕ → Position) → Standing query crew positions → IsSettled query (reached query positions)
+settled : (query : Query) (crew : List WorkerState) (positions : ℕ → Position) → Standing query crew positions → IsSettled query (reached query positions)
 settled query crew positions standing = record {
   hands = λ worker inside.
       ap (λ p. p.hand) (listed-at positions (crew_of query.flow) worker inside)
-      ∙ hand-stays (role_in query worker) (first_orders query.flow worker) origin (positions worker) (station_at crew worker).journal
+      ∙ hand-stays (role_in query worker) (first_orders query.flow worker) origin (positions worker) (worker_state_at crew worker).journal
       (standing.each worker inside).shows.plain.uncounted refl (leads-at query crew positions standing worker inside);
   counts = λ op counting is. absurd (none-some counting (sym (start-uncounted query.flow op) ∙ is));
 }
 
 -- the steps of the state are those of the workers
-steps-reached : (query : Query) (crew : List Station) (positions : ℕ → Position) → Standing query crew positions → steps_in (reached query positions) ≡ steps_by crew
+steps-reached : (query : Query) (crew : List WorkerState) (positions : ℕ → Position) → Standing query crew positions → steps_in (reached query positions) ≡ steps_by crew
 unfolding steps_in
 steps-reached query crew positions standing =
     steps-listed crew positions (crew_of query.flow) (let all = standing.all in omega arith)
-    (λ k below. steps-shown (post_of query.flow query.records query.size k) (first_orders query.flow k) (station_at crew k) (positions k) (sent_by crew positions k) (standing.each k below).shows)
+    (λ k below. steps-shown (post_of query.flow query.records query.size k) (first_orders query.flow k) (worker_state_at crew k) (positions k) (sent_by crew positions k) (standing.each k below).shows)
     ∙ ap steps_by (take_all (crew_of query.flow) crew (let all = standing.all in omega arith))
 
-closed-as : (query : Query) (crew : List Station) (positions : ℕ → Position) → Standing query crew positions → (closed : Close) → IsDone closed query.most crew
+closed-as : (query : Query) (crew : List WorkerState) (positions : ℕ → Position) → Standing query crew positions → (closed : Close) → IsDone closed query.most crew
     → IsClosed query (reached query positions) closed
 closed-as query crew positions standing close.Cut done = (
   all-finished positions (crew_of query.flow) (λ k below. sym (standing.each k below).shows.finished ∙ done.0 k (rw standing.all below)),
@@ -103,16 +103,16 @@ closes query state close.Cut settled is = (settled, is.1, is.0)
 closes query state close.Long settled is = (settled, is.1, is.0)
 
 -- the log with the leg
-abbrev pub ended_log : Query → List Station → Close → Log
+abbrev pub ended_log : Query → List WorkerState → Close → Log
 ended_log query crew closed = record { batch = query.size; items = end_item (parts_from 0 crew) closed ∷ [] }
 
 -- a run that has ended: its log is legal, and leads to where the workers stand, as it was closed
-pub record HasEnded (query : Query) (crew : List Station) (positions : ℕ → Position) (closed : Close) : Type 0 where
+pub record HasEnded (query : Query) (crew : List WorkerState) (positions : ℕ → Position) (closed : Close) : Type 0 where
   pub legal : IsLegal query (ended_log query crew closed)
   pub state : state_after query (ended_log query crew closed).items ≡ reached query positions
   pub is : IsClosed query (reached query positions) closed
 
-pub has-ended : (query : Query) (crew : List Station) (closed : Close) → IsBatch query.size → (work : AreAtWork query crew) → length crew ≤ 2 ^ 32
+pub has-ended : (query : Query) (crew : List WorkerState) (closed : Close) → IsBatch query.size → (work : AreAtWork query crew) → length crew ≤ 2 ^ 32
     → IsDone closed query.most crew → HasEnded query crew work.positions closed
 unfolding empty-legal
 has-ended query crew closed batch work few done =

@@ -12,7 +12,7 @@ use Rattle.amber_meaning.specs.declared.answer.Answer.{Answer}
 use Rattle.amber_meaning.specs.Legal.{IsLegal, Query, query_over}
 use Rattle.amber_meaning.specs.Replay.{state_after}
 use Rattle.amber_meaning.specs.Views.{answer_in}
-use Rattle.amber_worker.specs.Station.{Station}
+use Rattle.amber_worker.specs.WorkerState.{WorkerState}
 use Rattle.amber_home.specs.Estate.{Closes, Ends, Estate, end_item, is_spent}
 use Rattle.amber_home.specs.Finish.{Finishes, HasRun, IsClosed, IsRun, IsStart}
 use Rattle.amber_home.specs.Kept.{IsHome, Rests}
@@ -25,16 +25,16 @@ use Rattle.amber_home.proofs.Ends.{empty-legal}
 
 -- ---- at rest
 
-pub resting : (flow : List Operator) (files : List (List ℕ)) (most : ℕ) (log : Log) (now : Phase) (crew : List Station) → IsHome flow files most log now crew
+pub resting : (flow : List Operator) (files : List (List ℕ)) (most : ℕ) (log : Log) (now : Phase) (crew : List WorkerState) → IsHome flow files most log now crew
     → is_spent now ≡ false → ends_over false log.items ≡ false → Rests flow files most log crew
 resting flow files most log phase.Resting crew home unspent unfinished = home.rests refl
 resting flow files most log phase.Over crew home unspent unfinished = absurd (false≢true (sym unfinished ∙ home.over refl))
 resting flow files most log phase.Spent crew home unspent unfinished = absurd (false≢true (sym unspent))
 
-pub rest-start : (flow : List Operator) (files : List (List ℕ)) (most : ℕ) (log : Log) (crew : List Station) → Rests flow files most log crew → IsStart flow most crew
+pub rest-start : (flow : List Operator) (files : List (List ℕ)) (most : ℕ) (log : Log) (crew : List WorkerState) → Rests flow files most log crew → IsStart flow most crew
 rest-start flow files most log crew rests = (query_over flow files log.batch most, refl, refl, rests.crew_is)
 
-pub home-start : (flow : List Operator) (files : List (List ℕ)) (most batch : ℕ) (items : List Item) (crew : List Station) → most ≤ 2 ^ 40 → IsBatch batch → items ≡ []
+pub home-start : (flow : List Operator) (files : List (List ℕ)) (most batch : ℕ) (items : List Item) (crew : List WorkerState) → most ≤ 2 ^ 40 → IsBatch batch → items ≡ []
     → HasNotBegun (query_over flow files batch most) crew → IsHome flow files most (record { batch = batch; items = items }) phase.Resting crew
 home-start flow files most batch items crew few is-batch fresh start = record {
   few = few;
@@ -45,7 +45,7 @@ home-start flow files most batch items crew few is-batch fresh start = record {
 
 -- ---- the last leg
 
-module _ (flow : List Operator) (files : List (List ℕ)) (most : ℕ) (log : Log) (crew : List Station) (rests : Rests flow files most log crew)
+module _ (flow : List Operator) (files : List (List ℕ)) (most : ℕ) (log : Log) (crew : List WorkerState) (rests : Rests flow files most log crew)
     (legal : IsLegal (query_over flow files log.batch most) log) (parts : List Part) (items : List Item) where
   abbrev query : Query
   query = query_over flow files log.batch most
@@ -62,7 +62,7 @@ module _ (flow : List Operator) (files : List (List ℕ)) (most : ℕ) (log : Lo
   over-after : (closed : Close) → items ≡ log.items ++ end_item parts closed ∷ [] → ends_over false items ≡ true
   over-after closed is = ap (ends_over false) (sym (only closed is))
 
-  pub home-after : (closed : Close) (later : List Station) → most ≤ 2 ^ 40 → items ≡ log.items ++ end_item parts closed ∷ [] → IsRun query parts closed
+  pub home-after : (closed : Close) (later : List WorkerState) → most ≤ 2 ^ 40 → items ≡ log.items ++ end_item parts closed ∷ [] → IsRun query parts closed
       → IsHome flow files most (record { batch = log.batch; items = items }) phase.Over later
   home-after closed later few is run = record {
     few = few;
@@ -95,7 +95,7 @@ module _ (flow : List Operator) (files : List (List ℕ)) (most : ℕ) (log : Lo
       (closes close.Cut now is, ended.0, run.1 ∙ ap (λ xs. answer_in query (state_after query xs)) (only close.Cut is))
 
 -- what a finished leg says of this run
-pub run-here : (flow : List Operator) (files : List (List ℕ)) (most : ℕ) (log : Log) (crew : List Station) (finished : Finished) → Rests flow files most log crew
+pub run-here : (flow : List Operator) (files : List (List ℕ)) (most : ℕ) (log : Log) (crew : List WorkerState) (finished : Finished) → Rests flow files most log crew
     → IsLegal (query_over flow files log.batch most) log → Finishes flow most crew finished → HasRun (query_over flow files log.batch most) finished.parts finished.answer
 unfolding Finishes
 run-here flow files most log crew finished rests legal finishes = finishes (query_over flow files log.batch most) refl refl legal.text.batch rests.crew_is

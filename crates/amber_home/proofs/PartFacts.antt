@@ -11,13 +11,13 @@ use Rattle.amber_log.specs.declared.entry.Entry.{Entry}
 use Rattle.amber_log.specs.declared.leg.Part.{Part}
 use Rattle.amber_meaning.specs.Legal.{entries_of}
 use Rattle.amber_worker.specs.Incoming.{has_some}
-use Rattle.amber_worker.specs.Station.{Station}
+use Rattle.amber_worker.specs.WorkerState.{WorkerState}
 use Rattle.amber_home.specs.Parts.{part_of, parts_from, without_journal}
-use Rattle.amber_home.specs.Standing.{station_at}
+use Rattle.amber_home.specs.Standing.{worker_state_at}
 
 -- ---- who has a part
 
-pub part-above : (number : ℕ) (crew : List Station) (worker : ℕ) → list_any (λ part. nat_eq part.worker worker) (parts_from number crew) ≡ true
+pub part-above : (number : ℕ) (crew : List WorkerState) (worker : ℕ) → list_any (λ part. nat_eq part.worker worker) (parts_from number crew) ≡ true
     → (number ≤ worker) × (worker < number + length crew)
 unfolding parts_from
 part-above number [] worker known = absurd (false≢true known)
@@ -46,7 +46,7 @@ unfolding entries_of
 entries-first number worker entries parts true is = rw is refl
 entries-first number worker entries parts false is = rw is refl
 
-entries-below : (number : ℕ) (crew : List Station) (worker : ℕ) → worker < number → entries_of (parts_from number crew) worker ≡ []
+entries-below : (number : ℕ) (crew : List WorkerState) (worker : ℕ) → worker < number → entries_of (parts_from number crew) worker ≡ []
 unfolding parts_from entries_of
 entries-below number [] worker h = refl
 entries-below number (w ∷ more) worker h = by (has_some w.journal) (entries-below (number + 1) more worker (omega arith))
@@ -56,7 +56,7 @@ entries-below number (w ∷ more) worker h = by (has_some w.journal) (entries-be
     by true rest = entries-first number worker w.journal (parts_from (number + 1) more) false (ne_eqb number worker (omega arith)) ∙ rest
     by false rest = rest
 
-no-journal : (w : Station) → has_some w.journal ≡ false → w.journal ≡ []
+no-journal : (w : WorkerState) → has_some w.journal ≡ false → w.journal ≡ []
 no-journal w h = by w.journal h
   where
     by : (entries : List Entry) → has_some entries ≡ false → entries ≡ []
@@ -68,7 +68,7 @@ unfolding entries_of
 entries-none worker = refl
 
 -- the entries of a worker are those of its journal
-pub entries-at : (number : ℕ) (crew : List Station) (i : ℕ) → entries_of (parts_from number crew) (number + i) ≡ (station_at crew i).journal
+pub entries-at : (number : ℕ) (crew : List WorkerState) (i : ℕ) → entries_of (parts_from number crew) (number + i) ≡ (worker_state_at crew i).journal
 unfolding parts_from
 entries-at number [] i = entries-none (number + i)
 entries-at number (w ∷ more) zero = by (has_some w.journal) refl (entries-below (number + 1) more number (omega arith))
@@ -81,8 +81,8 @@ entries-at number (w ∷ more) (suc i) =
     let sum : number + suc i ≡ number + 1 + i = omega arith in
     rw sum (by (has_some w.journal) (entries-at (number + 1) more i))
   where
-    by : (b : Bool) → entries_of (parts_from (number + 1) more) (number + 1 + i) ≡ (station_at more i).journal
-        → entries_of ((if b then record { worker = number; entries = w.journal } ∷ [] else []) ++ parts_from (number + 1) more) (number + 1 + i) ≡ (station_at more i).journal
+    by : (b : Bool) → entries_of (parts_from (number + 1) more) (number + 1 + i) ≡ (worker_state_at more i).journal
+        → entries_of ((if b then record { worker = number; entries = w.journal } ∷ [] else []) ++ parts_from (number + 1) more) (number + 1 + i) ≡ (worker_state_at more i).journal
     by true rest = entries-first number (number + 1 + i) w.journal (parts_from (number + 1) more) false (ne_eqb number (number + 1 + i) (omega arith)) ∙ rest
     by false rest = rest
 
@@ -97,7 +97,7 @@ some-entries : (entries : List Entry) → has_some entries ≡ true → 0 < leng
 some-entries [] e = absurd (false≢true e)
 some-entries (one ∷ more) e = omega arith
 
-pub are-parts : (number : ℕ) (crew : List Station) → number + length crew ≤ 2 ^ 32 → ((i : ℕ) → i < length crew → AreEntries false (station_at crew i).journal)
+pub are-parts : (number : ℕ) (crew : List WorkerState) → number + length crew ≤ 2 ^ 32 → ((i : ℕ) → i < length crew → AreEntries false (worker_state_at crew i).journal)
     → AreParts number (parts_from number crew)
 unfolding AreParts parts_from
 are-parts number [] few text = tt
@@ -110,14 +110,14 @@ are-parts number (w ∷ more) few text = by (has_some w.journal) refl (are-parts
 
 -- ---- as the code takes them
 
-pub read-handed : (xs crew : List Station) (i : ℕ) (d : Station) → i < length xs → crew ≡ map without_journal (take i xs) ++ drop i xs → get_or crew i d ≡ get_or xs i d
+pub read-handed : (xs crew : List WorkerState) (i : ℕ) (d : WorkerState) → i < length xs → crew ≡ map without_journal (take i xs) ++ drop i xs → get_or crew i d ≡ get_or xs i d
 read-handed xs crew i d h is =
     let long : length (map without_journal (take i xs)) ≡ i = length-map (take i xs) without_journal ∙ length-take-le i xs (omega (arith, h)) in
     let none : i - i ≡ 0 = omega arith in
     ap (λ ys. get_or ys i d) is ∙ get_or-append_right (map without_journal (take i xs)) (drop i xs) i i d long (omega arith)
     ∙ ap (λ n. get_or (drop i xs) n d) none ∙ get_or-drop i xs 0 d ∙ ap (λ n. get_or xs n d) (add-zero i)
 
-pub handed-next : (xs crew : List Station) (i : ℕ) (d now : Station) → i < length xs → crew ≡ map without_journal (take i xs) ++ drop i xs
+pub handed-next : (xs crew : List WorkerState) (i : ℕ) (d now : WorkerState) → i < length xs → crew ≡ map without_journal (take i xs) ++ drop i xs
     → now ≡ without_journal (get_or crew i d) → set crew i now ≡ map without_journal (take (i + 1) xs) ++ drop (i + 1) xs
 handed-next xs crew i d now h is now-is =
     let w = get_or xs i d in
@@ -131,7 +131,7 @@ handed-next xs crew i d now h is now-is =
     ∙ sym (append_assoc (map without_journal (take i xs)) (without_journal w ∷ []) (drop (i + 1) xs))
     ∙ ap (λ ys. ys ++ drop (i + 1) xs) (sym (map-append without_journal (take i xs) (w ∷ [])) ∙ ap (map without_journal) (sym (take_at_read xs i d h).1))
 
-pub parts-next : (xs crew : List Station) (i : ℕ) (d : Station) (old new whole : List Part) (entries : List Entry) → i < length xs
+pub parts-next : (xs crew : List WorkerState) (i : ℕ) (d : WorkerState) (old new whole : List Part) (entries : List Entry) → i < length xs
     → crew ≡ map without_journal (take i xs) ++ drop i xs → entries ≡ (get_or crew i d).journal
     → new ≡ old ++ part_of i entries → old ++ parts_from i (drop i xs) ≡ whole → new ++ parts_from (i + 1) (drop (i + 1) xs) ≡ whole
 unfolding parts_from
@@ -143,6 +143,6 @@ parts-next xs crew i d old new whole entries h is entries-is grown rest =
     ∙ ap (λ ys. old ++ parts_from i ys) (sym split)
     ∙ rest
 
-pub parts-end : (xs : List Station) (i : ℕ) (found whole : List Part) → length xs ≤ i → found ++ parts_from i (drop i xs) ≡ whole → found ≡ whole
+pub parts-end : (xs : List WorkerState) (i : ℕ) (found whole : List Part) → length xs ≤ i → found ++ parts_from i (drop i xs) ≡ whole → found ≡ whole
 unfolding parts_from
 parts-end xs i found whole h rest = sym (append-nil found) ∙ ap (λ ys. found ++ parts_from i ys) (sym (drop_all i xs h)) ∙ rest

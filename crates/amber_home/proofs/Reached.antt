@@ -20,9 +20,9 @@ use Rattle.amber_meaning.specs.Task.{Role}
 use Rattle.amber_meaning.proofs.Lists.{list_all-at, list_all-below}
 use Rattle.amber_meaning.proofs.OneState.{position-before, position-get_or, position-last}
 use Rattle.amber_worker.specs.Stands.{first_orders}
-use Rattle.amber_worker.specs.Station.{Station}
-use Rattle.amber_worker.specs.Station as station
-use Rattle.amber_home.specs.Standing.{no_station, station_at, steps_by}
+use Rattle.amber_worker.specs.WorkerState.{WorkerState}
+use Rattle.amber_worker.specs.WorkerState as worker_state
+use Rattle.amber_home.specs.Standing.{no_worker_state, worker_state_at, steps_by}
 
 -- ---- positions by number
 
@@ -112,7 +112,7 @@ hand-stays role orders p q (one ∷ more) uncounted none leads =
 
 -- ---- steps, and who has finished
 
-pub steps-listed : (crew : List Station) (positions : ℕ → Position) (n : ℕ) → n ≤ length crew → ((k : ℕ) → k < n → station.steps_in (station_at crew k) ≡ steps_of (positions k))
+pub steps-listed : (crew : List WorkerState) (positions : ℕ → Position) (n : ℕ) → n ≤ length crew → ((k : ℕ) → k < n → worker_state.steps_in (worker_state_at crew k) ≡ steps_of (positions k))
     → sum_by steps_of (map positions (numbers_below n)) ≡ steps_by (take n crew)
 unfolding numbers_below steps_by
 steps-listed crew positions zero h same = refl
@@ -121,8 +121,8 @@ steps-listed crew positions (suc n) h same =
     ∙ sum_by-append steps_of (map positions (numbers_below n)) (positions n ∷ [])
     ∙ ap (λ m. m + (0 + steps_of (positions n))) (steps-listed crew positions n (omega arith) (λ k below. same k (omega arith)))
     ∙ ap (λ m. steps_by (take n crew) + (0 + m)) (sym (same n (omega arith)))
-    ∙ sym (sum_by-append station.steps_in (take n crew) (station_at crew n ∷ []))
-    ∙ ap (sum_by station.steps_in) (sym ((take_at_read crew n no_station (omega (arith, h))).1) ∙ ap (λ m. take m crew) (add-one n))
+    ∙ sym (sum_by-append worker_state.steps_in (take n crew) (worker_state_at crew n ∷ []))
+    ∙ ap (sum_by worker_state.steps_in) (sym ((take_at_read crew n no_worker_state (omega (arith, h))).1) ∙ ap (λ m. take m crew) (add-one n))
 
 all-map : {A B : Type 0} (test : B → Bool) (f : A → B) (xs : List A) → list_all test (map f xs) ≡ list_all (λ x. test (f x)) xs
 all-map test f [] = refl

@@ -15,38 +15,38 @@ use Rattle.amber_worker.specs.Incoming.{has_some, have_all_ended}
 use Rattle.amber_worker.specs.Outgoing.{Outgoing}
 use Rattle.amber_worker.specs.Links.{waiting_for, without_batches}
 use Rattle.amber_worker.specs.Stands.{HasTurned, Keeps, first_orders, post_of, stream_to}
-use Rattle.amber_worker.specs.Station.{Station, answer_of, has_ready, steps_in}
+use Rattle.amber_worker.specs.WorkerState.{WorkerState, answer_of, has_ready, steps_in}
 use Rattle.amber_worker.specs.declared.turn.Turn.{Turn}
 use Rattle.amber_worker.specs.declared.turn.Turn.TheVariants as turn
 use Rattle.amber_worker.proofs.Idle.{has_marked-chunks_of, never_idle}
 use Rattle.amber_worker.proofs.Settling.{receives-from, sends-to, sent-made}
 use Rattle.amber_home.specs.Leg.{given_of, taker_of}
-use Rattle.amber_home.specs.Standing.{AreAtWork, AreMoved, HaveFinished, IsCrew, StayAtWork, Standing, no_station, sent_by, station_at, steps_by}
+use Rattle.amber_home.specs.Standing.{AreAtWork, AreMoved, HaveFinished, IsCrew, StayAtWork, Standing, no_worker_state, sent_by, worker_state_at, steps_by}
 use Rattle.amber_home.proofs.Links.{is_in, receives, sends}
 use Rattle.amber_home.proofs.Turns.{Standing-moved, Standing-turned, at-each}
 
 -- ---- links
 
-number-shown : (query : Query) (crew : List Station) (positions : ℕ → Position) (worker : ℕ) → Standing query crew positions → worker < crew_of query.flow
-    → (station_at crew worker).number ≡ worker
+number-shown : (query : Query) (crew : List WorkerState) (positions : ℕ → Position) (worker : ℕ) → Standing query crew positions → worker < crew_of query.flow
+    → (worker_state_at crew worker).number ≡ worker
 unfolding post_of
 number-shown query crew positions worker standing h = (standing.each worker h).shows.number
 
 -- what is known of a worker and one to which it sends
-pub record AreLinked (crew : List Station) (from to : ℕ) : Type 0 where
+pub record AreLinked (crew : List WorkerState) (from to : ℕ) : Type 0 where
   pub before : from < to
   pub there : to < length crew
-  pub from_number : (station_at crew from).number ≡ from
-  pub to_number : (station_at crew to).number ≡ to
-  pub receives : list_any (λ one. nat_eq one.from from) (station_at crew to).ins ≡ true
+  pub from_number : (worker_state_at crew from).number ≡ from
+  pub to_number : (worker_state_at crew to).number ≡ to
+  pub receives : list_any (λ one. nat_eq one.from from) (worker_state_at crew to).ins ≡ true
 
-pub linked : (query : Query) (crew : List Station) (positions : ℕ → Position) (from to : ℕ) → IsFlow query.flow → Standing query crew positions → from < length crew
-    → list_any (λ one. nat_eq one.to to) (station_at crew from).outs ≡ true → AreLinked crew from to
+pub linked : (query : Query) (crew : List WorkerState) (positions : ℕ → Position) (from to : ℕ) → IsFlow query.flow → Standing query crew positions → from < length crew
+    → list_any (λ one. nat_eq one.to to) (worker_state_at crew from).outs ≡ true → AreLinked crew from to
 unfolding post_of role_of
 linked query crew positions from to flow standing inside known =
     let here : from < crew_of query.flow = rw (← standing.all) inside in
     let receiver : is_in (receivers_of query.flow from) to ≡ true =
-    sym (sends-to (post_of query.flow query.records query.size from) (first_orders query.flow from) (station_at crew from) (positions from) (sent_by crew positions from) to
+    sym (sends-to (post_of query.flow query.records query.size from) (first_orders query.flow from) (worker_state_at crew from) (positions from) (sent_by crew positions from) to
     (standing.each from here).shows) ∙ known in
     let sender = sends query.flow from to here receiver in
     record {
@@ -54,7 +54,7 @@ linked query crew positions from to flow standing inside known =
       there = rw standing.all sender.1;
       from_number = number-shown query crew positions from standing here;
       to_number = number-shown query crew positions to standing sender.1;
-      receives = receives-from (post_of query.flow query.records query.size to) (first_orders query.flow to) (station_at crew to) (positions to) (sent_by crew positions to) from
+      receives = receives-from (post_of query.flow query.records query.size to) (first_orders query.flow to) (worker_state_at crew to) (positions to) (sent_by crew positions to) from
           (standing.each to sender.1).shows ∙ sender.0;
     }
 
@@ -69,21 +69,21 @@ waits-none receiver (one ∷ outs) h = by (nat_eq one.to receiver) (waits-none r
     by false rest = rest
 
 -- a worker whose senders have all finished is not idle
-pub busy : (query : Query) (crew : List Station) (worker : ℕ) → AreAtWork query crew → worker < length crew → HaveFinished worker crew
-    → answer_of (station_at crew worker) ≡ turn.Idle → ⊥
+pub busy : (query : Query) (crew : List WorkerState) (worker : ℕ) → AreAtWork query crew → worker < length crew → HaveFinished worker crew
+    → answer_of (worker_state_at crew worker) ≡ turn.Idle → ⊥
 unfolding post_of role_of
 busy query crew worker work inside finished idle =
     let here : worker < crew_of query.flow = rw (← work.standing.all) inside in
     let stands = work.standing.each worker here in
-    never_idle (post_of query.flow query.records query.size worker) (first_orders query.flow worker) (station_at crew worker) (work.positions worker) (sent_by crew work.positions worker) stands.shows
+    never_idle (post_of query.flow query.records query.size worker) (first_orders query.flow worker) (worker_state_at crew worker) (work.positions worker) (sent_by crew work.positions worker) stands.shows
     (λ sender member.
     let known = receives query.flow sender worker here member in
     let sends = work.standing.each sender known.1 in
     let done : (work.positions sender).finished ≡ true =
     sym sends.shows.finished ∙ finished sender (flows_send_forward query.flow work.flow worker sender member) in
-    let made = sent-made (post_of query.flow query.records query.size sender) (first_orders query.flow sender) (station_at crew sender) origin (work.positions sender) (sent_by crew work.positions sender) worker sends known.0 in
+    let made = sent-made (post_of query.flow query.records query.size sender) (first_orders query.flow sender) (worker_state_at crew sender) origin (work.positions sender) (sent_by crew work.positions sender) worker sends known.0 in
     let all : sent_by crew work.positions sender worker ≡ chunks_of query.size (stream_to (post_of query.flow query.records query.size sender) worker (emitted_rows (role_of query.flow query.records sender) (work.positions sender))) true =
-    sym (append-nil _) ∙ ap (λ none. sent_by crew work.positions sender worker ++ none) (sym (waits-none worker (station_at crew sender).outs (work.moved sender)))
+    sym (append-nil _) ∙ ap (λ none. sent_by crew work.positions sender worker ++ none) (sym (waits-none worker (worker_state_at crew sender).outs (work.moved sender)))
     ∙ made ∙ ap (λ done. chunks_of query.size (stream_to (post_of query.flow query.records query.size sender) worker (emitted_rows (role_of query.flow query.records sender) (work.positions sender))) done) done in
     rw all (has_marked-chunks_of query.size _))
     idle
@@ -98,22 +98,22 @@ ended-finished false false false false true h = cc
 ended-finished false false false false false h = cc
 
 -- an unfinished worker whose senders have all finished makes a step
-pub moves : (crew : List Station) (worker : ℕ) (now : Station) (done : Turn) → IsCrew crew → worker < length crew → HaveFinished worker crew
-    → (station_at crew worker).finished ≡ false → done ≡ answer_of (station_at crew worker) → HasTurned done (station_at crew worker) now
-    → steps_in now ≡ steps_in (station_at crew worker) + 1
+pub moves : (crew : List WorkerState) (worker : ℕ) (now : WorkerState) (done : Turn) → IsCrew crew → worker < length crew → HaveFinished worker crew
+    → (worker_state_at crew worker).finished ≡ false → done ≡ answer_of (worker_state_at crew worker) → HasTurned done (worker_state_at crew worker) now
+    → steps_in now ≡ steps_in (worker_state_at crew worker) + 1
 moves crew worker now turn.Moved work inside finished not-yet is turned = turned
 moves crew worker now turn.Idle work inside finished not-yet is turned = absurd (busy work.0 crew worker work.1 inside finished (sym is))
 moves crew worker now turn.Ended work inside finished not-yet is turned =
-    let w = station_at crew worker in
+    let w = worker_state_at crew worker in
     absurd (false≢true (sym not-yet ∙ ended-finished w.finished (has_some w.pending) (has_some w.rest) (has_ready w.ins) (have_all_ended w.ins) (sym is)))
 
 -- ---- sums of steps
 
-pub steps-cons : (w : Station) (crew : List Station) → steps_by (w ∷ crew) ≡ steps_in w + steps_by crew
+pub steps-cons : (w : WorkerState) (crew : List WorkerState) → steps_by (w ∷ crew) ≡ steps_in w + steps_by crew
 unfolding steps_by
 steps-cons w crew = sum_by-cons steps_in w crew
 
-sum-set : (crew : List Station) (i : ℕ) (w : Station) → i < length crew → steps_by (set crew i w) + steps_in (station_at crew i) ≡ steps_by crew + steps_in w
+sum-set : (crew : List WorkerState) (i : ℕ) (w : WorkerState) → i < length crew → steps_by (set crew i w) + steps_in (worker_state_at crew i) ≡ steps_by crew + steps_in w
 sum-set [] i w h = absurd (omega arith)
 sum-set (x ∷ xs) zero w h =
     rw (steps-cons w xs, steps-cons x xs) (omega arith)
@@ -121,37 +121,37 @@ sum-set (x ∷ xs) (suc i) w h =
     let rest = sum-set xs i w (omega arith) in
     rw (steps-cons x (set xs i w), steps-cons x xs) (omega arith)
 
-pub sum-more : (crew : List Station) (i : ℕ) (w : Station) → i < length crew → steps_in w ≡ steps_in (station_at crew i) + 1 → steps_by (set crew i w) ≡ steps_by crew + 1
+pub sum-more : (crew : List WorkerState) (i : ℕ) (w : WorkerState) → i < length crew → steps_in w ≡ steps_in (worker_state_at crew i) + 1 → steps_by (set crew i w) ≡ steps_by crew + 1
 sum-more crew i w h more = let sum = sum-set crew i w h in omega arith
 
-pub sum-same : (crew : List Station) (i : ℕ) (w : Station) → i < length crew → steps_in w ≡ steps_in (station_at crew i) → steps_by (set crew i w) ≡ steps_by crew
+pub sum-same : (crew : List WorkerState) (i : ℕ) (w : WorkerState) → i < length crew → steps_in w ≡ steps_in (worker_state_at crew i) → steps_by (set crew i w) ≡ steps_by crew
 sum-same crew i w h same = let sum = sum-set crew i w h in omega arith
 
-pub sum-passed : (crew : List Station) (from to : ℕ) → from < to → to < length crew
-    → steps_by (set (set crew from (given_of (station_at crew from) (station_at crew to))) to (taker_of (station_at crew from) (station_at crew to))) ≡ steps_by crew
+pub sum-passed : (crew : List WorkerState) (from to : ℕ) → from < to → to < length crew
+    → steps_by (set (set crew from (given_of (worker_state_at crew from) (worker_state_at crew to))) to (taker_of (worker_state_at crew from) (worker_state_at crew to))) ≡ steps_by crew
 sum-passed crew from to before there =
     let from-there : from < length crew = omega arith in
     let ne : to ≢ from = omega arith in
-    let given = given_of (station_at crew from) (station_at crew to) in
-    let taker = taker_of (station_at crew from) (station_at crew to) in
-    sum-same (set crew from given) to taker (rw length-set there) (ap steps_in (sym (get_or-set_other crew from to given no_station ne)))
+    let given = given_of (worker_state_at crew from) (worker_state_at crew to) in
+    let taker = taker_of (worker_state_at crew from) (worker_state_at crew to) in
+    sum-same (set crew from given) to taker (rw length-set there) (ap steps_in (sym (get_or-set_other crew from to given no_worker_state ne)))
     ∙ sum-same crew from given from-there refl
 
-pub sum-member : (crew : List Station) (i : ℕ) → steps_in (station_at crew i) ≤ steps_by crew
+pub sum-member : (crew : List WorkerState) (i : ℕ) → steps_in (worker_state_at crew i) ≤ steps_by crew
 sum-member [] i = omega arith
 sum-member (x ∷ xs) zero = rw (steps-cons x xs) (omega arith)
 sum-member (x ∷ xs) (suc i) = let rest = sum-member xs i in rw (steps-cons x xs) (omega arith)
 
 -- ---- at work again
 
-moved-set : (crew : List Station) (i : ℕ) (w : Station) → i < length crew → ((k : ℕ) → k ≢ i → All (λ one. one.waiting ≡ []) (station_at crew k).outs)
+moved-set : (crew : List WorkerState) (i : ℕ) (w : WorkerState) → i < length crew → ((k : ℕ) → k ≢ i → All (λ one. one.waiting ≡ []) (worker_state_at crew k).outs)
     → All (λ one. one.waiting ≡ []) w.outs → AreMoved (set crew i w)
-moved-set crew i w h others here = at-each (λ k. All (λ one. one.waiting ≡ []) (station_at (set crew i w) k).outs) i
-    (rw (get_or-set_same crew i w no_station h) here)
-    (λ k ne. rw (get_or-set_other crew i k w no_station ne) (others k ne))
+moved-set crew i w h others here = at-each (λ k. All (λ one. one.waiting ≡ []) (worker_state_at (set crew i w) k).outs) i
+    (rw (get_or-set_same crew i w no_worker_state h) here)
+    (λ k ne. rw (get_or-set_other crew i k w no_worker_state ne) (others k ne))
 
 -- where nothing waits to be moved
-pub stay-turned : (crew : List Station) (worker : ℕ) (now : Station) → worker < length crew → Keeps (station_at crew worker) now
+pub stay-turned : (crew : List WorkerState) (worker : ℕ) (now : WorkerState) → worker < length crew → Keeps (worker_state_at crew worker) now
     → All (λ one. one.waiting ≡ []) now.outs → StayAtWork crew (set crew worker now)
 unfolding StayAtWork
 stay-turned crew worker now inside keeps none query work =
@@ -176,16 +176,16 @@ moved-one (one ∷ []) to few known zero d below = by (nat_eq one.to to) (or_cas
 moved-one (one ∷ []) to few known (suc k) d below = absurd (omega (arith, below))
 
 -- where batches wait for a receiver, and are moved to it
-pub stay-passed : (crew : List Station) (worker to : ℕ) (now : Station) → IsCrew crew → worker < length crew → Keeps (station_at crew worker) now
+pub stay-passed : (crew : List WorkerState) (worker to : ℕ) (now : WorkerState) → IsCrew crew → worker < length crew → Keeps (worker_state_at crew worker) now
     → length now.outs ≤ 1 → list_any (λ one. nat_eq one.to to) now.outs ≡ true
     → AreLinked (set crew worker now) worker to
-    × StayAtWork crew (set (set (set crew worker now) worker (given_of (station_at (set crew worker now) worker) (station_at (set crew worker now) to))) to
-    (taker_of (station_at (set crew worker now) worker) (station_at (set crew worker now) to)))
+    × StayAtWork crew (set (set (set crew worker now) worker (given_of (worker_state_at (set crew worker now) worker) (worker_state_at (set crew worker now) to))) to
+    (taker_of (worker_state_at (set crew worker now) worker) (worker_state_at (set crew worker now) to)))
 unfolding StayAtWork
 stay-passed crew worker to now known inside keeps few waits = (links known.0 known.1, λ query work. at query work)
   where
-    now-here : station_at (set crew worker now) worker ≡ now
-    now-here = get_or-set_same crew worker now no_station inside
+    now-here : worker_state_at (set crew worker now) worker ≡ now
+    now-here = get_or-set_same crew worker now no_worker_state inside
 
     links : (query : Query) → AreAtWork query crew → AreLinked (set crew worker now) worker to
     links query work =
@@ -193,7 +193,7 @@ stay-passed crew worker to now known inside keeps few waits = (links known.0 kno
         linked query (set crew worker now) later.0 worker to work.flow later.1 (rw length-set inside) (rw now-here waits)
 
     at : (query : Query) → AreAtWork query crew
-        → AreAtWork query (set (set (set crew worker now) worker (given_of (station_at (set crew worker now) worker) (station_at (set crew worker now) to))) to (taker_of (station_at (set crew worker now) worker) (station_at (set crew worker now) to)))
+        → AreAtWork query (set (set (set crew worker now) worker (given_of (worker_state_at (set crew worker now) worker) (worker_state_at (set crew worker now) to))) to (taker_of (worker_state_at (set crew worker now) worker) (worker_state_at (set crew worker now) to)))
     at query work =
         let later = Standing-turned query crew work.positions worker now work.standing (rw (← work.standing.all) inside) keeps in
         let link = links query work in
@@ -203,14 +203,14 @@ stay-passed crew worker to now known inside keeps few waits = (links known.0 kno
         record {
           flow = work.flow;
           positions = later.0;
-          standing = Standing-moved query (set crew worker now) later.0 worker to (given_of (station_at (set crew worker now) worker) (station_at (set crew worker now) to)) (taker_of (station_at (set crew worker now) worker) (station_at (set crew worker now) to))
+          standing = Standing-moved query (set crew worker now) later.0 worker to (given_of (worker_state_at (set crew worker now) worker) (worker_state_at (set crew worker now) to)) (taker_of (worker_state_at (set crew worker now) worker) (worker_state_at (set crew worker now) to))
               later.1 here there ne link.receives
               (rw link.to_number refl)
               (rw (link.from_number, link.to_number) refl);
-          moved = moved-set (set (set crew worker now) worker (given_of (station_at (set crew worker now) worker) (station_at (set crew worker now) to))) to (taker_of (station_at (set crew worker now) worker) (station_at (set crew worker now) to))
+          moved = moved-set (set (set crew worker now) worker (given_of (worker_state_at (set crew worker now) worker) (worker_state_at (set crew worker now) to))) to (taker_of (worker_state_at (set crew worker now) worker) (worker_state_at (set crew worker now) to))
               (rw length-set link.there)
-              (λ k not-to. moved-set (set crew worker now) worker (given_of (station_at (set crew worker now) worker) (station_at (set crew worker now) to)) (rw length-set inside)
-              (λ other not-worker. rw (get_or-set_other crew worker other now no_station not-worker) (work.moved other))
+              (λ k not-to. moved-set (set crew worker now) worker (given_of (worker_state_at (set crew worker now) worker) (worker_state_at (set crew worker now) to)) (rw length-set inside)
+              (λ other not-worker. rw (get_or-set_other crew worker other now no_worker_state not-worker) (work.moved other))
               (rw (now-here, link.to_number) (moved-one now.outs to few waits)) k)
-              (rw (get_or-set_other crew worker to now no_station (λ same. ne (sym same))) (work.moved to));
+              (rw (get_or-set_other crew worker to now no_worker_state (λ same. ne (sym same))) (work.moved to));
         }

@@ -10,9 +10,9 @@ use Rattle.amber_meaning.specs.Legal.{Query}
 use Rattle.amber_meaning.specs.Position.{Position, origin}
 use Rattle.amber_worker.specs.Links.{waiting_for, with_batches, without_batches}
 use Rattle.amber_worker.specs.Stands.{Keeps, SameBatches, Stands, first_orders, post_of}
-use Rattle.amber_worker.specs.Station.{Station}
+use Rattle.amber_worker.specs.WorkerState.{WorkerState}
 use Rattle.amber_worker.proofs.Settling.{Stands-moved, Stands-received, sent_more, waiting_from-with_batches, waiting_from-others}
-use Rattle.amber_home.specs.Standing.{Standing, no_station, sent_by, station_at}
+use Rattle.amber_home.specs.Standing.{Standing, no_worker_state, sent_by, worker_state_at}
 
 -- ---- positions
 
@@ -29,24 +29,24 @@ same-place place = eq-eqb place place refl
 
 -- ---- a turn
 
-module _ (crew : List Station) (positions : ℕ → Position) (worker : ℕ) (now : Station) (q : Position) (inside : worker < length crew) where
-  station-here : station_at (set crew worker now) worker ≡ now
-  station-here = get_or-set_same crew worker now no_station inside
+module _ (crew : List WorkerState) (positions : ℕ → Position) (worker : ℕ) (now : WorkerState) (q : Position) (inside : worker < length crew) where
+  worker_state-here : worker_state_at (set crew worker now) worker ≡ now
+  worker_state-here = get_or-set_same crew worker now no_worker_state inside
 
-  station-there : (other : ℕ) → other ≢ worker → station_at (set crew worker now) other ≡ station_at crew other
-  station-there other ne = get_or-set_other crew worker other now no_station ne
+  worker_state-there : (other : ℕ) → other ≢ worker → worker_state_at (set crew worker now) other ≡ worker_state_at crew other
+  worker_state-there other ne = get_or-set_other crew worker other now no_worker_state ne
 
   -- what each worker has sent is the same
-  sent-same : SameBatches (station_at crew worker) (positions worker) now q → (sender receiver : ℕ)
+  sent-same : SameBatches (worker_state_at crew worker) (positions worker) now q → (sender receiver : ℕ)
       → sent_by (set crew worker now) (placed positions worker q) sender receiver ≡ sent_by crew positions sender receiver
   sent-same same sender = at-each
       (λ receiver. sent_by (set crew worker now) (placed positions worker q) sender receiver ≡ sent_by crew positions sender receiver) worker
-      (rw (same-place worker, station-here) (same sender))
-      (λ other ne. rw (ne_eqb other worker ne, station-there other ne) refl)
+      (rw (same-place worker, worker_state-here) (same sender))
+      (λ other ne. rw (ne_eqb other worker ne, worker_state-there other ne) refl)
 
 -- a worker that kept standing may take the place of what it was
-pub Standing-turned : (query : Query) (crew : List Station) (positions : ℕ → Position) (worker : ℕ) (now : Station)
-    → Standing query crew positions → worker < crew_of query.flow → Keeps (station_at crew worker) now
+pub Standing-turned : (query : Query) (crew : List WorkerState) (positions : ℕ → Position) (worker : ℕ) (now : WorkerState)
+    → Standing query crew positions → worker < crew_of query.flow → Keeps (worker_state_at crew worker) now
     → (later : ℕ → Position) × Standing query (set crew worker now) later
 unfolding Keeps
 Standing-turned query crew positions worker now standing here keeps =
@@ -59,74 +59,74 @@ Standing-turned query crew positions worker now standing here keeps =
       record {
         all = length-set crew worker now ∙ standing.all;
         each = at-each (λ k. k < crew_of query.flow → Stands (post_of query.flow query.records query.size k) (first_orders query.flow k)
-            (station_at (set crew worker now) k) origin (placed positions worker q k) (sent_by (set crew worker now) (placed positions worker q) k)) worker
+            (worker_state_at (set crew worker now) k) origin (placed positions worker q k) (sent_by (set crew worker now) (placed positions worker q) k)) worker
             (λ h. subst (λ s. Stands (post_of query.flow query.records query.size worker) (first_orders query.flow worker)
-            (station_at (set crew worker now) worker) origin (placed positions worker q worker) s) (sent worker)
-            (rw (station-here crew positions worker now q inside, same-place worker) moved.1))
+            (worker_state_at (set crew worker now) worker) origin (placed positions worker q worker) s) (sent worker)
+            (rw (worker_state-here crew positions worker now q inside, same-place worker) moved.1))
             (λ k ne h. subst (λ s. Stands (post_of query.flow query.records query.size k) (first_orders query.flow k)
-            (station_at (set crew worker now) k) origin (placed positions worker q k) s) (sent k)
-            (rw (station-there crew positions worker now q inside k ne, ne_eqb k worker ne) (standing.each k h)));
+            (worker_state_at (set crew worker now) k) origin (placed positions worker q k) s) (sent k)
+            (rw (worker_state-there crew positions worker now q inside k ne, ne_eqb k worker ne) (standing.each k h)));
       },
     )
 
 -- ---- batches that are moved
 
-module _ (crew : List Station) (from to : ℕ) (given taker : Station) (from-inside : from < length crew) (to-inside : to < length crew) (apart : from ≢ to) where
-  abbrev handed : List Station
+module _ (crew : List WorkerState) (from to : ℕ) (given taker : WorkerState) (from-inside : from < length crew) (to-inside : to < length crew) (apart : from ≢ to) where
+  abbrev handed : List WorkerState
   handed = set (set crew from given) to taker
 
-  taker-here : station_at handed to ≡ taker
-  taker-here = get_or-set_same (set crew from given) to taker no_station (rw length-set to-inside)
+  taker-here : worker_state_at handed to ≡ taker
+  taker-here = get_or-set_same (set crew from given) to taker no_worker_state (rw length-set to-inside)
 
-  giver-here : station_at handed from ≡ given
-  giver-here = get_or-set_other (set crew from given) to from taker no_station apart ∙ get_or-set_same crew from given no_station from-inside
+  giver-here : worker_state_at handed from ≡ given
+  giver-here = get_or-set_other (set crew from given) to from taker no_worker_state apart ∙ get_or-set_same crew from given no_worker_state from-inside
 
-  other-here : (k : ℕ) → k ≢ from → k ≢ to → station_at handed k ≡ station_at crew k
-  other-here k not-from not-to = get_or-set_other (set crew from given) to k taker no_station not-to ∙ get_or-set_other crew from k given no_station not-from
+  other-here : (k : ℕ) → k ≢ from → k ≢ to → worker_state_at handed k ≡ worker_state_at crew k
+  other-here k not-from not-to = get_or-set_other (set crew from given) to k taker no_worker_state not-to ∙ get_or-set_other crew from k given no_worker_state not-from
 
-module _ (crew : List Station) (positions : ℕ → Position) (from to : ℕ) (batches : List Batch) (given taker : Station)
+module _ (crew : List WorkerState) (positions : ℕ → Position) (from to : ℕ) (batches : List Batch) (given taker : WorkerState)
     (from-inside : from < length crew) (to-inside : to < length crew) (apart : from ≢ to)
-    (given-ins : given.ins ≡ (station_at crew from).ins) (taker-ins : taker.ins ≡ with_batches from batches (station_at crew to).ins)
-    (known : list_any (λ one. nat_eq one.from from) (station_at crew to).ins ≡ true) where
-  abbrev now : List Station
+    (given-ins : given.ins ≡ (worker_state_at crew from).ins) (taker-ins : taker.ins ≡ with_batches from batches (worker_state_at crew to).ins)
+    (known : list_any (λ one. nat_eq one.from from) (worker_state_at crew to).ins ≡ true) where
+  abbrev now : List WorkerState
   now = set (set crew from given) to taker
 
-  ins-elsewhere : (k : ℕ) → k ≢ to → (station_at now k).ins ≡ (station_at crew k).ins
+  ins-elsewhere : (k : ℕ) → k ≢ to → (worker_state_at now k).ins ≡ (worker_state_at crew k).ins
   ins-elsewhere k not-to = elim (eqb_tells k from) [
     | inl h ↦ rw h.1 (ap (λ w. w.ins) (giver-here crew from to given taker from-inside to-inside apart) ∙ given-ins)
     | inr h ↦ ap (λ w. w.ins) (other-here crew from to given taker from-inside to-inside apart k h.1 not-to)
   ]
 
-  ins-there : (station_at now to).ins ≡ with_batches from batches (station_at crew to).ins
+  ins-there : (worker_state_at now to).ins ≡ with_batches from batches (worker_state_at crew to).ins
   ins-there = ap (λ w. w.ins) (taker-here crew from to given taker from-inside to-inside apart) ∙ taker-ins
 
   -- the giver has sent these batches more to the taker
   sent-given : (receiver : ℕ) → sent_by now positions from receiver ≡ sent_more (sent_by crew positions from) to batches receiver
   sent-given = at-each (λ receiver. sent_by now positions from receiver ≡ sent_more (sent_by crew positions from) to batches receiver) to
-      (rw (same-place to, ins-there, waiting_from-with_batches from batches (station_at crew to).ins known, append_assoc) refl)
+      (rw (same-place to, ins-there, waiting_from-with_batches from batches (worker_state_at crew to).ins known, append_assoc) refl)
       (λ receiver ne. rw (ne_eqb receiver to ne, ins-elsewhere receiver ne) refl)
 
   -- and the others have sent what they had sent
   sent-others : (sender : ℕ) → sender ≢ from → (receiver : ℕ) → sent_by now positions sender receiver ≡ sent_by crew positions sender receiver
   sent-others sender other = at-each (λ receiver. sent_by now positions sender receiver ≡ sent_by crew positions sender receiver) to
-      (rw (ins-there, waiting_from-others from sender batches (station_at crew to).ins (ne_eqb sender from other)) refl)
+      (rw (ins-there, waiting_from-others from sender batches (worker_state_at crew to).ins (ne_eqb sender from other)) refl)
       (λ receiver ne. rw (ins-elsewhere receiver ne) refl)
 
 -- a worker's batches may be moved to one of its receivers
-pub Standing-moved : (query : Query) (crew : List Station) (positions : ℕ → Position) (from to : ℕ) (given taker : Station)
+pub Standing-moved : (query : Query) (crew : List WorkerState) (positions : ℕ → Position) (from to : ℕ) (given taker : WorkerState)
     → Standing query crew positions → from < crew_of query.flow → to < crew_of query.flow → from ≢ to
-    → list_any (λ one. nat_eq one.from from) (station_at crew to).ins ≡ true
-    → given ≡ record (station_at crew from) { outs = without_batches to (station_at crew from).outs }
-    → taker ≡ record (station_at crew to) { ins = with_batches from (waiting_for to (station_at crew from).outs) (station_at crew to).ins }
+    → list_any (λ one. nat_eq one.from from) (worker_state_at crew to).ins ≡ true
+    → given ≡ record (worker_state_at crew from) { outs = without_batches to (worker_state_at crew from).outs }
+    → taker ≡ record (worker_state_at crew to) { ins = with_batches from (waiting_for to (worker_state_at crew from).outs) (worker_state_at crew to).ins }
     → Standing query (set (set crew from given) to taker) positions
 Standing-moved query crew positions from to given taker standing from-in to-in apart known given-is taker-is =
     let from-inside : from < length crew = rw standing.all from-in in
     let to-inside : to < length crew = rw standing.all to-in in
-    let batches = waiting_for to (station_at crew from).outs in
-    let given-ins : given.ins ≡ (station_at crew from).ins = ap (λ w. w.ins) given-is in
-    let taker-ins : taker.ins ≡ with_batches from batches (station_at crew to).ins = ap (λ w. w.ins) taker-is in
+    let batches = waiting_for to (worker_state_at crew from).outs in
+    let given-ins : given.ins ≡ (worker_state_at crew from).ins = ap (λ w. w.ins) given-is in
+    let taker-ins : taker.ins ≡ with_batches from batches (worker_state_at crew to).ins = ap (λ w. w.ins) taker-is in
     let Each : ℕ → Type 0 = λ k. k < crew_of query.flow → Stands (post_of query.flow query.records query.size k) (first_orders query.flow k)
-    (station_at (set (set crew from given) to taker) k) origin (positions k) (sent_by (set (set crew from given) to taker) positions k) in
+    (worker_state_at (set (set crew from given) to taker) k) origin (positions k) (sent_by (set (set crew from given) to taker) positions k) in
     let others : (k : ℕ) → k ≢ from → sent_by crew positions k ≡ sent_by (set (set crew from given) to taker) positions k =
     λ k ne i receiver. sym (sent-others crew positions from to batches given taker from-inside to-inside apart given-ins taker-ins known k ne receiver) i in
     let more : sent_more (sent_by crew positions from) to batches ≡ sent_by (set (set crew from given) to taker) positions from =
@@ -135,16 +135,16 @@ Standing-moved query crew positions from to given taker standing from-in to-in a
       all = length-set (set crew from given) to taker ∙ length-set crew from given ∙ standing.all;
       each = at-each Each from
           (λ h. subst (λ s. Stands (post_of query.flow query.records query.size from) (first_orders query.flow from)
-          (station_at (set (set crew from given) to taker) from) origin (positions from) s) more
+          (worker_state_at (set (set crew from given) to taker) from) origin (positions from) s) more
           (rw (giver-here crew from to given taker from-inside to-inside apart, given-is)
-          (Stands-moved (post_of query.flow query.records query.size from) (first_orders query.flow from) (station_at crew from) origin (positions from) (sent_by crew positions from) to (standing.each from h))))
+          (Stands-moved (post_of query.flow query.records query.size from) (first_orders query.flow from) (worker_state_at crew from) origin (positions from) (sent_by crew positions from) to (standing.each from h))))
           (λ k not-from. at-each (λ k. k ≢ from → Each k) to
           (λ not-giver h. subst (λ s. Stands (post_of query.flow query.records query.size to) (first_orders query.flow to)
-          (station_at (set (set crew from given) to taker) to) origin (positions to) s) (others to not-giver)
+          (worker_state_at (set (set crew from given) to taker) to) origin (positions to) s) (others to not-giver)
           (rw (taker-here crew from to given taker from-inside to-inside apart, taker-is)
-          (Stands-received (post_of query.flow query.records query.size to) (first_orders query.flow to) (station_at crew to) origin (positions to) (sent_by crew positions to) from batches (standing.each to h))))
+          (Stands-received (post_of query.flow query.records query.size to) (first_orders query.flow to) (worker_state_at crew to) origin (positions to) (sent_by crew positions to) from batches (standing.each to h))))
           (λ other not-to not-giver h. subst (λ s. Stands (post_of query.flow query.records query.size other) (first_orders query.flow other)
-          (station_at (set (set crew from given) to taker) other) origin (positions other) s) (others other not-giver)
+          (worker_state_at (set (set crew from given) to taker) other) origin (positions other) s) (others other not-giver)
           (rw (other-here crew from to given taker from-inside to-inside apart other not-giver not-to) (standing.each other h)))
           k not-from);
     }

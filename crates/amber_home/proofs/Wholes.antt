@@ -14,14 +14,14 @@ use Rattle.amber_meaning.specs.Position.{Position, origin}
 use Rattle.amber_meaning.specs.Replay.{state_after}
 use Rattle.amber_meaning.specs.Views.{answer_in}
 use Rattle.amber_worker.specs.Stands.{Shows, first_orders, post_of}
-use Rattle.amber_worker.specs.Station.{Station, steps_in}
+use Rattle.amber_worker.specs.WorkerState.{WorkerState, steps_in}
 use Rattle.amber_worker.proofs.Settling.{Stands-without_journal, steps-shown}
 use Rattle.amber_home.specs.Answers.{IsGatheredFrom, ShowAll}
 use Rattle.amber_home.specs.Finish.{Finishes, IsClosed, IsRun, IsStart, leg_log}
 use Rattle.amber_home.specs.Leg.{IsDone}
 use Rattle.amber_home.specs.Parts.{parts_from, reached, without_journal}
 use Rattle.amber_home.specs.Start.{HasNotBegun}
-use Rattle.amber_home.specs.Standing.{AreAtWork, IsCrew, StayAtWork, Standing, no_station, sent_by, station_at, steps_by}
+use Rattle.amber_home.specs.Standing.{AreAtWork, IsCrew, StayAtWork, Standing, no_worker_state, sent_by, worker_state_at, steps_by}
 use Rattle.amber_home.proofs.Alone.{crew-alone}
 use Rattle.amber_home.proofs.Answered.{answered}
 use Rattle.amber_home.proofs.Ends.{has-ended}
@@ -29,51 +29,51 @@ use Rattle.amber_home.proofs.Steps.{steps-cons}
 
 -- ---- the start
 
-pub at-work : (query : Query) (crew : List Station) → HasNotBegun query crew → AreAtWork query crew
+pub at-work : (query : Query) (crew : List WorkerState) → HasNotBegun query crew → AreAtWork query crew
 at-work query crew start = record { flow = start.flow; positions = λ _. origin; standing = start.standing; moved = start.moved }
 
-pub start-crew : (flow : List Operator) (most : ℕ) (crew : List Station) → IsStart flow most crew → IsCrew crew
+pub start-crew : (flow : List Operator) (most : ℕ) (crew : List WorkerState) → IsStart flow most crew → IsCrew crew
 start-crew flow most crew start = (start.0, at-work start.0 crew start.3)
 
-none-made : (crew : List Station) → ((k : ℕ) → k < length crew → steps_in (station_at crew k) ≡ 0) → steps_by crew ≡ 0
+none-made : (crew : List WorkerState) → ((k : ℕ) → k < length crew → steps_in (worker_state_at crew k) ≡ 0) → steps_by crew ≡ 0
 unfolding steps_by
 none-made [] none = refl
 none-made (w ∷ crew) none =
     steps-cons w crew ∙ ap (λ n. n + steps_by crew) (none 0 (omega arith)) ∙ ap (λ n. 0 + n) (none-made crew (λ k below. none (suc k) (omega arith)))
 
-pub start-steps : (flow : List Operator) (most : ℕ) (crew : List Station) → IsStart flow most crew → steps_by crew ≡ 0
+pub start-steps : (flow : List Operator) (most : ℕ) (crew : List WorkerState) → IsStart flow most crew → steps_by crew ≡ 0
 start-steps flow most crew start =
     let query = start.0 in
     let standing = start.3.standing in
     none-made crew (λ k below.
-    steps-shown (post_of query.flow query.records query.size k) (first_orders query.flow k) (station_at crew k) origin (sent_by crew (λ _. origin) k)
+    steps-shown (post_of query.flow query.records query.size k) (first_orders query.flow k) (worker_state_at crew k) origin (sent_by crew (λ _. origin) k)
     (standing.each k (rw (← standing.all) below)).shows)
 
-pub crew-few : (query : Query) (crew : List Station) → AreAtWork query crew → length crew ≤ 128
+pub crew-few : (query : Query) (crew : List WorkerState) → AreAtWork query crew → length crew ≤ 128
 unfolding crew_of
 crew-few query crew work = rw work.standing.all work.flow.few_workers
 
-pub start-few : (flow : List Operator) (most : ℕ) (old new : List Station) → IsStart flow most old → length new ≡ length old → length new < 2 ^ 32
+pub start-few : (flow : List Operator) (most : ℕ) (old new : List WorkerState) → IsStart flow most old → length new ≡ length old → length new < 2 ^ 32
 start-few flow most old new start same = let few = crew-few start.0 old (at-work start.0 old start.3) in omega arith
 
 -- a slice of a `Vec` that comes back as long as it was
-pub written-back : (old new : List Station) (n : ℕ) → length new ≡ length old → length old ≤ n → take n (new ++ drop (length new) old) ≡ new
+pub written-back : (old new : List WorkerState) (n : ℕ) → length new ≡ length old → length old ≤ n → take n (new ++ drop (length new) old) ≡ new
 written-back old new n same h =
     ap (λ xs. take n (new ++ xs)) (drop_all (length new) old (omega arith)) ∙ ap (take n) (append-nil new) ∙ take_all n new (omega arith)
 
 -- ---- the end
 
-show-all : (query : Query) (crew : List Station) (positions : ℕ → Position) → Standing query crew positions → ShowAll query (map without_journal crew) positions
+show-all : (query : Query) (crew : List WorkerState) (positions : ℕ → Position) → Standing query crew positions → ShowAll query (map without_journal crew) positions
 show-all query crew positions standing k below =
     let inside : k < length crew = rw (length-map crew without_journal) at below in
     let here : k < crew_of query.flow = rw (← standing.all) inside in (
       sent_by crew positions k,
       subst (λ w. Shows (post_of query.flow query.records query.size k) (first_orders query.flow k) w (positions k) (sent_by crew positions k))
-          (sym (get_or-map without_journal crew k no_station))
-          (Stands-without_journal (post_of query.flow query.records query.size k) (first_orders query.flow k) (station_at crew k) origin (positions k) (sent_by crew positions k) (standing.each k here)).shows,
+          (sym (get_or-map without_journal crew k no_worker_state))
+          (Stands-without_journal (post_of query.flow query.records query.size k) (first_orders query.flow k) (worker_state_at crew k) origin (positions k) (sent_by crew positions k) (standing.each k here)).shows,
     )
 
-has-run : (query : Query) (old crew : List Station) (parts : List Part) (closed : Close) → IsBatch query.size → HasNotBegun query old → (stay : StayAtWork old crew) → IsDone closed query.most crew
+has-run : (query : Query) (old crew : List WorkerState) (parts : List Part) (closed : Close) → IsBatch query.size → HasNotBegun query old → (stay : StayAtWork old crew) → IsDone closed query.most crew
     → parts ≡ parts_from 0 crew → (positions : ℕ → Position) × Standing query crew positions × IsRun query parts closed
     × (answer_in query (reached query positions) ≡ answer_in query (state_after query (leg_log query parts closed).items))
 unfolding StayAtWork
@@ -88,13 +88,13 @@ has-run query old crew parts closed batch start stay done is =
       ap (answer_in query) (sym ended.state) ∙ ap (λ (ps : List Part). answer_in query (state_after query (leg_log query ps closed).items)) (sym is),
     )
 
-pub finish-long : (flow : List Operator) (most : ℕ) (old crew : List Station) (parts : List Part) → StayAtWork old crew → IsDone close.Long most crew → parts ≡ parts_from 0 crew
+pub finish-long : (flow : List Operator) (most : ℕ) (old crew : List WorkerState) (parts : List Part) → StayAtWork old crew → IsDone close.Long most crew → parts ≡ parts_from 0 crew
     → Finishes flow most old (record { parts = parts; answer = None })
 unfolding Finishes
 finish-long flow most old crew parts stay done is query flow-is most-is batch start =
     (has-run query old crew parts close.Long batch start stay (subst (λ n. IsDone close.Long n crew) (sym most-is) done) is).2
 
-pub finish-cut : (flow : List Operator) (most : ℕ) (old crew : List Station) (parts : List Part) (answer : Answer) → StayAtWork old crew → IsDone close.Cut most crew → parts ≡ parts_from 0 crew
+pub finish-cut : (flow : List Operator) (most : ℕ) (old crew : List WorkerState) (parts : List Part) (answer : Answer) → StayAtWork old crew → IsDone close.Cut most crew → parts ≡ parts_from 0 crew
     → IsGatheredFrom flow (map without_journal crew) answer → Finishes flow most old (record { parts = parts; answer = Some answer })
 unfolding Finishes
 finish-cut flow most old crew parts answer stay done is gathered query flow-is most-is batch start =

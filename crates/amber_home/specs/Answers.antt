@@ -14,17 +14,17 @@ use Rattle.amber_meaning.specs.Plain.{refused_groups}
 use Rattle.amber_meaning.specs.Position.{Position}
 use Rattle.amber_meaning.specs.Views.{refused_in, taken_of, worker_refuses}
 use Rattle.amber_worker.specs.Stands.{Post, Shows, first_orders, kept_of, post_of}
-use Rattle.amber_worker.specs.Station.{Station}
-use Rattle.amber_home.specs.Standing.{station_at}
+use Rattle.amber_worker.specs.WorkerState.{WorkerState}
+use Rattle.amber_home.specs.Standing.{worker_state_at}
 
 -- the place of a query's worker
 abbrev pub post_at : Query → ℕ → Post
 post_at query worker = post_of query.flow query.records query.size worker
 
 -- each worker shows its position
-abbrev pub ShowAll : Query → List Station → (ℕ → Position) → Type 0
+abbrev pub ShowAll : Query → List WorkerState → (ℕ → Position) → Type 0
 ShowAll query crew positions = (worker : ℕ) → worker < length crew
-    → (sent : ℕ → List Batch) × Shows (post_at query worker) (first_orders query.flow worker) (station_at crew worker) (positions worker) sent
+    → (sent : ℕ → List Batch) × Shows (post_at query worker) (first_orders query.flow worker) (worker_state_at crew worker) (positions worker) sent
 
 -- what a worker has refused
 unfoldable pub refused_at : Query → (ℕ → Position) → ℕ → List Refusal
@@ -40,13 +40,13 @@ rows_before query positions (suc worker) =
     sort_rows (kept_of role.task.kind role.task (taken_of role (positions worker)))
 
 -- an answer has what each worker has refused, and the rows of the last, wherever they stand
-unfoldable pub IsGatheredFrom : List Operator → List Station → Answer → Type 0
+unfoldable pub IsGatheredFrom : List Operator → List WorkerState → Answer → Type 0
 IsGatheredFrom flow crew answer = (query : Query) (positions : ℕ → Position) → ShowAll query crew positions
     → (answer.refused ≡ flat_map (refused_at query positions) (numbers_below (length crew)))
     × (answer.columns ≡ columns_at flow (length flow))
     × (answer.rows ≡ rows_before query positions (length crew))
 
 -- what these workers have refused, and the rows of the last
-unfoldable pub HaveGiven : List Station → List Refusal → List (List Value) → Type 0
+unfoldable pub HaveGiven : List WorkerState → List Refusal → List (List Value) → Type 0
 HaveGiven crew refused rows = (query : Query) (positions : ℕ → Position) → ShowAll query crew positions
     → (refused ≡ flat_map (refused_at query positions) (numbers_below (length crew))) × (rows ≡ rows_before query positions (length crew))

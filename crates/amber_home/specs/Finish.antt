@@ -11,13 +11,13 @@ use Rattle.amber_meaning.specs.Legal.{IsLegal, Query}
 use Rattle.amber_meaning.specs.Replay.{state_after}
 use Rattle.amber_meaning.specs.State.{State, have_finished, steps_in}
 use Rattle.amber_meaning.specs.Views.{answer_in}
-use Rattle.amber_worker.specs.Station.{Station}
+use Rattle.amber_worker.specs.WorkerState.{WorkerState}
 use Rattle.amber_home.specs.Estate.{end_item}
 use Rattle.amber_home.specs.Start.{HasNotBegun}
 use Rattle.amber_home.specs.declared.finish.Finished.{Finished}
 
 -- the workers are those of a run of this workflow that has not begun
-abbrev pub IsStart : List Operator → ℕ → List Station → Type 0
+abbrev pub IsStart : List Operator → ℕ → List WorkerState → Type 0
 IsStart flow most crew = (query : Query) × (query.flow ≡ flow) × (query.most ≡ most) × HasNotBegun query crew
 
 -- the log of a run that is one leg to the end
@@ -40,5 +40,5 @@ HasRun query parts None = IsRun query parts close.Long
 HasRun query parts (Some answer) = IsRun query parts close.Cut × (answer ≡ answer_in query (state_after query (leg_log query parts close.Cut).items))
 
 -- of whatever run they are the workers
-unfoldable pub Finishes : List Operator → ℕ → List Station → Finished → Type 0
+unfoldable pub Finishes : List Operator → ℕ → List WorkerState → Finished → Type 0
 Finishes flow most crew finished = (query : Query) → query.flow ≡ flow → query.most ≡ most → IsBatch query.size → HasNotBegun query crew → HasRun query finished.parts finished.answer

@@ -8,19 +8,19 @@ use Rattle.amber_meaning.specs.Legal.{Query}
 use Rattle.amber_meaning.specs.Position.{Position}
 use Rattle.amber_meaning.specs.State.{State, begun_to_end, start_of}
 use Rattle.amber_worker.specs.Incoming.{has_some}
-use Rattle.amber_worker.specs.Station.{Station}
+use Rattle.amber_worker.specs.WorkerState.{WorkerState}
 
 -- the part of a worker that did this; none where it did nothing
 abbrev pub part_of : ℕ → List Entry → List Part
 part_of worker entries = if has_some entries then record { worker = worker; entries = entries } ∷ [] else []
 
 -- what the workers from this number on have done
-unfoldable pub parts_from : ℕ → List Station → List Part
+unfoldable pub parts_from : ℕ → List WorkerState → List Part
 parts_from number [] = []
 parts_from number (w ∷ more) = part_of number w.journal ++ parts_from (number + 1) more
 
 -- a worker whose journal was handed out
-abbrev pub without_journal : Station → Station
+abbrev pub without_journal : WorkerState → WorkerState
 without_journal w = record w { journal = [] }
 
 -- the state of workers at these positions in a leg to the end from the start

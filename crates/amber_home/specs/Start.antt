@@ -13,7 +13,7 @@ use Rattle.amber_meaning.specs.ScanFiles.{is_headed}
 use Rattle.amber_meaning.specs.Plain.{list_at}
 use Rattle.amber_meaning.specs.Position.{origin}
 use Rattle.amber_worker.specs.Stands.{AreAlone, Stands, first_orders, post_of}
-use Rattle.amber_worker.specs.Station.{Station}
+use Rattle.amber_worker.specs.WorkerState.{WorkerState}
 use Rattle.amber_meaning.specs.Legal.{Query}
 use Rattle.amber_home.specs.Standing.{AreMoved, Standing}
 use Rattle.amber_home.specs.declared.error.HomeErr.{HomeErr}
@@ -41,16 +41,16 @@ abbrev pub HoldsRecords : List (Result (List Value) RowFault) → List Scanned �
 HoldsRecords records share = share ≡ share_of 1 0 (with_numbers 1 records)
 
 -- no batch waits in a worker's inboxes, and none to be moved
-abbrev pub AreEmpty : Station → Type 0
+abbrev pub AreEmpty : WorkerState → Type 0
 AreEmpty w = All (λ one. one.waiting ≡ []) w.ins × All (λ one. one.waiting ≡ []) w.outs
 
 -- a worker stands at the start, where these are the records of its operator
-abbrev pub StandsAt : List Operator → ℕ → ℕ → List (Result (List Value) RowFault) → Station → Type 0
+abbrev pub StandsAt : List Operator → ℕ → ℕ → List (Result (List Value) RowFault) → WorkerState → Type 0
 StandsAt flow worker size own w = (records : List (List (Result (List Value) RowFault))) → list_at records (worker + 1) ≡ own
     → Stands (post_of flow records size worker) (first_orders flow worker) w origin origin (λ _. [])
 
 -- the workers of a run that has not begun: each stands at the start, and no batch waits
-pub record HasNotBegun (query : Query) (crew : List Station) : Type 0 where
+pub record HasNotBegun (query : Query) (crew : List WorkerState) : Type 0 where
   pub flow : IsFlow query.flow
   pub alone : AreAlone query.flow
   pub standing : Standing query crew (λ _. origin)

@@ -1,9 +1,9 @@
 //! A leg: the workers make their steps, one worker after the other.
 ghost use Rattle.std.specs.Prelude.{◌≡◌, ◌+◌, ◌<◌, ◌≤◌, ◌^◌, ◌==◌, false, true, length, slice_set, IfOk, OnOk};
 ghost use Rattle.std.specs.List.{list_any};
-ghost use Rattle.amber_worker.specs.Station.{steps_in};
+ghost use Rattle.amber_worker.specs.WorkerState.{steps_in};
 ghost use Rattle.amber_home.specs.Leg.{IsDone, given_of, taker_of};
-ghost use Rattle.amber_home.specs.Standing.{HaveFinished, IsCrew, MovesOnly, StayAtWork, station_at, steps_by};
+ghost use Rattle.amber_home.specs.Standing.{HaveFinished, IsCrew, MovesOnly, StayAtWork, worker_state_at, steps_by};
 
 use amber_log::Close;
 use amber_worker::{Worker, settle_workers};
@@ -13,10 +13,10 @@ use std::alloc::AllocError;
 fn pass_on(crew: &mut [Worker], from: usize, to: usize) -> Result<(), AllocError>
     requires before { from < to }
     requires there { to < length crew.old }
-    requires sends { list_any (λ one. one.to == (station_at crew.old to).number) (station_at crew.old from).outs ≡ true }
-    requires receives { list_any (λ one. one.from == (station_at crew.old from).number) (station_at crew.old to).ins ≡ true }
-    ensures { OnOk result (crew.new ≡ slice_set (slice_set crew.old from (given_of (station_at crew.old from) (station_at crew.old to))) to
-        (taker_of (station_at crew.old from) (station_at crew.old to))) }
+    requires sends { list_any (λ one. one.to == (worker_state_at crew.old to).number) (worker_state_at crew.old from).outs ≡ true }
+    requires receives { list_any (λ one. one.from == (worker_state_at crew.old from).number) (worker_state_at crew.old to).ins ≡ true }
+    ensures { OnOk result (crew.new ≡ slice_set (slice_set crew.old from (given_of (worker_state_at crew.old from) (worker_state_at crew.old to))) to
+        (taker_of (worker_state_at crew.old from) (worker_state_at crew.old to))) }
 {
     let (senders, receivers) = crew.split_at_mut(to);
     settle_workers(&mut senders[from], &mut receivers[0])?;
@@ -28,8 +28,8 @@ fn step(crew: &mut [Worker], number: usize) -> Result<(), AllocError>
     requires there { number < length crew.old }
     requires crew { IsCrew crew.old }
     requires first { HaveFinished number crew.old }
-    requires unfinished { (station_at crew.old number).finished ≡ false }
-    requires few { steps_in (station_at crew.old number) < 2 ^ 40 }
+    requires unfinished { (worker_state_at crew.old number).finished ≡ false }
+    requires few { steps_in (worker_state_at crew.old number) < 2 ^ 40 }
     ensures stay { OnOk result (StayAtWork crew.old crew.new) }
     ensures one { OnOk result (steps_by crew.new ≡ steps_by crew.old + 1) }
     ensures only { OnOk result (MovesOnly crew.old crew.new number) }
@@ -56,7 +56,7 @@ fn drive(crew: &mut [Worker], number: usize, budget: u64) -> Result<u64, AllocEr
     ensures left { IfOk result (λ left. steps_by crew.new + left ≡ steps_by crew.old + budget) }
     ensures only { OnOk result (MovesOnly crew.old crew.new number) }
     ensures first { OnOk result (HaveFinished number crew.new) }
-    ensures stops { IfOk result (λ left. (station_at crew.new number).finished ≡ false → left ≡ 0) }
+    ensures stops { IfOk result (λ left. (worker_state_at crew.new number).finished ≡ false → left ≡ 0) }
 {
     'steps: for made in 0..budget {
         if crew[number].is_finished() {

@@ -31,7 +31,7 @@ use Rattle.amber_link.specs.Outgoing.{Outgoing}
 use Rattle.amber_worker.specs.Fields.{AreFew, IsInOrder, rest_in}
 use Rattle.amber_worker.specs.Made.{IsDutyOf, IsFresh, IsReceiver, fresh_inbox, fresh_inboxes, fresh_outbox, handing_operator, is_join}
 use Rattle.amber_worker.specs.Stands.{AreAlone, DoesKind, HasShare, HasTaken, Post, ReceiveAll, Receives, SendAll, Sends, Shows, Stands, first_orders, is_scan, kept_of, post_of}
-use Rattle.amber_worker.specs.Station.{Station}
+use Rattle.amber_worker.specs.WorkerState.{WorkerState}
 use Rattle.amber_worker.specs.declared.duty.Duty.{Duty}
 use Rattle.amber_worker.specs.declared.duty.Duty.TheVariants as duty
 use Rattle.amber_worker.proofs.Alone.{AreApart, are-apart, crew-alone, op-alone, receiver-alone, receivers-none, receivers-one, senders-alone, senders_in, workers-alone}
@@ -295,7 +295,7 @@ receiver-known flow worker (Some to) is alone there h = (
 )
 
 -- a worker that has done nothing shows the beginning
-shows-first : (flow : List Operator) (records : List (List (Result (List Value) RowFault))) (size worker : ℕ) (share : Option (List Scanned)) (w : Station)
+shows-first : (flow : List Operator) (records : List (List (Result (List Value) RowFault))) (size worker : ℕ) (share : Option (List Scanned)) (w : WorkerState)
     → IsFlow flow → AreAlone flow → worker < length flow → 0 < size → op_of flow worker ≡ worker + 1
     → is_some share ≡ is_scan (what_at flow (op_of flow worker))
     → HasShare share (role_of flow records worker) → IsFresh flow worker size share w
@@ -354,7 +354,7 @@ shows-first flow records size worker share w is alone there some op shared has f
     }
 
 -- a worker that has done nothing stands at the beginning
-pub fresh-stands : (flow : List Operator) (records : List (List (Result (List Value) RowFault))) (size worker : ℕ) (share : Option (List Scanned)) (w : Station)
+pub fresh-stands : (flow : List Operator) (records : List (List (Result (List Value) RowFault))) (size worker : ℕ) (share : Option (List Scanned)) (w : WorkerState)
     → IsFlow flow → AreAlone flow → worker < crew_of flow → 0 < size
     → is_some share ≡ is_scan (what_at flow (op_of flow worker))
     → HasShare share (role_of flow records worker) → IsFresh flow worker size share w
@@ -445,7 +445,7 @@ nothing-goes size (to ∷ receivers) zero d less = refl
 nothing-goes size (to ∷ receivers) (suc k) d less = nothing-goes size receivers k d (omega arith)
 
 -- no batch waits at a new worker
-pub fresh-empty : (flow : List Operator) (worker size : ℕ) (share : Option (List Scanned)) (w : Station) → IsFresh flow worker size share w
+pub fresh-empty : (flow : List Operator) (worker size : ℕ) (share : Option (List Scanned)) (w : WorkerState) → IsFresh flow worker size share w
     → All (λ one. one.waiting ≡ []) w.ins × All (λ one. one.waiting ≡ []) w.outs
 fresh-empty flow worker size share w fresh =
     let I : List Incoming → Type 0 = λ ins. All (λ one. one.waiting ≡ []) ins in

@@ -12,7 +12,7 @@ use Rattle.amber_meaning.specs.Task.{Task, is_builder}
 use Rattle.amber_link.specs.Incoming.{Incoming, has_some, have_all_ended, have_builders_ended, is_ready, may_come}
 use Rattle.amber_worker.specs.Links.{waiting_from}
 use Rattle.amber_worker.specs.Stands.{Post, ReceiveAll, Shows}
-use Rattle.amber_worker.specs.Station.{Station, answer_of, has_ready}
+use Rattle.amber_worker.specs.WorkerState.{WorkerState, answer_of, has_ready}
 use Rattle.amber_worker.specs.declared.turn.Turn.TheVariants as turn
 
 -- one of these batches is a last one
@@ -115,7 +115,7 @@ idle_parts false false false false true h = cc
 idle_parts false false false false false h = (refl, refl)
 
 -- a worker of whose senders each last batch was taken or waits is never idle
-pub never_idle : (post : Post) (orders : Orders) (w : Station) (p : Position) (sent : ℕ → List Batch) → Shows post orders w p sent
+pub never_idle : (post : Post) (orders : Orders) (w : WorkerState) (p : Position) (sent : ℕ → List Batch) → Shows post orders w p sent
     → ((sender : ℕ) → list_any (λ one. eqb one sender) post.role.senders ≡ true → has_marked (taken_from p.taken sender ++ waiting_from sender w.ins) ≡ true)
     → answer_of w ≡ turn.Idle → ⊥
 never_idle post orders w p sent shows marked idle =

@@ -21,7 +21,7 @@ use Rattle.amber_link.specs.Incoming.{Incoming, have_all_ended}
 use Rattle.amber_link.specs.Outgoing.{Outgoing, with_end, with_row}
 use Rattle.amber_worker.specs.Fields.{rows_moved}
 use Rattle.amber_worker.specs.Stands.{DoesKind, HasTaken, Keeps, Post, ReceiveAll, SendAll, Sends, Shows, kept_of, stream_to}
-use Rattle.amber_worker.specs.Station.{Station}
+use Rattle.amber_worker.specs.WorkerState.{WorkerState}
 use Rattle.amber_worker.specs.Steps.{Becomes, Closes, all_done, columns_at_hand, gives, gives_if, keeps, keeps_if, row_emitted, row_taken}
 use Rattle.amber_worker.specs.declared.duty.Duty.{Duty}
 use Rattle.amber_worker.specs.declared.duty.Duty.TheVariants as duty
@@ -32,13 +32,13 @@ use Rattle.amber_worker.proofs.Produced.{and-turned, kept-longer, kept-next, lef
 use Rattle.amber_worker.proofs.States.{closing-is, does-more, has-more, rows-more}
 
 -- a worker that has not finished; it is neither paused nor held, and has no hand
-pub record IsWorking (w : Station) : Type 0 where
+pub record IsWorking (w : WorkerState) : Type 0 where
   pub unfinished : w.finished ≡ false
   pub running : w.paused ≡ false
   pub loose : w.held ≡ false
   pub few : All (λ one. rows_moved one < 2 ^ 63) w.journal
 
-pub free-shown : (post : Post) (orders : Orders) (w : Station) (p : Position) (sent : ℕ → List Batch) → Shows post orders w p sent → IsWorking w → IsFree p
+pub free-shown : (post : Post) (orders : Orders) (w : WorkerState) (p : Position) (sent : ℕ → List Batch) → Shows post orders w p sent → IsWorking w → IsFree p
 free-shown post orders w p sent shows works = record {
   running = sym shows.paused ∙ works.running;
   loose = sym shows.held ∙ works.loose;
@@ -95,7 +95,7 @@ refused-more op taken one = flat_map-append _ taken (one ∷ []) ∙ ap (λ l. r
 -- ---- a row is taken
 
 -- the facts of a row that is taken
-record TakesOne (post : Post) (orders : Orders) (w : Station) (p : Position) (sent : ℕ → List Batch) (one : Handed) (later : List Handed) (now : Duty)
+record TakesOne (post : Post) (orders : Orders) (w : WorkerState) (p : Position) (sent : ℕ → List Batch) (one : Handed) (later : List Handed) (now : Duty)
     (last : List (List Value)) : Type 0 where
   shows : Shows post orders w p sent
   rest : w.rest ≡ one ∷ later
@@ -108,12 +108,12 @@ abbrev with_one : Orders → Position → Position
 with_one orders p = went orders 1 0 p
 
 -- the side of what is at hand
-side-is : (post : Post) (orders : Orders) (w : Station) (p : Position) (sent : ℕ → List Batch) (one : Handed) (later : List Handed) (now : Duty) (last : List (List Value))
+side-is : (post : Post) (orders : Orders) (w : WorkerState) (p : Position) (sent : ℕ → List Batch) (one : Handed) (later : List Handed) (now : Duty) (last : List (List Value))
     → TakesOne post orders w p sent one later now last → All (λ other. is_builder post.role.task other.from ≡ w.building) (one ∷ later)
 side-is post orders w p sent one later now last takes = rw takes.rest at takes.shows.building
 
 -- the row at hand, if it suits
-found-is : (post : Post) (orders : Orders) (w : Station) (p : Position) (sent : ℕ → List Batch) (one : Handed) (later : List Handed) (now : Duty) (last : List (List Value))
+found-is : (post : Post) (orders : Orders) (w : WorkerState) (p : Position) (sent : ℕ → List Batch) (one : Handed) (later : List Handed) (now : Duty) (last : List (List Value))
     → TakesOne post orders w p sent one later now last → row_in (columns_at_hand w) one.what ≡ suiting post.role.task one
 found-is post orders w p sent one later now last takes =
     let builds : is_builder post.role.task one.from ≡ w.building = side-is post orders w p sent one later now last takes 0 one (omega arith) in
@@ -124,7 +124,7 @@ found-is post orders w p sent one later now last takes =
     same false e = takes.shows.columns ∙ rw e refl
 
 -- what is kept becomes what the task says
-becomes-is : (post : Post) (orders : Orders) (w : Station) (p : Position) (sent : ℕ → List Batch) (one : Handed) (later : List Handed) (now : Duty) (last : List (List Value))
+becomes-is : (post : Post) (orders : Orders) (w : WorkerState) (p : Position) (sent : ℕ → List Batch) (one : Handed) (later : List Handed) (now : Duty) (last : List (List Value))
     → TakesOne post orders w p sent one later now last → Becomes w.duty (is_builder post.role.task one.from) (suiting post.role.task one) now
 becomes-is post orders w p sent one later now last takes =
     let builds : is_builder post.role.task one.from ≡ w.building = side-is post orders w p sent one later now last takes 0 one (omega arith) in
@@ -132,7 +132,7 @@ becomes-is post orders w p sent one later now last takes =
     let Q : Bool → Type 0 = λ b. Becomes w.duty b (suiting post.role.task one) now in
     subst Q (sym builds) (subst P (found-is post orders w p sent one later now last takes) takes.becomes)
 
-taken-now : (post : Post) (orders : Orders) (w : Station) (p : Position) (sent : ℕ → List Batch) (one : Handed) (later : List Handed) (now : Duty) (last : List (List Value))
+taken-now : (post : Post) (orders : Orders) (w : WorkerState) (p : Position) (sent : ℕ → List Batch) (one : Handed) (later : List Handed) (now : Duty) (last : List (List Value))
     → TakesOne post orders w p sent one later now last → take (length p.constants + 1) (fed post.role p.taken) ≡ taken_of post.role p ++ one ∷ []
 taken-now post orders w p sent one later now last takes = take-next (length p.constants) (fed post.role p.taken) one later (sym takes.shows.rest ∙ takes.rest)
 
@@ -150,7 +150,7 @@ closing-same true kind task handed all same = ap (λ l. closing_rows kind (filte
 closing-same false kind task handed all same = refl
 
 -- nothing more can come behind this row
-over-is : (post : Post) (orders : Orders) (w : Station) (p : Position) (sent : ℕ → List Batch) (one : Handed) (later : List Handed) (now : Duty) (last : List (List Value))
+over-is : (post : Post) (orders : Orders) (w : WorkerState) (p : Position) (sent : ℕ → List Batch) (one : Handed) (later : List Handed) (now : Duty) (last : List (List Value))
     → TakesOne post orders w p sent one later now last → (eqb (length w.rest) 1 && have_all_ended w.ins) ≡ is_complete post.role p.taken (length p.constants + 1)
 over-is post orders w p sent one later now last takes =
     let shows = takes.shows in
@@ -162,7 +162,7 @@ over-is post orders w p sent one later now last takes =
     (same-test (length w.rest) 1 (length p.constants + 1) (length (fed post.role p.taken)) (λ e. omega arith) (λ e. omega arith))
 
 -- the rows that are given at the end
-last-is : (post : Post) (orders : Orders) (w : Station) (p : Position) (sent : ℕ → List Batch) (one : Handed) (later : List Handed) (now : Duty) (last : List (List Value))
+last-is : (post : Post) (orders : Orders) (w : WorkerState) (p : Position) (sent : ℕ → List Batch) (one : Handed) (later : List Handed) (now : Duty) (last : List (List Value))
     → TakesOne post orders w p sent one later now last
     → last ≡ (if is_complete post.role p.taken (length p.constants + 1) then closing post.role.task (fed post.role p.taken) else [])
 unfolding closing
@@ -181,7 +181,7 @@ last-is post orders w p sent one later now last takes =
     sym (taken-now post orders w p sent one later now last takes) ∙ take_all (length p.constants + 1) (fed post.role p.taken) (omega arith))
 
 -- what was produced with this row
-product-one : (post : Post) (orders : Orders) (w : Station) (p : Position) (sent : ℕ → List Batch) (one : Handed) (later : List Handed) (now : Duty) (last : List (List Value))
+product-one : (post : Post) (orders : Orders) (w : WorkerState) (p : Position) (sent : ℕ → List Batch) (one : Handed) (later : List Handed) (now : Duty) (last : List (List Value))
     → TakesOne post orders w p sent one later now last
     → product post.role p.taken (p.constants ++ orders.constants ∷ [])
     ≡ product post.role p.taken p.constants ++ (gives_if w.duty w.building (row_in (columns_at_hand w) one.what) ++ last)
@@ -203,14 +203,14 @@ product-one post orders w p sent one later now last takes =
     (append_assoc (product post.role p.taken p.constants) (gives_if w.duty w.building (row_in (columns_at_hand w) one.what)) last)
 
 -- all that was produced is gone
-pub all-gone : (post : Post) (orders : Orders) (w : Station) (p : Position) (sent : ℕ → List Batch) → Shows post orders w p sent → w.pending ≡ []
+pub all-gone : (post : Post) (orders : Orders) (w : WorkerState) (p : Position) (sent : ℕ → List Batch) → Shows post orders w p sent → w.pending ≡ []
     → length p.fates ≡ length (product post.role p.taken p.constants)
 all-gone post orders w p sent shows none =
     let gone = left-nothing (length p.fates) (product post.role p.taken p.constants) (sym shows.pending ∙ none) in
     let within = shows.produced in
     omega arith
 
-may-take_row : (post : Post) (orders : Orders) (w : Station) (p : Position) (sent : ℕ → List Batch) (one : Handed) (later : List Handed) (now : Duty) (last : List (List Value))
+may-take_row : (post : Post) (orders : Orders) (w : WorkerState) (p : Position) (sent : ℕ → List Batch) (one : Handed) (later : List Handed) (now : Duty) (last : List (List Value))
     → TakesOne post orders w p sent one later now last → IsWorking w → MayGo post.role orders p 1 0
 may-take_row post orders w p sent one later now_does last takes works =
     let shows = takes.shows in
@@ -238,7 +238,7 @@ both_false : (b : Bool) → (b && false) ≡ false
 both_false true = refl
 both_false false = refl
 
-shows-row_taken : (post : Post) (orders : Orders) (w : Station) (p : Position) (sent : ℕ → List Batch) (one : Handed) (later : List Handed) (now : Duty) (last : List (List Value))
+shows-row_taken : (post : Post) (orders : Orders) (w : WorkerState) (p : Position) (sent : ℕ → List Batch) (one : Handed) (later : List Handed) (now : Duty) (last : List (List Value))
     → TakesOne post orders w p sent one later now last → Shows post orders (row_taken one later now last w) (with_one orders p) sent
 shows-row_taken post orders w p sent one later now last takes =
     let shows = takes.shows in
@@ -285,7 +285,7 @@ shows-row_taken post orders w p sent one later now last takes =
     }
 
 -- wherever a worker stood, it stands once it took a row
-pub Keeps-row_taken : (w : Station) (one : Handed) (later : List Handed) (now : Duty) (last : List (List Value)) → w.rest ≡ one ∷ later → w.pending ≡ []
+pub Keeps-row_taken : (w : WorkerState) (one : Handed) (later : List Handed) (now : Duty) (last : List (List Value)) → w.rest ≡ one ∷ later → w.pending ≡ []
     → Becomes w.duty w.building (row_in (columns_at_hand w) one.what) now → Closes now (eqb (length w.rest) 1 && have_all_ended w.ins) last
     → IsWorking w → Keeps w (row_taken one later now last w)
 unfolding Keeps
@@ -363,14 +363,14 @@ send_all-row post (receiver ∷ receivers) rows row sent (one ∷ outs) h =
     (sends-row post receiver rows row (sent receiver) one h.0, send_all-row post receivers rows row sent outs h.1)
 
 -- nothing is at its end that works
-open-outs : (post : Post) (orders : Orders) (w : Station) (p : Position) (sent : ℕ → List Batch) → Shows post orders w p sent → IsWorking w
+open-outs : (post : Post) (orders : Orders) (w : WorkerState) (p : Position) (sent : ℕ → List Batch) → Shows post orders w p sent → IsWorking w
     → SendAll post post.receivers (emitted_rows post.role p) false sent w.outs
 open-outs post orders w p sent shows works =
     let open_still : p.finished ≡ false = sym shows.finished ∙ works.unfinished in
     let P : Bool → Type 0 = λ ended. SendAll post post.receivers (emitted_rows post.role p) ended sent w.outs in
     subst P open_still shows.outs
 
-may-emit_row : (post : Post) (orders : Orders) (w : Station) (p : Position) (sent : ℕ → List Batch) (row : List Value) (later : List (List Value))
+may-emit_row : (post : Post) (orders : Orders) (w : WorkerState) (p : Position) (sent : ℕ → List Batch) (row : List Value) (later : List (List Value))
     → Shows post orders w p sent → w.pending ≡ row ∷ later → IsWorking w → MayGo post.role orders p 0 1
 may-emit_row post orders w p sent row later shows pending works =
     let produced = left-within (length p.fates) (product post.role p.taken p.constants) row later (sym shows.pending ∙ pending) in
@@ -387,7 +387,7 @@ may-emit_row post orders w p sent row later shows pending works =
       no_stop = passes orders p.waved (take 1 (drop (length p.fates) (product_with post.role orders p 0))) shows.plain;
     }
 
-shows-row_emitted : (post : Post) (orders : Orders) (w : Station) (p : Position) (sent : ℕ → List Batch) (row : List Value) (later : List (List Value))
+shows-row_emitted : (post : Post) (orders : Orders) (w : WorkerState) (p : Position) (sent : ℕ → List Batch) (row : List Value) (later : List (List Value))
     → Shows post orders w p sent → w.pending ≡ row ∷ later → IsWorking w → Shows post orders (row_emitted row later w) (went orders 0 1 p) sent
 shows-row_emitted post orders w p sent row later shows pending works =
     let left : drop (length p.fates) (product post.role p.taken p.constants) ≡ row ∷ later = sym shows.pending ∙ pending in
@@ -427,7 +427,7 @@ shows-row_emitted post orders w p sent row later shows pending works =
     }
 
 -- wherever a worker stood, it stands once it emitted a row
-pub Keeps-row_emitted : (w : Station) (row : List Value) (later : List (List Value)) → w.pending ≡ row ∷ later → IsWorking w → Keeps w (row_emitted row later w)
+pub Keeps-row_emitted : (w : WorkerState) (row : List Value) (later : List (List Value)) → w.pending ≡ row ∷ later → IsWorking w → Keeps w (row_emitted row later w)
 unfolding Keeps
 Keeps-row_emitted w row later pending works post orders start p sent stands = (
   went orders 0 1 p,
@@ -463,7 +463,7 @@ send_all-end post (receiver ∷ receivers) rows sent (one ∷ outs) h =
     (sends-end post receiver rows (sent receiver) one h.0, send_all-end post receivers rows sent outs h.1)
 
 -- wherever a worker stood, it stands once it finished
-pub Keeps-all_done : (w : Station) → w.rest ≡ [] → w.pending ≡ [] → have_all_ended w.ins ≡ true → IsWorking w → Keeps w (all_done w)
+pub Keeps-all_done : (w : WorkerState) → w.rest ≡ [] → w.pending ≡ [] → have_all_ended w.ins ≡ true → IsWorking w → Keeps w (all_done w)
 unfolding Keeps
 Keeps-all_done w rest pending ended works post orders start p sent stands =
     let shows = stands.shows in

@@ -12,7 +12,7 @@ use Rattle.amber_meaning.specs.declared.view.Extra.TheVariants as extra
 use Rattle.amber_meaning.specs.declared.view.Stand.TheVariants as stand
 use Rattle.amber_meaning.specs.declared.view.WorkerView.{WorkerView}
 use Rattle.amber_worker.specs.Stands.{DoesKind, HasTaken, IsViewOf, kept_of}
-use Rattle.amber_worker.specs.Station.{Station}
+use Rattle.amber_worker.specs.WorkerState.{WorkerState}
 use Rattle.amber_worker.specs.Steps.{IsExtra, IsShown}
 use Rattle.amber_worker.specs.declared.duty.Duty.{Duty}
 use Rattle.amber_worker.specs.declared.duty.Duty.TheVariants as duty
@@ -53,7 +53,7 @@ same-view a b taken rest out pending stand next extra =
     λ i. record { taken = taken i; rest = rest i; out = out i; pending = pending i; stand = stand i; next = next i; extra = extra i }
 
 -- what a worker keeps shows what is said of each position that it shows
-pub view-is : (w : Station) (view : WorkerView) → IsShown w view → w.held ≡ false → IsViewOf w view
+pub view-is : (w : WorkerState) (view : WorkerView) → IsShown w view → w.held ≡ false → IsViewOf w view
 unfolding IsViewOf view_of
 view-is w view is loose post orders p sent shows =
     same-view view (view_of post.role p) (is.taken ∙ shows.taken) (is.rest ∙ ap length shows.rest) (is.out ∙ shows.emitted) (is.pending ∙ ap length shows.pending)

@@ -16,14 +16,14 @@ use Rattle.amber_link.specs.Incoming.{Incoming}
 use Rattle.amber_link.specs.Outgoing.{Outgoing}
 use Rattle.amber_worker.specs.Links.{waiting_for, waiting_from, with_batches, without_batches}
 use Rattle.amber_worker.specs.Stands.{Post, ReceiveAll, SendAll, Sends, Shows, Stands, stream_to}
-use Rattle.amber_worker.specs.Station.{Station, steps_in}
+use Rattle.amber_worker.specs.WorkerState.{WorkerState, steps_in}
 
 -- the steps of a worker are those of its position
-pub steps-shown : (post : Post) (orders : Orders) (w : Station) (p : Position) (sent : ℕ → List Batch) → Shows post orders w p sent → steps_in w ≡ steps_of p
+pub steps-shown : (post : Post) (orders : Orders) (w : WorkerState) (p : Position) (sent : ℕ → List Batch) → Shows post orders w p sent → steps_in w ≡ steps_of p
 steps-shown post orders w p sent shows = rw (shows.taken, shows.emitted, shows.batches, shows.finished)
 
 -- the same position is shown with other links that suit it, and another journal
-pub Shows-relinked : (post : Post) (orders : Orders) (w : Station) (p : Position) (sent later : ℕ → List Batch) (ins : List Incoming) (outs : List Outgoing) (journal : List Entry)
+pub Shows-relinked : (post : Post) (orders : Orders) (w : WorkerState) (p : Position) (sent later : ℕ → List Batch) (ins : List Incoming) (outs : List Outgoing) (journal : List Entry)
     → Shows post orders w p sent → ReceiveAll post.role.senders p.taken ins → All (λ one. one.builds ≡ is_builder post.role.task one.from) ins
     → SendAll post post.receivers (emitted_rows post.role p) p.finished later outs
     → Shows post orders (record w { ins = ins; outs = outs; journal = journal }) p later
@@ -59,7 +59,7 @@ Shows-relinked post orders w p sent later ins outs journal shows received sides 
 -- ---- the journal
 
 -- a worker whose journal was handed out stands where it stood, with nothing done since
-pub Stands-without_journal : (post : Post) (orders : Orders) (w : Station) (start p : Position) (sent : ℕ → List Batch)
+pub Stands-without_journal : (post : Post) (orders : Orders) (w : WorkerState) (start p : Position) (sent : ℕ → List Batch)
     → Stands post orders w start p sent → Stands post orders (record w { journal = [] }) p p sent
 unfolding Leads AreEntries
 Stands-without_journal post orders w start p sent stands = record { leads = refl; text = tt; shows = Shows-relinked post orders w p sent sent w.ins w.outs [] stands.shows stands.shows.ins stands.shows.sides stands.shows.outs }
@@ -67,7 +67,7 @@ Stands-without_journal post orders w start p sent stands = record { leads = refl
 -- ---- receivers
 
 -- what was sent to a receiver and what waits for it are the batches that were made for it
-pub sent-made : (post : Post) (orders : Orders) (w : Station) (start p : Position) (sent : ℕ → List Batch) (receiver : ℕ)
+pub sent-made : (post : Post) (orders : Orders) (w : WorkerState) (start p : Position) (sent : ℕ → List Batch) (receiver : ℕ)
     → Stands post orders w start p sent → list_any (λ one. eqb one receiver) post.receivers ≡ true
     → sent receiver ++ waiting_for receiver w.outs ≡ chunks_of post.size (stream_to post receiver (emitted_rows post.role p)) p.finished
 unfolding SendAll
@@ -94,7 +94,7 @@ sent-made post orders w start p sent receiver stands member = by post.receivers 
         at false e (inr later) rest = rw (h.0.to, e) (rest later)
 
 -- a receiver to which a worker keeps batches is one of its own
-pub sends-to : (post : Post) (orders : Orders) (w : Station) (p : Position) (sent : ℕ → List Batch) (receiver : ℕ)
+pub sends-to : (post : Post) (orders : Orders) (w : WorkerState) (p : Position) (sent : ℕ → List Batch) (receiver : ℕ)
     → Shows post orders w p sent → list_any (λ one. eqb one.to receiver) w.outs ≡ list_any (λ one. eqb one receiver) post.receivers
 unfolding SendAll
 sends-to post orders w p sent receiver shows = by post.receivers w.outs shows.outs
@@ -140,7 +140,7 @@ one-moved post rows ended sent receiver first batches one sends made = by (eqb o
     }
 
 -- the batches for a receiver were moved to it
-pub Stands-moved : (post : Post) (orders : Orders) (w : Station) (start p : Position) (sent : ℕ → List Batch) (receiver : ℕ)
+pub Stands-moved : (post : Post) (orders : Orders) (w : WorkerState) (start p : Position) (sent : ℕ → List Batch) (receiver : ℕ)
     → Stands post orders w start p sent
     → Stands post orders (record w { outs = without_batches receiver w.outs }) start p (sent_more sent receiver (waiting_for receiver w.outs))
 unfolding SendAll
@@ -188,7 +188,7 @@ waiting_for-others receiver other (one ∷ outs) h = by (eqb one.to receiver) (e
 -- ---- senders
 
 -- a sender of whom a worker keeps batches is one of its own
-pub receives-from : (post : Post) (orders : Orders) (w : Station) (p : Position) (sent : ℕ → List Batch) (sender : ℕ)
+pub receives-from : (post : Post) (orders : Orders) (w : WorkerState) (p : Position) (sent : ℕ → List Batch) (sender : ℕ)
     → Shows post orders w p sent → list_any (λ one. eqb one.from sender) w.ins ≡ list_any (λ one. eqb one sender) post.role.senders
 unfolding ReceiveAll
 receives-from post orders w p sent sender shows = by post.role.senders w.ins shows.ins
@@ -214,7 +214,7 @@ sides-with task sender batches (one ∷ ins) sides = by (eqb one.from sender) (s
     by false rest = All-cons (λ (one : Incoming). one.builds ≡ is_builder task one.from) one (with_batches sender batches ins) own rest
 
 -- more batches of a sender have come
-pub Stands-received : (post : Post) (orders : Orders) (w : Station) (start p : Position) (sent : ℕ → List Batch) (sender : ℕ) (batches : List Batch)
+pub Stands-received : (post : Post) (orders : Orders) (w : WorkerState) (start p : Position) (sent : ℕ → List Batch) (sender : ℕ) (batches : List Batch)
     → Stands post orders w start p sent → Stands post orders (record w { ins = with_batches sender batches w.ins }) start p sent
 unfolding ReceiveAll
 Stands-received post orders w start p sent sender batches stands = record {

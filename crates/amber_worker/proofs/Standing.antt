@@ -8,14 +8,14 @@ use Rattle.amber_meaning.specs.Task.{Handed, Role, Task}
 use Rattle.amber_meaning.specs.Views.{keys_refused, rows_in, taken_of}
 use Rattle.amber_meaning.specs.declared.answer.Refusal.TheVariants as refusal
 use Rattle.amber_worker.specs.Stands.{DoesKind, HasTaken, IsGivenOf, Keeps}
-use Rattle.amber_worker.specs.Station.{Station}
+use Rattle.amber_worker.specs.WorkerState.{WorkerState}
 use Rattle.amber_worker.specs.Steps.{IsRefused}
 use Rattle.amber_worker.specs.declared.duty.Duty.{Duty}
 use Rattle.amber_worker.specs.declared.duty.Duty.TheVariants as duty
 use Rattle.amber_worker.specs.declared.given.Given.{Given}
 
 -- a worker that nothing happened to stands where it stood
-pub Keeps-refl : (w : Station) → Keeps w w
+pub Keeps-refl : (w : WorkerState) → Keeps w w
 unfolding Keeps
 Keeps-refl w post orders start p sent stands = (p, stands, λ sender. refl)
 
@@ -31,7 +31,7 @@ keys-are duty.Sink (what.Sink input) constants role task handed keys does has re
 keys-are d kind constants role task handed keys does has refused = absurd does
 
 -- what a worker hands out is what it gives in its position
-pub given-is : (w : Station) (given : Given) (keys : List (List Value)) → IsRefused w.duty keys → given.refused ≡ w.refused ++ map (refusal.Group w.op) (sort_rows keys)
+pub given-is : (w : WorkerState) (given : Given) (keys : List (List Value)) → IsRefused w.duty keys → given.refused ≡ w.refused ++ map (refusal.Group w.op) (sort_rows keys)
     → given.rows ≡ sort_rows w.kept → IsGivenOf w given
 unfolding IsGivenOf
 given-is w given keys are refused rows post orders p sent shows =

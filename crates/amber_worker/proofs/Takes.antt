@@ -20,7 +20,7 @@ use Rattle.amber_link.specs.Incoming.{Incoming, IsTaken, have_all_ended, have_bu
 use Rattle.amber_worker.specs.Fields.{row_from}
 use Rattle.amber_worker.specs.Links.{waiting_from}
 use Rattle.amber_worker.specs.Stands.{DoesKind, Keeps, Post, ReceiveAll, Receives, Shows}
-use Rattle.amber_worker.specs.Station.{Station}
+use Rattle.amber_worker.specs.WorkerState.{WorkerState}
 use Rattle.amber_worker.specs.Steps.{Closes, batch_taken}
 use Rattle.amber_worker.specs.declared.duty.Duty.{Duty}
 use Rattle.amber_worker.specs.declared.duty.Duty.TheVariants as duty
@@ -281,23 +281,23 @@ unended-there front back one unended = by (have_all_ended (front ++ one ∷ back
         absurd (false≢true (sym unended ∙ here.0))
 
 -- the facts of a batch that is taken
-record TakesOne (w : Station) (one : Incoming) (batch : Batch) (ins : List Incoming) (last : List (List Value)) : Type 0 where
+record TakesOne (w : WorkerState) (one : Incoming) (batch : Batch) (ins : List Incoming) (last : List (List Value)) : Type 0 where
   rest : w.rest ≡ []
   pending : w.pending ≡ []
   taken_so : IsTaken w.ins one batch ins
   closes : Closes w.duty (eqb (length batch.rows) 0 && have_all_ended ins) last
 
-received-all : (post : Post) (orders : Orders) (w : Station) (p : Position) (sent : ℕ → List Batch) (one : Incoming) (batch : Batch) (ins : List Incoming) (last : List (List Value))
+received-all : (post : Post) (orders : Orders) (w : WorkerState) (p : Position) (sent : ℕ → List Batch) (one : Incoming) (batch : Batch) (ins : List Incoming) (last : List (List Value))
     → Shows post orders w p sent → (takes : TakesOne w one batch ins last) → ReceiveAll post.role.senders p.taken (takes.taken_so.front ++ one ∷ takes.taken_so.back)
 received-all post orders w p sent one batch ins last shows takes = rw takes.taken_so.found at shows.ins
 
-own-side : (post : Post) (orders : Orders) (w : Station) (p : Position) (sent : ℕ → List Batch) (one : Incoming) (batch : Batch) (ins : List Incoming) (last : List (List Value))
+own-side : (post : Post) (orders : Orders) (w : WorkerState) (p : Position) (sent : ℕ → List Batch) (one : Incoming) (batch : Batch) (ins : List Incoming) (last : List (List Value))
     → Shows post orders w p sent → TakesOne w one batch ins last → one.builds ≡ is_builder post.role.task one.from
 own-side post orders w p sent one batch ins last shows takes =
     let so = takes.taken_so in
     side-there post.role.task so.front so.back one (rw so.found at shows.sides)
 
-may-take : (post : Post) (orders : Orders) (w : Station) (p : Position) (sent : ℕ → List Batch) (one : Incoming) (batch : Batch) (ins : List Incoming) (last : List (List Value))
+may-take : (post : Post) (orders : Orders) (w : WorkerState) (p : Position) (sent : ℕ → List Batch) (one : Incoming) (batch : Batch) (ins : List Incoming) (last : List (List Value))
     → Shows post orders w p sent → TakesOne w one batch ins last → IsWorking w → MayTake post.role p one.from one.taken
 may-take post orders w p sent one batch ins last shows takes works =
     let so = takes.taken_so in
@@ -314,7 +314,7 @@ may-take post orders w p sent one batch ins last shows takes works =
     }
 
 -- what was handed with this batch
-fed-now : (post : Post) (orders : Orders) (w : Station) (p : Position) (sent : ℕ → List Batch) (one : Incoming) (batch : Batch) (ins : List Incoming) (last : List (List Value))
+fed-now : (post : Post) (orders : Orders) (w : WorkerState) (p : Position) (sent : ℕ → List Batch) (one : Incoming) (batch : Batch) (ins : List Incoming) (last : List (List Value))
     → Shows post orders w p sent → TakesOne w one batch ins last
     → fed post.role (p.taken ++ as_taken one.from batch ∷ []) ≡ fed post.role p.taken ++ map (row_from one.from) batch.rows
 fed-now post orders w p sent one batch ins last shows takes =
@@ -324,21 +324,21 @@ fed-now post orders w p sent one batch ins last shows takes =
     (no-sender post.role.senders one.from (is-sender p.taken post.role.senders so.front so.back one all))
 
 -- all that was handed before was taken
-all-taken : (post : Post) (orders : Orders) (w : Station) (p : Position) (sent : ℕ → List Batch) → Shows post orders w p sent → w.rest ≡ []
+all-taken : (post : Post) (orders : Orders) (w : WorkerState) (p : Position) (sent : ℕ → List Batch) → Shows post orders w p sent → w.rest ≡ []
     → length p.constants ≡ length (fed post.role p.taken)
 all-taken post orders w p sent shows none =
     let nothing_left = left-nothing (length p.constants) (fed post.role p.taken) (sym shows.rest ∙ none) in
     let within = shows.within in
     omega arith
 
-received-next : (post : Post) (orders : Orders) (w : Station) (p : Position) (sent : ℕ → List Batch) (one : Incoming) (batch : Batch) (ins : List Incoming) (last : List (List Value))
+received-next : (post : Post) (orders : Orders) (w : WorkerState) (p : Position) (sent : ℕ → List Batch) (one : Incoming) (batch : Batch) (ins : List Incoming) (last : List (List Value))
     → Shows post orders w p sent → TakesOne w one batch ins last → ReceiveAll post.role.senders (p.taken ++ as_taken one.from batch ∷ []) ins
 received-next post orders w p sent one batch ins last shows takes =
     let so = takes.taken_so in
     rw so.after_it (receive_all-next p.taken post.role.senders so.front so.back one batch so.later so.unended (received-all post orders w p sent one batch ins last shows takes))
 
 -- more could come before
-open-before : (post : Post) (orders : Orders) (w : Station) (p : Position) (sent : ℕ → List Batch) (one : Incoming) (batch : Batch) (ins : List Incoming) (last : List (List Value))
+open-before : (post : Post) (orders : Orders) (w : WorkerState) (p : Position) (sent : ℕ → List Batch) (one : Incoming) (batch : Batch) (ins : List Incoming) (last : List (List Value))
     → Shows post orders w p sent → TakesOne w one batch ins last → is_complete post.role p.taken (length p.constants) ≡ false
 open-before post orders w p sent one batch ins last shows takes =
     let so = takes.taken_so in
@@ -346,7 +346,7 @@ open-before post orders w p sent one batch ins last shows takes =
     (sym (all-ended post.role.senders p.taken w.ins shows.ins) ∙ ap have_all_ended so.found ∙ unended-there so.front so.back one so.unended)
 
 -- nothing more can come behind this batch
-over-is : (post : Post) (orders : Orders) (w : Station) (p : Position) (sent : ℕ → List Batch) (one : Incoming) (batch : Batch) (ins : List Incoming) (last : List (List Value))
+over-is : (post : Post) (orders : Orders) (w : WorkerState) (p : Position) (sent : ℕ → List Batch) (one : Incoming) (batch : Batch) (ins : List Incoming) (last : List (List Value))
     → Shows post orders w p sent → TakesOne w one batch ins last
     → (eqb (length batch.rows) 0 && have_all_ended ins) ≡ is_complete post.role (p.taken ++ as_taken one.from batch ∷ []) (length p.constants)
 over-is post orders w p sent one batch ins last shows takes =
@@ -361,7 +361,7 @@ over-is post orders w p sent one batch ins last shows takes =
     (same-test (length batch.rows) 0 (length p.constants) (length (fed post.role (p.taken ++ as_taken one.from batch ∷ []))) (λ e. omega arith) (λ e. omega arith))
 
 -- as much was taken as before
-taken-same : (post : Post) (orders : Orders) (w : Station) (p : Position) (sent : ℕ → List Batch) (one : Incoming) (batch : Batch) (ins : List Incoming) (last : List (List Value))
+taken-same : (post : Post) (orders : Orders) (w : WorkerState) (p : Position) (sent : ℕ → List Batch) (one : Incoming) (batch : Batch) (ins : List Incoming) (last : List (List Value))
     → Shows post orders w p sent → TakesOne w one batch ins last
     → take (length p.constants) (fed post.role (p.taken ++ as_taken one.from batch ∷ [])) ≡ taken_of post.role p
 taken-same post orders w p sent one batch ins last shows takes =
@@ -369,7 +369,7 @@ taken-same post orders w p sent one batch ins last shows takes =
     (take-append-le (length p.constants) (fed post.role p.taken) (map (row_from one.from) batch.rows) shows.within)
 
 -- the rows that are given at the end
-last-is : (post : Post) (orders : Orders) (w : Station) (p : Position) (sent : ℕ → List Batch) (one : Incoming) (batch : Batch) (ins : List Incoming) (last : List (List Value))
+last-is : (post : Post) (orders : Orders) (w : WorkerState) (p : Position) (sent : ℕ → List Batch) (one : Incoming) (batch : Batch) (ins : List Incoming) (last : List (List Value))
     → Shows post orders w p sent → TakesOne w one batch ins last
     → last ≡ (if is_complete post.role (p.taken ++ as_taken one.from batch ∷ []) (length p.constants)
     then closing post.role.task (fed post.role (p.taken ++ as_taken one.from batch ∷ [])) else [])
@@ -386,7 +386,7 @@ last-is post orders w p sent one batch ins last shows takes =
     sym (taken-same post orders w p sent one batch ins last shows takes) ∙ take_all (length p.constants) (fed post.role later) (omega arith))
 
 -- what was produced with this batch
-product-now : (post : Post) (orders : Orders) (w : Station) (p : Position) (sent : ℕ → List Batch) (one : Incoming) (batch : Batch) (ins : List Incoming) (last : List (List Value))
+product-now : (post : Post) (orders : Orders) (w : WorkerState) (p : Position) (sent : ℕ → List Batch) (one : Incoming) (batch : Batch) (ins : List Incoming) (last : List (List Value))
     → Shows post orders w p sent → TakesOne w one batch ins last
     → product post.role (p.taken ++ as_taken one.from batch ∷ []) p.constants ≡ product post.role p.taken p.constants ++ last
 product-now post orders w p sent one batch ins last shows takes =
@@ -400,7 +400,7 @@ product-now post orders w p sent one batch ins last shows takes =
     then closing post.role.task (fed post.role (p.taken ++ as_taken one.from batch ∷ [])) else [])) same
     ∙ ap (λ rows. product post.role p.taken p.constants ++ rows) (sym (last-is post orders w p sent one batch ins last shows takes))
 
-shows-batch_taken : (post : Post) (orders : Orders) (w : Station) (p : Position) (sent : ℕ → List Batch) (one : Incoming) (batch : Batch) (ins : List Incoming) (last : List (List Value))
+shows-batch_taken : (post : Post) (orders : Orders) (w : WorkerState) (p : Position) (sent : ℕ → List Batch) (one : Incoming) (batch : Batch) (ins : List Incoming) (last : List (List Value))
     → Shows post orders w p sent → TakesOne w one batch ins last → Shows post orders (batch_taken one batch ins last w) (took one.from batch p) sent
 shows-batch_taken post orders w p sent one batch ins last shows takes =
     let so = takes.taken_so in
@@ -443,7 +443,7 @@ shows-batch_taken post orders w p sent one batch ins last shows takes =
       outs = rw (grown, kept-longer) shows.outs;
     }
 
-same-batches : (post : Post) (orders : Orders) (w : Station) (p : Position) (sent : ℕ → List Batch) (one : Incoming) (batch : Batch) (ins : List Incoming)
+same-batches : (post : Post) (orders : Orders) (w : WorkerState) (p : Position) (sent : ℕ → List Batch) (one : Incoming) (batch : Batch) (ins : List Incoming)
     → Shows post orders w p sent → IsTaken w.ins one batch ins → (sender : ℕ)
     → taken_from (p.taken ++ as_taken one.from batch ∷ []) sender ++ waiting_from sender ins ≡ taken_from p.taken sender ++ waiting_from sender w.ins
 same-batches post orders w p sent one batch ins shows so sender = rw (so.after_it, so.found) (by (eqb one.from sender) refl)
@@ -471,7 +471,7 @@ same-batches post orders w p sent one batch ins shows so sender = rw (so.after_i
         rw (taken_from-other p.taken one.from sender batch e, waits-other sender so.front so.back one (without_first batch so.later one) refl e) refl
 
 -- wherever a worker stood, it stands once it took a batch
-pub Keeps-batch_taken : (w : Station) (one : Incoming) (batch : Batch) (ins : List Incoming) (last : List (List Value)) → w.rest ≡ [] → w.pending ≡ []
+pub Keeps-batch_taken : (w : WorkerState) (one : Incoming) (batch : Batch) (ins : List Incoming) (last : List (List Value)) → w.rest ≡ [] → w.pending ≡ []
     → IsTaken w.ins one batch ins → one.from < 2 ^ 32 → one.taken < 2 ^ 64 → Closes w.duty (eqb (length batch.rows) 0 && have_all_ended ins) last
     → IsWorking w → Keeps w (batch_taken one batch ins last w)
 unfolding Keeps

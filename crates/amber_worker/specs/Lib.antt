@@ -4,5 +4,5 @@ pub mod Fields
 pub mod Links
 pub mod Made
 pub mod Stands
-pub mod Station
+pub mod WorkerState
 pub mod Steps

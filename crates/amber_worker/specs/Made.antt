@@ -11,7 +11,7 @@ use Rattle.amber_scan.specs.declared.share.Scanned.{Scanned}
 use Rattle.amber_link.specs.Incoming.{Incoming}
 use Rattle.amber_link.specs.Outgoing.{Outgoing}
 use Rattle.amber_worker.specs.Fields.{rest_in}
-use Rattle.amber_worker.specs.Station.{Station}
+use Rattle.amber_worker.specs.WorkerState.{WorkerState}
 use Rattle.amber_worker.specs.declared.duty.Duty.{Duty}
 use Rattle.amber_worker.specs.declared.duty.Duty.TheVariants as duty
 
@@ -69,7 +69,7 @@ IsReceiver flow op receiver = MatchOption receiver ((k : ℕ) → k < length flo
     (λ worker. (worker < length flow) × (reads (what_at flow (worker + 1)) op ≡ true))
 
 -- a worker that has done nothing
-pub record IsFresh (flow : List Operator) (worker size : ℕ) (share : Option (List Scanned)) (w : Station) : Type 0 where
+pub record IsFresh (flow : List Operator) (worker size : ℕ) (share : Option (List Scanned)) (w : WorkerState) : Type 0 where
   pub receiver : Option ℕ
   pub reader : IsReceiver flow (op_of flow worker) receiver
   pub op : w.op ≡ op_of flow worker

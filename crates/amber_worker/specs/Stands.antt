@@ -25,7 +25,7 @@ use Rattle.amber_link.specs.Incoming.{Incoming}
 use Rattle.amber_link.specs.Outgoing.{Outgoing}
 use Rattle.amber_worker.specs.Fields.{handed_of}
 use Rattle.amber_worker.specs.Links.{waiting_from}
-use Rattle.amber_worker.specs.Station.{Station, steps_in}
+use Rattle.amber_worker.specs.WorkerState.{WorkerState, steps_in}
 use Rattle.amber_worker.specs.declared.duty.Duty.{Duty}
 use Rattle.amber_worker.specs.declared.duty.Duty.TheVariants as duty
 use Rattle.amber_worker.specs.declared.given.Given.{Given}
@@ -149,7 +149,7 @@ SendAll post (receiver ∷ receivers) rows ended sent (one ∷ more) =
 -- ---- where it stands
 
 -- a worker shows a position under these orders, where these batches have left it for each receiver
-pub record Shows (post : Post) (orders : Orders) (w : Station) (p : Position) (sent : ℕ → List Batch) : Type 0 where
+pub record Shows (post : Post) (orders : Orders) (w : WorkerState) (p : Position) (sent : ℕ → List Batch) : Type 0 where
   pub op : w.op ≡ post.op
   pub number : w.number ≡ post.number
   pub duty : DoesKind w.duty post.role.task.kind orders.constants post.role
@@ -179,22 +179,22 @@ pub record Shows (post : Post) (orders : Orders) (w : Station) (p : Position) (s
   pub outs : SendAll post post.receivers (emitted_rows post.role p) p.finished sent w.outs
 
 -- a worker stands at a position: it shows it, and its journal leads there from where it stood when the journal was empty
-pub record Stands (post : Post) (orders : Orders) (w : Station) (start p : Position) (sent : ℕ → List Batch) : Type 0 where
+pub record Stands (post : Post) (orders : Orders) (w : WorkerState) (start p : Position) (sent : ℕ → List Batch) : Type 0 where
   pub leads : Leads post.role orders start w.journal p
   pub text : AreEntries false w.journal
   pub shows : Shows post orders w p sent
 
 -- of each sender the batches that were taken and those that wait are together the same
-abbrev pub SameBatches : Station → Position → Station → Position → Type 0
+abbrev pub SameBatches : WorkerState → Position → WorkerState → Position → Type 0
 SameBatches old p new q = (sender : ℕ) → taken_from q.taken sender ++ waiting_from sender new.ins ≡ taken_from p.taken sender ++ waiting_from sender old.ins
 
 -- wherever a worker stood, it stands at a position again, with the same batches of each sender and the same sent
-unfoldable pub Keeps : Station → Station → Type 0
+unfoldable pub Keeps : WorkerState → WorkerState → Type 0
 Keeps old new = (post : Post) (orders : Orders) (start p : Position) (sent : ℕ → List Batch) → Stands post orders old start p sent
     → (q : Position) × Stands post orders new start q sent × SameBatches old p new q
 
 -- what a turn has done: one step more, or nothing
-abbrev pub HasTurned : Turn → Station → Station → Type 0
+abbrev pub HasTurned : Turn → WorkerState → WorkerState → Type 0
 HasTurned turn.Moved old new = steps_in new ≡ steps_in old + 1
 HasTurned turn.Idle old new = new ≡ old
 HasTurned turn.Ended old new = new ≡ old
@@ -202,11 +202,11 @@ HasTurned turn.Ended old new = new ≡ old
 -- ---- what a worker gives
 
 -- what it shows in a position is what is said of that position
-unfoldable pub IsViewOf : Station → WorkerView → Type 0
+unfoldable pub IsViewOf : WorkerState → WorkerView → Type 0
 IsViewOf w view = (post : Post) (orders : Orders) (p : Position) (sent : ℕ → List Batch) → Shows post orders w p sent → view ≡ view_of post.role p
 
 -- what it gives for the answer in a position: what it has refused, and of a sink the rows that it took, in their order
-unfoldable pub IsGivenOf : Station → Given → Type 0
+unfoldable pub IsGivenOf : WorkerState → Given → Type 0
 IsGivenOf w given = (post : Post) (orders : Orders) (p : Position) (sent : ℕ → List Batch) → Shows post orders w p sent
     → (given.refused ≡ refused_in post.op (taken_of post.role p) ++ refused_groups post.op (worker_refuses post.role p))
     × (given.rows ≡ sort_rows (kept_of post.role.task.kind post.role.task (taken_of post.role p)))

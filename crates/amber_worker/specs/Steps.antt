@@ -19,7 +19,7 @@ use Rattle.amber_scan.specs.declared.share.Scanned.{Scanned}
 use Rattle.amber_link.specs.Incoming.{Incoming, IsTaken, have_all_ended}
 use Rattle.amber_link.specs.Outgoing.{Outgoing, with_end, with_row}
 use Rattle.amber_worker.specs.Fields.{row_from, rows_moved}
-use Rattle.amber_worker.specs.Station.{Station}
+use Rattle.amber_worker.specs.WorkerState.{WorkerState}
 use Rattle.amber_worker.specs.declared.duty.Duty.{Duty}
 use Rattle.amber_worker.specs.declared.duty.Duty.TheVariants as duty
 use Rattle.amber_worker.specs.declared.taking.Fate.{Fate}
@@ -240,11 +240,11 @@ pub record Emits (rows : List (List Value)) (outs : List Outgoing) (later : List
 -- ---- steps
 
 -- the columns of the rows at hand
-abbrev pub columns_at_hand : Station → List Column
+abbrev pub columns_at_hand : WorkerState → List Column
 columns_at_hand w = if w.building then w.build_columns else w.columns
 
 -- a row was taken; what the worker keeps became this, and these rows are given at the end
-abbrev pub row_taken : Handed → List Handed → Duty → List (List Value) → Station → Station
+abbrev pub row_taken : Handed → List Handed → Duty → List (List Value) → WorkerState → WorkerState
 row_taken one later now last w = record w {
   duty = now;
   rest = later;
@@ -256,7 +256,7 @@ row_taken one later now last w = record w {
 }
 
 -- the next row was taken
-pub record TakesRow (old new : Station) : Type 0 where
+pub record TakesRow (old new : WorkerState) : Type 0 where
   pub one : Handed
   pub later : List Handed
   pub now : Duty
@@ -267,7 +267,7 @@ pub record TakesRow (old new : Station) : Type 0 where
   pub after : new ≡ row_taken one later now last old
 
 -- a pending row was emitted
-abbrev pub row_emitted : List Value → List (List Value) → Station → Station
+abbrev pub row_emitted : List Value → List (List Value) → WorkerState → WorkerState
 row_emitted row later w = record w {
   pending = later;
   emitted = w.emitted + 1;
@@ -277,12 +277,12 @@ row_emitted row later w = record w {
 }
 
 -- the first pending row was emitted
-abbrev pub row_emitted_from : List (List Value) → Station → Station
+abbrev pub row_emitted_from : List (List Value) → WorkerState → WorkerState
 row_emitted_from [] w = w
 row_emitted_from (row ∷ later) w = row_emitted row later w
 
 -- a batch of this sender was taken; these rows are given at the end
-abbrev pub batch_taken : Incoming → Batch → List Incoming → List (List Value) → Station → Station
+abbrev pub batch_taken : Incoming → Batch → List Incoming → List (List Value) → WorkerState → WorkerState
 batch_taken one batch ins last w = record w {
   duty = turned_to one.builds w.duty;
   building = one.builds;
@@ -294,7 +294,7 @@ batch_taken one batch ins last w = record w {
 }
 
 -- the end was reached
-abbrev pub all_done : Station → Station
+abbrev pub all_done : WorkerState → WorkerState
 all_done w = record w {
   finished = true;
   outs = map with_end w.outs;
@@ -302,7 +302,7 @@ all_done w = record w {
 }
 
 -- a batch of one of its senders was taken
-pub record TakesBatch (old new : Station) : Type 0 where
+pub record TakesBatch (old new : WorkerState) : Type 0 where
   pub one : Incoming
   pub batch : Batch
   pub ins : List Incoming
@@ -314,7 +314,7 @@ pub record TakesBatch (old new : Station) : Type 0 where
   pub after : new ≡ batch_taken one batch ins last old
 
 -- neither paused nor held, and no entry speaks of very many rows
-pub record IsCalm (w : Station) : Type 0 where
+pub record IsCalm (w : WorkerState) : Type 0 where
   pub running : w.paused ≡ false
   pub loose : w.held ≡ false
   pub few : All (λ one. rows_moved one < 2 ^ 63) w.journal
@@ -329,7 +329,7 @@ IsExtra (duty.Group state) refused kept shown = (rows : List (List Value)) → G
 IsExtra duty.Sink refused kept shown = shown ≡ extra.Sink kept
 
 -- what a worker shows
-pub record IsShown (w : Station) (view : WorkerView) : Type 0 where
+pub record IsShown (w : WorkerState) (view : WorkerView) : Type 0 where
   pub taken : view.taken ≡ w.taken
   pub rest : view.rest ≡ length w.rest
   pub out : view.out ≡ w.emitted

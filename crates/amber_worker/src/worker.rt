@@ -7,7 +7,7 @@ ghost use Rattle.amber_meaning.specs.Position.{origin};
 ghost use Rattle.amber_meaning.specs.Plan.{role_of};
 ghost use Rattle.amber_link.specs.Incoming.{has_some, have_all_ended};
 ghost use Rattle.amber_worker.specs.Links.{waiting_for, with_batches, without_batches};
-ghost use Rattle.amber_worker.specs.Station.{answer_of, has_ready, steps_in};
+ghost use Rattle.amber_worker.specs.WorkerState.{answer_of, has_ready, steps_in};
 ghost use Rattle.amber_worker.specs.Steps.{IsCalm, IsShown, TakesBatch, TakesRow, all_done, row_emitted_from};
 ghost use Rattle.amber_worker.specs.Made.{IsFresh};
 ghost use Rattle.amber_worker.specs.Stands.{AreAlone, HasShare, HasTurned, IsGivenOf, IsViewOf, Keeps, Stands, first_orders, is_scan, post_of};
@@ -57,9 +57,9 @@ pub struct Worker {
 
 impl Model for Worker {
     ghost use Rattle.std.specs.Prelude.{false, option_to_list};
-    ghost use Rattle.amber_worker.specs.Station.{Station};
+    ghost use Rattle.amber_worker.specs.WorkerState.{WorkerState};
 
-    ghost Value = { Station };
+    ghost Value = { WorkerState };
 
     ghost use Rattle.amber_worker.specs.Fields.{AreFew, handed_in};
 

@@ -13,7 +13,7 @@ use Rattle.amber_worker.specs.declared.duty.Duty.{Duty}
 use Rattle.amber_worker.specs.declared.turn.Turn.{Turn}
 use Rattle.amber_worker.specs.declared.turn.Turn.TheVariants as turn
 
-pub record Station : Type 0 where
+pub record WorkerState : Type 0 where
   -- its operator and its own running number
   pub op : ℕ
   pub number : ℕ
@@ -45,7 +45,7 @@ pub record Station : Type 0 where
   pub journal : List Entry
 
 -- its steps so far
-abbrev pub steps_in : Station → ℕ
+abbrev pub steps_in : WorkerState → ℕ
 steps_in w = w.taken + w.emitted + w.batches + one_if w.finished
 
 -- ---- which turn comes
@@ -56,7 +56,7 @@ has_ready ins = list_any (may_come (have_builders_ended ins)) ins
 
 -- the turn that a worker makes: it moves where a row is pending, where a row is left, where a batch may be taken, and where nothing
 -- more can come
-abbrev pub answer_of : Station → Turn
+abbrev pub answer_of : WorkerState → Turn
 answer_of w =
     if w.finished then turn.Ended
     else if has_some w.pending then turn.Moved
