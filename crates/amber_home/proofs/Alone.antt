@@ -25,7 +25,7 @@ use Rattle.amber_scan.specs.declared.share.Scanned.{Scanned}
 use Rattle.amber_worker.specs.Fields.{handed_of}
 use Rattle.amber_worker.specs.Stands as stands
 use Rattle.amber_worker.specs.Stands.{AreAlone}
-use Rattle.amber_worker.specs.Stands.{HasShare, Stands, first_orders, post_of}
+use Rattle.amber_worker.specs.Stands.{HasShare, Stands, first_orders, placement_of}
 use Rattle.amber_worker.specs.WorkerState.{WorkerState}
 use Rattle.amber_meaning.specs.ScanFiles.{is_headed, records_at}
 use Rattle.amber_meaning.specs.Position.{origin}
@@ -137,7 +137,7 @@ share-same records = shared-same 1 0 1 records
 -- ---- a worker that was made for an operator
 
 abbrev Stood : List Operator → List Records → ℕ → ℕ → WorkerState → Type 0
-Stood flow records size k w = Stands (post_of flow records size k) (first_orders flow k) w origin origin (λ _. [])
+Stood flow records size k w = Stands (placement_of flow records size k) (first_orders flow k) w origin origin (λ _. [])
 
 role-share : (flow : List Operator) (records : List Records) (k : ℕ) → AreAlone flow → k < length flow
     → (plan.role_of flow records k).share ≡ plan.share_of (plain.list_at records (k + 1)) 1 0

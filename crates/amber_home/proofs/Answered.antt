@@ -20,7 +20,7 @@ use Rattle.amber_meaning.specs.Position.{Position, Taken, fed, handed_by, share_
 use Rattle.amber_meaning.specs.State.{position_at}
 use Rattle.amber_meaning.specs.Task.{Handed, Task}
 use Rattle.amber_meaning.specs.Views.{answer_in, by_number, insert_numbered, op_refuses, refusal_in, refused_in, rows_in, sink_rows, taken_by, taken_of, worker_refuses}
-use Rattle.amber_worker.specs.Stands.{AreAlone, kept_of, post_of}
+use Rattle.amber_worker.specs.Stands.{AreAlone, kept_of, placement_of}
 use Rattle.amber_worker.specs.WorkerState.{WorkerState}
 use Rattle.amber_worker.proofs.Shares.{by_number-share}
 use Rattle.amber_home.specs.Answers.{IsGatheredFrom, ShowAll, refused_at, rows_before}
@@ -113,7 +113,7 @@ taken-alone query positions worker alone inside =
 
 refuses-alone : (query : Query) (positions : ℕ → Position) (worker : ℕ) → AreAlone query.flow → worker < length query.flow
     → op_refuses query (reached query positions) (worker + 1) ≡ refused_at query positions worker
-unfolding refused_at post_of fed
+unfolding refused_at placement_of fed
 refuses-alone query positions worker alone inside =
     let here : worker < crew_of query.flow = rw (crew-alone query.flow alone) inside in
     let op : op_of query.flow worker ≡ worker + 1 = op-alone query.flow worker alone inside in
@@ -162,7 +162,7 @@ kept-sink (what.Sink input) task handed e = refl
 
 sink-last : (query : Query) (positions : ℕ → Position) (m : ℕ) → IsFlow query.flow → AreAlone query.flow → length query.flow ≡ m + 1
     → rows_before query positions (suc m) ≡ sort_rows (rows_in (role_in query m).task (taken_of (role_in query m) (positions m)))
-unfolding rows_before post_of role_of task_of
+unfolding rows_before placement_of role_of task_of
 sink-last query positions m ok alone long =
     let kind : is_sink (what_at query.flow (op_of query.flow m)) ≡ true =
     ap (λ op. is_sink (what_at query.flow op)) (op-alone query.flow m alone (omega arith)) ∙ last-sink query.flow m ok.ends long in

@@ -18,7 +18,7 @@ use Rattle.amber_meaning.proofs.Operators.{records-here, wrong_header-here, wron
 use Rattle.amber_worker.specs.Incoming.{Incoming}
 use Rattle.amber_worker.specs.Outgoing.{Outgoing}
 use Rattle.amber_worker.specs.Links.{waiting_from}
-use Rattle.amber_worker.specs.Stands.{AreAlone, Stands, first_orders, post_of}
+use Rattle.amber_worker.specs.Stands.{AreAlone, Stands, first_orders, placement_of}
 use Rattle.amber_worker.specs.WorkerState.{WorkerState}
 use Rattle.amber_home.specs.declared.error.HomeErr.{HomeErr}
 use Rattle.amber_home.specs.declared.error.HomeErr.TheVariants as home_err
@@ -33,7 +33,7 @@ Records = List (List (Result (List Value) RowFault))
 -- the first so many workers stand at the start
 abbrev pub HaveBegun : List Operator → Records → ℕ → List WorkerState → ℕ → Type 0
 HaveBegun flow records size crew count = (worker : ℕ) → worker < count
-    → Stands (post_of flow records size worker) (first_orders flow worker) (worker_state_at crew worker) origin origin (λ _. [])
+    → Stands (placement_of flow records size worker) (first_orders flow worker) (worker_state_at crew worker) origin origin (λ _. [])
 
 -- an operator that is not there
 pub d : Operator
@@ -93,10 +93,10 @@ pub begun-more : (flow : List Operator) (files : List (List ℕ)) (size count : 
     → HaveBegun flow (records_of files flow) size crew count → StandsAt flow count size (records_at (kind_at flow count) (schema_at flow count) file) w
     → HaveBegun flow (records_of files flow) size longer (count + 1)
 begun-more flow files size count crew longer w file is long inside file-is before stands worker below =
-    subst (λ (xs : List WorkerState). Stands (post_of flow (records_of files flow) size worker) (first_orders flow worker) (worker_state_at xs worker) origin origin (λ _. [])) (sym is)
-    (at-push crew w (λ k v. k < count + 1 → Stands (post_of flow (records_of files flow) size k) (first_orders flow k) v origin origin (λ _. []))
+    subst (λ (xs : List WorkerState). Stands (placement_of flow (records_of files flow) size worker) (first_orders flow worker) (worker_state_at xs worker) origin origin (λ _. [])) (sym is)
+    (at-push crew w (λ k v. k < count + 1 → Stands (placement_of flow (records_of files flow) size k) (first_orders flow k) v origin origin (λ _. []))
     (λ k less _. before k (rw (← long) less))
-    (λ _. subst (λ n. Stands (post_of flow (records_of files flow) size n) (first_orders flow n) w origin origin (λ _. [])) (sym long) (stands (records_of files flow) own))
+    (λ _. subst (λ n. Stands (placement_of flow (records_of files flow) size n) (first_orders flow n) w origin origin (λ _. [])) (sym long) (stands (records_of files flow) own))
     (λ k more less. absurd (omega arith)) worker below)
   where
     own : list_at (records_of files flow) (count + 1) ≡ records_at (kind_at flow count) (schema_at flow count) file
@@ -126,7 +126,7 @@ pub all-begun : (flow : List Operator) (files : List (List ℕ)) (size most : �
 all-begun flow files size most crew alone long empty begun = record {
   all = long ∙ sym (crew-alone flow alone);
   each = λ worker below.
-      subst (λ sent. Stands (post_of flow (records_of files flow) size worker) (first_orders flow worker) (worker_state_at crew worker) origin origin sent)
+      subst (λ sent. Stands (placement_of flow (records_of files flow) size worker) (first_orders flow worker) (worker_state_at crew worker) origin origin sent)
       (λ i receiver. sym (none-sent crew worker receiver empty) i)
       (begun worker (rw (← crew-alone flow alone) below));
 }

@@ -17,7 +17,7 @@ use Rattle.amber_meaning.proofs.Fronts.{legal_logs_grow}
 use Rattle.amber_meaning.proofs.OneState.{legal_logs_have_one_state}
 use Rattle.amber_meaning.proofs.Senders.{flows_send_forward}
 use Rattle.amber_worker.specs.Links.{waiting_for, waiting_from}
-use Rattle.amber_worker.specs.Stands.{first_orders, post_of}
+use Rattle.amber_worker.specs.Stands.{first_orders, placement_of}
 use Rattle.amber_worker.specs.WorkerState.{WorkerState}
 use Rattle.amber_worker.proofs.Settling.{sent-made, steps-shown}
 use Rattle.amber_home.specs.Estate.{end_item}
@@ -39,11 +39,11 @@ empty-legal query batch = record { text = record { batch = batch; items = tt }; 
 
 -- what each worker took of each sender are the first batches that the sender has made for it
 offered : (query : Query) (crew : List WorkerState) (positions : ℕ → Position) → Standing query crew positions → AreOffered query (reached query positions).positions
-unfolding AreOffered batches_for stream_of post_of role_of
+unfolding AreOffered batches_for stream_of placement_of role_of
 offered query crew positions standing receiver inside sender known =
     let member = receives query.flow sender receiver inside known in
     let stands = standing.each sender member.1 in
-    let made = sent-made (post_of query.flow query.records query.size sender) (first_orders query.flow sender) (worker_state_at crew sender) origin (positions sender) (sent_by crew positions sender) receiver stands member.0 in (
+    let made = sent-made (placement_of query.flow query.records query.size sender) (first_orders query.flow sender) (worker_state_at crew sender) origin (positions sender) (sent_by crew positions sender) receiver stands member.0 in (
       waiting_from sender (worker_state_at crew receiver).ins ++ waiting_for receiver (worker_state_at crew sender).outs,
       rw (listed-at positions (crew_of query.flow) receiver inside, listed-at positions (crew_of query.flow) sender member.1)
           (sym (append_assoc (taken_from (positions receiver).taken sender) (waiting_from sender (worker_state_at crew receiver).ins) (waiting_for receiver (worker_state_at crew sender).outs)) ∙ made),
@@ -51,7 +51,7 @@ offered query crew positions standing receiver inside sender known =
 
 leads-at : (query : Query) (crew : List WorkerState) (positions : ℕ → Position) → Standing query crew positions → (worker : ℕ) → worker < crew_of query.flow
     → Leads (role_in query worker) (first_orders query.flow worker) origin (worker_state_at crew worker).journal (positions worker)
-unfolding post_of
+unfolding placement_of
 leads-at query crew positions standing worker inside = (standing.each worker inside).leads
 
 entries-here : (crew : List WorkerState) (worker : ℕ) → entries_of (parts_from 0 crew) worker ≡ (worker_state_at crew worker).journal
@@ -83,7 +83,7 @@ steps-reached : (query : Query) (crew : List WorkerState) (positions : ℕ → P
 unfolding steps_in
 steps-reached query crew positions standing =
     steps-listed crew positions (crew_of query.flow) (let all = standing.all in omega arith)
-    (λ k below. steps-shown (post_of query.flow query.records query.size k) (first_orders query.flow k) (worker_state_at crew k) (positions k) (sent_by crew positions k) (standing.each k below).shows)
+    (λ k below. steps-shown (placement_of query.flow query.records query.size k) (first_orders query.flow k) (worker_state_at crew k) (positions k) (sent_by crew positions k) (standing.each k below).shows)
     ∙ ap steps_by (take_all (crew_of query.flow) crew (let all = standing.all in omega arith))
 
 closed-as : (query : Query) (crew : List WorkerState) (positions : ℕ → Position) → Standing query crew positions → (closed : Close) → IsDone closed query.most crew

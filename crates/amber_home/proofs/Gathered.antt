@@ -14,7 +14,7 @@ use Rattle.amber_meaning.specs.Position.{Position}
 use Rattle.amber_worker.specs.Stands.{IsGivenOf, Shows, first_orders}
 use Rattle.amber_worker.specs.WorkerState.{WorkerState}
 use Rattle.amber_worker.specs.declared.given.Given.{Given}
-use Rattle.amber_home.specs.Answers.{HaveGiven, IsGatheredFrom, ShowAll, post_at, refused_at, rows_before}
+use Rattle.amber_home.specs.Answers.{HaveGiven, IsGatheredFrom, ShowAll, placement_at, refused_at, rows_before}
 use Rattle.amber_home.specs.Standing.{no_worker_state}
 use Rattle.amber_home.proofs.Alone.{schema-here}
 
@@ -25,7 +25,7 @@ given-none refused rows none empty query positions shows = (none, empty)
 all-before : (query : Query) (crew : List WorkerState) (w : WorkerState) (positions : ℕ → Position) → ShowAll query (crew ++ w ∷ []) positions → ShowAll query crew positions
 all-before query crew w positions shows k below =
     let one = shows k (rw (length_push crew w) (omega arith)) in
-    (one.0, subst (λ v. Shows (post_at query k) (first_orders query.flow k) v (positions k) one.0) (get_or_append_left crew (w ∷ []) no_worker_state k below) one.1)
+    (one.0, subst (λ v. Shows (placement_at query k) (first_orders query.flow k) v (positions k) one.0) (get_or_append_left crew (w ∷ []) no_worker_state k below) one.1)
 
 pub given-more : (crew : List WorkerState) (w : WorkerState) (given : Given) (refused longer : List Refusal) (rows : List (List Value))
     → HaveGiven crew refused rows → IsGivenOf w given → longer ≡ refused ++ given.refused → HaveGiven (crew ++ w ∷ []) longer given.rows
@@ -33,8 +33,8 @@ unfolding HaveGiven IsGivenOf refused_at rows_before numbers_below
 given-more crew w given refused longer rows before gives is query positions shows =
     let n = length crew in
     let last = shows n (rw (length_push crew w) (omega arith)) in
-    let here = gives (post_at query n) (first_orders query.flow n) (positions n) last.0
-    (subst (λ v. Shows (post_at query n) (first_orders query.flow n) v (positions n) last.0) (get_or_push crew w no_worker_state n refl) last.1) in
+    let here = gives (placement_at query n) (first_orders query.flow n) (positions n) last.0
+    (subst (λ v. Shows (placement_at query n) (first_orders query.flow n) v (positions n) last.0) (get_or_push crew w no_worker_state n refl) last.1) in
     let old = before query positions (all-before query crew w positions shows) in
     let count : length (crew ++ w ∷ []) ≡ suc n = length_push crew w ∙ add-one n in (
       is ∙ ap (λ xs. xs ++ given.refused) old.0

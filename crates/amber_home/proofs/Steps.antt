@@ -14,7 +14,7 @@ use Rattle.amber_meaning.proofs.Senders.{flows_send_forward}
 use Rattle.amber_worker.specs.Incoming.{has_some, have_all_ended}
 use Rattle.amber_worker.specs.Outgoing.{Outgoing}
 use Rattle.amber_worker.specs.Links.{waiting_for, without_batches}
-use Rattle.amber_worker.specs.Stands.{HasTurned, Keeps, first_orders, post_of, stream_to}
+use Rattle.amber_worker.specs.Stands.{HasTurned, Keeps, first_orders, placement_of, stream_to}
 use Rattle.amber_worker.specs.WorkerState.{WorkerState, answer_of, has_ready, steps_in}
 use Rattle.amber_worker.specs.declared.turn.Turn.{Turn}
 use Rattle.amber_worker.specs.declared.turn.Turn.TheVariants as turn
@@ -29,7 +29,7 @@ use Rattle.amber_home.proofs.Turns.{Standing-moved, Standing-turned, at-each}
 
 number-shown : (query : Query) (crew : List WorkerState) (positions : ℕ → Position) (worker : ℕ) → Standing query crew positions → worker < crew_of query.flow
     → (worker_state_at crew worker).number ≡ worker
-unfolding post_of
+unfolding placement_of
 number-shown query crew positions worker standing h = (standing.each worker h).shows.number
 
 -- what is known of a worker and one to which it sends
@@ -42,11 +42,11 @@ pub record AreLinked (crew : List WorkerState) (from to : ℕ) : Type 0 where
 
 pub linked : (query : Query) (crew : List WorkerState) (positions : ℕ → Position) (from to : ℕ) → IsFlow query.flow → Standing query crew positions → from < length crew
     → list_any (λ one. nat_eq one.to to) (worker_state_at crew from).outs ≡ true → AreLinked crew from to
-unfolding post_of role_of
+unfolding placement_of role_of
 linked query crew positions from to flow standing inside known =
     let here : from < crew_of query.flow = rw (← standing.all) inside in
     let receiver : is_in (receivers_of query.flow from) to ≡ true =
-    sym (sends-to (post_of query.flow query.records query.size from) (first_orders query.flow from) (worker_state_at crew from) (positions from) (sent_by crew positions from) to
+    sym (sends-to (placement_of query.flow query.records query.size from) (first_orders query.flow from) (worker_state_at crew from) (positions from) (sent_by crew positions from) to
     (standing.each from here).shows) ∙ known in
     let sender = sends query.flow from to here receiver in
     record {
@@ -54,7 +54,7 @@ linked query crew positions from to flow standing inside known =
       there = rw standing.all sender.1;
       from_number = number-shown query crew positions from standing here;
       to_number = number-shown query crew positions to standing sender.1;
-      receives = receives-from (post_of query.flow query.records query.size to) (first_orders query.flow to) (worker_state_at crew to) (positions to) (sent_by crew positions to) from
+      receives = receives-from (placement_of query.flow query.records query.size to) (first_orders query.flow to) (worker_state_at crew to) (positions to) (sent_by crew positions to) from
           (standing.each to sender.1).shows ∙ sender.0;
     }
 
@@ -71,20 +71,20 @@ waits-none receiver (one ∷ outs) h = by (nat_eq one.to receiver) (waits-none r
 -- a worker whose senders have all finished is not idle
 pub busy : (query : Query) (crew : List WorkerState) (worker : ℕ) → AreAtWork query crew → worker < length crew → HaveFinished worker crew
     → answer_of (worker_state_at crew worker) ≡ turn.Idle → ⊥
-unfolding post_of role_of
+unfolding placement_of role_of
 busy query crew worker work inside finished idle =
     let here : worker < crew_of query.flow = rw (← work.standing.all) inside in
     let stands = work.standing.each worker here in
-    never_idle (post_of query.flow query.records query.size worker) (first_orders query.flow worker) (worker_state_at crew worker) (work.positions worker) (sent_by crew work.positions worker) stands.shows
+    never_idle (placement_of query.flow query.records query.size worker) (first_orders query.flow worker) (worker_state_at crew worker) (work.positions worker) (sent_by crew work.positions worker) stands.shows
     (λ sender member.
     let known = receives query.flow sender worker here member in
     let sends = work.standing.each sender known.1 in
     let done : (work.positions sender).finished ≡ true =
     sym sends.shows.finished ∙ finished sender (flows_send_forward query.flow work.flow worker sender member) in
-    let made = sent-made (post_of query.flow query.records query.size sender) (first_orders query.flow sender) (worker_state_at crew sender) origin (work.positions sender) (sent_by crew work.positions sender) worker sends known.0 in
-    let all : sent_by crew work.positions sender worker ≡ chunks_of query.size (stream_to (post_of query.flow query.records query.size sender) worker (emitted_rows (role_of query.flow query.records sender) (work.positions sender))) true =
+    let made = sent-made (placement_of query.flow query.records query.size sender) (first_orders query.flow sender) (worker_state_at crew sender) origin (work.positions sender) (sent_by crew work.positions sender) worker sends known.0 in
+    let all : sent_by crew work.positions sender worker ≡ chunks_of query.size (stream_to (placement_of query.flow query.records query.size sender) worker (emitted_rows (role_of query.flow query.records sender) (work.positions sender))) true =
     sym (append-nil _) ∙ ap (λ none. sent_by crew work.positions sender worker ++ none) (sym (waits-none worker (worker_state_at crew sender).outs (work.moved sender)))
-    ∙ made ∙ ap (λ done. chunks_of query.size (stream_to (post_of query.flow query.records query.size sender) worker (emitted_rows (role_of query.flow query.records sender) (work.positions sender))) done) done in
+    ∙ made ∙ ap (λ done. chunks_of query.size (stream_to (placement_of query.flow query.records query.size sender) worker (emitted_rows (role_of query.flow query.records sender) (work.positions sender))) done) done in
     rw all (has_marked-chunks_of query.size _))
     idle
 

@@ -13,7 +13,7 @@ use Rattle.amber_meaning.specs.Legal.{Query}
 use Rattle.amber_meaning.specs.Position.{Position, origin}
 use Rattle.amber_meaning.specs.Replay.{state_after}
 use Rattle.amber_meaning.specs.Views.{answer_in}
-use Rattle.amber_worker.specs.Stands.{Shows, first_orders, post_of}
+use Rattle.amber_worker.specs.Stands.{Shows, first_orders, placement_of}
 use Rattle.amber_worker.specs.WorkerState.{WorkerState, steps_in}
 use Rattle.amber_worker.proofs.Settling.{Stands-without_journal, steps-shown}
 use Rattle.amber_home.specs.Answers.{IsGatheredFrom, ShowAll}
@@ -46,7 +46,7 @@ start-steps flow most crew start =
     let query = start.0 in
     let standing = start.3.standing in
     none-made crew (λ k below.
-    steps-shown (post_of query.flow query.records query.size k) (first_orders query.flow k) (worker_state_at crew k) origin (sent_by crew (λ _. origin) k)
+    steps-shown (placement_of query.flow query.records query.size k) (first_orders query.flow k) (worker_state_at crew k) origin (sent_by crew (λ _. origin) k)
     (standing.each k (rw (← standing.all) below)).shows)
 
 pub crew-few : (query : Query) (crew : List WorkerState) → AreAtWork query crew → length crew ≤ 128
@@ -68,9 +68,9 @@ show-all query crew positions standing k below =
     let inside : k < length crew = rw (length-map crew without_journal) at below in
     let here : k < crew_of query.flow = rw (← standing.all) inside in (
       sent_by crew positions k,
-      subst (λ w. Shows (post_of query.flow query.records query.size k) (first_orders query.flow k) w (positions k) (sent_by crew positions k))
+      subst (λ w. Shows (placement_of query.flow query.records query.size k) (first_orders query.flow k) w (positions k) (sent_by crew positions k))
           (sym (get_or-map without_journal crew k no_worker_state))
-          (Stands-without_journal (post_of query.flow query.records query.size k) (first_orders query.flow k) (worker_state_at crew k) origin (positions k) (sent_by crew positions k) (standing.each k here)).shows,
+          (Stands-without_journal (placement_of query.flow query.records query.size k) (first_orders query.flow k) (worker_state_at crew k) origin (positions k) (sent_by crew positions k) (standing.each k here)).shows,
     )
 
 has-run : (query : Query) (old crew : List WorkerState) (parts : List Part) (closed : Close) → IsBatch query.size → HasNotBegun query old → (stay : StayAtWork old crew) → IsDone closed query.most crew

@@ -13,30 +13,30 @@ use Rattle.amber_meaning.specs.Legal.{Query}
 use Rattle.amber_meaning.specs.Plain.{refused_groups}
 use Rattle.amber_meaning.specs.Position.{Position}
 use Rattle.amber_meaning.specs.Views.{refused_in, taken_of, worker_refuses}
-use Rattle.amber_worker.specs.Stands.{Post, Shows, first_orders, kept_of, post_of}
+use Rattle.amber_worker.specs.Stands.{Placement, Shows, first_orders, kept_of, placement_of}
 use Rattle.amber_worker.specs.WorkerState.{WorkerState}
 use Rattle.amber_home.specs.Standing.{worker_state_at}
 
 -- the place of a query's worker
-abbrev pub post_at : Query → ℕ → Post
-post_at query worker = post_of query.flow query.records query.size worker
+abbrev pub placement_at : Query → ℕ → Placement
+placement_at query worker = placement_of query.flow query.records query.size worker
 
 -- each worker shows its position
 abbrev pub ShowAll : Query → List WorkerState → (ℕ → Position) → Type 0
 ShowAll query crew positions = (worker : ℕ) → worker < length crew
-    → (sent : ℕ → List Batch) × Shows (post_at query worker) (first_orders query.flow worker) (worker_state_at crew worker) (positions worker) sent
+    → (sent : ℕ → List Batch) × Shows (placement_at query worker) (first_orders query.flow worker) (worker_state_at crew worker) (positions worker) sent
 
 -- what a worker has refused
 unfoldable pub refused_at : Query → (ℕ → Position) → ℕ → List Refusal
 refused_at query positions worker =
-    refused_in (post_at query worker).op (taken_of (post_at query worker).role (positions worker))
-    ++ refused_groups (post_at query worker).op (worker_refuses (post_at query worker).role (positions worker))
+    refused_in (placement_at query worker).op (taken_of (placement_at query worker).role (positions worker))
+    ++ refused_groups (placement_at query worker).op (worker_refuses (placement_at query worker).role (positions worker))
 
 -- the rows of the last of so many workers
 unfoldable pub rows_before : Query → (ℕ → Position) → ℕ → List (List Value)
 rows_before query positions zero = []
 rows_before query positions (suc worker) =
-    let role = (post_at query worker).role in
+    let role = (placement_at query worker).role in
     sort_rows (kept_of role.task.kind role.task (taken_of role (positions worker)))
 
 -- an answer has what each worker has refused, and the rows of the last, wherever they stand

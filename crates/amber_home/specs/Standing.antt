@@ -6,7 +6,7 @@ use Rattle.amber_rows.specs.declared.batch.Batch.{Batch}
 use Rattle.amber_meaning.specs.Legal.{Query}
 use Rattle.amber_meaning.specs.Position.{Position, origin, taken_from}
 use Rattle.amber_worker.specs.Links.{waiting_from}
-use Rattle.amber_worker.specs.Stands.{Stands, first_orders, post_of}
+use Rattle.amber_worker.specs.Stands.{Stands, first_orders, placement_of}
 use Rattle.amber_worker.specs.WorkerState.{WorkerState, steps_in}
 use Rattle.amber_worker.specs.declared.duty.Duty.TheVariants as duty
 
@@ -48,7 +48,7 @@ sent_by crew positions sender receiver = taken_from (positions receiver).taken s
 pub record Standing (query : Query) (crew : List WorkerState) (positions : ℕ → Position) : Type 0 where
   pub all : length crew ≡ crew_of query.flow
   pub each : (worker : ℕ) → worker < crew_of query.flow
-      → Stands (post_of query.flow query.records query.size worker) (first_orders query.flow worker) (worker_state_at crew worker) origin (positions worker) (sent_by crew positions worker)
+      → Stands (placement_of query.flow query.records query.size worker) (first_orders query.flow worker) (worker_state_at crew worker) origin (positions worker) (sent_by crew positions worker)
 
 -- no batch waits to be moved into an inbox
 abbrev pub AreMoved : List WorkerState → Type 0

@@ -12,7 +12,7 @@ use Rattle.amber_scan.specs.declared.share.Scanned.{Scanned}
 use Rattle.amber_meaning.specs.ScanFiles.{is_headed}
 use Rattle.amber_meaning.specs.Plain.{list_at}
 use Rattle.amber_meaning.specs.Position.{origin}
-use Rattle.amber_worker.specs.Stands.{AreAlone, Stands, first_orders, post_of}
+use Rattle.amber_worker.specs.Stands.{AreAlone, Stands, first_orders, placement_of}
 use Rattle.amber_worker.specs.WorkerState.{WorkerState}
 use Rattle.amber_meaning.specs.Legal.{Query}
 use Rattle.amber_home.specs.Standing.{AreMoved, Standing}
@@ -47,7 +47,7 @@ AreEmpty w = All (λ one. one.waiting ≡ []) w.ins × All (λ one. one.waiting 
 -- a worker stands at the start, where these are the records of its operator
 abbrev pub StandsAt : List Operator → ℕ → ℕ → List (Result (List Value) RowFault) → WorkerState → Type 0
 StandsAt flow worker size own w = (records : List (List (Result (List Value) RowFault))) → list_at records (worker + 1) ≡ own
-    → Stands (post_of flow records size worker) (first_orders flow worker) w origin origin (λ _. [])
+    → Stands (placement_of flow records size worker) (first_orders flow worker) w origin origin (λ _. [])
 
 -- the workers of a run that has not begun: each stands at the start, and no batch waits
 pub record HasNotBegun (query : Query) (crew : List WorkerState) : Type 0 where

@@ -30,7 +30,7 @@ use Rattle.amber_link.specs.Incoming.{Incoming}
 use Rattle.amber_link.specs.Outgoing.{Outgoing}
 use Rattle.amber_worker.specs.Fields.{AreFew, IsInOrder, rest_in}
 use Rattle.amber_worker.specs.Made.{IsDutyOf, IsFresh, IsReceiver, fresh_inbox, fresh_inboxes, fresh_outbox, handing_operator, is_join}
-use Rattle.amber_worker.specs.Stands.{AreAlone, DoesKind, HasShare, HasTaken, Post, ReceiveAll, Receives, SendAll, Sends, Shows, Stands, first_orders, is_scan, kept_of, post_of}
+use Rattle.amber_worker.specs.Stands.{AreAlone, DoesKind, HasShare, HasTaken, Placement, ReceiveAll, Receives, SendAll, Sends, Shows, Stands, first_orders, is_scan, kept_of, placement_of}
 use Rattle.amber_worker.specs.WorkerState.{WorkerState}
 use Rattle.amber_worker.specs.declared.duty.Duty.{Duty}
 use Rattle.amber_worker.specs.declared.duty.Duty.TheVariants as duty
@@ -258,23 +258,23 @@ nothing-left zero = refl
 nothing-left (suc n) = refl
 
 -- nothing was made for a receiver
-sends-first : (post : Post) (receiver : ℕ) → 0 < post.size → ((row : List Value) → post.route row ≡ receiver) → Sends post receiver [] false [] (fresh_outbox post.size receiver)
+sends-first : (placement : Placement) (receiver : ℕ) → 0 < placement.size → ((row : List Value) → placement.route row ≡ receiver) → Sends placement receiver [] false [] (fresh_outbox placement.size receiver)
 unfolding chunks_of numbers_below
-sends-first post receiver some here = record {
+sends-first placement receiver some here = record {
   to = refl;
   size = refl;
   some = some;
   all_here = here;
   batches = rw zero-div refl;
-  made = λ open_still. sym (zero-div post.size);
-  partial = λ open_still. nothing-left (0 / post.size * post.size);
+  made = λ open_still. sym (zero-div placement.size);
+  partial = λ open_still. nothing-left (0 / placement.size * placement.size);
 }
 
-sends-all_first : (post : Post) (receiver : Option ℕ) → 0 < post.size → ((worker : ℕ) → receiver ≡ Some worker → (row : List Value) → post.route row ≡ worker)
-    → SendAll post (option_to_list receiver) [] false (λ _. []) (map (fresh_outbox post.size) (option_to_list receiver))
+sends-all_first : (placement : Placement) (receiver : Option ℕ) → 0 < placement.size → ((worker : ℕ) → receiver ≡ Some worker → (row : List Value) → placement.route row ≡ worker)
+    → SendAll placement (option_to_list receiver) [] false (λ _. []) (map (fresh_outbox placement.size) (option_to_list receiver))
 unfolding SendAll
-sends-all_first post None some here = tt
-sends-all_first post (Some worker) some here = (sends-first post worker some (here worker refl), tt)
+sends-all_first placement None some here = tt
+sends-all_first placement (Some worker) some here = (sends-first placement worker some (here worker refl), tt)
 
 no-senders : (kind : What) → is_scan kind ≡ true → senders_in kind ≡ []
 no-senders (what.Scan file) e = refl
@@ -299,8 +299,8 @@ shows-first : (flow : List Operator) (records : List (List (Result (List Value) 
     → IsFlow flow → AreAlone flow → worker < length flow → 0 < size → op_of flow worker ≡ worker + 1
     → is_some share ≡ is_scan (what_at flow (op_of flow worker))
     → HasShare share (role_of flow records worker) → IsFresh flow worker size share w
-    → Shows (post_of flow records size worker) (first_orders flow worker) w origin (λ _. [])
-unfolding post_of first_orders role_of task_of fed closing kept
+    → Shows (placement_of flow records size worker) (first_orders flow worker) w origin (λ _. [])
+unfolding placement_of first_orders role_of task_of fed closing kept
 shows-first flow records size worker share w is alone there some op shared has fresh =
     let kind : What = what_at flow (op_of flow worker) in
     let task : Task = task_of flow (op_of flow worker) in
@@ -348,9 +348,9 @@ shows-first flow records size worker share w is alone there some op shared has f
       finished = fresh.finished;
       ins = rw (fresh.ins, senders) (received-first kind apart inputs);
       outs =
-          let post : Post = post_of flow records size worker in
-          let O : List ℕ → Type 0 = λ receivers. SendAll post receivers [] false (λ _. []) (map (fresh_outbox size) (option_to_list fresh.receiver)) in
-          rw (fresh.outs, nothing) (subst O (sym known.0) (sends-all_first post fresh.receiver some known.1));
+          let placement : Placement = placement_of flow records size worker in
+          let O : List ℕ → Type 0 = λ receivers. SendAll placement receivers [] false (λ _. []) (map (fresh_outbox size) (option_to_list fresh.receiver)) in
+          rw (fresh.outs, nothing) (subst O (sym known.0) (sends-all_first placement fresh.receiver some known.1));
     }
 
 -- a worker that has done nothing stands at the beginning
@@ -358,7 +358,7 @@ pub fresh-stands : (flow : List Operator) (records : List (List (Result (List Va
     → IsFlow flow → AreAlone flow → worker < crew_of flow → 0 < size
     → is_some share ≡ is_scan (what_at flow (op_of flow worker))
     → HasShare share (role_of flow records worker) → IsFresh flow worker size share w
-    → Stands (post_of flow records size worker) (first_orders flow worker) w origin origin (λ _. [])
+    → Stands (placement_of flow records size worker) (first_orders flow worker) w origin origin (λ _. [])
 unfolding Leads AreEntries
 fresh-stands flow records size worker share w is alone below some shared has fresh =
     let there : worker < length flow = omega (arith, crew-alone flow alone) in

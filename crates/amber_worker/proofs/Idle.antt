@@ -11,7 +11,7 @@ use Rattle.amber_meaning.specs.Rules.{Orders}
 use Rattle.amber_meaning.specs.Task.{Task, is_builder}
 use Rattle.amber_link.specs.Incoming.{Incoming, has_some, have_all_ended, have_builders_ended, is_ready, may_come}
 use Rattle.amber_worker.specs.Links.{waiting_from}
-use Rattle.amber_worker.specs.Stands.{Post, ReceiveAll, Shows}
+use Rattle.amber_worker.specs.Stands.{Placement, ReceiveAll, Shows}
 use Rattle.amber_worker.specs.WorkerState.{WorkerState, answer_of, has_ready}
 use Rattle.amber_worker.specs.declared.turn.Turn.TheVariants as turn
 
@@ -115,20 +115,20 @@ idle_parts false false false false true h = cc
 idle_parts false false false false false h = (refl, refl)
 
 -- a worker of whose senders each last batch was taken or waits is never idle
-pub never_idle : (post : Post) (orders : Orders) (w : WorkerState) (p : Position) (sent : ℕ → List Batch) → Shows post orders w p sent
-    → ((sender : ℕ) → list_any (λ one. eqb one sender) post.role.senders ≡ true → has_marked (taken_from p.taken sender ++ waiting_from sender w.ins) ≡ true)
+pub never_idle : (placement : Placement) (orders : Orders) (w : WorkerState) (p : Position) (sent : ℕ → List Batch) → Shows placement orders w p sent
+    → ((sender : ℕ) → list_any (λ one. eqb one sender) placement.role.senders ≡ true → has_marked (taken_from p.taken sender ++ waiting_from sender w.ins) ≡ true)
     → answer_of w ≡ turn.Idle → ⊥
-never_idle post orders w p sent shows marked idle =
+never_idle placement orders w p sent shows marked idle =
     let parts = idle_parts w.finished (has_some w.pending) (has_some w.rest) (has_ready w.ins) (have_all_ended w.ins) idle in
-    let built = built_so post.role.task p.taken post.role.senders w.ins shows.ins shows.sides
+    let built = built_so placement.role.task p.taken placement.role.senders w.ins shows.ins shows.sides
     (λ sender member builds. last (have_builders_ended w.ins) parts.0 sender member (or_left _ _ builds) (has_last p.taken sender) refl) in
-    let ended = all_ended p.taken post.role.senders w.ins shows.ins
+    let ended = all_ended p.taken placement.role.senders w.ins shows.ins
     (λ sender member. last (have_builders_ended w.ins) parts.0 sender member (or_right _ _ built) (has_last p.taken sender) refl) in
     false≢true (sym parts.1 ∙ ended)
   where
-    last : (built : Bool) → list_any (may_come built) w.ins ≡ false → (sender : ℕ) → list_any (λ one. eqb one sender) post.role.senders ≡ true
-        → (is_builder post.role.task sender || built) ≡ true → (b : Bool) → has_last p.taken sender ≡ b → b ≡ true
+    last : (built : Bool) → list_any (may_come built) w.ins ≡ false → (sender : ℕ) → list_any (λ one. eqb one sender) placement.role.senders ≡ true
+        → (is_builder placement.role.task sender || built) ≡ true → (b : Bool) → has_last p.taken sender ≡ b → b ≡ true
     last built ready sender member side true e = refl
     last built ready sender member side false e =
-        let waits = none_waits post.role.task built p.taken post.role.senders w.ins sender shows.ins shows.sides side ready e in
+        let waits = none_waits placement.role.task built p.taken placement.role.senders w.ins sender shows.ins shows.sides side ready e in
         absurd (false≢true (sym e ∙ rw (waits, append-nil) at (marked sender member)))

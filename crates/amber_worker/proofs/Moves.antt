@@ -20,7 +20,7 @@ use Rattle.amber_meaning.specs.Views.{refusal_in, refused_in, rows_in, taken_of}
 use Rattle.amber_link.specs.Incoming.{Incoming, have_all_ended}
 use Rattle.amber_link.specs.Outgoing.{Outgoing, with_end, with_row}
 use Rattle.amber_worker.specs.Fields.{rows_moved}
-use Rattle.amber_worker.specs.Stands.{DoesKind, HasTaken, Keeps, Post, ReceiveAll, SendAll, Sends, Shows, kept_of, stream_to}
+use Rattle.amber_worker.specs.Stands.{DoesKind, HasTaken, Keeps, Placement, ReceiveAll, SendAll, Sends, Shows, kept_of, stream_to}
 use Rattle.amber_worker.specs.WorkerState.{WorkerState}
 use Rattle.amber_worker.specs.Steps.{Becomes, Closes, all_done, columns_at_hand, gives, gives_if, keeps, keeps_if, row_emitted, row_taken}
 use Rattle.amber_worker.specs.declared.duty.Duty.{Duty}
@@ -38,8 +38,8 @@ pub record IsWorking (w : WorkerState) : Type 0 where
   pub loose : w.held ≡ false
   pub few : All (λ one. rows_moved one < 2 ^ 63) w.journal
 
-pub free-shown : (post : Post) (orders : Orders) (w : WorkerState) (p : Position) (sent : ℕ → List Batch) → Shows post orders w p sent → IsWorking w → IsFree p
-free-shown post orders w p sent shows works = record {
+pub free-shown : (placement : Placement) (orders : Orders) (w : WorkerState) (p : Position) (sent : ℕ → List Batch) → Shows placement orders w p sent → IsWorking w → IsFree p
+free-shown placement orders w p sent shows works = record {
   running = sym shows.paused ∙ works.running;
   loose = sym shows.held ∙ works.loose;
   unfinished = sym shows.finished ∙ works.unfinished;
@@ -95,9 +95,9 @@ refused-more op taken one = flat_map-append _ taken (one ∷ []) ∙ ap (λ l. r
 -- ---- a row is taken
 
 -- the facts of a row that is taken
-record TakesOne (post : Post) (orders : Orders) (w : WorkerState) (p : Position) (sent : ℕ → List Batch) (one : Handed) (later : List Handed) (now : Duty)
+record TakesOne (placement : Placement) (orders : Orders) (w : WorkerState) (p : Position) (sent : ℕ → List Batch) (one : Handed) (later : List Handed) (now : Duty)
     (last : List (List Value)) : Type 0 where
-  shows : Shows post orders w p sent
+  shows : Shows placement orders w p sent
   rest : w.rest ≡ one ∷ later
   pending : w.pending ≡ []
   becomes : Becomes w.duty w.building (row_in (columns_at_hand w) one.what) now
@@ -108,33 +108,33 @@ abbrev with_one : Orders → Position → Position
 with_one orders p = went orders 1 0 p
 
 -- the side of what is at hand
-side-is : (post : Post) (orders : Orders) (w : WorkerState) (p : Position) (sent : ℕ → List Batch) (one : Handed) (later : List Handed) (now : Duty) (last : List (List Value))
-    → TakesOne post orders w p sent one later now last → All (λ other. is_builder post.role.task other.from ≡ w.building) (one ∷ later)
-side-is post orders w p sent one later now last takes = rw takes.rest at takes.shows.building
+side-is : (placement : Placement) (orders : Orders) (w : WorkerState) (p : Position) (sent : ℕ → List Batch) (one : Handed) (later : List Handed) (now : Duty) (last : List (List Value))
+    → TakesOne placement orders w p sent one later now last → All (λ other. is_builder placement.role.task other.from ≡ w.building) (one ∷ later)
+side-is placement orders w p sent one later now last takes = rw takes.rest at takes.shows.building
 
 -- the row at hand, if it suits
-found-is : (post : Post) (orders : Orders) (w : WorkerState) (p : Position) (sent : ℕ → List Batch) (one : Handed) (later : List Handed) (now : Duty) (last : List (List Value))
-    → TakesOne post orders w p sent one later now last → row_in (columns_at_hand w) one.what ≡ suiting post.role.task one
-found-is post orders w p sent one later now last takes =
-    let builds : is_builder post.role.task one.from ≡ w.building = side-is post orders w p sent one later now last takes 0 one (omega arith) in
+found-is : (placement : Placement) (orders : Orders) (w : WorkerState) (p : Position) (sent : ℕ → List Batch) (one : Handed) (later : List Handed) (now : Duty) (last : List (List Value))
+    → TakesOne placement orders w p sent one later now last → row_in (columns_at_hand w) one.what ≡ suiting placement.role.task one
+found-is placement orders w p sent one later now last takes =
+    let builds : is_builder placement.role.task one.from ≡ w.building = side-is placement orders w p sent one later now last takes 0 one (omega arith) in
     ap (λ (columns : List Column). row_in columns one.what) (same w.building builds)
   where
-    same : (b : Bool) → is_builder post.role.task one.from ≡ b → (if b then w.build_columns else w.columns) ≡ columns_from post.role.task one.from
+    same : (b : Bool) → is_builder placement.role.task one.from ≡ b → (if b then w.build_columns else w.columns) ≡ columns_from placement.role.task one.from
     same true e = takes.shows.build_columns ∙ rw e refl
     same false e = takes.shows.columns ∙ rw e refl
 
 -- what is kept becomes what the task says
-becomes-is : (post : Post) (orders : Orders) (w : WorkerState) (p : Position) (sent : ℕ → List Batch) (one : Handed) (later : List Handed) (now : Duty) (last : List (List Value))
-    → TakesOne post orders w p sent one later now last → Becomes w.duty (is_builder post.role.task one.from) (suiting post.role.task one) now
-becomes-is post orders w p sent one later now last takes =
-    let builds : is_builder post.role.task one.from ≡ w.building = side-is post orders w p sent one later now last takes 0 one (omega arith) in
+becomes-is : (placement : Placement) (orders : Orders) (w : WorkerState) (p : Position) (sent : ℕ → List Batch) (one : Handed) (later : List Handed) (now : Duty) (last : List (List Value))
+    → TakesOne placement orders w p sent one later now last → Becomes w.duty (is_builder placement.role.task one.from) (suiting placement.role.task one) now
+becomes-is placement orders w p sent one later now last takes =
+    let builds : is_builder placement.role.task one.from ≡ w.building = side-is placement orders w p sent one later now last takes 0 one (omega arith) in
     let P : Option (List Value) → Type 0 = λ found. Becomes w.duty w.building found now in
-    let Q : Bool → Type 0 = λ b. Becomes w.duty b (suiting post.role.task one) now in
-    subst Q (sym builds) (subst P (found-is post orders w p sent one later now last takes) takes.becomes)
+    let Q : Bool → Type 0 = λ b. Becomes w.duty b (suiting placement.role.task one) now in
+    subst Q (sym builds) (subst P (found-is placement orders w p sent one later now last takes) takes.becomes)
 
-taken-now : (post : Post) (orders : Orders) (w : WorkerState) (p : Position) (sent : ℕ → List Batch) (one : Handed) (later : List Handed) (now : Duty) (last : List (List Value))
-    → TakesOne post orders w p sent one later now last → take (length p.constants + 1) (fed post.role p.taken) ≡ taken_of post.role p ++ one ∷ []
-taken-now post orders w p sent one later now last takes = take-next (length p.constants) (fed post.role p.taken) one later (sym takes.shows.rest ∙ takes.rest)
+taken-now : (placement : Placement) (orders : Orders) (w : WorkerState) (p : Position) (sent : ℕ → List Batch) (one : Handed) (later : List Handed) (now : Duty) (last : List (List Value))
+    → TakesOne placement orders w p sent one later now last → take (length p.constants + 1) (fed placement.role p.taken) ≡ taken_of placement.role p ++ one ∷ []
+taken-now placement orders w p sent one later now last takes = take-next (length p.constants) (fed placement.role p.taken) one later (sym takes.shows.rest ∙ takes.rest)
 
 pub all-ended : (senders : List ℕ) (taken : List Taken) (ins : List Incoming) → ReceiveAll senders taken ins → have_all_ended ins ≡ have_ended senders taken
 unfolding ReceiveAll have_ended
@@ -150,84 +150,84 @@ closing-same true kind task handed all same = ap (λ l. closing_rows kind (filte
 closing-same false kind task handed all same = refl
 
 -- nothing more can come behind this row
-over-is : (post : Post) (orders : Orders) (w : WorkerState) (p : Position) (sent : ℕ → List Batch) (one : Handed) (later : List Handed) (now : Duty) (last : List (List Value))
-    → TakesOne post orders w p sent one later now last → (eqb (length w.rest) 1 && have_all_ended w.ins) ≡ is_complete post.role p.taken (length p.constants + 1)
-over-is post orders w p sent one later now last takes =
+over-is : (placement : Placement) (orders : Orders) (w : WorkerState) (p : Position) (sent : ℕ → List Batch) (one : Handed) (later : List Handed) (now : Duty) (last : List (List Value))
+    → TakesOne placement orders w p sent one later now last → (eqb (length w.rest) 1 && have_all_ended w.ins) ≡ is_complete placement.role p.taken (length p.constants + 1)
+over-is placement orders w p sent one later now last takes =
     let shows = takes.shows in
-    let within = left-within (length p.constants) (fed post.role p.taken) one later (sym shows.rest ∙ takes.rest) in
-    let left : length w.rest ≡ length (fed post.role p.taken) - length p.constants = ap length shows.rest ∙ length-drop (length p.constants) (fed post.role p.taken) in
+    let within = left-within (length p.constants) (fed placement.role p.taken) one later (sym shows.rest ∙ takes.rest) in
+    let left : length w.rest ≡ length (fed placement.role p.taken) - length p.constants = ap length shows.rest ∙ length-drop (length p.constants) (fed placement.role p.taken) in
     and-turned (eqb (length w.rest) 1) (have_all_ended w.ins)
-    ∙ ap (λ b. b && eqb (length w.rest) 1) (all-ended post.role.senders p.taken w.ins shows.ins)
-    ∙ ap (λ b. have_ended post.role.senders p.taken && b)
-    (same-test (length w.rest) 1 (length p.constants + 1) (length (fed post.role p.taken)) (λ e. omega arith) (λ e. omega arith))
+    ∙ ap (λ b. b && eqb (length w.rest) 1) (all-ended placement.role.senders p.taken w.ins shows.ins)
+    ∙ ap (λ b. have_ended placement.role.senders p.taken && b)
+    (same-test (length w.rest) 1 (length p.constants + 1) (length (fed placement.role p.taken)) (λ e. omega arith) (λ e. omega arith))
 
 -- the rows that are given at the end
-last-is : (post : Post) (orders : Orders) (w : WorkerState) (p : Position) (sent : ℕ → List Batch) (one : Handed) (later : List Handed) (now : Duty) (last : List (List Value))
-    → TakesOne post orders w p sent one later now last
-    → last ≡ (if is_complete post.role p.taken (length p.constants + 1) then closing post.role.task (fed post.role p.taken) else [])
+last-is : (placement : Placement) (orders : Orders) (w : WorkerState) (p : Position) (sent : ℕ → List Batch) (one : Handed) (later : List Handed) (now : Duty) (last : List (List Value))
+    → TakesOne placement orders w p sent one later now last
+    → last ≡ (if is_complete placement.role p.taken (length p.constants + 1) then closing placement.role.task (fed placement.role p.taken) else [])
 unfolding closing
-last-is post orders w p sent one later now last takes =
+last-is placement orders w p sent one later now last takes =
     let shows = takes.shows in
-    let task : Task = post.role.task in
-    let becomes = becomes-is post orders w p sent one later now last takes in
-    let does = does-more w.duty now (is_builder task one.from) (suiting task one) task.kind orders.constants post.role becomes shows.duty in
-    let has = has-more w.duty now task (taken_of post.role p) one becomes shows.state in
-    let over = over-is post orders w p sent one later now last takes in
-    closing-is now task.kind orders.constants post.role task (taken_of post.role p ++ one ∷ []) (is_complete post.role p.taken (length p.constants + 1)) last does has
+    let task : Task = placement.role.task in
+    let becomes = becomes-is placement orders w p sent one later now last takes in
+    let does = does-more w.duty now (is_builder task one.from) (suiting task one) task.kind orders.constants placement.role becomes shows.duty in
+    let has = has-more w.duty now task (taken_of placement.role p) one becomes shows.state in
+    let over = over-is placement orders w p sent one later now last takes in
+    closing-is now task.kind orders.constants placement.role task (taken_of placement.role p ++ one ∷ []) (is_complete placement.role p.taken (length p.constants + 1)) last does has
     (subst (λ b. Closes now b last) over takes.closes)
-    ∙ closing-same (is_complete post.role p.taken (length p.constants + 1)) task.kind task (taken_of post.role p ++ one ∷ []) (fed post.role p.taken)
-    (λ e. let end = and_parts (have_ended post.role.senders p.taken) _ e in
-    let here = eqb-true (length p.constants + 1) (length (fed post.role p.taken)) end.1 in
-    sym (taken-now post orders w p sent one later now last takes) ∙ take_all (length p.constants + 1) (fed post.role p.taken) (omega arith))
+    ∙ closing-same (is_complete placement.role p.taken (length p.constants + 1)) task.kind task (taken_of placement.role p ++ one ∷ []) (fed placement.role p.taken)
+    (λ e. let end = and_parts (have_ended placement.role.senders p.taken) _ e in
+    let here = eqb-true (length p.constants + 1) (length (fed placement.role p.taken)) end.1 in
+    sym (taken-now placement orders w p sent one later now last takes) ∙ take_all (length p.constants + 1) (fed placement.role p.taken) (omega arith))
 
 -- what was produced with this row
-product-one : (post : Post) (orders : Orders) (w : WorkerState) (p : Position) (sent : ℕ → List Batch) (one : Handed) (later : List Handed) (now : Duty) (last : List (List Value))
-    → TakesOne post orders w p sent one later now last
-    → product post.role p.taken (p.constants ++ orders.constants ∷ [])
-    ≡ product post.role p.taken p.constants ++ (gives_if w.duty w.building (row_in (columns_at_hand w) one.what) ++ last)
-product-one post orders w p sent one later now last takes =
+product-one : (placement : Placement) (orders : Orders) (w : WorkerState) (p : Position) (sent : ℕ → List Batch) (one : Handed) (later : List Handed) (now : Duty) (last : List (List Value))
+    → TakesOne placement orders w p sent one later now last
+    → product placement.role p.taken (p.constants ++ orders.constants ∷ [])
+    ≡ product placement.role p.taken p.constants ++ (gives_if w.duty w.building (row_in (columns_at_hand w) one.what) ++ last)
+product-one placement orders w p sent one later now last takes =
     let shows = takes.shows in
-    let task : Task = post.role.task in
-    let left : drop (length p.constants) (fed post.role p.taken) ≡ one ∷ later = sym shows.rest ∙ takes.rest in
-    let within = left-within (length p.constants) (fed post.role p.taken) one later left in
+    let task : Task = placement.role.task in
+    let left : drop (length p.constants) (fed placement.role p.taken) ≡ one ∷ later = sym shows.rest ∙ takes.rest in
+    let within = left-within (length p.constants) (fed placement.role p.taken) one later left in
     let more : length (p.constants ++ orders.constants ∷ []) ≡ length p.constants + 1 = omega (arith, length-append p.constants (orders.constants ∷ [])) in
-    let builds : is_builder task one.from ≡ w.building = side-is post orders w p sent one later now last takes 0 one (omega arith) in
-    let gives : yields task (take (length p.constants) (fed post.role p.taken)) one orders.constants ≡ gives_if w.duty w.building (row_in (columns_at_hand w) one.what) =
-    yields-all w.duty task orders.constants post.role (taken_of post.role p) one shows.duty shows.state
+    let builds : is_builder task one.from ≡ w.building = side-is placement orders w p sent one later now last takes 0 one (omega arith) in
+    let gives : yields task (take (length p.constants) (fed placement.role p.taken)) one orders.constants ≡ gives_if w.duty w.building (row_in (columns_at_hand w) one.what) =
+    yields-all w.duty task orders.constants placement.role (taken_of placement.role p) one shows.duty shows.state
     ∙ ap (λ b. gives_if w.duty b (suiting task one)) builds
-    ∙ ap (λ found. gives_if w.duty w.building found) (sym (found-is post orders w p sent one later now last takes)) in
-    let before : produce task [] (fed post.role p.taken) p.constants ≡ product post.role p.taken p.constants =
-    sym (product-open post.role p.taken p.constants (not-complete post.role p.taken (length p.constants) (omega arith))) in
-    product-is post.role p.taken (p.constants ++ orders.constants ∷ [])
-    ∙ rw (more, produce-next task [] (fed post.role p.taken) p.constants one later orders.constants left, gives, before, ← last-is post orders w p sent one later now last takes)
-    (append_assoc (product post.role p.taken p.constants) (gives_if w.duty w.building (row_in (columns_at_hand w) one.what)) last)
+    ∙ ap (λ found. gives_if w.duty w.building found) (sym (found-is placement orders w p sent one later now last takes)) in
+    let before : produce task [] (fed placement.role p.taken) p.constants ≡ product placement.role p.taken p.constants =
+    sym (product-open placement.role p.taken p.constants (not-complete placement.role p.taken (length p.constants) (omega arith))) in
+    product-is placement.role p.taken (p.constants ++ orders.constants ∷ [])
+    ∙ rw (more, produce-next task [] (fed placement.role p.taken) p.constants one later orders.constants left, gives, before, ← last-is placement orders w p sent one later now last takes)
+    (append_assoc (product placement.role p.taken p.constants) (gives_if w.duty w.building (row_in (columns_at_hand w) one.what)) last)
 
 -- all that was produced is gone
-pub all-gone : (post : Post) (orders : Orders) (w : WorkerState) (p : Position) (sent : ℕ → List Batch) → Shows post orders w p sent → w.pending ≡ []
-    → length p.fates ≡ length (product post.role p.taken p.constants)
-all-gone post orders w p sent shows none =
-    let gone = left-nothing (length p.fates) (product post.role p.taken p.constants) (sym shows.pending ∙ none) in
+pub all-gone : (placement : Placement) (orders : Orders) (w : WorkerState) (p : Position) (sent : ℕ → List Batch) → Shows placement orders w p sent → w.pending ≡ []
+    → length p.fates ≡ length (product placement.role p.taken p.constants)
+all-gone placement orders w p sent shows none =
+    let gone = left-nothing (length p.fates) (product placement.role p.taken p.constants) (sym shows.pending ∙ none) in
     let within = shows.produced in
     omega arith
 
-may-take_row : (post : Post) (orders : Orders) (w : WorkerState) (p : Position) (sent : ℕ → List Batch) (one : Handed) (later : List Handed) (now : Duty) (last : List (List Value))
-    → TakesOne post orders w p sent one later now last → IsWorking w → MayGo post.role orders p 1 0
-may-take_row post orders w p sent one later now_does last takes works =
+may-take_row : (placement : Placement) (orders : Orders) (w : WorkerState) (p : Position) (sent : ℕ → List Batch) (one : Handed) (later : List Handed) (now : Duty) (last : List (List Value))
+    → TakesOne placement orders w p sent one later now last → IsWorking w → MayGo placement.role orders p 1 0
+may-take_row placement orders w p sent one later now_does last takes works =
     let shows = takes.shows in
-    let within = left-within (length p.constants) (fed post.role p.taken) one later (sym shows.rest ∙ takes.rest) in
-    let gone = all-gone post orders w p sent shows takes.pending in
-    let before : produced_with post.role orders p 0 ≡ length (product post.role p.taken p.constants) =
-    ap (λ (constants : List (List Value)). length (product post.role p.taken constants)) (append-nil p.constants) in
-    let now = ap length (product-one post orders w p sent one later now_does last takes) in
-    let lengths = length-append (product post.role p.taken p.constants) (gives_if w.duty w.building (row_in (columns_at_hand w) one.what) ++ last) in
+    let within = left-within (length p.constants) (fed placement.role p.taken) one later (sym shows.rest ∙ takes.rest) in
+    let gone = all-gone placement orders w p sent shows takes.pending in
+    let before : produced_with placement.role orders p 0 ≡ length (product placement.role p.taken p.constants) =
+    ap (λ (constants : List (List Value)). length (product placement.role p.taken constants)) (append-nil p.constants) in
+    let now = ap length (product-one placement orders w p sent one later now_does last takes) in
+    let lengths = length-append (product placement.role p.taken p.constants) (gives_if w.duty w.building (row_in (columns_at_hand w) one.what) ++ last) in
     record {
-      free = free-shown post orders w p sent shows works;
+      free = free-shown placement orders w p sent shows works;
       within = within;
       produced = omega arith;
       drained = λ some. omega arith;
       in_hand = λ counted. absurd (not_counted orders shows.plain counted);
       before_taking = λ counted. absurd (not_counted orders shows.plain counted);
-      no_stop = passes orders p.waved (take 0 (drop (length p.fates) (product_with post.role orders p 1))) shows.plain;
+      no_stop = passes orders p.waved (take 0 (drop (length p.fates) (product_with placement.role orders p 1))) shows.plain;
     }
 
 both_true : (b : Bool) → (b && true) ≡ b
@@ -238,43 +238,43 @@ both_false : (b : Bool) → (b && false) ≡ false
 both_false true = refl
 both_false false = refl
 
-shows-row_taken : (post : Post) (orders : Orders) (w : WorkerState) (p : Position) (sent : ℕ → List Batch) (one : Handed) (later : List Handed) (now : Duty) (last : List (List Value))
-    → TakesOne post orders w p sent one later now last → Shows post orders (row_taken one later now last w) (with_one orders p) sent
-shows-row_taken post orders w p sent one later now last takes =
+shows-row_taken : (placement : Placement) (orders : Orders) (w : WorkerState) (p : Position) (sent : ℕ → List Batch) (one : Handed) (later : List Handed) (now : Duty) (last : List (List Value))
+    → TakesOne placement orders w p sent one later now last → Shows placement orders (row_taken one later now last w) (with_one orders p) sent
+shows-row_taken placement orders w p sent one later now last takes =
     let shows = takes.shows in
-    let task : Task = post.role.task in
-    let left : drop (length p.constants) (fed post.role p.taken) ≡ one ∷ later = sym shows.rest ∙ takes.rest in
-    let within = left-within (length p.constants) (fed post.role p.taken) one later left in
+    let task : Task = placement.role.task in
+    let left : drop (length p.constants) (fed placement.role p.taken) ≡ one ∷ later = sym shows.rest ∙ takes.rest in
+    let within = left-within (length p.constants) (fed placement.role p.taken) one later left in
     let more : length (p.constants ++ orders.constants ∷ []) ≡ length p.constants + 1 = omega (arith, length-append p.constants (orders.constants ∷ [])) in
-    let grown = product-one post orders w p sent one later now last takes in
-    let gone = all-gone post orders w p sent shows takes.pending in
+    let grown = product-one placement orders w p sent one later now last takes in
+    let gone = all-gone placement orders w p sent shows takes.pending in
     let no_fate : p.fates ++ [] ≡ p.fates = append-nil p.fates in
-    let still : length p.fates ≤ length (product post.role p.taken p.constants) = shows.produced in
-    let lengths = length-append (product post.role p.taken p.constants) (gives_if w.duty w.building (row_in (columns_at_hand w) one.what) ++ last) in
-    let now_taken : take (length (p.constants ++ orders.constants ∷ [])) (fed post.role p.taken) ≡ taken_of post.role p ++ one ∷ [] =
-    rw more (taken-now post orders w p sent one later now last takes) in
-    let becomes = becomes-is post orders w p sent one later now last takes in
-    let found = found-is post orders w p sent one later now last takes in
+    let still : length p.fates ≤ length (product placement.role p.taken p.constants) = shows.produced in
+    let lengths = length-append (product placement.role p.taken p.constants) (gives_if w.duty w.building (row_in (columns_at_hand w) one.what) ++ last) in
+    let now_taken : take (length (p.constants ++ orders.constants ∷ [])) (fed placement.role p.taken) ≡ taken_of placement.role p ++ one ∷ [] =
+    rw more (taken-now placement orders w p sent one later now last takes) in
+    let becomes = becomes-is placement orders w p sent one later now last takes in
+    let found = found-is placement orders w p sent one later now last takes in
     record {
       op = shows.op;
       number = shows.number;
-      duty = does-more w.duty now (is_builder task one.from) (suiting task one) task.kind orders.constants post.role becomes shows.duty;
-      state = rw now_taken (has-more w.duty now task (taken_of post.role p) one becomes shows.state);
+      duty = does-more w.duty now (is_builder task one.from) (suiting task one) task.kind orders.constants placement.role becomes shows.duty;
+      state = rw now_taken (has-more w.duty now task (taken_of placement.role p) one becomes shows.state);
       columns = shows.columns;
       build_columns = shows.build_columns;
       sides = shows.sides;
       builders = shows.builders;
-      building = λ k d less. side-is post orders w p sent one later now last takes (suc k) d (omega arith);
+      building = λ k d less. side-is placement orders w p sent one later now last takes (suc k) d (omega arith);
       plain = shows.plain;
-      rest = sym (rw more (left-next (length p.constants) (fed post.role p.taken) one later left));
-      pending = rw (takes.pending, no_fate, grown) (sym (left-behind (length p.fates) (product post.role p.taken p.constants) _ gone));
+      rest = sym (rw more (left-next (length p.constants) (fed placement.role p.taken) one later left));
+      pending = rw (takes.pending, no_fate, grown) (sym (left-behind (length p.fates) (product placement.role p.taken p.constants) _ gone));
       taken = rw (more, shows.taken) refl;
       emitted = rw no_fate shows.emitted;
       batches = shows.batches;
       within = rw more within;
       produced = rw (no_fate, grown) (omega arith);
-      refused = rw (shows.refused, shows.op, now_taken) (sym (refused-more post.op (taken_of post.role p) one));
-      kept = rw (shows.kept, found, now_taken) (sym (kept-more w.duty task task.kind orders.constants post.role (taken_of post.role p) one shows.duty));
+      refused = rw (shows.refused, shows.op, now_taken) (sym (refused-more placement.op (taken_of placement.role p) one));
+      kept = rw (shows.kept, found, now_taken) (sym (kept-more w.duty task task.kind orders.constants placement.role (taken_of placement.role p) one shows.duty));
       hand = rw (shows.plain.uncounted) shows.hand;
       held = shows.held;
       waved = shows.waved ∙ sym (both_true p.waved);
@@ -289,13 +289,13 @@ pub Keeps-row_taken : (w : WorkerState) (one : Handed) (later : List Handed) (no
     → Becomes w.duty w.building (row_in (columns_at_hand w) one.what) now → Closes now (eqb (length w.rest) 1 && have_all_ended w.ins) last
     → IsWorking w → Keeps w (row_taken one later now last w)
 unfolding Keeps
-Keeps-row_taken w one later now last rest pending becomes closes works post orders start p sent stands =
-    let takes : TakesOne post orders w p sent one later now last = record { shows = stands.shows; rest = rest; pending = pending; becomes = becomes; closes = closes } in (
+Keeps-row_taken w one later now last rest pending becomes closes works placement orders start p sent stands =
+    let takes : TakesOne placement orders w p sent one later now last = record { shows = stands.shows; rest = rest; pending = pending; becomes = becomes; closes = closes } in (
       with_one orders p,
       record {
-        leads = Leads-row post.role orders start w.journal p stands.shows.plain stands.leads (may-take_row post orders w p sent one later now last takes works);
+        leads = Leads-row placement.role orders start w.journal p stands.shows.plain stands.leads (may-take_row placement orders w p sent one later now last takes works);
         text = AreEntries-with_go w.journal 1 0 stands.text works.few refl;
-        shows = shows-row_taken post orders w p sent one later now last takes;
+        shows = shows-row_taken placement orders w p sent one later now last takes;
       },
       λ sender. refl,
     )
@@ -306,28 +306,28 @@ not-equal : (a b : ℕ) → eqb a b ≡ false → a ≡ b → ⊥
 not-equal a b e same = false≢true (sym e ∙ eq-eqb a b same)
 
 -- a row more goes to a receiver
-sends-row : (post : Post) (receiver : ℕ) (rows : List (List Value)) (row : List Value) (sent : List Batch) (one : Outgoing) → Sends post receiver rows false sent one
-    → Sends post receiver (rows ++ row ∷ []) false sent (with_row row one)
-sends-row post receiver rows row sent one sends = by (eqb (length one.partial + 1) one.size) refl
+sends-row : (placement : Placement) (receiver : ℕ) (rows : List (List Value)) (row : List Value) (sent : List Batch) (one : Outgoing) → Sends placement receiver rows false sent one
+    → Sends placement receiver (rows ++ row ∷ []) false sent (with_row row one)
+sends-row placement receiver rows row sent one sends = by (eqb (length one.partial + 1) one.size) refl
   where
     stream : List (List Value)
-    stream = stream_to post receiver rows
+    stream = stream_to placement receiver rows
 
-    here : filter (λ (other : List Value). eqb (post.route other) receiver) (row ∷ []) ≡ row ∷ []
+    here : filter (λ (other : List Value). eqb (placement.route other) receiver) (row ∷ []) ≡ row ∷ []
     here = rw (sends.all_here row, eq-eqb receiver receiver refl) refl
 
-    grown : stream_to post receiver (rows ++ row ∷ []) ≡ stream_to post receiver rows ++ row ∷ []
-    grown = filter-append _ rows (row ∷ []) ∙ ap (λ l. stream_to post receiver rows ++ l) here
+    grown : stream_to placement receiver (rows ++ row ∷ []) ≡ stream_to placement receiver rows ++ row ∷ []
+    grown = filter-append _ rows (row ∷ []) ∙ ap (λ l. stream_to placement receiver rows ++ l) here
 
     by : (b : Bool) → eqb (length one.partial + 1) one.size ≡ b
-        → Sends post receiver (rows ++ row ∷ []) false sent
+        → Sends placement receiver (rows ++ row ∷ []) false sent
         (if b then record one { made = one.made + 1; waiting = one.waiting ++ record { seq = one.made; rows = one.partial ++ row ∷ []; last = false } ∷ []; partial = [] }
         else record one { partial = one.partial ++ row ∷ [] })
     by true e =
         let size = sends.size in
         let left = ap length (sends.partial refl) in
-        let fills : length (left_over post.size (stream_to post receiver rows)) + 1 ≡ post.size = let full = eqb-true (length one.partial + 1) one.size e in omega arith in
-        let full = chunks-full post.size (stream_to post receiver rows) row fills in
+        let fills : length (left_over placement.size (stream_to placement receiver rows)) + 1 ≡ placement.size = let full = eqb-true (length one.partial + 1) one.size e in omega arith in
+        let full = chunks-full placement.size (stream_to placement receiver rows) row fills in
         record {
           to = sends.to;
           size = sends.size;
@@ -340,9 +340,9 @@ sends-row post receiver rows row sent one sends = by (eqb (length one.partial + 
     by false e =
         let size = sends.size in
         let left = ap length (sends.partial refl) in
-        let few = left_over-few post.size (stream_to post receiver rows) sends.some in
-        let open_still : length (left_over post.size (stream_to post receiver rows)) + 1 < post.size = let other = not-equal (length one.partial + 1) one.size e in omega arith in
-        let more = chunks-more post.size (stream_to post receiver rows) row open_still in
+        let few = left_over-few placement.size (stream_to placement receiver rows) sends.some in
+        let open_still : length (left_over placement.size (stream_to placement receiver rows)) + 1 < placement.size = let other = not-equal (length one.partial + 1) one.size e in omega arith in
+        let more = chunks-more placement.size (stream_to placement receiver rows) row open_still in
         record {
           to = sends.to;
           size = sends.size;
@@ -353,45 +353,45 @@ sends-row post receiver rows row sent one sends = by (eqb (length one.partial + 
           partial = λ open_still. rw grown (ap (λ l. l ++ row ∷ []) (sends.partial refl) ∙ sym more.2);
         }
 
-send_all-row : (post : Post) (receivers : List ℕ) (rows : List (List Value)) (row : List Value) (sent : ℕ → List Batch) (outs : List Outgoing)
-    → SendAll post receivers rows false sent outs → SendAll post receivers (rows ++ row ∷ []) false sent (map (with_row row) outs)
+send_all-row : (placement : Placement) (receivers : List ℕ) (rows : List (List Value)) (row : List Value) (sent : ℕ → List Batch) (outs : List Outgoing)
+    → SendAll placement receivers rows false sent outs → SendAll placement receivers (rows ++ row ∷ []) false sent (map (with_row row) outs)
 unfolding SendAll
-send_all-row post [] rows row sent [] h = tt
-send_all-row post [] rows row sent (one ∷ outs) h = absurd h
-send_all-row post (receiver ∷ receivers) rows row sent [] h = absurd h
-send_all-row post (receiver ∷ receivers) rows row sent (one ∷ outs) h =
-    (sends-row post receiver rows row (sent receiver) one h.0, send_all-row post receivers rows row sent outs h.1)
+send_all-row placement [] rows row sent [] h = tt
+send_all-row placement [] rows row sent (one ∷ outs) h = absurd h
+send_all-row placement (receiver ∷ receivers) rows row sent [] h = absurd h
+send_all-row placement (receiver ∷ receivers) rows row sent (one ∷ outs) h =
+    (sends-row placement receiver rows row (sent receiver) one h.0, send_all-row placement receivers rows row sent outs h.1)
 
 -- nothing is at its end that works
-open-outs : (post : Post) (orders : Orders) (w : WorkerState) (p : Position) (sent : ℕ → List Batch) → Shows post orders w p sent → IsWorking w
-    → SendAll post post.receivers (emitted_rows post.role p) false sent w.outs
-open-outs post orders w p sent shows works =
+open-outs : (placement : Placement) (orders : Orders) (w : WorkerState) (p : Position) (sent : ℕ → List Batch) → Shows placement orders w p sent → IsWorking w
+    → SendAll placement placement.receivers (emitted_rows placement.role p) false sent w.outs
+open-outs placement orders w p sent shows works =
     let open_still : p.finished ≡ false = sym shows.finished ∙ works.unfinished in
-    let P : Bool → Type 0 = λ ended. SendAll post post.receivers (emitted_rows post.role p) ended sent w.outs in
+    let P : Bool → Type 0 = λ ended. SendAll placement placement.receivers (emitted_rows placement.role p) ended sent w.outs in
     subst P open_still shows.outs
 
-may-emit_row : (post : Post) (orders : Orders) (w : WorkerState) (p : Position) (sent : ℕ → List Batch) (row : List Value) (later : List (List Value))
-    → Shows post orders w p sent → w.pending ≡ row ∷ later → IsWorking w → MayGo post.role orders p 0 1
-may-emit_row post orders w p sent row later shows pending works =
-    let produced = left-within (length p.fates) (product post.role p.taken p.constants) row later (sym shows.pending ∙ pending) in
-    let same : produced_with post.role orders p 0 ≡ length (product post.role p.taken p.constants) =
-    ap (λ (constants : List (List Value)). length (product post.role p.taken constants)) (append-nil p.constants) in
+may-emit_row : (placement : Placement) (orders : Orders) (w : WorkerState) (p : Position) (sent : ℕ → List Batch) (row : List Value) (later : List (List Value))
+    → Shows placement orders w p sent → w.pending ≡ row ∷ later → IsWorking w → MayGo placement.role orders p 0 1
+may-emit_row placement orders w p sent row later shows pending works =
+    let produced = left-within (length p.fates) (product placement.role p.taken p.constants) row later (sym shows.pending ∙ pending) in
+    let same : produced_with placement.role orders p 0 ≡ length (product placement.role p.taken p.constants) =
+    ap (λ (constants : List (List Value)). length (product placement.role p.taken constants)) (append-nil p.constants) in
     let within = shows.within in
     record {
-      free = free-shown post orders w p sent shows works;
+      free = free-shown placement orders w p sent shows works;
       within = omega arith;
       produced = omega arith;
       drained = λ none. absurd (omega arith);
       in_hand = λ counted. absurd (not_counted orders shows.plain counted);
       before_taking = λ counted. absurd (not_counted orders shows.plain counted);
-      no_stop = passes orders p.waved (take 1 (drop (length p.fates) (product_with post.role orders p 0))) shows.plain;
+      no_stop = passes orders p.waved (take 1 (drop (length p.fates) (product_with placement.role orders p 0))) shows.plain;
     }
 
-shows-row_emitted : (post : Post) (orders : Orders) (w : WorkerState) (p : Position) (sent : ℕ → List Batch) (row : List Value) (later : List (List Value))
-    → Shows post orders w p sent → w.pending ≡ row ∷ later → IsWorking w → Shows post orders (row_emitted row later w) (went orders 0 1 p) sent
-shows-row_emitted post orders w p sent row later shows pending works =
-    let left : drop (length p.fates) (product post.role p.taken p.constants) ≡ row ∷ later = sym shows.pending ∙ pending in
-    let produced = left-within (length p.fates) (product post.role p.taken p.constants) row later left in
+shows-row_emitted : (placement : Placement) (orders : Orders) (w : WorkerState) (p : Position) (sent : ℕ → List Batch) (row : List Value) (later : List (List Value))
+    → Shows placement orders w p sent → w.pending ≡ row ∷ later → IsWorking w → Shows placement orders (row_emitted row later w) (went orders 0 1 p) sent
+shows-row_emitted placement orders w p sent row later shows pending works =
+    let left : drop (length p.fates) (product placement.role p.taken p.constants) ≡ row ∷ later = sym shows.pending ∙ pending in
+    let produced = left-within (length p.fates) (product placement.role p.taken p.constants) row later left in
     let no_row : p.constants ++ [] ≡ p.constants = append-nil p.constants in
     let more : length (p.fates ++ true ∷ []) ≡ length p.fates + 1 = omega (arith, length-append p.fates (true ∷ [])) in
     let counted = sum_by_push (λ fate. if is_emitted fate then 1 else 0) p.fates true in
@@ -408,7 +408,7 @@ shows-row_emitted post orders w p sent row later shows pending works =
       building = shows.building;
       plain = shows.plain;
       rest = rw no_row shows.rest;
-      pending = rw (no_row, more) (sym (left-next (length p.fates) (product post.role p.taken p.constants) row later left));
+      pending = rw (no_row, more) (sym (left-next (length p.fates) (product placement.role p.taken p.constants) row later left));
       taken = rw no_row shows.taken;
       emitted = let before = shows.emitted in omega arith;
       batches = shows.batches;
@@ -422,60 +422,60 @@ shows-row_emitted post orders w p sent row later shows pending works =
       paused = shows.paused;
       finished = shows.finished;
       ins = shows.ins;
-      outs = rw (no_row, open_still, kept-next (product post.role p.taken p.constants) p.fates row later left)
-          (send_all-row post post.receivers (emitted_rows post.role p) row sent w.outs (open-outs post orders w p sent shows works));
+      outs = rw (no_row, open_still, kept-next (product placement.role p.taken p.constants) p.fates row later left)
+          (send_all-row placement placement.receivers (emitted_rows placement.role p) row sent w.outs (open-outs placement orders w p sent shows works));
     }
 
 -- wherever a worker stood, it stands once it emitted a row
 pub Keeps-row_emitted : (w : WorkerState) (row : List Value) (later : List (List Value)) → w.pending ≡ row ∷ later → IsWorking w → Keeps w (row_emitted row later w)
 unfolding Keeps
-Keeps-row_emitted w row later pending works post orders start p sent stands = (
+Keeps-row_emitted w row later pending works placement orders start p sent stands = (
   went orders 0 1 p,
   record {
-    leads = Leads-out post.role orders start w.journal p stands.shows.plain stands.leads (may-emit_row post orders w p sent row later stands.shows pending works);
+    leads = Leads-out placement.role orders start w.journal p stands.shows.plain stands.leads (may-emit_row placement orders w p sent row later stands.shows pending works);
     text = AreEntries-with_go w.journal 0 1 stands.text works.few refl;
-    shows = shows-row_emitted post orders w p sent row later stands.shows pending works;
+    shows = shows-row_emitted placement orders w p sent row later stands.shows pending works;
   },
   λ sender. refl,
 )
 
 -- ---- the end
 
-sends-end : (post : Post) (receiver : ℕ) (rows : List (List Value)) (sent : List Batch) (one : Outgoing) → Sends post receiver rows false sent one
-    → Sends post receiver rows true sent (with_end one)
-sends-end post receiver rows sent one sends = record {
+sends-end : (placement : Placement) (receiver : ℕ) (rows : List (List Value)) (sent : List Batch) (one : Outgoing) → Sends placement receiver rows false sent one
+    → Sends placement receiver rows true sent (with_end one)
+sends-end placement receiver rows sent one sends = record {
   to = sends.to;
   size = sends.size;
   some = sends.some;
   all_here = sends.all_here;
-  batches = sym (append_assoc sent one.waiting _) ∙ rw (sends.batches, sends.made refl, sends.partial refl) (sym (chunks-end post.size (stream_to post receiver rows) sends.some));
+  batches = sym (append_assoc sent one.waiting _) ∙ rw (sends.batches, sends.made refl, sends.partial refl) (sym (chunks-end placement.size (stream_to placement receiver rows) sends.some));
   made = λ ended. absurd (false≢true (sym ended));
   partial = λ ended. absurd (false≢true (sym ended));
 }
 
-send_all-end : (post : Post) (receivers : List ℕ) (rows : List (List Value)) (sent : ℕ → List Batch) (outs : List Outgoing)
-    → SendAll post receivers rows false sent outs → SendAll post receivers rows true sent (map with_end outs)
+send_all-end : (placement : Placement) (receivers : List ℕ) (rows : List (List Value)) (sent : ℕ → List Batch) (outs : List Outgoing)
+    → SendAll placement receivers rows false sent outs → SendAll placement receivers rows true sent (map with_end outs)
 unfolding SendAll
-send_all-end post [] rows sent [] h = tt
-send_all-end post [] rows sent (one ∷ outs) h = absurd h
-send_all-end post (receiver ∷ receivers) rows sent [] h = absurd h
-send_all-end post (receiver ∷ receivers) rows sent (one ∷ outs) h =
-    (sends-end post receiver rows (sent receiver) one h.0, send_all-end post receivers rows sent outs h.1)
+send_all-end placement [] rows sent [] h = tt
+send_all-end placement [] rows sent (one ∷ outs) h = absurd h
+send_all-end placement (receiver ∷ receivers) rows sent [] h = absurd h
+send_all-end placement (receiver ∷ receivers) rows sent (one ∷ outs) h =
+    (sends-end placement receiver rows (sent receiver) one h.0, send_all-end placement receivers rows sent outs h.1)
 
 -- wherever a worker stood, it stands once it finished
 pub Keeps-all_done : (w : WorkerState) → w.rest ≡ [] → w.pending ≡ [] → have_all_ended w.ins ≡ true → IsWorking w → Keeps w (all_done w)
 unfolding Keeps
-Keeps-all_done w rest pending ended works post orders start p sent stands =
+Keeps-all_done w rest pending ended works placement orders start p sent stands =
     let shows = stands.shows in
-    let may : MayFinish post.role p = record {
-      free = free-shown post orders w p sent shows works;
+    let may : MayFinish placement.role p = record {
+      free = free-shown placement orders w p sent shows works;
       no_rest = sym shows.rest ∙ rest;
       no_pending = sym shows.pending ∙ pending;
-      ended = sym (all-ended post.role.senders p.taken w.ins shows.ins) ∙ ended;
+      ended = sym (all-ended placement.role.senders p.taken w.ins shows.ins) ∙ ended;
     } in (
       record p { finished = true },
       record {
-        leads = Leads-push post.role orders start w.journal p entry.Finish (record p { finished = true }) stands.leads (may, refl);
+        leads = Leads-push placement.role orders start w.journal p entry.Finish (record p { finished = true }) stands.leads (may, refl);
         text = AreEntries-push false w.journal entry.Finish stands.text tt refl;
         shows = record {
           op = shows.op;
@@ -503,7 +503,7 @@ Keeps-all_done w rest pending ended works post orders start p sent stands =
           paused = shows.paused;
           finished = refl;
           ins = shows.ins;
-          outs = send_all-end post post.receivers (emitted_rows post.role p) sent w.outs (open-outs post orders w p sent shows works);
+          outs = send_all-end placement placement.receivers (emitted_rows placement.role p) sent w.outs (open-outs placement orders w p sent shows works);
         };
       },
       λ sender. refl,

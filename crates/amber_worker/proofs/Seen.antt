@@ -55,9 +55,9 @@ same-view a b taken rest out pending stand next extra =
 -- what a worker keeps shows what is said of each position that it shows
 pub view-is : (w : WorkerState) (view : WorkerView) → IsShown w view → w.held ≡ false → IsViewOf w view
 unfolding IsViewOf view_of
-view-is w view is loose post orders p sent shows =
-    same-view view (view_of post.role p) (is.taken ∙ shows.taken) (is.rest ∙ ap length shows.rest) (is.out ∙ shows.emitted) (is.pending ∙ ap length shows.pending)
+view-is w view is loose placement orders p sent shows =
+    same-view view (view_of placement.role p) (is.taken ∙ shows.taken) (is.rest ∙ ap length shows.rest) (is.out ∙ shows.emitted) (is.pending ∙ ap length shows.pending)
     (is.stand ∙ ap (λ (b : Bool). if b then stand.Finished else stand.Ready) shows.finished ∙ stands-so p.finished p.held (sym shows.held ∙ loose))
     (is.next ∙ ap first_of shows.pending)
-    (extra-is w.duty post.role.task.kind orders.constants post.role post.role.task post.op (taken_of post.role p) w.refused w.kept view.extra shows.duty shows.state
+    (extra-is w.duty placement.role.task.kind orders.constants placement.role placement.role.task placement.op (taken_of placement.role p) w.refused w.kept view.extra shows.duty shows.state
     shows.refused shows.kept is.extra)

@@ -15,19 +15,19 @@ use Rattle.amber_meaning.specs.Task.{Task, is_builder}
 use Rattle.amber_link.specs.Incoming.{Incoming}
 use Rattle.amber_link.specs.Outgoing.{Outgoing}
 use Rattle.amber_worker.specs.Links.{waiting_for, waiting_from, with_batches, without_batches}
-use Rattle.amber_worker.specs.Stands.{Post, ReceiveAll, SendAll, Sends, Shows, Stands, stream_to}
+use Rattle.amber_worker.specs.Stands.{Placement, ReceiveAll, SendAll, Sends, Shows, Stands, stream_to}
 use Rattle.amber_worker.specs.WorkerState.{WorkerState, steps_in}
 
 -- the steps of a worker are those of its position
-pub steps-shown : (post : Post) (orders : Orders) (w : WorkerState) (p : Position) (sent : ℕ → List Batch) → Shows post orders w p sent → steps_in w ≡ steps_of p
-steps-shown post orders w p sent shows = rw (shows.taken, shows.emitted, shows.batches, shows.finished)
+pub steps-shown : (placement : Placement) (orders : Orders) (w : WorkerState) (p : Position) (sent : ℕ → List Batch) → Shows placement orders w p sent → steps_in w ≡ steps_of p
+steps-shown placement orders w p sent shows = rw (shows.taken, shows.emitted, shows.batches, shows.finished)
 
 -- the same position is shown with other links that suit it, and another journal
-pub Shows-relinked : (post : Post) (orders : Orders) (w : WorkerState) (p : Position) (sent later : ℕ → List Batch) (ins : List Incoming) (outs : List Outgoing) (journal : List Entry)
-    → Shows post orders w p sent → ReceiveAll post.role.senders p.taken ins → All (λ one. one.builds ≡ is_builder post.role.task one.from) ins
-    → SendAll post post.receivers (emitted_rows post.role p) p.finished later outs
-    → Shows post orders (record w { ins = ins; outs = outs; journal = journal }) p later
-Shows-relinked post orders w p sent later ins outs journal shows received sides sends = record {
+pub Shows-relinked : (placement : Placement) (orders : Orders) (w : WorkerState) (p : Position) (sent later : ℕ → List Batch) (ins : List Incoming) (outs : List Outgoing) (journal : List Entry)
+    → Shows placement orders w p sent → ReceiveAll placement.role.senders p.taken ins → All (λ one. one.builds ≡ is_builder placement.role.task one.from) ins
+    → SendAll placement placement.receivers (emitted_rows placement.role p) p.finished later outs
+    → Shows placement orders (record w { ins = ins; outs = outs; journal = journal }) p later
+Shows-relinked placement orders w p sent later ins outs journal shows received sides sends = record {
   op = shows.op;
   number = shows.number;
   duty = shows.duty;
@@ -59,47 +59,47 @@ Shows-relinked post orders w p sent later ins outs journal shows received sides 
 -- ---- the journal
 
 -- a worker whose journal was handed out stands where it stood, with nothing done since
-pub Stands-without_journal : (post : Post) (orders : Orders) (w : WorkerState) (start p : Position) (sent : ℕ → List Batch)
-    → Stands post orders w start p sent → Stands post orders (record w { journal = [] }) p p sent
+pub Stands-without_journal : (placement : Placement) (orders : Orders) (w : WorkerState) (start p : Position) (sent : ℕ → List Batch)
+    → Stands placement orders w start p sent → Stands placement orders (record w { journal = [] }) p p sent
 unfolding Leads AreEntries
-Stands-without_journal post orders w start p sent stands = record { leads = refl; text = tt; shows = Shows-relinked post orders w p sent sent w.ins w.outs [] stands.shows stands.shows.ins stands.shows.sides stands.shows.outs }
+Stands-without_journal placement orders w start p sent stands = record { leads = refl; text = tt; shows = Shows-relinked placement orders w p sent sent w.ins w.outs [] stands.shows stands.shows.ins stands.shows.sides stands.shows.outs }
 
 -- ---- receivers
 
 -- what was sent to a receiver and what waits for it are the batches that were made for it
-pub sent-made : (post : Post) (orders : Orders) (w : WorkerState) (start p : Position) (sent : ℕ → List Batch) (receiver : ℕ)
-    → Stands post orders w start p sent → list_any (λ one. eqb one receiver) post.receivers ≡ true
-    → sent receiver ++ waiting_for receiver w.outs ≡ chunks_of post.size (stream_to post receiver (emitted_rows post.role p)) p.finished
+pub sent-made : (placement : Placement) (orders : Orders) (w : WorkerState) (start p : Position) (sent : ℕ → List Batch) (receiver : ℕ)
+    → Stands placement orders w start p sent → list_any (λ one. eqb one receiver) placement.receivers ≡ true
+    → sent receiver ++ waiting_for receiver w.outs ≡ chunks_of placement.size (stream_to placement receiver (emitted_rows placement.role p)) p.finished
 unfolding SendAll
-sent-made post orders w start p sent receiver stands member = by post.receivers w.outs stands.shows.outs member
+sent-made placement orders w start p sent receiver stands member = by placement.receivers w.outs stands.shows.outs member
   where
-    here : (rows : List (List Value)) (ended : Bool) (one : Outgoing) (outs : List Outgoing) (first : ℕ) → eqb first receiver ≡ true → Sends post first rows ended (sent first) one
-        → sent receiver ++ waiting_for receiver (one ∷ outs) ≡ chunks_of post.size (stream_to post receiver rows) ended
+    here : (rows : List (List Value)) (ended : Bool) (one : Outgoing) (outs : List Outgoing) (first : ℕ) → eqb first receiver ≡ true → Sends placement first rows ended (sent first) one
+        → sent receiver ++ waiting_for receiver (one ∷ outs) ≡ chunks_of placement.size (stream_to placement receiver rows) ended
     here rows ended one outs first e sends =
         let same : first ≡ receiver = eqb-true first receiver e in
         rw (sends.to, e, ← same) sends.batches
 
-    by : (receivers : List ℕ) (outs : List Outgoing) → SendAll post receivers (emitted_rows post.role p) p.finished sent outs → list_any (λ one. eqb one receiver) receivers ≡ true
-        → sent receiver ++ waiting_for receiver outs ≡ chunks_of post.size (stream_to post receiver (emitted_rows post.role p)) p.finished
+    by : (receivers : List ℕ) (outs : List Outgoing) → SendAll placement receivers (emitted_rows placement.role p) p.finished sent outs → list_any (λ one. eqb one receiver) receivers ≡ true
+        → sent receiver ++ waiting_for receiver outs ≡ chunks_of placement.size (stream_to placement receiver (emitted_rows placement.role p)) p.finished
     by [] [] h m = absurd (false≢true m)
     by [] (one ∷ outs) h m = absurd h
     by (first ∷ more) [] h m = absurd h
     by (first ∷ more) (one ∷ outs) h m = at (eqb first receiver) refl (or_cases (eqb first receiver) _ m) (λ rest. by more outs h.1 rest)
       where
         at : (b : Bool) → eqb first receiver ≡ b → (eqb first receiver ≡ true) ⊎ (list_any (λ one. eqb one receiver) more ≡ true)
-            → (list_any (λ one. eqb one receiver) more ≡ true → sent receiver ++ waiting_for receiver outs ≡ chunks_of post.size (stream_to post receiver (emitted_rows post.role p)) p.finished)
-            → sent receiver ++ waiting_for receiver (one ∷ outs) ≡ chunks_of post.size (stream_to post receiver (emitted_rows post.role p)) p.finished
+            → (list_any (λ one. eqb one receiver) more ≡ true → sent receiver ++ waiting_for receiver outs ≡ chunks_of placement.size (stream_to placement receiver (emitted_rows placement.role p)) p.finished)
+            → sent receiver ++ waiting_for receiver (one ∷ outs) ≡ chunks_of placement.size (stream_to placement receiver (emitted_rows placement.role p)) p.finished
         at true e cases rest = here _ _ one outs first e h.0
         at false e (inl now) rest = absurd (false≢true (sym e ∙ now))
         at false e (inr later) rest = rw (h.0.to, e) (rest later)
 
 -- a receiver to which a worker keeps batches is one of its own
-pub sends-to : (post : Post) (orders : Orders) (w : WorkerState) (p : Position) (sent : ℕ → List Batch) (receiver : ℕ)
-    → Shows post orders w p sent → list_any (λ one. eqb one.to receiver) w.outs ≡ list_any (λ one. eqb one receiver) post.receivers
+pub sends-to : (placement : Placement) (orders : Orders) (w : WorkerState) (p : Position) (sent : ℕ → List Batch) (receiver : ℕ)
+    → Shows placement orders w p sent → list_any (λ one. eqb one.to receiver) w.outs ≡ list_any (λ one. eqb one receiver) placement.receivers
 unfolding SendAll
-sends-to post orders w p sent receiver shows = by post.receivers w.outs shows.outs
+sends-to placement orders w p sent receiver shows = by placement.receivers w.outs shows.outs
   where
-    by : (receivers : List ℕ) (outs : List Outgoing) → SendAll post receivers (emitted_rows post.role p) p.finished sent outs
+    by : (receivers : List ℕ) (outs : List Outgoing) → SendAll placement receivers (emitted_rows placement.role p) p.finished sent outs
         → list_any (λ (one : Outgoing). eqb one.to receiver) outs ≡ list_any (λ one. eqb one receiver) receivers
     by [] [] h = refl
     by [] (one ∷ outs) h = absurd h
@@ -111,13 +111,13 @@ abbrev pub sent_more : (ℕ → List Batch) → ℕ → List Batch → ℕ → L
 sent_more sent receiver batches other = if eqb other receiver then sent other ++ batches else sent other
 
 -- of one receiver the waiting batches were moved, or those of another one
-one-moved : (post : Post) (rows : List (List Value)) (ended : Bool) (sent : ℕ → List Batch) (receiver first : ℕ) (batches : List Batch) (one : Outgoing)
-    → Sends post first rows ended (sent first) one
-    → (eqb first receiver ≡ true → sent receiver ++ batches ≡ chunks_of post.size (stream_to post receiver rows) ended)
-    → Sends post first rows ended (sent_more sent receiver batches first) (if eqb one.to receiver then record one { waiting = [] } else one)
-one-moved post rows ended sent receiver first batches one sends made = by (eqb one.to receiver) (ap (λ n. eqb n receiver) (sym sends.to))
+one-moved : (placement : Placement) (rows : List (List Value)) (ended : Bool) (sent : ℕ → List Batch) (receiver first : ℕ) (batches : List Batch) (one : Outgoing)
+    → Sends placement first rows ended (sent first) one
+    → (eqb first receiver ≡ true → sent receiver ++ batches ≡ chunks_of placement.size (stream_to placement receiver rows) ended)
+    → Sends placement first rows ended (sent_more sent receiver batches first) (if eqb one.to receiver then record one { waiting = [] } else one)
+one-moved placement rows ended sent receiver first batches one sends made = by (eqb one.to receiver) (ap (λ n. eqb n receiver) (sym sends.to))
   where
-    by : (b : Bool) → eqb first receiver ≡ b → Sends post first rows ended (sent_more sent receiver batches first) (if b then record one { waiting = [] } else one)
+    by : (b : Bool) → eqb first receiver ≡ b → Sends placement first rows ended (sent_more sent receiver batches first) (if b then record one { waiting = [] } else one)
     by true e =
         let same : first ≡ receiver = eqb-true first receiver e in
         record {
@@ -140,25 +140,25 @@ one-moved post rows ended sent receiver first batches one sends made = by (eqb o
     }
 
 -- the batches for a receiver were moved to it
-pub Stands-moved : (post : Post) (orders : Orders) (w : WorkerState) (start p : Position) (sent : ℕ → List Batch) (receiver : ℕ)
-    → Stands post orders w start p sent
-    → Stands post orders (record w { outs = without_batches receiver w.outs }) start p (sent_more sent receiver (waiting_for receiver w.outs))
+pub Stands-moved : (placement : Placement) (orders : Orders) (w : WorkerState) (start p : Position) (sent : ℕ → List Batch) (receiver : ℕ)
+    → Stands placement orders w start p sent
+    → Stands placement orders (record w { outs = without_batches receiver w.outs }) start p (sent_more sent receiver (waiting_for receiver w.outs))
 unfolding SendAll
-Stands-moved post orders w start p sent receiver stands = record {
+Stands-moved placement orders w start p sent receiver stands = record {
   leads = stands.leads;
   text = stands.text;
-  shows = Shows-relinked post orders w p sent (sent_more sent receiver (waiting_for receiver w.outs)) w.ins (without_batches receiver w.outs) w.journal
-      stands.shows stands.shows.ins stands.shows.sides (by post.receivers w.outs stands.shows.outs (λ member. sent-made post orders w start p sent receiver stands member));
+  shows = Shows-relinked placement orders w p sent (sent_more sent receiver (waiting_for receiver w.outs)) w.ins (without_batches receiver w.outs) w.journal
+      stands.shows stands.shows.ins stands.shows.sides (by placement.receivers w.outs stands.shows.outs (λ member. sent-made placement orders w start p sent receiver stands member));
 }
   where
-    by : (receivers : List ℕ) (outs : List Outgoing) → SendAll post receivers (emitted_rows post.role p) p.finished sent outs
-        → (list_any (λ one. eqb one receiver) receivers ≡ true → sent receiver ++ waiting_for receiver w.outs ≡ chunks_of post.size (stream_to post receiver (emitted_rows post.role p)) p.finished)
-        → SendAll post receivers (emitted_rows post.role p) p.finished (sent_more sent receiver (waiting_for receiver w.outs)) (without_batches receiver outs)
+    by : (receivers : List ℕ) (outs : List Outgoing) → SendAll placement receivers (emitted_rows placement.role p) p.finished sent outs
+        → (list_any (λ one. eqb one receiver) receivers ≡ true → sent receiver ++ waiting_for receiver w.outs ≡ chunks_of placement.size (stream_to placement receiver (emitted_rows placement.role p)) p.finished)
+        → SendAll placement receivers (emitted_rows placement.role p) p.finished (sent_more sent receiver (waiting_for receiver w.outs)) (without_batches receiver outs)
     by [] [] h made = tt
     by [] (one ∷ outs) h made = absurd h
     by (first ∷ more) [] h made = absurd h
     by (first ∷ more) (one ∷ outs) h made = (
-      one-moved post (emitted_rows post.role p) p.finished sent receiver first (waiting_for receiver w.outs) one h.0 (λ e. made (or_left _ _ e)),
+      one-moved placement (emitted_rows placement.role p) p.finished sent receiver first (waiting_for receiver w.outs) one h.0 (λ e. made (or_left _ _ e)),
       by more outs h.1 (λ later. made (or_right _ _ later)),
     )
 
@@ -188,10 +188,10 @@ waiting_for-others receiver other (one ∷ outs) h = by (eqb one.to receiver) (e
 -- ---- senders
 
 -- a sender of whom a worker keeps batches is one of its own
-pub receives-from : (post : Post) (orders : Orders) (w : WorkerState) (p : Position) (sent : ℕ → List Batch) (sender : ℕ)
-    → Shows post orders w p sent → list_any (λ one. eqb one.from sender) w.ins ≡ list_any (λ one. eqb one sender) post.role.senders
+pub receives-from : (placement : Placement) (orders : Orders) (w : WorkerState) (p : Position) (sent : ℕ → List Batch) (sender : ℕ)
+    → Shows placement orders w p sent → list_any (λ one. eqb one.from sender) w.ins ≡ list_any (λ one. eqb one sender) placement.role.senders
 unfolding ReceiveAll
-receives-from post orders w p sent sender shows = by post.role.senders w.ins shows.ins
+receives-from placement orders w p sent sender shows = by placement.role.senders w.ins shows.ins
   where
     by : (senders : List ℕ) (ins : List Incoming) → ReceiveAll senders p.taken ins
         → list_any (λ (one : Incoming). eqb one.from sender) ins ≡ list_any (λ one. eqb one sender) senders
@@ -214,14 +214,14 @@ sides-with task sender batches (one ∷ ins) sides = by (eqb one.from sender) (s
     by false rest = All-cons (λ (one : Incoming). one.builds ≡ is_builder task one.from) one (with_batches sender batches ins) own rest
 
 -- more batches of a sender have come
-pub Stands-received : (post : Post) (orders : Orders) (w : WorkerState) (start p : Position) (sent : ℕ → List Batch) (sender : ℕ) (batches : List Batch)
-    → Stands post orders w start p sent → Stands post orders (record w { ins = with_batches sender batches w.ins }) start p sent
+pub Stands-received : (placement : Placement) (orders : Orders) (w : WorkerState) (start p : Position) (sent : ℕ → List Batch) (sender : ℕ) (batches : List Batch)
+    → Stands placement orders w start p sent → Stands placement orders (record w { ins = with_batches sender batches w.ins }) start p sent
 unfolding ReceiveAll
-Stands-received post orders w start p sent sender batches stands = record {
+Stands-received placement orders w start p sent sender batches stands = record {
   leads = stands.leads;
   text = stands.text;
-  shows = Shows-relinked post orders w p sent sent (with_batches sender batches w.ins) w.outs w.journal
-      stands.shows (by post.role.senders w.ins stands.shows.ins) (sides-with post.role.task sender batches w.ins stands.shows.sides) stands.shows.outs;
+  shows = Shows-relinked placement orders w p sent sent (with_batches sender batches w.ins) w.outs w.journal
+      stands.shows (by placement.role.senders w.ins stands.shows.ins) (sides-with placement.role.task sender batches w.ins stands.shows.sides) stands.shows.outs;
 }
   where
     by : (senders : List ℕ) (ins : List Incoming) → ReceiveAll senders p.taken ins → ReceiveAll senders p.taken (with_batches sender batches ins)

@@ -17,7 +17,7 @@ use Rattle.amber_worker.specs.declared.given.Given.{Given}
 -- a worker that nothing happened to stands where it stood
 pub Keeps-refl : (w : WorkerState) → Keeps w w
 unfolding Keeps
-Keeps-refl w post orders start p sent stands = (p, stands, λ sender. refl)
+Keeps-refl w placement orders start p sent stands = (p, stands, λ sender. refl)
 
 -- the keys that a worker has refused are those of the rows that it took
 keys-are : (d : Duty) (kind : What) (constants : List Value) (role : Role) (task : Task) (handed : List Handed) (keys : List (List Value))
@@ -34,6 +34,6 @@ keys-are d kind constants role task handed keys does has refused = absurd does
 pub given-is : (w : WorkerState) (given : Given) (keys : List (List Value)) → IsRefused w.duty keys → given.refused ≡ w.refused ++ map (refusal.Group w.op) (sort_rows keys)
     → given.rows ≡ sort_rows w.kept → IsGivenOf w given
 unfolding IsGivenOf
-given-is w given keys are refused rows post orders p sent shows =
-    let own = keys-are w.duty post.role.task.kind orders.constants post.role post.role.task (taken_of post.role p) keys shows.duty shows.state are in
+given-is w given keys are refused rows placement orders p sent shows =
+    let own = keys-are w.duty placement.role.task.kind orders.constants placement.role placement.role.task (taken_of placement.role p) keys shows.duty shows.state are in
     (refused ∙ rw (shows.refused, shows.op, own) refl, rows ∙ ap sort_rows shows.kept)

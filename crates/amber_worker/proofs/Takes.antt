@@ -19,7 +19,7 @@ use Rattle.amber_meaning.specs.Views.{taken_of}
 use Rattle.amber_link.specs.Incoming.{Incoming, IsTaken, have_all_ended, have_builders_ended, without_first}
 use Rattle.amber_worker.specs.Fields.{row_from}
 use Rattle.amber_worker.specs.Links.{waiting_from}
-use Rattle.amber_worker.specs.Stands.{DoesKind, Keeps, Post, ReceiveAll, Receives, Shows}
+use Rattle.amber_worker.specs.Stands.{DoesKind, Keeps, Placement, ReceiveAll, Receives, Shows}
 use Rattle.amber_worker.specs.WorkerState.{WorkerState}
 use Rattle.amber_worker.specs.Steps.{Closes, batch_taken}
 use Rattle.amber_worker.specs.declared.duty.Duty.{Duty}
@@ -287,150 +287,150 @@ record TakesOne (w : WorkerState) (one : Incoming) (batch : Batch) (ins : List I
   taken_so : IsTaken w.ins one batch ins
   closes : Closes w.duty (eqb (length batch.rows) 0 && have_all_ended ins) last
 
-received-all : (post : Post) (orders : Orders) (w : WorkerState) (p : Position) (sent : ℕ → List Batch) (one : Incoming) (batch : Batch) (ins : List Incoming) (last : List (List Value))
-    → Shows post orders w p sent → (takes : TakesOne w one batch ins last) → ReceiveAll post.role.senders p.taken (takes.taken_so.front ++ one ∷ takes.taken_so.back)
-received-all post orders w p sent one batch ins last shows takes = rw takes.taken_so.found at shows.ins
+received-all : (placement : Placement) (orders : Orders) (w : WorkerState) (p : Position) (sent : ℕ → List Batch) (one : Incoming) (batch : Batch) (ins : List Incoming) (last : List (List Value))
+    → Shows placement orders w p sent → (takes : TakesOne w one batch ins last) → ReceiveAll placement.role.senders p.taken (takes.taken_so.front ++ one ∷ takes.taken_so.back)
+received-all placement orders w p sent one batch ins last shows takes = rw takes.taken_so.found at shows.ins
 
-own-side : (post : Post) (orders : Orders) (w : WorkerState) (p : Position) (sent : ℕ → List Batch) (one : Incoming) (batch : Batch) (ins : List Incoming) (last : List (List Value))
-    → Shows post orders w p sent → TakesOne w one batch ins last → one.builds ≡ is_builder post.role.task one.from
-own-side post orders w p sent one batch ins last shows takes =
+own-side : (placement : Placement) (orders : Orders) (w : WorkerState) (p : Position) (sent : ℕ → List Batch) (one : Incoming) (batch : Batch) (ins : List Incoming) (last : List (List Value))
+    → Shows placement orders w p sent → TakesOne w one batch ins last → one.builds ≡ is_builder placement.role.task one.from
+own-side placement orders w p sent one batch ins last shows takes =
     let so = takes.taken_so in
-    side-there post.role.task so.front so.back one (rw so.found at shows.sides)
+    side-there placement.role.task so.front so.back one (rw so.found at shows.sides)
 
-may-take : (post : Post) (orders : Orders) (w : WorkerState) (p : Position) (sent : ℕ → List Batch) (one : Incoming) (batch : Batch) (ins : List Incoming) (last : List (List Value))
-    → Shows post orders w p sent → TakesOne w one batch ins last → IsWorking w → MayTake post.role p one.from one.taken
-may-take post orders w p sent one batch ins last shows takes works =
+may-take : (placement : Placement) (orders : Orders) (w : WorkerState) (p : Position) (sent : ℕ → List Batch) (one : Incoming) (batch : Batch) (ins : List Incoming) (last : List (List Value))
+    → Shows placement orders w p sent → TakesOne w one batch ins last → IsWorking w → MayTake placement.role p one.from one.taken
+may-take placement orders w p sent one batch ins last shows takes works =
     let so = takes.taken_so in
-    let all = received-all post orders w p sent one batch ins last shows takes in
-    let received = is-received p.taken post.role.senders so.front so.back one all in
+    let all = received-all placement orders w p sent one batch ins last shows takes in
+    let received = is-received p.taken placement.role.senders so.front so.back one all in
     record {
-      free = free-shown post orders w p sent shows works;
-      sender = is-sender p.taken post.role.senders so.front so.back one all;
+      free = free-shown placement orders w p sent shows works;
+      sender = is-sender p.taken placement.role.senders so.front so.back one all;
       next = received.taken;
       no_rest = sym shows.rest ∙ takes.rest;
       no_pending = sym shows.pending ∙ takes.pending;
-      side = may-side post.role p.taken one (have_builders_ended w.ins) (own-side post orders w p sent one batch ins last shows takes) so.side
-          (builders-ended post.role.task p.taken post.role.senders w.ins shows.ins shows.sides shows.builders);
+      side = may-side placement.role p.taken one (have_builders_ended w.ins) (own-side placement orders w p sent one batch ins last shows takes) so.side
+          (builders-ended placement.role.task p.taken placement.role.senders w.ins shows.ins shows.sides shows.builders);
     }
 
 -- what was handed with this batch
-fed-now : (post : Post) (orders : Orders) (w : WorkerState) (p : Position) (sent : ℕ → List Batch) (one : Incoming) (batch : Batch) (ins : List Incoming) (last : List (List Value))
-    → Shows post orders w p sent → TakesOne w one batch ins last
-    → fed post.role (p.taken ++ as_taken one.from batch ∷ []) ≡ fed post.role p.taken ++ map (row_from one.from) batch.rows
-fed-now post orders w p sent one batch ins last shows takes =
+fed-now : (placement : Placement) (orders : Orders) (w : WorkerState) (p : Position) (sent : ℕ → List Batch) (one : Incoming) (batch : Batch) (ins : List Incoming) (last : List (List Value))
+    → Shows placement orders w p sent → TakesOne w one batch ins last
+    → fed placement.role (p.taken ++ as_taken one.from batch ∷ []) ≡ fed placement.role p.taken ++ map (row_from one.from) batch.rows
+fed-now placement orders w p sent one batch ins last shows takes =
     let so = takes.taken_so in
-    let all = received-all post orders w p sent one batch ins last shows takes in
-    fed-more w.duty orders.constants post.role p.taken one.from batch shows.duty
-    (no-sender post.role.senders one.from (is-sender p.taken post.role.senders so.front so.back one all))
+    let all = received-all placement orders w p sent one batch ins last shows takes in
+    fed-more w.duty orders.constants placement.role p.taken one.from batch shows.duty
+    (no-sender placement.role.senders one.from (is-sender p.taken placement.role.senders so.front so.back one all))
 
 -- all that was handed before was taken
-all-taken : (post : Post) (orders : Orders) (w : WorkerState) (p : Position) (sent : ℕ → List Batch) → Shows post orders w p sent → w.rest ≡ []
-    → length p.constants ≡ length (fed post.role p.taken)
-all-taken post orders w p sent shows none =
-    let nothing_left = left-nothing (length p.constants) (fed post.role p.taken) (sym shows.rest ∙ none) in
+all-taken : (placement : Placement) (orders : Orders) (w : WorkerState) (p : Position) (sent : ℕ → List Batch) → Shows placement orders w p sent → w.rest ≡ []
+    → length p.constants ≡ length (fed placement.role p.taken)
+all-taken placement orders w p sent shows none =
+    let nothing_left = left-nothing (length p.constants) (fed placement.role p.taken) (sym shows.rest ∙ none) in
     let within = shows.within in
     omega arith
 
-received-next : (post : Post) (orders : Orders) (w : WorkerState) (p : Position) (sent : ℕ → List Batch) (one : Incoming) (batch : Batch) (ins : List Incoming) (last : List (List Value))
-    → Shows post orders w p sent → TakesOne w one batch ins last → ReceiveAll post.role.senders (p.taken ++ as_taken one.from batch ∷ []) ins
-received-next post orders w p sent one batch ins last shows takes =
+received-next : (placement : Placement) (orders : Orders) (w : WorkerState) (p : Position) (sent : ℕ → List Batch) (one : Incoming) (batch : Batch) (ins : List Incoming) (last : List (List Value))
+    → Shows placement orders w p sent → TakesOne w one batch ins last → ReceiveAll placement.role.senders (p.taken ++ as_taken one.from batch ∷ []) ins
+received-next placement orders w p sent one batch ins last shows takes =
     let so = takes.taken_so in
-    rw so.after_it (receive_all-next p.taken post.role.senders so.front so.back one batch so.later so.unended (received-all post orders w p sent one batch ins last shows takes))
+    rw so.after_it (receive_all-next p.taken placement.role.senders so.front so.back one batch so.later so.unended (received-all placement orders w p sent one batch ins last shows takes))
 
 -- more could come before
-open-before : (post : Post) (orders : Orders) (w : WorkerState) (p : Position) (sent : ℕ → List Batch) (one : Incoming) (batch : Batch) (ins : List Incoming) (last : List (List Value))
-    → Shows post orders w p sent → TakesOne w one batch ins last → is_complete post.role p.taken (length p.constants) ≡ false
-open-before post orders w p sent one batch ins last shows takes =
+open-before : (placement : Placement) (orders : Orders) (w : WorkerState) (p : Position) (sent : ℕ → List Batch) (one : Incoming) (batch : Batch) (ins : List Incoming) (last : List (List Value))
+    → Shows placement orders w p sent → TakesOne w one batch ins last → is_complete placement.role p.taken (length p.constants) ≡ false
+open-before placement orders w p sent one batch ins last shows takes =
     let so = takes.taken_so in
-    ap (λ b. b && eqb (length p.constants) (length (fed post.role p.taken)))
-    (sym (all-ended post.role.senders p.taken w.ins shows.ins) ∙ ap have_all_ended so.found ∙ unended-there so.front so.back one so.unended)
+    ap (λ b. b && eqb (length p.constants) (length (fed placement.role p.taken)))
+    (sym (all-ended placement.role.senders p.taken w.ins shows.ins) ∙ ap have_all_ended so.found ∙ unended-there so.front so.back one so.unended)
 
 -- nothing more can come behind this batch
-over-is : (post : Post) (orders : Orders) (w : WorkerState) (p : Position) (sent : ℕ → List Batch) (one : Incoming) (batch : Batch) (ins : List Incoming) (last : List (List Value))
-    → Shows post orders w p sent → TakesOne w one batch ins last
-    → (eqb (length batch.rows) 0 && have_all_ended ins) ≡ is_complete post.role (p.taken ++ as_taken one.from batch ∷ []) (length p.constants)
-over-is post orders w p sent one batch ins last shows takes =
-    let whole = all-taken post orders w p sent shows takes.rest in
-    let lengths = ap length (fed-now post orders w p sent one batch ins last shows takes) in
-    let sum = length-append (fed post.role p.taken) (map (row_from one.from) batch.rows) in
+over-is : (placement : Placement) (orders : Orders) (w : WorkerState) (p : Position) (sent : ℕ → List Batch) (one : Incoming) (batch : Batch) (ins : List Incoming) (last : List (List Value))
+    → Shows placement orders w p sent → TakesOne w one batch ins last
+    → (eqb (length batch.rows) 0 && have_all_ended ins) ≡ is_complete placement.role (p.taken ++ as_taken one.from batch ∷ []) (length p.constants)
+over-is placement orders w p sent one batch ins last shows takes =
+    let whole = all-taken placement orders w p sent shows takes.rest in
+    let lengths = ap length (fed-now placement orders w p sent one batch ins last shows takes) in
+    let sum = length-append (fed placement.role p.taken) (map (row_from one.from) batch.rows) in
     let mapped = length-map batch.rows (row_from one.from) in
     and-turned (eqb (length batch.rows) 0) (have_all_ended ins)
     ∙ ap (λ b. b && eqb (length batch.rows) 0)
-    (all-ended post.role.senders (p.taken ++ as_taken one.from batch ∷ []) ins (received-next post orders w p sent one batch ins last shows takes))
-    ∙ ap (λ b. have_ended post.role.senders (p.taken ++ as_taken one.from batch ∷ []) && b)
-    (same-test (length batch.rows) 0 (length p.constants) (length (fed post.role (p.taken ++ as_taken one.from batch ∷ []))) (λ e. omega arith) (λ e. omega arith))
+    (all-ended placement.role.senders (p.taken ++ as_taken one.from batch ∷ []) ins (received-next placement orders w p sent one batch ins last shows takes))
+    ∙ ap (λ b. have_ended placement.role.senders (p.taken ++ as_taken one.from batch ∷ []) && b)
+    (same-test (length batch.rows) 0 (length p.constants) (length (fed placement.role (p.taken ++ as_taken one.from batch ∷ []))) (λ e. omega arith) (λ e. omega arith))
 
 -- as much was taken as before
-taken-same : (post : Post) (orders : Orders) (w : WorkerState) (p : Position) (sent : ℕ → List Batch) (one : Incoming) (batch : Batch) (ins : List Incoming) (last : List (List Value))
-    → Shows post orders w p sent → TakesOne w one batch ins last
-    → take (length p.constants) (fed post.role (p.taken ++ as_taken one.from batch ∷ [])) ≡ taken_of post.role p
-taken-same post orders w p sent one batch ins last shows takes =
-    rw (fed-now post orders w p sent one batch ins last shows takes)
-    (take-append-le (length p.constants) (fed post.role p.taken) (map (row_from one.from) batch.rows) shows.within)
+taken-same : (placement : Placement) (orders : Orders) (w : WorkerState) (p : Position) (sent : ℕ → List Batch) (one : Incoming) (batch : Batch) (ins : List Incoming) (last : List (List Value))
+    → Shows placement orders w p sent → TakesOne w one batch ins last
+    → take (length p.constants) (fed placement.role (p.taken ++ as_taken one.from batch ∷ [])) ≡ taken_of placement.role p
+taken-same placement orders w p sent one batch ins last shows takes =
+    rw (fed-now placement orders w p sent one batch ins last shows takes)
+    (take-append-le (length p.constants) (fed placement.role p.taken) (map (row_from one.from) batch.rows) shows.within)
 
 -- the rows that are given at the end
-last-is : (post : Post) (orders : Orders) (w : WorkerState) (p : Position) (sent : ℕ → List Batch) (one : Incoming) (batch : Batch) (ins : List Incoming) (last : List (List Value))
-    → Shows post orders w p sent → TakesOne w one batch ins last
-    → last ≡ (if is_complete post.role (p.taken ++ as_taken one.from batch ∷ []) (length p.constants)
-    then closing post.role.task (fed post.role (p.taken ++ as_taken one.from batch ∷ [])) else [])
+last-is : (placement : Placement) (orders : Orders) (w : WorkerState) (p : Position) (sent : ℕ → List Batch) (one : Incoming) (batch : Batch) (ins : List Incoming) (last : List (List Value))
+    → Shows placement orders w p sent → TakesOne w one batch ins last
+    → last ≡ (if is_complete placement.role (p.taken ++ as_taken one.from batch ∷ []) (length p.constants)
+    then closing placement.role.task (fed placement.role (p.taken ++ as_taken one.from batch ∷ [])) else [])
 unfolding closing
-last-is post orders w p sent one batch ins last shows takes =
-    let task : Task = post.role.task in
+last-is placement orders w p sent one batch ins last shows takes =
+    let task : Task = placement.role.task in
     let later : List Taken = p.taken ++ as_taken one.from batch ∷ [] in
-    let over = over-is post orders w p sent one batch ins last shows takes in
-    closing-is w.duty task.kind orders.constants post.role task (taken_of post.role p) (is_complete post.role later (length p.constants)) last shows.duty shows.state
+    let over = over-is placement orders w p sent one batch ins last shows takes in
+    closing-is w.duty task.kind orders.constants placement.role task (taken_of placement.role p) (is_complete placement.role later (length p.constants)) last shows.duty shows.state
     (subst (λ b. Closes w.duty b last) over takes.closes)
-    ∙ closing-same (is_complete post.role later (length p.constants)) task.kind task (taken_of post.role p) (fed post.role later)
-    (λ e. let end = and_parts (have_ended post.role.senders later) _ e in
-    let here = eqb-true (length p.constants) (length (fed post.role later)) end.1 in
-    sym (taken-same post orders w p sent one batch ins last shows takes) ∙ take_all (length p.constants) (fed post.role later) (omega arith))
+    ∙ closing-same (is_complete placement.role later (length p.constants)) task.kind task (taken_of placement.role p) (fed placement.role later)
+    (λ e. let end = and_parts (have_ended placement.role.senders later) _ e in
+    let here = eqb-true (length p.constants) (length (fed placement.role later)) end.1 in
+    sym (taken-same placement orders w p sent one batch ins last shows takes) ∙ take_all (length p.constants) (fed placement.role later) (omega arith))
 
 -- what was produced with this batch
-product-now : (post : Post) (orders : Orders) (w : WorkerState) (p : Position) (sent : ℕ → List Batch) (one : Incoming) (batch : Batch) (ins : List Incoming) (last : List (List Value))
-    → Shows post orders w p sent → TakesOne w one batch ins last
-    → product post.role (p.taken ++ as_taken one.from batch ∷ []) p.constants ≡ product post.role p.taken p.constants ++ last
-product-now post orders w p sent one batch ins last shows takes =
-    let before = product-open post.role p.taken p.constants (open-before post orders w p sent one batch ins last shows takes) in
-    let same : produce post.role.task [] (fed post.role (p.taken ++ as_taken one.from batch ∷ [])) p.constants ≡ product post.role p.taken p.constants =
-    ap (λ handed. produce post.role.task [] handed p.constants) (fed-now post orders w p sent one batch ins last shows takes)
-    ∙ produce-longer post.role.task [] (fed post.role p.taken) (map (row_from one.from) batch.rows) p.constants shows.within
+product-now : (placement : Placement) (orders : Orders) (w : WorkerState) (p : Position) (sent : ℕ → List Batch) (one : Incoming) (batch : Batch) (ins : List Incoming) (last : List (List Value))
+    → Shows placement orders w p sent → TakesOne w one batch ins last
+    → product placement.role (p.taken ++ as_taken one.from batch ∷ []) p.constants ≡ product placement.role p.taken p.constants ++ last
+product-now placement orders w p sent one batch ins last shows takes =
+    let before = product-open placement.role p.taken p.constants (open-before placement orders w p sent one batch ins last shows takes) in
+    let same : produce placement.role.task [] (fed placement.role (p.taken ++ as_taken one.from batch ∷ [])) p.constants ≡ product placement.role p.taken p.constants =
+    ap (λ handed. produce placement.role.task [] handed p.constants) (fed-now placement orders w p sent one batch ins last shows takes)
+    ∙ produce-longer placement.role.task [] (fed placement.role p.taken) (map (row_from one.from) batch.rows) p.constants shows.within
     ∙ sym before in
-    product-is post.role (p.taken ++ as_taken one.from batch ∷ []) p.constants
-    ∙ ap (λ rows. rows ++ (if is_complete post.role (p.taken ++ as_taken one.from batch ∷ []) (length p.constants)
-    then closing post.role.task (fed post.role (p.taken ++ as_taken one.from batch ∷ [])) else [])) same
-    ∙ ap (λ rows. product post.role p.taken p.constants ++ rows) (sym (last-is post orders w p sent one batch ins last shows takes))
+    product-is placement.role (p.taken ++ as_taken one.from batch ∷ []) p.constants
+    ∙ ap (λ rows. rows ++ (if is_complete placement.role (p.taken ++ as_taken one.from batch ∷ []) (length p.constants)
+    then closing placement.role.task (fed placement.role (p.taken ++ as_taken one.from batch ∷ [])) else [])) same
+    ∙ ap (λ rows. product placement.role p.taken p.constants ++ rows) (sym (last-is placement orders w p sent one batch ins last shows takes))
 
-shows-batch_taken : (post : Post) (orders : Orders) (w : WorkerState) (p : Position) (sent : ℕ → List Batch) (one : Incoming) (batch : Batch) (ins : List Incoming) (last : List (List Value))
-    → Shows post orders w p sent → TakesOne w one batch ins last → Shows post orders (batch_taken one batch ins last w) (took one.from batch p) sent
-shows-batch_taken post orders w p sent one batch ins last shows takes =
+shows-batch_taken : (placement : Placement) (orders : Orders) (w : WorkerState) (p : Position) (sent : ℕ → List Batch) (one : Incoming) (batch : Batch) (ins : List Incoming) (last : List (List Value))
+    → Shows placement orders w p sent → TakesOne w one batch ins last → Shows placement orders (batch_taken one batch ins last w) (took one.from batch p) sent
+shows-batch_taken placement orders w p sent one batch ins last shows takes =
     let so = takes.taken_so in
-    let more = fed-now post orders w p sent one batch ins last shows takes in
-    let whole = all-taken post orders w p sent shows takes.rest in
+    let more = fed-now placement orders w p sent one batch ins last shows takes in
+    let whole = all-taken placement orders w p sent shows takes.rest in
     let within = shows.within in
-    let still : length p.fates ≤ length (product post.role p.taken p.constants) = shows.produced in
-    let gone = all-gone post orders w p sent shows takes.pending in
-    let grown = product-now post orders w p sent one batch ins last shows takes in
-    let lengths = length-append (product post.role p.taken p.constants) last in
-    let taken_same = taken-same post orders w p sent one batch ins last shows takes in
-    let side = own-side post orders w p sent one batch ins last shows takes in
+    let still : length p.fates ≤ length (product placement.role p.taken p.constants) = shows.produced in
+    let gone = all-gone placement orders w p sent shows takes.pending in
+    let grown = product-now placement orders w p sent one batch ins last shows takes in
+    let lengths = length-append (product placement.role p.taken p.constants) last in
+    let taken_same = taken-same placement orders w p sent one batch ins last shows takes in
+    let side = own-side placement orders w p sent one batch ins last shows takes in
     let batches = shows.batches in
     record {
       op = shows.op;
       number = shows.number;
-      duty = does-turned w.duty one.builds post.role.task.kind orders.constants post.role shows.duty;
-      state = rw taken_same (has-turned w.duty one.builds post.role.task (taken_of post.role p) shows.state);
+      duty = does-turned w.duty one.builds placement.role.task.kind orders.constants placement.role shows.duty;
+      state = rw taken_same (has-turned w.duty one.builds placement.role.task (taken_of placement.role p) shows.state);
       columns = shows.columns;
       build_columns = shows.build_columns;
-      sides = rw so.after_it (sides-next post.role.task so.front so.back one (without_first batch so.later one) refl refl (rw so.found at shows.sides));
+      sides = rw so.after_it (sides-next placement.role.task so.front so.back one (without_first batch so.later one) refl refl (rw so.found at shows.sides));
       builders = shows.builders;
-      building = one-side post.role.task one.from one.builds batch.rows (sym side);
+      building = one-side placement.role.task one.from one.builds batch.rows (sym side);
       plain = shows.plain;
-      rest = rw more (sym (left-behind (length p.constants) (fed post.role p.taken) (map (row_from one.from) batch.rows) whole));
-      pending = rw grown (sym (left-behind (length p.fates) (product post.role p.taken p.constants) last gone));
+      rest = rw more (sym (left-behind (length p.constants) (fed placement.role p.taken) (map (row_from one.from) batch.rows) whole));
+      pending = rw grown (sym (left-behind (length p.fates) (product placement.role p.taken p.constants) last gone));
       taken = shows.taken;
       emitted = shows.emitted;
       batches = omega (arith, length-append p.taken (as_taken one.from batch ∷ []));
-      within = rw more (omega (arith, length-append (fed post.role p.taken) (map (row_from one.from) batch.rows)));
+      within = rw more (omega (arith, length-append (fed placement.role p.taken) (map (row_from one.from) batch.rows)));
       produced = rw grown (omega arith);
       refused = rw taken_same shows.refused;
       kept = rw taken_same shows.kept;
@@ -439,26 +439,26 @@ shows-batch_taken post orders w p sent one batch ins last shows takes =
       waved = shows.waved;
       paused = shows.paused;
       finished = shows.finished;
-      ins = received-next post orders w p sent one batch ins last shows takes;
+      ins = received-next placement orders w p sent one batch ins last shows takes;
       outs = rw (grown, kept-longer) shows.outs;
     }
 
-same-batches : (post : Post) (orders : Orders) (w : WorkerState) (p : Position) (sent : ℕ → List Batch) (one : Incoming) (batch : Batch) (ins : List Incoming)
-    → Shows post orders w p sent → IsTaken w.ins one batch ins → (sender : ℕ)
+same-batches : (placement : Placement) (orders : Orders) (w : WorkerState) (p : Position) (sent : ℕ → List Batch) (one : Incoming) (batch : Batch) (ins : List Incoming)
+    → Shows placement orders w p sent → IsTaken w.ins one batch ins → (sender : ℕ)
     → taken_from (p.taken ++ as_taken one.from batch ∷ []) sender ++ waiting_from sender ins ≡ taken_from p.taken sender ++ waiting_from sender w.ins
-same-batches post orders w p sent one batch ins shows so sender = rw (so.after_it, so.found) (by (eqb one.from sender) refl)
+same-batches placement orders w p sent one batch ins shows so sender = rw (so.after_it, so.found) (by (eqb one.from sender) refl)
   where
-    all : ReceiveAll post.role.senders p.taken (so.front ++ one ∷ so.back)
+    all : ReceiveAll placement.role.senders p.taken (so.front ++ one ∷ so.back)
     all = rw so.found at shows.ins
 
     own : taken_from (p.taken ++ as_taken one.from batch ∷ []) one.from ++ waiting_from one.from (so.front ++ without_first batch so.later one ∷ so.back)
         ≡ taken_from p.taken one.from ++ waiting_from one.from (so.front ++ one ∷ so.back)
     own =
-        let all : ReceiveAll post.role.senders p.taken (so.front ++ one ∷ so.back) = rw so.found at shows.ins in
+        let all : ReceiveAll placement.role.senders p.taken (so.front ++ one ∷ so.back) = rw so.found at shows.ins in
         rw (
           taken_from-same p.taken one.from batch,
-          waits-own p.taken post.role.senders so.front so.back one (without_first batch so.later one) refl all,
-          waits-own p.taken post.role.senders so.front so.back one one refl all,
+          waits-own p.taken placement.role.senders so.front so.back one (without_first batch so.later one) refl all,
+          waits-own p.taken placement.role.senders so.front so.back one one refl all,
           so.waiting,
         )
         (append_assoc (taken_from p.taken one.from) (batch ∷ []) so.later)
@@ -475,14 +475,14 @@ pub Keeps-batch_taken : (w : WorkerState) (one : Incoming) (batch : Batch) (ins 
     → IsTaken w.ins one batch ins → one.from < 2 ^ 32 → one.taken < 2 ^ 64 → Closes w.duty (eqb (length batch.rows) 0 && have_all_ended ins) last
     → IsWorking w → Keeps w (batch_taken one batch ins last w)
 unfolding Keeps
-Keeps-batch_taken w one batch ins last rest pending so few small closes works post orders start p sent stands =
+Keeps-batch_taken w one batch ins last rest pending so few small closes works placement orders start p sent stands =
     let takes : TakesOne w one batch ins last = record { rest = rest; pending = pending; taken_so = so; closes = closes } in (
       took one.from batch p,
       record {
-        leads = Leads-push post.role orders start w.journal p (entry.Take one.from one.taken) (took one.from batch p) stands.leads
-            (batch, may-take post orders w p sent one batch ins last stands.shows takes works, refl);
+        leads = Leads-push placement.role orders start w.journal p (entry.Take one.from one.taken) (took one.from batch p) stands.leads
+            (batch, may-take placement orders w p sent one batch ins last stands.shows takes works, refl);
         text = AreEntries-push false w.journal (entry.Take one.from one.taken) stands.text (few, small) refl;
-        shows = shows-batch_taken post orders w p sent one batch ins last stands.shows takes;
+        shows = shows-batch_taken placement orders w p sent one batch ins last stands.shows takes;
       },
-      same-batches post orders w p sent one batch ins stands.shows so,
+      same-batches placement orders w p sent one batch ins stands.shows so,
     )

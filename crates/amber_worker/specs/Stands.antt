@@ -35,7 +35,7 @@ use Rattle.amber_worker.specs.declared.turn.Turn.TheVariants as turn
 -- ---- a worker's place in a run
 
 -- its operator, its own running number, its role, its receivers and to which of them a row goes, and the rows of a batch
-pub record Post : Type 0 where
+pub record Placement : Type 0 where
   pub op : ℕ
   pub number : ℕ
   pub role : Role
@@ -44,8 +44,8 @@ pub record Post : Type 0 where
   pub size : ℕ
 
 -- the place of a workflow's worker, from the typed records of the scans
-unfoldable pub post_of : List Operator → List (List (Result (List Value) RowFault)) → ℕ → ℕ → Post
-post_of flow records size worker = record {
+unfoldable pub placement_of : List Operator → List (List (Result (List Value) RowFault)) → ℕ → ℕ → Placement
+placement_of flow records size worker = record {
   op = op_of flow worker;
   number = worker;
   role = role_of flow records worker;
@@ -125,64 +125,64 @@ ReceiveAll (sender ∷ senders) batches (one ∷ more) =
     Receives sender batches one × (list_any (λ other. other == sender) senders ≡ false) × ReceiveAll senders batches more
 
 -- the rows that go to a receiver
-abbrev pub stream_to : Post → ℕ → List (List Value) → List (List Value)
-stream_to post receiver rows = filter (λ row. post.route row == receiver) rows
+abbrev pub stream_to : Placement → ℕ → List (List Value) → List (List Value)
+stream_to placement receiver rows = filter (λ row. placement.route row == receiver) rows
 
 -- what is kept of a receiver, where these rows were emitted: what was sent and what waits are the batches of those that go there,
 -- and the rows of the next batch are those left over
-pub record Sends (post : Post) (receiver : ℕ) (rows : List (List Value)) (ended : Bool) (sent : List Batch) (one : Outgoing) : Type 0 where
+pub record Sends (placement : Placement) (receiver : ℕ) (rows : List (List Value)) (ended : Bool) (sent : List Batch) (one : Outgoing) : Type 0 where
   pub to : one.to ≡ receiver
-  pub size : one.size ≡ post.size
-  pub some : 0 < post.size
-  pub all_here : (row : List Value) → post.route row ≡ receiver
-  pub batches : sent ++ one.waiting ≡ chunks_of post.size (stream_to post receiver rows) ended
-  pub made : ended ≡ false → one.made ≡ length (stream_to post receiver rows) / post.size
-  pub partial : ended ≡ false → one.partial ≡ drop (length (stream_to post receiver rows) / post.size * post.size) (stream_to post receiver rows)
+  pub size : one.size ≡ placement.size
+  pub some : 0 < placement.size
+  pub all_here : (row : List Value) → placement.route row ≡ receiver
+  pub batches : sent ++ one.waiting ≡ chunks_of placement.size (stream_to placement receiver rows) ended
+  pub made : ended ≡ false → one.made ≡ length (stream_to placement receiver rows) / placement.size
+  pub partial : ended ≡ false → one.partial ≡ drop (length (stream_to placement receiver rows) / placement.size * placement.size) (stream_to placement receiver rows)
 
-unfoldable pub SendAll : Post → List ℕ → List (List Value) → Bool → (ℕ → List Batch) → List Outgoing → Type 0
-SendAll post [] rows ended sent [] = Unit {0}
-SendAll post [] rows ended sent (one ∷ more) = ⊥
-SendAll post (receiver ∷ receivers) rows ended sent [] = ⊥
-SendAll post (receiver ∷ receivers) rows ended sent (one ∷ more) =
-    Sends post receiver rows ended (sent receiver) one × SendAll post receivers rows ended sent more
+unfoldable pub SendAll : Placement → List ℕ → List (List Value) → Bool → (ℕ → List Batch) → List Outgoing → Type 0
+SendAll placement [] rows ended sent [] = Unit {0}
+SendAll placement [] rows ended sent (one ∷ more) = ⊥
+SendAll placement (receiver ∷ receivers) rows ended sent [] = ⊥
+SendAll placement (receiver ∷ receivers) rows ended sent (one ∷ more) =
+    Sends placement receiver rows ended (sent receiver) one × SendAll placement receivers rows ended sent more
 
 -- ---- where it stands
 
 -- a worker shows a position under these orders, where these batches have left it for each receiver
-pub record Shows (post : Post) (orders : Orders) (w : WorkerState) (p : Position) (sent : ℕ → List Batch) : Type 0 where
-  pub op : w.op ≡ post.op
-  pub number : w.number ≡ post.number
-  pub duty : DoesKind w.duty post.role.task.kind orders.constants post.role
-  pub state : HasTaken w.duty post.role.task (taken_of post.role p)
-  pub columns : w.columns ≡ post.role.task.columns
-  pub build_columns : w.build_columns ≡ post.role.task.build_columns
+pub record Shows (placement : Placement) (orders : Orders) (w : WorkerState) (p : Position) (sent : ℕ → List Batch) : Type 0 where
+  pub op : w.op ≡ placement.op
+  pub number : w.number ≡ placement.number
+  pub duty : DoesKind w.duty placement.role.task.kind orders.constants placement.role
+  pub state : HasTaken w.duty placement.role.task (taken_of placement.role p)
+  pub columns : w.columns ≡ placement.role.task.columns
+  pub build_columns : w.build_columns ≡ placement.role.task.build_columns
   -- which of its senders are of the build side, that these are senders all, and whether what is left is of that side
-  pub sides : All (λ one. one.builds ≡ is_builder post.role.task one.from) w.ins
-  pub builders : (sender : ℕ) → is_builder post.role.task sender ≡ true → list_any (λ one. one == sender) post.role.senders ≡ true
-  pub building : All (λ one. is_builder post.role.task one.from ≡ w.building) w.rest
+  pub sides : All (λ one. one.builds ≡ is_builder placement.role.task one.from) w.ins
+  pub builders : (sender : ℕ) → is_builder placement.role.task sender ≡ true → list_any (λ one. one == sender) placement.role.senders ≡ true
+  pub building : All (λ one. is_builder placement.role.task one.from ≡ w.building) w.rest
   pub plain : ArePlain orders
-  pub rest : w.rest ≡ rest_of post.role p
-  pub pending : w.pending ≡ pending_rows post.role p
+  pub rest : w.rest ≡ rest_of placement.role p
+  pub pending : w.pending ≡ pending_rows placement.role p
   pub taken : w.taken ≡ length p.constants
   pub emitted : w.emitted ≡ emitted_count p.fates
   pub batches : w.batches ≡ length p.taken
-  pub within : length p.constants ≤ length (fed post.role p.taken)
-  pub produced : length p.fates ≤ length (produced_rows post.role p)
-  pub refused : w.refused ≡ refused_in post.op (taken_of post.role p)
-  pub kept : w.kept ≡ kept_of post.role.task.kind post.role.task (taken_of post.role p)
+  pub within : length p.constants ≤ length (fed placement.role p.taken)
+  pub produced : length p.fates ≤ length (produced_rows placement.role p)
+  pub refused : w.refused ≡ refused_in placement.op (taken_of placement.role p)
+  pub kept : w.kept ≡ kept_of placement.role.task.kind placement.role.task (taken_of placement.role p)
   pub hand : w.hand ≡ p.hand
   pub held : w.held ≡ p.held
   pub waved : w.waved ≡ p.waved
   pub paused : w.paused ≡ p.paused
   pub finished : w.finished ≡ p.finished
-  pub ins : ReceiveAll post.role.senders p.taken w.ins
-  pub outs : SendAll post post.receivers (emitted_rows post.role p) p.finished sent w.outs
+  pub ins : ReceiveAll placement.role.senders p.taken w.ins
+  pub outs : SendAll placement placement.receivers (emitted_rows placement.role p) p.finished sent w.outs
 
 -- a worker stands at a position: it shows it, and its journal leads there from where it stood when the journal was empty
-pub record Stands (post : Post) (orders : Orders) (w : WorkerState) (start p : Position) (sent : ℕ → List Batch) : Type 0 where
-  pub leads : Leads post.role orders start w.journal p
+pub record Stands (placement : Placement) (orders : Orders) (w : WorkerState) (start p : Position) (sent : ℕ → List Batch) : Type 0 where
+  pub leads : Leads placement.role orders start w.journal p
   pub text : AreEntries false w.journal
-  pub shows : Shows post orders w p sent
+  pub shows : Shows placement orders w p sent
 
 -- of each sender the batches that were taken and those that wait are together the same
 abbrev pub SameBatches : WorkerState → Position → WorkerState → Position → Type 0
@@ -190,8 +190,8 @@ SameBatches old p new q = (sender : ℕ) → taken_from q.taken sender ++ waitin
 
 -- wherever a worker stood, it stands at a position again, with the same batches of each sender and the same sent
 unfoldable pub Keeps : WorkerState → WorkerState → Type 0
-Keeps old new = (post : Post) (orders : Orders) (start p : Position) (sent : ℕ → List Batch) → Stands post orders old start p sent
-    → (q : Position) × Stands post orders new start q sent × SameBatches old p new q
+Keeps old new = (placement : Placement) (orders : Orders) (start p : Position) (sent : ℕ → List Batch) → Stands placement orders old start p sent
+    → (q : Position) × Stands placement orders new start q sent × SameBatches old p new q
 
 -- what a turn has done: one step more, or nothing
 abbrev pub HasTurned : Turn → WorkerState → WorkerState → Type 0
@@ -203,10 +203,10 @@ HasTurned turn.Ended old new = new ≡ old
 
 -- what it shows in a position is what is said of that position
 unfoldable pub IsViewOf : WorkerState → WorkerView → Type 0
-IsViewOf w view = (post : Post) (orders : Orders) (p : Position) (sent : ℕ → List Batch) → Shows post orders w p sent → view ≡ view_of post.role p
+IsViewOf w view = (placement : Placement) (orders : Orders) (p : Position) (sent : ℕ → List Batch) → Shows placement orders w p sent → view ≡ view_of placement.role p
 
 -- what it gives for the answer in a position: what it has refused, and of a sink the rows that it took, in their order
 unfoldable pub IsGivenOf : WorkerState → Given → Type 0
-IsGivenOf w given = (post : Post) (orders : Orders) (p : Position) (sent : ℕ → List Batch) → Shows post orders w p sent
-    → (given.refused ≡ refused_in post.op (taken_of post.role p) ++ refused_groups post.op (worker_refuses post.role p))
-    × (given.rows ≡ sort_rows (kept_of post.role.task.kind post.role.task (taken_of post.role p)))
+IsGivenOf w given = (placement : Placement) (orders : Orders) (p : Position) (sent : ℕ → List Batch) → Shows placement orders w p sent
+    → (given.refused ≡ refused_in placement.op (taken_of placement.role p) ++ refused_groups placement.op (worker_refuses placement.role p))
+    × (given.rows ≡ sort_rows (kept_of placement.role.task.kind placement.role.task (taken_of placement.role p)))

@@ -10,7 +10,7 @@ ghost use Rattle.amber_worker.specs.Links.{waiting_for, with_batches, without_ba
 ghost use Rattle.amber_worker.specs.WorkerState.{answer_of, has_ready, steps_in};
 ghost use Rattle.amber_worker.specs.Steps.{IsCalm, IsShown, TakesBatch, TakesRow, all_done, row_emitted_from};
 ghost use Rattle.amber_worker.specs.Made.{IsFresh};
-ghost use Rattle.amber_worker.specs.Stands.{AreAlone, HasShare, HasTurned, IsGivenOf, IsViewOf, Keeps, Stands, first_orders, is_scan, post_of};
+ghost use Rattle.amber_worker.specs.Stands.{AreAlone, HasShare, HasTurned, IsGivenOf, IsViewOf, Keeps, Stands, first_orders, is_scan, placement_of};
 
 use crate::duty::Duty;
 use crate::given::{Given, add_keys, refused_keys};
@@ -108,7 +108,7 @@ impl Worker {
         // For now every operator has one worker.
         requires alone { AreAlone flow.now }
         ensures stands { (records : List (List (Result (List Cell) Fault))) → HasShare share (role_of flow.now records worker)
-            → IfOk result (λ made. Stands (post_of flow.now records batch worker) (first_orders flow.now worker) made origin origin (λ _. [])) }
+            → IfOk result (λ made. Stands (placement_of flow.now records batch worker) (first_orders flow.now worker) made origin origin (λ _. [])) }
         ensures empty { IfOk result (λ made. All (λ one. one.waiting ≡ []) made.ins × All (λ one. one.waiting ≡ []) made.outs) }
     {
         let _operators = flow.get();
