@@ -8,14 +8,14 @@ use Rattle.amber_meaning.specs.Position.{Position, origin, taken_from}
 use Rattle.amber_worker.specs.Links.{waiting_from}
 use Rattle.amber_worker.specs.Stands.{Stands, first_orders, placement_of}
 use Rattle.amber_worker.specs.WorkerState.{WorkerState, steps_in}
-use Rattle.amber_worker.specs.declared.duty.Duty.TheVariants as duty
+use Rattle.amber_worker.specs.declared.operator_state.OperatorState.TheVariants as operator_state
 
 -- a worker that is not there
 abbrev pub no_worker_state : WorkerState
 no_worker_state = record {
   op = 0;
   number = 0;
-  duty = duty.Sink;
+  operator_state = operator_state.Sink;
   columns = [];
   build_columns = [];
   building = false;

@@ -18,8 +18,8 @@ use Rattle.amber_worker.specs.Fields.{AreFew, row_from, rows_moved}
 use Rattle.amber_worker.specs.WorkerState.{WorkerState}
 use Rattle.amber_worker.specs.Steps.{Becomes, Closes, TakesBatch, TakesRow, columns_at_hand, gives_if, gone_on, keeps_if, turned_to, with_go}
 use Rattle.amber_worker.proofs.States.{closes-batch, in_order-batch, in_order-row, in_order-settled}
-use Rattle.amber_worker.specs.declared.duty.Duty.{Duty}
-use Rattle.amber_worker.specs.declared.duty.Duty.TheVariants as duty
+use Rattle.amber_worker.specs.declared.operator_state.OperatorState.{OperatorState}
+use Rattle.amber_worker.specs.declared.operator_state.OperatorState.TheVariants as operator_state
 
 -- entries that speak of no more rows than this
 abbrev AreWithin : ℕ → List Entry → Type 0
@@ -63,22 +63,22 @@ same-some P (Some y) None e h = tt
 same-some P (Some y) (Some x) e h = h
 
 -- a scan's worker stays one
-scans-more : (does now : Duty) (builds : Bool) (found : Option (List Value)) → Becomes does builds found now → does ≡ duty.Scan → now ≡ duty.Scan
+scans-more : (does now : OperatorState) (builds : Bool) (found : Option (List Value)) → Becomes does builds found now → does ≡ operator_state.Scan → now ≡ operator_state.Scan
 scans-more does now builds found becomes scan =
-    let P : Duty → Type 0 = λ d. Becomes d builds found now in
+    let P : OperatorState → Type 0 = λ d. Becomes d builds found now in
     subst P scan becomes
 
-scans-so : (does now : Duty) (o : Option (List Scanned)) → (does ≡ duty.Scan → now ≡ duty.Scan) → IfSome o (λ _. does ≡ duty.Scan) → IfSome o (λ _. now ≡ duty.Scan)
+scans-so : (does now : OperatorState) (o : Option (List Scanned)) → (does ≡ operator_state.Scan → now ≡ operator_state.Scan) → IfSome o (λ _. does ≡ operator_state.Scan) → IfSome o (λ _. now ≡ operator_state.Scan)
 scans-so does now None f h = h
 scans-so does now (Some x) f h = f h
 
-pub few-row : (does now : Duty) (building : Bool) (found : Option (List Value)) (share later : Option (List Scanned)) (taken emitted batches : ℕ) (finished : Bool)
+pub few-row : (does now : OperatorState) (building : Bool) (found : Option (List Value)) (share later : Option (List Scanned)) (taken emitted batches : ℕ) (finished : Bool)
     (ins : List Incoming) (out : Option Outgoing) (journal : List Entry) → Becomes does building found now
     → AreFew does building share taken emitted batches finished ins out journal → taken + emitted + batches + one_if finished < 2 ^ 40 → is_some later ≡ is_some share
     → AreFew now building later (taken + 1) emitted batches finished ins out (with_go journal 1 0)
 few-row does now building found share later taken emitted batches finished ins out journal becomes few less same = record {
   in_order = in_order-row does now building found taken ins becomes few.in_order;
-  scans = scans-so does now later (scans-more does now building found becomes) (same-some (does ≡ duty.Scan) share later same few.scans);
+  scans = scans-so does now later (scans-more does now building found becomes) (same-some (does ≡ operator_state.Scan) share later same few.scans);
   shares = same-some (ins ≡ []) share later same few.shares;
   steps = omega arith;
   received = few.received;
@@ -87,20 +87,20 @@ few-row does now building found share later taken emitted batches finished ins o
   moved = λ k d below. let within = within-with_go (taken + emitted) journal 1 0 refl few.moved k d below in omega arith;
 }
 
-pub takes-row : (w : WorkerState) (one : Handed) (later : List Handed) (now : Duty) (last : List (List Value)) (rest : List Handed) (pending : List (List Value)) (refused : List _)
+pub takes-row : (w : WorkerState) (one : Handed) (later : List Handed) (now : OperatorState) (last : List (List Value)) (rest : List Handed) (pending : List (List Value)) (refused : List _)
     (kept : List (List Value)) (journal : List Entry) (columns : List _) (over : Bool)
     → columns ≡ columns_at_hand w → over ≡ (eqb (length w.rest) 1 && have_all_ended w.ins)
-    → w.rest ≡ one ∷ later → rest ≡ later → Becomes w.duty w.building (row_in columns one.what) now → Closes now over last
-    → pending ≡ (w.pending ++ gives_if w.duty w.building (row_in columns one.what)) ++ last → refused ≡ w.refused ++ refusal_in w.op one.from one.what
-    → kept ≡ w.kept ++ keeps_if w.duty (row_in columns one.what) → journal ≡ with_go w.journal 1 0
-    → TakesRow w (record w { duty = now; rest = rest; pending = pending; taken = w.taken + 1; refused = refused; kept = kept; journal = journal })
+    → w.rest ≡ one ∷ later → rest ≡ later → Becomes w.operator_state w.building (row_in columns one.what) now → Closes now over last
+    → pending ≡ (w.pending ++ gives_if w.operator_state w.building (row_in columns one.what)) ++ last → refused ≡ w.refused ++ refusal_in w.op one.from one.what
+    → kept ≡ w.kept ++ keeps_if w.operator_state (row_in columns one.what) → journal ≡ with_go w.journal 1 0
+    → TakesRow w (record w { operator_state = now; rest = rest; pending = pending; taken = w.taken + 1; refused = refused; kept = kept; journal = journal })
 takes-row w one later now last rest pending refused kept journal columns over columns_is over_is first rest_is becomes closes pending_is refused_is kept_is journal_is = record {
   one = one;
   later = later;
   now = now;
   last = last;
   first = first;
-  becomes = subst (λ columns. Becomes w.duty w.building (row_in columns one.what) now) columns_is becomes;
+  becomes = subst (λ columns. Becomes w.operator_state w.building (row_in columns one.what) now) columns_is becomes;
   closes = subst (λ b. Closes now b last) over_is closes;
   after = rw (← columns_is, pending_is, refused_is, kept_is, journal_is, rest_is) refl;
 }
@@ -141,7 +141,7 @@ each-sized row None (Some now) e h = cc
 each-sized row (Some one) None e h = cc
 each-sized row (Some one) (Some now) e h = let same : now ≡ with_row row one = cc in rw same (row-sized row one h)
 
-pub few-emitted : (does : Duty) (building : Bool) (share : Option (List Scanned)) (taken emitted batches : ℕ) (finished : Bool) (ins : List Incoming) (out after : Option Outgoing) (journal : List Entry)
+pub few-emitted : (does : OperatorState) (building : Bool) (share : Option (List Scanned)) (taken emitted batches : ℕ) (finished : Bool) (ins : List Incoming) (out after : Option Outgoing) (journal : List Entry)
     (row : List Value) → AreFew does building share taken emitted batches finished ins out journal → taken + emitted + batches + one_if finished < 2 ^ 40
     → option_to_list after ≡ map (with_row row) (option_to_list out) → AreFew does building share taken (emitted + 1) batches finished ins after (with_go journal 0 1)
 few-emitted does building share taken emitted batches finished ins out after journal row few less sent = record {
@@ -166,10 +166,10 @@ few-emitted does building share taken emitted batches finished ins out after jou
 pub written-back : {A : Type 0} (n : ℕ) (old new : List A) → n ≡ length old → length new ≡ length old → take n (new ++ drop (length new) old) ≡ new
 written-back n old new e same = take-append-le n new (drop (length new) old) (omega arith) ∙ take_all n new (omega arith)
 
-turned-scan : (does : Duty) (builds : Bool) → does ≡ duty.Scan → turned_to builds does ≡ duty.Scan
+turned-scan : (does : OperatorState) (builds : Bool) → does ≡ operator_state.Scan → turned_to builds does ≡ operator_state.Scan
 turned-scan does builds scan = ap (turned_to builds) scan
 
-pub few-batch : (does : Duty) (building : Bool) (share : Option (List Scanned)) (taken emitted batches : ℕ) (finished : Bool) (ins later : List Incoming) (out : Option Outgoing)
+pub few-batch : (does : OperatorState) (building : Bool) (share : Option (List Scanned)) (taken emitted batches : ℕ) (finished : Bool) (ins later : List Incoming) (out : Option Outgoing)
     (journal : List Entry) (place from number : ℕ) (builds : Bool) (batch : Batch)
     → ((one : Incoming) × (one.from ≡ from) × (one.taken ≡ number) × (one.builds ≡ builds) × IsTaken ins one batch later)
     → AreFew does building share taken emitted batches finished ins out journal → taken + emitted + batches + one_if finished < 2 ^ 40 → place < length ins
@@ -195,12 +195,12 @@ pub no-share : (share : Option (List Scanned)) (ins : List Incoming) (place : �
 no-share None ins place h less = refl
 no-share (Some x) ins place h less = let empty = ap length h in absurd (omega arith)
 
-pub takes-batch : (w : WorkerState) (from number : ℕ) (builds : Bool) (batch : Batch) (ins found : List Incoming) (rest : List Handed) (journal : List Entry) (now : Duty)
+pub takes-batch : (w : WorkerState) (from number : ℕ) (builds : Bool) (batch : Batch) (ins found : List Incoming) (rest : List Handed) (journal : List Entry) (now : OperatorState)
     (closing pending : List (List Value)) (empty over : Bool)
     → ((one : Incoming) × (one.from ≡ from) × (one.taken ≡ number) × (one.builds ≡ builds) × IsTaken w.ins one batch ins) → from < 2 ^ 32 → number < 2 ^ 64
-    → rest ≡ map (row_from from) batch.rows → found ≡ ins → journal ≡ w.journal ++ entry.Take from number ∷ [] → now ≡ turned_to builds w.duty
-    → empty ≡ eqb (length batch.rows) 0 → over ≡ have_all_ended ins → Closes w.duty empty closing → pending ≡ (if over then closing else [])
-    → TakesBatch w (record w { duty = now; building = builds; rest = rest; pending = pending; batches = w.batches + 1; ins = found; journal = journal })
+    → rest ≡ map (row_from from) batch.rows → found ≡ ins → journal ≡ w.journal ++ entry.Take from number ∷ [] → now ≡ turned_to builds w.operator_state
+    → empty ≡ eqb (length batch.rows) 0 → over ≡ have_all_ended ins → Closes w.operator_state empty closing → pending ≡ (if over then closing else [])
+    → TakesBatch w (record w { operator_state = now; building = builds; rest = rest; pending = pending; batches = w.batches + 1; ins = found; journal = journal })
 takes-batch w from number builds batch ins found rest journal now closing pending empty over taken few small rest_is ins_is journal_is now_is empty_is over_is closes pending_is = record {
   one = taken.0;
   batch = batch;
@@ -209,12 +209,12 @@ takes-batch w from number builds batch ins found rest journal now closing pendin
   from_small = let same = taken.1 in omega arith;
   number_small = let same = taken.2 in omega arith;
   last = pending;
-  closes = rw (← empty_is, ← over_is, pending_is) (closes-batch w.duty empty over closing closes);
+  closes = rw (← empty_is, ← over_is, pending_is) (closes-batch w.operator_state empty over closing closes);
   after = rw (taken.1, taken.2, taken.3, rest_is, ins_is, journal_is, now_is) refl;
 }
 
 -- batches have come
-pub few-settled : (does : Duty) (building : Bool) (share : Option (List Scanned)) (taken emitted batches : ℕ) (finished : Bool) (ins later : List Incoming) (out : Option Outgoing) (journal : List Entry)
+pub few-settled : (does : OperatorState) (building : Bool) (share : Option (List Scanned)) (taken emitted batches : ℕ) (finished : Bool) (ins later : List Incoming) (out : Option Outgoing) (journal : List Entry)
     → AreFew does building share taken emitted batches finished ins out journal → length later ≡ length ins → All (λ one. one.taken ≤ batches) later
     → have_builders_ended later ≡ have_builders_ended ins → AreFew does building share taken emitted batches finished later out journal
 few-settled does building share taken emitted batches finished ins later out journal few same received built = record {

@@ -29,11 +29,11 @@ use Rattle.amber_join.specs.Join.{Join}
 use Rattle.amber_link.specs.Incoming.{Incoming}
 use Rattle.amber_link.specs.Outgoing.{Outgoing}
 use Rattle.amber_worker.specs.Fields.{AreFew, IsInOrder, rest_in}
-use Rattle.amber_worker.specs.Made.{IsDutyOf, IsFresh, IsReceiver, fresh_inbox, fresh_inboxes, fresh_outbox, handing_operator, is_join}
+use Rattle.amber_worker.specs.Made.{IsOperatorStateOf, IsFresh, IsReceiver, fresh_inbox, fresh_inboxes, fresh_outbox, handing_operator, is_join}
 use Rattle.amber_worker.specs.Stands.{AreAlone, DoesKind, HasShare, HasTaken, Placement, ReceiveAll, Receives, SendAll, Sends, Shows, Stands, first_orders, is_scan, kept_of, placement_of}
 use Rattle.amber_worker.specs.WorkerState.{WorkerState}
-use Rattle.amber_worker.specs.declared.duty.Duty.{Duty}
-use Rattle.amber_worker.specs.declared.duty.Duty.TheVariants as duty
+use Rattle.amber_worker.specs.declared.operator_state.OperatorState.{OperatorState}
+use Rattle.amber_worker.specs.declared.operator_state.OperatorState.TheVariants as operator_state
 use Rattle.amber_worker.proofs.Alone.{AreApart, are-apart, crew-alone, op-alone, receiver-alone, receivers-none, receivers-one, senders-alone, senders_in, workers-alone}
 use Rattle.amber_worker.proofs.Produced.{produce-none, product-is}
 use Rattle.amber_worker.proofs.Readers.{input-earlier}
@@ -41,24 +41,24 @@ use Rattle.amber_worker.proofs.Readers.{input-earlier}
 -- ---- the parts
 
 -- what a new worker does under the orders before any command
-does-first : (d : Duty) (kind : What) (role : Role) → IsDutyOf d kind → (is_scan kind ≡ true → role.senders ≡ []) → DoesKind d kind (first_constants kind) role
-does-first duty.Scan (what.Scan file) role is none = none refl
-does-first (duty.Filter cond) (what.Filter input own) role is none = is
-does-first (duty.Project from) (what.Project input columns) role is none = is
-does-first (duty.Join state) (what.Join build probe build_keys probe_keys) role is none = (ap (λ (s : Join). s.build_keys) is, ap (λ (s : Join). s.probe_keys) is)
-does-first (duty.Group state) (what.Group input keys aggs) role is none = (is.0, is.1)
-does-first duty.Sink (what.Sink input) role is none = tt
+does-first : (d : OperatorState) (kind : What) (role : Role) → IsOperatorStateOf d kind → (is_scan kind ≡ true → role.senders ≡ []) → DoesKind d kind (first_constants kind) role
+does-first operator_state.Scan (what.Scan file) role is none = none refl
+does-first (operator_state.Filter cond) (what.Filter input own) role is none = is
+does-first (operator_state.Project from) (what.Project input columns) role is none = is
+does-first (operator_state.Join state) (what.Join build probe build_keys probe_keys) role is none = (ap (λ (s : Join). s.build_keys) is, ap (λ (s : Join). s.probe_keys) is)
+does-first (operator_state.Group state) (what.Group input keys aggs) role is none = (is.0, is.1)
+does-first operator_state.Sink (what.Sink input) role is none = tt
 does-first d kind role is none = absurd is
 
 -- a new worker keeps nothing
-has-first : (d : Duty) (kind : What) (task : Task) → IsDutyOf d kind → HasTaken d task []
+has-first : (d : OperatorState) (kind : What) (task : Task) → IsOperatorStateOf d kind → HasTaken d task []
 unfolding built_of
-has-first duty.Scan kind task is = tt
-has-first (duty.Filter cond) kind task is = tt
-has-first (duty.Project from) kind task is = tt
-has-first (duty.Join state) (what.Join build probe build_keys probe_keys) task is = ap (λ (s : Join). s.rows) is
-has-first (duty.Group state) (what.Group input keys aggs) task is = is.2
-has-first duty.Sink kind task is = tt
+has-first operator_state.Scan kind task is = tt
+has-first (operator_state.Filter cond) kind task is = tt
+has-first (operator_state.Project from) kind task is = tt
+has-first (operator_state.Join state) (what.Join build probe build_keys probe_keys) task is = ap (λ (s : Join). s.rows) is
+has-first (operator_state.Group state) (what.Group input keys aggs) task is = is.2
+has-first operator_state.Sink kind task is = tt
 has-first d kind task is = absurd is
 
 columns-handed : (flow : List Operator) (op : ℕ) (kind : What) → columns_at flow (handing_operator kind op) ≡ handed_columns flow op kind
@@ -324,8 +324,8 @@ shows-first flow records size worker share w is alone there some op shared has f
     record {
       op = fresh.op;
       number = fresh.number;
-      duty = does-first w.duty kind role fresh.does scans;
-      state = has-first w.duty kind task fresh.does;
+      operator_state = does-first w.operator_state kind role fresh.does scans;
+      state = has-first w.operator_state kind task fresh.does;
       columns = fresh.columns ∙ columns-handed flow (op_of flow worker) kind;
       build_columns = fresh.build_columns;
       sides = subst B (sym builders) (rw fresh.ins (sides-first kind apart inputs));
@@ -395,23 +395,23 @@ kind-here flow operators worker op d alone below same own =
     rw (same, own)
     (sym (ap kind_at (ap (numbered flow) back ∙ numbered-next flow (op_of flow worker - 1) ∙ slice-here flow (op_of flow worker - 1) d place)))
 
-scan-duty : (d : Duty) (kind : What) → IsDutyOf d kind → is_scan kind ≡ true → d ≡ duty.Scan
-scan-duty duty.Scan kind is scans = refl
-scan-duty (duty.Filter cond) (what.Filter input own) is scans = absurd (false≢true scans)
-scan-duty (duty.Project from) (what.Project input columns) is scans = absurd (false≢true scans)
-scan-duty (duty.Join state) (what.Join build probe build_keys probe_keys) is scans = absurd (false≢true scans)
-scan-duty (duty.Group state) (what.Group input keys aggs) is scans = absurd (false≢true scans)
-scan-duty duty.Sink (what.Sink input) is scans = absurd (false≢true scans)
-scan-duty d kind is scans = absurd is
+scan-operator_state : (d : OperatorState) (kind : What) → IsOperatorStateOf d kind → is_scan kind ≡ true → d ≡ operator_state.Scan
+scan-operator_state operator_state.Scan kind is scans = refl
+scan-operator_state (operator_state.Filter cond) (what.Filter input own) is scans = absurd (false≢true scans)
+scan-operator_state (operator_state.Project from) (what.Project input columns) is scans = absurd (false≢true scans)
+scan-operator_state (operator_state.Join state) (what.Join build probe build_keys probe_keys) is scans = absurd (false≢true scans)
+scan-operator_state (operator_state.Group state) (what.Group input keys aggs) is scans = absurd (false≢true scans)
+scan-operator_state operator_state.Sink (what.Sink input) is scans = absurd (false≢true scans)
+scan-operator_state d kind is scans = absurd is
 
 -- what a new worker keeps is in order
-order-first : (d : Duty) (kind : What) (ins : List Incoming) → IsDutyOf d kind → IsInOrder d (is_join kind) 0 ins
-order-first duty.Scan kind ins is = tt
-order-first (duty.Filter cond) kind ins is = tt
-order-first (duty.Project from) kind ins is = tt
-order-first (duty.Join state) (what.Join build probe build_keys probe_keys) ins is = (ap (λ (s : Join). s.sealed) is, λ no. absurd (false≢true (sym no)))
-order-first (duty.Group state) (what.Group input keys aggs) ins is = let none = is.2.0 in omega arith
-order-first duty.Sink kind ins is = tt
+order-first : (d : OperatorState) (kind : What) (ins : List Incoming) → IsOperatorStateOf d kind → IsInOrder d (is_join kind) 0 ins
+order-first operator_state.Scan kind ins is = tt
+order-first (operator_state.Filter cond) kind ins is = tt
+order-first (operator_state.Project from) kind ins is = tt
+order-first (operator_state.Join state) (what.Join build probe build_keys probe_keys) ins is = (ap (λ (s : Join). s.sealed) is, λ no. absurd (false≢true (sym no)))
+order-first (operator_state.Group state) (what.Group input keys aggs) ins is = let none = is.2.0 in omega arith
+order-first operator_state.Sink kind ins is = tt
 order-first d kind ins is = absurd is
 
 no-inboxes : (kind : What) → is_scan kind ≡ true → fresh_inboxes kind ≡ []
@@ -453,8 +453,8 @@ fresh-empty flow worker size share w fresh =
     (subst I (sym fresh.ins) (each-inbox (λ one. one.waiting ≡ []) (what_at flow (op_of flow worker)) (λ builds sender. refl)), subst O (sym fresh.outs) (nothing-goes size (option_to_list fresh.receiver)))
 
 -- what a new worker counts is within its steps
-pub few-fresh : (d : Duty) (kind : What) (share : Option (List Scanned)) (ins : List Incoming) (out : Option Outgoing) (receiver : Option ℕ) (size : ℕ) (journal : List Entry)
-    → IsDutyOf d kind → is_some share ≡ is_scan kind → ins ≡ fresh_inboxes kind
+pub few-fresh : (d : OperatorState) (kind : What) (share : Option (List Scanned)) (ins : List Incoming) (out : Option Outgoing) (receiver : Option ℕ) (size : ℕ) (journal : List Entry)
+    → IsOperatorStateOf d kind → is_some share ≡ is_scan kind → ins ≡ fresh_inboxes kind
     → option_to_list out ≡ map (fresh_outbox size) (option_to_list receiver) → 0 < size → journal ≡ [] → AreFew d (is_join kind) share 0 0 0 false ins out journal
 few-fresh d kind share ins out receiver size journal is shared ins_is out_is some none = record {
   in_order = order-first d kind ins is;
@@ -467,9 +467,9 @@ few-fresh d kind share ins out receiver size journal is shared ins_is out_is som
   moved = rw none (λ k d less. absurd (omega arith));
 }
   where
-    scan : (o : Option (List Scanned)) → is_some o ≡ is_scan kind → IfSome o (λ _. d ≡ duty.Scan)
+    scan : (o : Option (List Scanned)) → is_some o ≡ is_scan kind → IfSome o (λ _. d ≡ operator_state.Scan)
     scan None e = tt
-    scan (Some x) e = scan-duty d kind is (sym e)
+    scan (Some x) e = scan-operator_state d kind is (sym e)
 
     alone : (o : Option (List Scanned)) → is_some o ≡ is_scan kind → IfSome o (λ _. ins ≡ [])
     alone None e = tt

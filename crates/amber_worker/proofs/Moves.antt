@@ -23,8 +23,8 @@ use Rattle.amber_worker.specs.Fields.{rows_moved}
 use Rattle.amber_worker.specs.Stands.{DoesKind, HasTaken, Keeps, Placement, ReceiveAll, SendAll, Sends, Shows, kept_of, stream_to}
 use Rattle.amber_worker.specs.WorkerState.{WorkerState}
 use Rattle.amber_worker.specs.Steps.{Becomes, Closes, all_done, columns_at_hand, gives, gives_if, keeps, keeps_if, row_emitted, row_taken}
-use Rattle.amber_worker.specs.declared.duty.Duty.{Duty}
-use Rattle.amber_worker.specs.declared.duty.Duty.TheVariants as duty
+use Rattle.amber_worker.specs.declared.operator_state.OperatorState.{OperatorState}
+use Rattle.amber_worker.specs.declared.operator_state.OperatorState.TheVariants as operator_state
 use Rattle.amber_worker.proofs.Chunked.{chunks-end, chunks-full, chunks-more, left_over, left_over-few}
 use Rattle.amber_meaning.proofs.Led.{Leads-push}
 use Rattle.amber_worker.proofs.Journals.{AreEntries-push, AreEntries-with_go, Leads-out, Leads-row, not_counted, passes}
@@ -48,18 +48,18 @@ free-shown placement orders w p sent shows works = record {
 -- ---- what a row yields
 
 -- a row that suits yields what the worker gives of it
-yields-given : (d : Duty) (task : Task) (kind : What) (constants : List Value) (role : Role) (before : List Handed) (from : ℕ) (row : List Value)
+yields-given : (d : OperatorState) (task : Task) (kind : What) (constants : List Value) (role : Role) (before : List Handed) (from : ℕ) (row : List Value)
     → DoesKind d kind constants role → HasTaken d task before → yields_row task kind before from constants row ≡ gives d (is_builder task from) row
-yields-given duty.Scan task (what.Scan file) constants role before from row does has = refl
-yields-given (duty.Filter cond) task (what.Filter input own) constants role before from row does has = rw does refl
-yields-given (duty.Project columns) task (what.Project input own) constants role before from row does has = rw does refl
-yields-given (duty.Join state) task (what.Join build probe build_keys probe_keys) constants role before from row does has = rw (does.0, does.1, has) refl
-yields-given (duty.Group state) task (what.Group input keys aggs) constants role before from row does has = refl
-yields-given duty.Sink task (what.Sink input) constants role before from row does has = refl
+yields-given operator_state.Scan task (what.Scan file) constants role before from row does has = refl
+yields-given (operator_state.Filter cond) task (what.Filter input own) constants role before from row does has = rw does refl
+yields-given (operator_state.Project columns) task (what.Project input own) constants role before from row does has = rw does refl
+yields-given (operator_state.Join state) task (what.Join build probe build_keys probe_keys) constants role before from row does has = rw (does.0, does.1, has) refl
+yields-given (operator_state.Group state) task (what.Group input keys aggs) constants role before from row does has = refl
+yields-given operator_state.Sink task (what.Sink input) constants role before from row does has = refl
 yields-given d task kind constants role before from row does has = absurd does
 
 -- what is handed yields what the worker gives of it
-yields-all : (d : Duty) (task : Task) (constants : List Value) (role : Role) (before : List Handed) (one : Handed) → DoesKind d task.kind constants role → HasTaken d task before
+yields-all : (d : OperatorState) (task : Task) (constants : List Value) (role : Role) (before : List Handed) (one : Handed) → DoesKind d task.kind constants role → HasTaken d task before
     → yields task before one constants ≡ gives_if d (is_builder task one.from) (suiting task one)
 unfolding yields
 yields-all d task constants role before one does has = by (suiting task one)
@@ -68,24 +68,24 @@ yields-all d task constants role before one does has = by (suiting task one)
     by None = refl
     by (Some row) = yields-given d task task.kind constants role before one.from row does has
 
-nothing_kept : (d : Duty) (o : Option (List Value)) → ((row : List Value) → keeps d row ≡ []) → keeps_if d o ≡ []
+nothing_kept : (d : OperatorState) (o : Option (List Value)) → ((row : List Value) → keeps d row ≡ []) → keeps_if d o ≡ []
 nothing_kept d None h = refl
 nothing_kept d (Some row) h = h row
 
-sink-keeps : (o : Option (List Value)) → option_to_list o ≡ keeps_if duty.Sink o
+sink-keeps : (o : Option (List Value)) → option_to_list o ≡ keeps_if operator_state.Sink o
 sink-keeps None = refl
 sink-keeps (Some row) = refl
 
 -- what is kept for the answer, with one more that was taken
-kept-more : (d : Duty) (task : Task) (kind : What) (constants : List Value) (role : Role) (taken : List Handed) (one : Handed) → DoesKind d kind constants role
+kept-more : (d : OperatorState) (task : Task) (kind : What) (constants : List Value) (role : Role) (taken : List Handed) (one : Handed) → DoesKind d kind constants role
     → kept_of kind task (taken ++ one ∷ []) ≡ kept_of kind task taken ++ keeps_if d (suiting task one)
-kept-more duty.Scan task (what.Scan file) constants role taken one does = sym (nothing_kept duty.Scan (suiting task one) (λ row. refl))
-kept-more (duty.Filter cond) task (what.Filter input own) constants role taken one does = sym (nothing_kept (duty.Filter cond) (suiting task one) (λ row. refl))
-kept-more (duty.Project columns) task (what.Project input own) constants role taken one does = sym (nothing_kept (duty.Project columns) (suiting task one) (λ row. refl))
-kept-more (duty.Join state) task (what.Join build probe build_keys probe_keys) constants role taken one does =
-    sym (nothing_kept (duty.Join state) (suiting task one) (λ row. refl))
-kept-more (duty.Group state) task (what.Group input keys aggs) constants role taken one does = sym (nothing_kept (duty.Group state) (suiting task one) (λ row. refl))
-kept-more duty.Sink task (what.Sink input) constants role taken one does = rows-more task taken one ∙ ap (λ l. rows_in task taken ++ l) (sink-keeps (suiting task one))
+kept-more operator_state.Scan task (what.Scan file) constants role taken one does = sym (nothing_kept operator_state.Scan (suiting task one) (λ row. refl))
+kept-more (operator_state.Filter cond) task (what.Filter input own) constants role taken one does = sym (nothing_kept (operator_state.Filter cond) (suiting task one) (λ row. refl))
+kept-more (operator_state.Project columns) task (what.Project input own) constants role taken one does = sym (nothing_kept (operator_state.Project columns) (suiting task one) (λ row. refl))
+kept-more (operator_state.Join state) task (what.Join build probe build_keys probe_keys) constants role taken one does =
+    sym (nothing_kept (operator_state.Join state) (suiting task one) (λ row. refl))
+kept-more (operator_state.Group state) task (what.Group input keys aggs) constants role taken one does = sym (nothing_kept (operator_state.Group state) (suiting task one) (λ row. refl))
+kept-more operator_state.Sink task (what.Sink input) constants role taken one does = rows-more task taken one ∙ ap (λ l. rows_in task taken ++ l) (sink-keeps (suiting task one))
 kept-more d task kind constants role taken one does = absurd does
 
 -- what is refused, with one more that was taken
@@ -95,12 +95,12 @@ refused-more op taken one = flat_map-append _ taken (one ∷ []) ∙ ap (λ l. r
 -- ---- a row is taken
 
 -- the facts of a row that is taken
-record TakesOne (placement : Placement) (orders : Orders) (w : WorkerState) (p : Position) (sent : ℕ → List Batch) (one : Handed) (later : List Handed) (now : Duty)
+record TakesOne (placement : Placement) (orders : Orders) (w : WorkerState) (p : Position) (sent : ℕ → List Batch) (one : Handed) (later : List Handed) (now : OperatorState)
     (last : List (List Value)) : Type 0 where
   shows : Shows placement orders w p sent
   rest : w.rest ≡ one ∷ later
   pending : w.pending ≡ []
-  becomes : Becomes w.duty w.building (row_in (columns_at_hand w) one.what) now
+  becomes : Becomes w.operator_state w.building (row_in (columns_at_hand w) one.what) now
   closes : Closes now (eqb (length w.rest) 1 && have_all_ended w.ins) last
 
 -- the position with a row more
@@ -108,12 +108,12 @@ abbrev with_one : Orders → Position → Position
 with_one orders p = went orders 1 0 p
 
 -- the side of what is at hand
-side-is : (placement : Placement) (orders : Orders) (w : WorkerState) (p : Position) (sent : ℕ → List Batch) (one : Handed) (later : List Handed) (now : Duty) (last : List (List Value))
+side-is : (placement : Placement) (orders : Orders) (w : WorkerState) (p : Position) (sent : ℕ → List Batch) (one : Handed) (later : List Handed) (now : OperatorState) (last : List (List Value))
     → TakesOne placement orders w p sent one later now last → All (λ other. is_builder placement.role.task other.from ≡ w.building) (one ∷ later)
 side-is placement orders w p sent one later now last takes = rw takes.rest at takes.shows.building
 
 -- the row at hand, if it suits
-found-is : (placement : Placement) (orders : Orders) (w : WorkerState) (p : Position) (sent : ℕ → List Batch) (one : Handed) (later : List Handed) (now : Duty) (last : List (List Value))
+found-is : (placement : Placement) (orders : Orders) (w : WorkerState) (p : Position) (sent : ℕ → List Batch) (one : Handed) (later : List Handed) (now : OperatorState) (last : List (List Value))
     → TakesOne placement orders w p sent one later now last → row_in (columns_at_hand w) one.what ≡ suiting placement.role.task one
 found-is placement orders w p sent one later now last takes =
     let builds : is_builder placement.role.task one.from ≡ w.building = side-is placement orders w p sent one later now last takes 0 one (omega arith) in
@@ -124,15 +124,15 @@ found-is placement orders w p sent one later now last takes =
     same false e = takes.shows.columns ∙ rw e refl
 
 -- what is kept becomes what the task says
-becomes-is : (placement : Placement) (orders : Orders) (w : WorkerState) (p : Position) (sent : ℕ → List Batch) (one : Handed) (later : List Handed) (now : Duty) (last : List (List Value))
-    → TakesOne placement orders w p sent one later now last → Becomes w.duty (is_builder placement.role.task one.from) (suiting placement.role.task one) now
+becomes-is : (placement : Placement) (orders : Orders) (w : WorkerState) (p : Position) (sent : ℕ → List Batch) (one : Handed) (later : List Handed) (now : OperatorState) (last : List (List Value))
+    → TakesOne placement orders w p sent one later now last → Becomes w.operator_state (is_builder placement.role.task one.from) (suiting placement.role.task one) now
 becomes-is placement orders w p sent one later now last takes =
     let builds : is_builder placement.role.task one.from ≡ w.building = side-is placement orders w p sent one later now last takes 0 one (omega arith) in
-    let P : Option (List Value) → Type 0 = λ found. Becomes w.duty w.building found now in
-    let Q : Bool → Type 0 = λ b. Becomes w.duty b (suiting placement.role.task one) now in
+    let P : Option (List Value) → Type 0 = λ found. Becomes w.operator_state w.building found now in
+    let Q : Bool → Type 0 = λ b. Becomes w.operator_state b (suiting placement.role.task one) now in
     subst Q (sym builds) (subst P (found-is placement orders w p sent one later now last takes) takes.becomes)
 
-taken-now : (placement : Placement) (orders : Orders) (w : WorkerState) (p : Position) (sent : ℕ → List Batch) (one : Handed) (later : List Handed) (now : Duty) (last : List (List Value))
+taken-now : (placement : Placement) (orders : Orders) (w : WorkerState) (p : Position) (sent : ℕ → List Batch) (one : Handed) (later : List Handed) (now : OperatorState) (last : List (List Value))
     → TakesOne placement orders w p sent one later now last → take (length p.constants + 1) (fed placement.role p.taken) ≡ taken_of placement.role p ++ one ∷ []
 taken-now placement orders w p sent one later now last takes = take-next (length p.constants) (fed placement.role p.taken) one later (sym takes.shows.rest ∙ takes.rest)
 
@@ -150,7 +150,7 @@ closing-same true kind task handed all same = ap (λ l. closing_rows kind (filte
 closing-same false kind task handed all same = refl
 
 -- nothing more can come behind this row
-over-is : (placement : Placement) (orders : Orders) (w : WorkerState) (p : Position) (sent : ℕ → List Batch) (one : Handed) (later : List Handed) (now : Duty) (last : List (List Value))
+over-is : (placement : Placement) (orders : Orders) (w : WorkerState) (p : Position) (sent : ℕ → List Batch) (one : Handed) (later : List Handed) (now : OperatorState) (last : List (List Value))
     → TakesOne placement orders w p sent one later now last → (eqb (length w.rest) 1 && have_all_ended w.ins) ≡ is_complete placement.role p.taken (length p.constants + 1)
 over-is placement orders w p sent one later now last takes =
     let shows = takes.shows in
@@ -162,7 +162,7 @@ over-is placement orders w p sent one later now last takes =
     (same-test (length w.rest) 1 (length p.constants + 1) (length (fed placement.role p.taken)) (λ e. omega arith) (λ e. omega arith))
 
 -- the rows that are given at the end
-last-is : (placement : Placement) (orders : Orders) (w : WorkerState) (p : Position) (sent : ℕ → List Batch) (one : Handed) (later : List Handed) (now : Duty) (last : List (List Value))
+last-is : (placement : Placement) (orders : Orders) (w : WorkerState) (p : Position) (sent : ℕ → List Batch) (one : Handed) (later : List Handed) (now : OperatorState) (last : List (List Value))
     → TakesOne placement orders w p sent one later now last
     → last ≡ (if is_complete placement.role p.taken (length p.constants + 1) then closing placement.role.task (fed placement.role p.taken) else [])
 unfolding closing
@@ -170,8 +170,8 @@ last-is placement orders w p sent one later now last takes =
     let shows = takes.shows in
     let task : Task = placement.role.task in
     let becomes = becomes-is placement orders w p sent one later now last takes in
-    let does = does-more w.duty now (is_builder task one.from) (suiting task one) task.kind orders.constants placement.role becomes shows.duty in
-    let has = has-more w.duty now task (taken_of placement.role p) one becomes shows.state in
+    let does = does-more w.operator_state now (is_builder task one.from) (suiting task one) task.kind orders.constants placement.role becomes shows.operator_state in
+    let has = has-more w.operator_state now task (taken_of placement.role p) one becomes shows.state in
     let over = over-is placement orders w p sent one later now last takes in
     closing-is now task.kind orders.constants placement.role task (taken_of placement.role p ++ one ∷ []) (is_complete placement.role p.taken (length p.constants + 1)) last does has
     (subst (λ b. Closes now b last) over takes.closes)
@@ -181,10 +181,10 @@ last-is placement orders w p sent one later now last takes =
     sym (taken-now placement orders w p sent one later now last takes) ∙ take_all (length p.constants + 1) (fed placement.role p.taken) (omega arith))
 
 -- what was produced with this row
-product-one : (placement : Placement) (orders : Orders) (w : WorkerState) (p : Position) (sent : ℕ → List Batch) (one : Handed) (later : List Handed) (now : Duty) (last : List (List Value))
+product-one : (placement : Placement) (orders : Orders) (w : WorkerState) (p : Position) (sent : ℕ → List Batch) (one : Handed) (later : List Handed) (now : OperatorState) (last : List (List Value))
     → TakesOne placement orders w p sent one later now last
     → product placement.role p.taken (p.constants ++ orders.constants ∷ [])
-    ≡ product placement.role p.taken p.constants ++ (gives_if w.duty w.building (row_in (columns_at_hand w) one.what) ++ last)
+    ≡ product placement.role p.taken p.constants ++ (gives_if w.operator_state w.building (row_in (columns_at_hand w) one.what) ++ last)
 product-one placement orders w p sent one later now last takes =
     let shows = takes.shows in
     let task : Task = placement.role.task in
@@ -192,15 +192,15 @@ product-one placement orders w p sent one later now last takes =
     let within = left-within (length p.constants) (fed placement.role p.taken) one later left in
     let more : length (p.constants ++ orders.constants ∷ []) ≡ length p.constants + 1 = omega (arith, length-append p.constants (orders.constants ∷ [])) in
     let builds : is_builder task one.from ≡ w.building = side-is placement orders w p sent one later now last takes 0 one (omega arith) in
-    let gives : yields task (take (length p.constants) (fed placement.role p.taken)) one orders.constants ≡ gives_if w.duty w.building (row_in (columns_at_hand w) one.what) =
-    yields-all w.duty task orders.constants placement.role (taken_of placement.role p) one shows.duty shows.state
-    ∙ ap (λ b. gives_if w.duty b (suiting task one)) builds
-    ∙ ap (λ found. gives_if w.duty w.building found) (sym (found-is placement orders w p sent one later now last takes)) in
+    let gives : yields task (take (length p.constants) (fed placement.role p.taken)) one orders.constants ≡ gives_if w.operator_state w.building (row_in (columns_at_hand w) one.what) =
+    yields-all w.operator_state task orders.constants placement.role (taken_of placement.role p) one shows.operator_state shows.state
+    ∙ ap (λ b. gives_if w.operator_state b (suiting task one)) builds
+    ∙ ap (λ found. gives_if w.operator_state w.building found) (sym (found-is placement orders w p sent one later now last takes)) in
     let before : produce task [] (fed placement.role p.taken) p.constants ≡ product placement.role p.taken p.constants =
     sym (product-open placement.role p.taken p.constants (not-complete placement.role p.taken (length p.constants) (omega arith))) in
     product-is placement.role p.taken (p.constants ++ orders.constants ∷ [])
     ∙ rw (more, produce-next task [] (fed placement.role p.taken) p.constants one later orders.constants left, gives, before, ← last-is placement orders w p sent one later now last takes)
-    (append_assoc (product placement.role p.taken p.constants) (gives_if w.duty w.building (row_in (columns_at_hand w) one.what)) last)
+    (append_assoc (product placement.role p.taken p.constants) (gives_if w.operator_state w.building (row_in (columns_at_hand w) one.what)) last)
 
 -- all that was produced is gone
 pub all-gone : (placement : Placement) (orders : Orders) (w : WorkerState) (p : Position) (sent : ℕ → List Batch) → Shows placement orders w p sent → w.pending ≡ []
@@ -210,7 +210,7 @@ all-gone placement orders w p sent shows none =
     let within = shows.produced in
     omega arith
 
-may-take_row : (placement : Placement) (orders : Orders) (w : WorkerState) (p : Position) (sent : ℕ → List Batch) (one : Handed) (later : List Handed) (now : Duty) (last : List (List Value))
+may-take_row : (placement : Placement) (orders : Orders) (w : WorkerState) (p : Position) (sent : ℕ → List Batch) (one : Handed) (later : List Handed) (now : OperatorState) (last : List (List Value))
     → TakesOne placement orders w p sent one later now last → IsWorking w → MayGo placement.role orders p 1 0
 may-take_row placement orders w p sent one later now_does last takes works =
     let shows = takes.shows in
@@ -219,7 +219,7 @@ may-take_row placement orders w p sent one later now_does last takes works =
     let before : produced_with placement.role orders p 0 ≡ length (product placement.role p.taken p.constants) =
     ap (λ (constants : List (List Value)). length (product placement.role p.taken constants)) (append-nil p.constants) in
     let now = ap length (product-one placement orders w p sent one later now_does last takes) in
-    let lengths = length-append (product placement.role p.taken p.constants) (gives_if w.duty w.building (row_in (columns_at_hand w) one.what) ++ last) in
+    let lengths = length-append (product placement.role p.taken p.constants) (gives_if w.operator_state w.building (row_in (columns_at_hand w) one.what) ++ last) in
     record {
       free = free-shown placement orders w p sent shows works;
       within = within;
@@ -238,7 +238,7 @@ both_false : (b : Bool) → (b && false) ≡ false
 both_false true = refl
 both_false false = refl
 
-shows-row_taken : (placement : Placement) (orders : Orders) (w : WorkerState) (p : Position) (sent : ℕ → List Batch) (one : Handed) (later : List Handed) (now : Duty) (last : List (List Value))
+shows-row_taken : (placement : Placement) (orders : Orders) (w : WorkerState) (p : Position) (sent : ℕ → List Batch) (one : Handed) (later : List Handed) (now : OperatorState) (last : List (List Value))
     → TakesOne placement orders w p sent one later now last → Shows placement orders (row_taken one later now last w) (with_one orders p) sent
 shows-row_taken placement orders w p sent one later now last takes =
     let shows = takes.shows in
@@ -250,7 +250,7 @@ shows-row_taken placement orders w p sent one later now last takes =
     let gone = all-gone placement orders w p sent shows takes.pending in
     let no_fate : p.fates ++ [] ≡ p.fates = append-nil p.fates in
     let still : length p.fates ≤ length (product placement.role p.taken p.constants) = shows.produced in
-    let lengths = length-append (product placement.role p.taken p.constants) (gives_if w.duty w.building (row_in (columns_at_hand w) one.what) ++ last) in
+    let lengths = length-append (product placement.role p.taken p.constants) (gives_if w.operator_state w.building (row_in (columns_at_hand w) one.what) ++ last) in
     let now_taken : take (length (p.constants ++ orders.constants ∷ [])) (fed placement.role p.taken) ≡ taken_of placement.role p ++ one ∷ [] =
     rw more (taken-now placement orders w p sent one later now last takes) in
     let becomes = becomes-is placement orders w p sent one later now last takes in
@@ -258,8 +258,8 @@ shows-row_taken placement orders w p sent one later now last takes =
     record {
       op = shows.op;
       number = shows.number;
-      duty = does-more w.duty now (is_builder task one.from) (suiting task one) task.kind orders.constants placement.role becomes shows.duty;
-      state = rw now_taken (has-more w.duty now task (taken_of placement.role p) one becomes shows.state);
+      operator_state = does-more w.operator_state now (is_builder task one.from) (suiting task one) task.kind orders.constants placement.role becomes shows.operator_state;
+      state = rw now_taken (has-more w.operator_state now task (taken_of placement.role p) one becomes shows.state);
       columns = shows.columns;
       build_columns = shows.build_columns;
       sides = shows.sides;
@@ -274,7 +274,7 @@ shows-row_taken placement orders w p sent one later now last takes =
       within = rw more within;
       produced = rw (no_fate, grown) (omega arith);
       refused = rw (shows.refused, shows.op, now_taken) (sym (refused-more placement.op (taken_of placement.role p) one));
-      kept = rw (shows.kept, found, now_taken) (sym (kept-more w.duty task task.kind orders.constants placement.role (taken_of placement.role p) one shows.duty));
+      kept = rw (shows.kept, found, now_taken) (sym (kept-more w.operator_state task task.kind orders.constants placement.role (taken_of placement.role p) one shows.operator_state));
       hand = rw (shows.plain.uncounted) shows.hand;
       held = shows.held;
       waved = shows.waved ∙ sym (both_true p.waved);
@@ -285,8 +285,8 @@ shows-row_taken placement orders w p sent one later now last takes =
     }
 
 -- wherever a worker stood, it stands once it took a row
-pub Keeps-row_taken : (w : WorkerState) (one : Handed) (later : List Handed) (now : Duty) (last : List (List Value)) → w.rest ≡ one ∷ later → w.pending ≡ []
-    → Becomes w.duty w.building (row_in (columns_at_hand w) one.what) now → Closes now (eqb (length w.rest) 1 && have_all_ended w.ins) last
+pub Keeps-row_taken : (w : WorkerState) (one : Handed) (later : List Handed) (now : OperatorState) (last : List (List Value)) → w.rest ≡ one ∷ later → w.pending ≡ []
+    → Becomes w.operator_state w.building (row_in (columns_at_hand w) one.what) now → Closes now (eqb (length w.rest) 1 && have_all_ended w.ins) last
     → IsWorking w → Keeps w (row_taken one later now last w)
 unfolding Keeps
 Keeps-row_taken w one later now last rest pending becomes closes works placement orders start p sent stands =
@@ -399,7 +399,7 @@ shows-row_emitted placement orders w p sent row later shows pending works =
     record {
       op = shows.op;
       number = shows.number;
-      duty = shows.duty;
+      operator_state = shows.operator_state;
       state = rw no_row shows.state;
       columns = shows.columns;
       build_columns = shows.build_columns;
@@ -480,7 +480,7 @@ Keeps-all_done w rest pending ended works placement orders start p sent stands =
         shows = record {
           op = shows.op;
           number = shows.number;
-          duty = shows.duty;
+          operator_state = shows.operator_state;
           state = shows.state;
           columns = shows.columns;
           build_columns = shows.build_columns;

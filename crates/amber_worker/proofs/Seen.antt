@@ -14,8 +14,8 @@ use Rattle.amber_meaning.specs.declared.view.WorkerView.{WorkerView}
 use Rattle.amber_worker.specs.Stands.{DoesKind, HasTaken, IsViewOf, kept_of}
 use Rattle.amber_worker.specs.WorkerState.{WorkerState}
 use Rattle.amber_worker.specs.Steps.{IsExtra, IsShown}
-use Rattle.amber_worker.specs.declared.duty.Duty.{Duty}
-use Rattle.amber_worker.specs.declared.duty.Duty.TheVariants as duty
+use Rattle.amber_worker.specs.declared.operator_state.OperatorState.{OperatorState}
+use Rattle.amber_worker.specs.declared.operator_state.OperatorState.TheVariants as operator_state
 
 -- as many refusals, whichever operator they are named for
 length-refused : (a b : ℕ) (handed : List Handed) → length (refused_in a handed) ≡ length (refused_in b handed)
@@ -29,18 +29,18 @@ length-refused a b (one ∷ more) =
     same (Ok row) = refl
     same (Err why) = refl
 
-extra-is : (d : Duty) (kind : What) (constants : List Value) (role : Role) (task : Task) (op : ℕ) (handed : List Handed) (refused : List Refusal) (keep : List (List Value)) (shown : Extra)
+extra-is : (d : OperatorState) (kind : What) (constants : List Value) (role : Role) (task : Task) (op : ℕ) (handed : List Handed) (refused : List Refusal) (keep : List (List Value)) (shown : Extra)
     → DoesKind d kind constants role → HasTaken d task handed → refused ≡ refused_in op handed → keep ≡ kept_of kind task handed
     → IsExtra d (length refused) (length keep) shown → shown ≡ extra_of task kind handed
-extra-is duty.Scan (what.Scan file) constants role task op handed refused keep shown does has refused_is kept_is is =
+extra-is operator_state.Scan (what.Scan file) constants role task op handed refused keep shown does has refused_is kept_is is =
     is ∙ ap extra.Scan (ap length refused_is ∙ length-refused op 0 handed)
-extra-is (duty.Filter cond) (what.Filter input own) constants role task op handed refused keep shown does has refused_is kept_is is = is
-extra-is (duty.Project columns) (what.Project input own) constants role task op handed refused keep shown does has refused_is kept_is is = is
-extra-is (duty.Join state) (what.Join build probe build_keys probe_keys) constants role task op handed refused keep shown does has refused_is kept_is is =
+extra-is (operator_state.Filter cond) (what.Filter input own) constants role task op handed refused keep shown does has refused_is kept_is is = is
+extra-is (operator_state.Project columns) (what.Project input own) constants role task op handed refused keep shown does has refused_is kept_is is = is
+extra-is (operator_state.Join state) (what.Join build probe build_keys probe_keys) constants role task op handed refused keep shown does has refused_is kept_is is =
     is ∙ rw (does.0, has) refl
-extra-is (duty.Group state) (what.Group input keys aggs) constants role task op handed refused keep shown does has refused_is kept_is is =
+extra-is (operator_state.Group state) (what.Group input keys aggs) constants role task op handed refused keep shown does has refused_is kept_is is =
     is (rows_in task handed) has ∙ rw does.0 refl
-extra-is duty.Sink (what.Sink input) constants role task op handed refused keep shown does has refused_is kept_is is = is ∙ ap extra.Sink (ap length kept_is)
+extra-is operator_state.Sink (what.Sink input) constants role task op handed refused keep shown does has refused_is kept_is is = is ∙ ap extra.Sink (ap length kept_is)
 extra-is d kind constants role task op handed refused keep shown does has refused_is kept_is is = absurd does
 
 stands-so : (finished held : Bool) → held ≡ false
@@ -59,5 +59,5 @@ view-is w view is loose placement orders p sent shows =
     same-view view (view_of placement.role p) (is.taken ∙ shows.taken) (is.rest ∙ ap length shows.rest) (is.out ∙ shows.emitted) (is.pending ∙ ap length shows.pending)
     (is.stand ∙ ap (λ (b : Bool). if b then stand.Finished else stand.Ready) shows.finished ∙ stands-so p.finished p.held (sym shows.held ∙ loose))
     (is.next ∙ ap first_of shows.pending)
-    (extra-is w.duty placement.role.task.kind orders.constants placement.role placement.role.task placement.op (taken_of placement.role p) w.refused w.kept view.extra shows.duty shows.state
+    (extra-is w.operator_state placement.role.task.kind orders.constants placement.role placement.role.task placement.op (taken_of placement.role p) w.refused w.kept view.extra shows.operator_state shows.state
     shows.refused shows.kept is.extra)

@@ -30,7 +30,7 @@ pub Shows-relinked : (placement : Placement) (orders : Orders) (w : WorkerState)
 Shows-relinked placement orders w p sent later ins outs journal shows received sides sends = record {
   op = shows.op;
   number = shows.number;
-  duty = shows.duty;
+  operator_state = shows.operator_state;
   state = shows.state;
   columns = shows.columns;
   build_columns = shows.build_columns;

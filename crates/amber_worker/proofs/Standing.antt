@@ -10,8 +10,8 @@ use Rattle.amber_meaning.specs.declared.answer.Refusal.TheVariants as refusal
 use Rattle.amber_worker.specs.Stands.{DoesKind, HasTaken, IsGivenOf, Keeps}
 use Rattle.amber_worker.specs.WorkerState.{WorkerState}
 use Rattle.amber_worker.specs.Steps.{IsRefused}
-use Rattle.amber_worker.specs.declared.duty.Duty.{Duty}
-use Rattle.amber_worker.specs.declared.duty.Duty.TheVariants as duty
+use Rattle.amber_worker.specs.declared.operator_state.OperatorState.{OperatorState}
+use Rattle.amber_worker.specs.declared.operator_state.OperatorState.TheVariants as operator_state
 use Rattle.amber_worker.specs.declared.given.Given.{Given}
 
 -- a worker that nothing happened to stands where it stood
@@ -20,20 +20,20 @@ unfolding Keeps
 Keeps-refl w placement orders start p sent stands = (p, stands, λ sender. refl)
 
 -- the keys that a worker has refused are those of the rows that it took
-keys-are : (d : Duty) (kind : What) (constants : List Value) (role : Role) (task : Task) (handed : List Handed) (keys : List (List Value))
+keys-are : (d : OperatorState) (kind : What) (constants : List Value) (role : Role) (task : Task) (handed : List Handed) (keys : List (List Value))
     → DoesKind d kind constants role → HasTaken d task handed → IsRefused d keys → keys ≡ keys_refused kind task handed
-keys-are duty.Scan (what.Scan file) constants role task handed keys does has refused = refused
-keys-are (duty.Filter cond) (what.Filter input own) constants role task handed keys does has refused = refused
-keys-are (duty.Project from) (what.Project input columns) constants role task handed keys does has refused = refused
-keys-are (duty.Join state) (what.Join build probe build_keys probe_keys) constants role task handed keys does has refused = refused
-keys-are (duty.Group state) (what.Group input own aggs) constants role task handed keys does has refused = refused (rows_in task handed) has ∙ rw (does.0, does.1) refl
-keys-are duty.Sink (what.Sink input) constants role task handed keys does has refused = refused
+keys-are operator_state.Scan (what.Scan file) constants role task handed keys does has refused = refused
+keys-are (operator_state.Filter cond) (what.Filter input own) constants role task handed keys does has refused = refused
+keys-are (operator_state.Project from) (what.Project input columns) constants role task handed keys does has refused = refused
+keys-are (operator_state.Join state) (what.Join build probe build_keys probe_keys) constants role task handed keys does has refused = refused
+keys-are (operator_state.Group state) (what.Group input own aggs) constants role task handed keys does has refused = refused (rows_in task handed) has ∙ rw (does.0, does.1) refl
+keys-are operator_state.Sink (what.Sink input) constants role task handed keys does has refused = refused
 keys-are d kind constants role task handed keys does has refused = absurd does
 
 -- what a worker hands out is what it gives in its position
-pub given-is : (w : WorkerState) (given : Given) (keys : List (List Value)) → IsRefused w.duty keys → given.refused ≡ w.refused ++ map (refusal.Group w.op) (sort_rows keys)
+pub given-is : (w : WorkerState) (given : Given) (keys : List (List Value)) → IsRefused w.operator_state keys → given.refused ≡ w.refused ++ map (refusal.Group w.op) (sort_rows keys)
     → given.rows ≡ sort_rows w.kept → IsGivenOf w given
 unfolding IsGivenOf
 given-is w given keys are refused rows placement orders p sent shows =
-    let own = keys-are w.duty placement.role.task.kind orders.constants placement.role placement.role.task (taken_of placement.role p) keys shows.duty shows.state are in
+    let own = keys-are w.operator_state placement.role.task.kind orders.constants placement.role placement.role.task (taken_of placement.role p) keys shows.operator_state shows.state are in
     (refused ∙ rw (shows.refused, shows.op, own) refl, rows ∙ ap sort_rows shows.kept)

@@ -17,8 +17,8 @@ use Rattle.amber_link.specs.Incoming.{Incoming, IsTaken, have_builders_ended, wi
 use Rattle.amber_worker.specs.Fields.{IsInOrder}
 use Rattle.amber_worker.specs.Stands.{DoesKind, HasTaken}
 use Rattle.amber_worker.specs.Steps.{Becomes, Closes, GivesGroups, MayTakeRow, built_with, turned_to}
-use Rattle.amber_worker.specs.declared.duty.Duty.{Duty}
-use Rattle.amber_worker.specs.declared.duty.Duty.TheVariants as duty
+use Rattle.amber_worker.specs.declared.operator_state.OperatorState.{OperatorState}
+use Rattle.amber_worker.specs.declared.operator_state.OperatorState.TheVariants as operator_state
 
 -- ---- a row more
 
@@ -30,7 +30,7 @@ built-keys true (Some row) state = (refl, refl, refl)
 built-keys false (Some row) state = (refl, refl, refl)
 
 join-does : (old new : Join) (kind : What) (constants : List Value) (role : Role) → new.build_keys ≡ old.build_keys → new.probe_keys ≡ old.probe_keys
-    → DoesKind (duty.Join old) kind constants role → DoesKind (duty.Join new) kind constants role
+    → DoesKind (operator_state.Join old) kind constants role → DoesKind (operator_state.Join new) kind constants role
 join-does old new (what.Scan file) constants role build probe does = does
 join-does old new (what.Filter input cond) constants role build probe does = does
 join-does old new (what.Project input columns) constants role build probe does = does
@@ -39,7 +39,7 @@ join-does old new (what.Group input keys aggs) constants role build probe does =
 join-does old new (what.Sink input) constants role build probe does = does
 
 group-does : (old new : Group) (kind : What) (constants : List Value) (role : Role) → new.keys ≡ old.keys → new.aggs ≡ old.aggs
-    → DoesKind (duty.Group old) kind constants role → DoesKind (duty.Group new) kind constants role
+    → DoesKind (operator_state.Group old) kind constants role → DoesKind (operator_state.Group new) kind constants role
 group-does old new (what.Scan file) constants role keys aggs does = does
 group-does old new (what.Filter input cond) constants role keys aggs does = does
 group-does old new (what.Project input columns) constants role keys aggs does = does
@@ -48,17 +48,17 @@ group-does old new (what.Group input own others) constants role keys aggs does =
 group-does old new (what.Sink input) constants role keys aggs does = does
 
 -- a worker does what it did
-pub does-more : (d now : Duty) (builds : Bool) (found : Option (List Value)) (kind : What) (constants : List Value) (role : Role)
+pub does-more : (d now : OperatorState) (builds : Bool) (found : Option (List Value)) (kind : What) (constants : List Value) (role : Role)
     → Becomes d builds found now → DoesKind d kind constants role → DoesKind now kind constants role
-does-more duty.Scan now builds found kind constants role becomes does = subst (λ d. DoesKind d kind constants role) (sym becomes) does
-does-more (duty.Filter cond) now builds found kind constants role becomes does = subst (λ d. DoesKind d kind constants role) (sym becomes) does
-does-more (duty.Project from) now builds found kind constants role becomes does = subst (λ d. DoesKind d kind constants role) (sym becomes) does
-does-more (duty.Join state) now builds found kind constants role becomes does =
+does-more operator_state.Scan now builds found kind constants role becomes does = subst (λ d. DoesKind d kind constants role) (sym becomes) does
+does-more (operator_state.Filter cond) now builds found kind constants role becomes does = subst (λ d. DoesKind d kind constants role) (sym becomes) does
+does-more (operator_state.Project from) now builds found kind constants role becomes does = subst (λ d. DoesKind d kind constants role) (sym becomes) does
+does-more (operator_state.Join state) now builds found kind constants role becomes does =
     let same = built-keys builds found state in
     subst (λ d. DoesKind d kind constants role) (sym becomes) (join-does state (built_with builds found state) kind constants role same.0 same.1 does)
-does-more (duty.Group state) now builds found kind constants role becomes does =
+does-more (operator_state.Group state) now builds found kind constants role becomes does =
     subst (λ d. DoesKind d kind constants role) (sym becomes.1) (group-does state becomes.0 kind constants role becomes.2.keys becomes.2.aggs does)
-does-more duty.Sink now builds found kind constants role becomes does = subst (λ d. DoesKind d kind constants role) (sym becomes) does
+does-more operator_state.Sink now builds found kind constants role becomes does = subst (λ d. DoesKind d kind constants role) (sym becomes) does
 
 one-found : (task : Task) (one : Handed) → filter_map (suiting task) (one ∷ []) ≡ option_to_list (suiting task one)
 one-found task one = by (suiting task one) refl
@@ -91,38 +91,38 @@ built-more task handed one state is =
     by false (Some row) e = is ∙ sym (append-nil _)
 
 -- what a worker keeps is of the rows that it took, with one more
-pub has-more : (d now : Duty) (task : Task) (handed : List Handed) (one : Handed) → Becomes d (is_builder task one.from) (suiting task one) now
+pub has-more : (d now : OperatorState) (task : Task) (handed : List Handed) (one : Handed) → Becomes d (is_builder task one.from) (suiting task one) now
     → HasTaken d task handed → HasTaken now task (handed ++ one ∷ [])
-has-more duty.Scan now task handed one becomes has = subst (λ d. HasTaken d task (handed ++ one ∷ [])) (sym becomes) tt
-has-more (duty.Filter cond) now task handed one becomes has = subst (λ d. HasTaken d task (handed ++ one ∷ [])) (sym becomes) tt
-has-more (duty.Project from) now task handed one becomes has = subst (λ d. HasTaken d task (handed ++ one ∷ [])) (sym becomes) tt
-has-more (duty.Join state) now task handed one becomes has = subst (λ d. HasTaken d task (handed ++ one ∷ [])) (sym becomes) (built-more task handed one state has)
-has-more (duty.Group state) now task handed one becomes has =
+has-more operator_state.Scan now task handed one becomes has = subst (λ d. HasTaken d task (handed ++ one ∷ [])) (sym becomes) tt
+has-more (operator_state.Filter cond) now task handed one becomes has = subst (λ d. HasTaken d task (handed ++ one ∷ [])) (sym becomes) tt
+has-more (operator_state.Project from) now task handed one becomes has = subst (λ d. HasTaken d task (handed ++ one ∷ [])) (sym becomes) tt
+has-more (operator_state.Join state) now task handed one becomes has = subst (λ d. HasTaken d task (handed ++ one ∷ [])) (sym becomes) (built-more task handed one state has)
+has-more (operator_state.Group state) now task handed one becomes has =
     let P : List (List Value) → Type 0 = λ rows. GroupStands becomes.0 rows in
     subst (λ d. HasTaken d task (handed ++ one ∷ [])) (sym becomes.1) (subst P (sym (rows-more task handed one)) (becomes.2.stands (rows_in task handed) has))
-has-more duty.Sink now task handed one becomes has = subst (λ d. HasTaken d task (handed ++ one ∷ [])) (sym becomes) tt
+has-more operator_state.Sink now task handed one becomes has = subst (λ d. HasTaken d task (handed ++ one ∷ [])) (sym becomes) tt
 
 -- ---- a batch more
 
 -- a worker does what it did, and keeps what it kept
-pub does-turned : (d : Duty) (builds : Bool) (kind : What) (constants : List Value) (role : Role) → DoesKind d kind constants role
+pub does-turned : (d : OperatorState) (builds : Bool) (kind : What) (constants : List Value) (role : Role) → DoesKind d kind constants role
     → DoesKind (turned_to builds d) kind constants role
-does-turned duty.Scan builds kind constants role does = does
-does-turned (duty.Filter cond) builds kind constants role does = does
-does-turned (duty.Project from) builds kind constants role does = does
-does-turned (duty.Join state) true kind constants role does = does
-does-turned (duty.Join state) false kind constants role does = join-does state (record state { sealed = true }) kind constants role refl refl does
-does-turned (duty.Group state) builds kind constants role does = does
-does-turned duty.Sink builds kind constants role does = does
+does-turned operator_state.Scan builds kind constants role does = does
+does-turned (operator_state.Filter cond) builds kind constants role does = does
+does-turned (operator_state.Project from) builds kind constants role does = does
+does-turned (operator_state.Join state) true kind constants role does = does
+does-turned (operator_state.Join state) false kind constants role does = join-does state (record state { sealed = true }) kind constants role refl refl does
+does-turned (operator_state.Group state) builds kind constants role does = does
+does-turned operator_state.Sink builds kind constants role does = does
 
-pub has-turned : (d : Duty) (builds : Bool) (task : Task) (handed : List Handed) → HasTaken d task handed → HasTaken (turned_to builds d) task handed
-has-turned duty.Scan builds task handed has = has
-has-turned (duty.Filter cond) builds task handed has = has
-has-turned (duty.Project from) builds task handed has = has
-has-turned (duty.Join state) true task handed has = has
-has-turned (duty.Join state) false task handed has = has
-has-turned (duty.Group state) builds task handed has = has
-has-turned duty.Sink builds task handed has = has
+pub has-turned : (d : OperatorState) (builds : Bool) (task : Task) (handed : List Handed) → HasTaken d task handed → HasTaken (turned_to builds d) task handed
+has-turned operator_state.Scan builds task handed has = has
+has-turned (operator_state.Filter cond) builds task handed has = has
+has-turned (operator_state.Project from) builds task handed has = has
+has-turned (operator_state.Join state) true task handed has = has
+has-turned (operator_state.Join state) false task handed has = has
+has-turned (operator_state.Group state) builds task handed has = has
+has-turned operator_state.Sink builds task handed has = has
 
 -- ---- the end
 
@@ -137,57 +137,57 @@ nothing-closes true last rows e none = e ∙ sym none
 nothing-closes false last rows e none = e
 
 -- the rows given at the end are those of the groups, once nothing more can come
-pub closing-is : (d : Duty) (kind : What) (constants : List Value) (role : Role) (task : Task) (handed : List Handed) (over : Bool) (last : List (List Value))
+pub closing-is : (d : OperatorState) (kind : What) (constants : List Value) (role : Role) (task : Task) (handed : List Handed) (over : Bool) (last : List (List Value))
     → DoesKind d kind constants role → HasTaken d task handed → Closes d over last
     → last ≡ (if over then closing_rows kind (filter_map (suiting task) handed) else [])
-closing-is duty.Scan (what.Scan file) constants role task handed over last does has closes = nothing-closes over last [] closes refl
-closing-is (duty.Filter cond) (what.Filter input own) constants role task handed over last does has closes = nothing-closes over last [] closes refl
-closing-is (duty.Project from) (what.Project input columns) constants role task handed over last does has closes = nothing-closes over last [] closes refl
-closing-is (duty.Join state) (what.Join b p build_keys probe_keys) constants role task handed over last does has closes = nothing-closes over last [] closes refl
-closing-is (duty.Group state) (what.Group input keys aggs) constants role task handed over last does has closes =
+closing-is operator_state.Scan (what.Scan file) constants role task handed over last does has closes = nothing-closes over last [] closes refl
+closing-is (operator_state.Filter cond) (what.Filter input own) constants role task handed over last does has closes = nothing-closes over last [] closes refl
+closing-is (operator_state.Project from) (what.Project input columns) constants role task handed over last does has closes = nothing-closes over last [] closes refl
+closing-is (operator_state.Join state) (what.Join b p build_keys probe_keys) constants role task handed over last does has closes = nothing-closes over last [] closes refl
+closing-is (operator_state.Group state) (what.Group input keys aggs) constants role task handed over last does has closes =
     group-closes state input keys aggs task handed over last does.0 does.1 has closes
-closing-is duty.Sink (what.Sink input) constants role task handed over last does has closes = nothing-closes over last [] closes refl
+closing-is operator_state.Sink (what.Sink input) constants role task handed over last does has closes = nothing-closes over last [] closes refl
 closing-is d kind constants role task handed over last does has closes = absurd does
 
 -- an empty batch closes where all have ended
-pub closes-batch : (d : Duty) (empty over : Bool) (last : List (List Value)) → Closes d empty last → Closes d (empty && over) (if over then last else [])
-closes-batch duty.Scan empty true last closes = closes
-closes-batch duty.Scan empty false last closes = refl
-closes-batch (duty.Filter cond) empty true last closes = closes
-closes-batch (duty.Filter cond) empty false last closes = refl
-closes-batch (duty.Project from) empty true last closes = closes
-closes-batch (duty.Project from) empty false last closes = refl
-closes-batch (duty.Join state) empty true last closes = closes
-closes-batch (duty.Join state) empty false last closes = refl
-closes-batch (duty.Group state) true true last closes = closes
-closes-batch (duty.Group state) false true last closes = closes
-closes-batch (duty.Group state) true false last closes = refl
-closes-batch (duty.Group state) false false last closes = refl
-closes-batch duty.Sink empty true last closes = closes
-closes-batch duty.Sink empty false last closes = refl
+pub closes-batch : (d : OperatorState) (empty over : Bool) (last : List (List Value)) → Closes d empty last → Closes d (empty && over) (if over then last else [])
+closes-batch operator_state.Scan empty true last closes = closes
+closes-batch operator_state.Scan empty false last closes = refl
+closes-batch (operator_state.Filter cond) empty true last closes = closes
+closes-batch (operator_state.Filter cond) empty false last closes = refl
+closes-batch (operator_state.Project from) empty true last closes = closes
+closes-batch (operator_state.Project from) empty false last closes = refl
+closes-batch (operator_state.Join state) empty true last closes = closes
+closes-batch (operator_state.Join state) empty false last closes = refl
+closes-batch (operator_state.Group state) true true last closes = closes
+closes-batch (operator_state.Group state) false true last closes = closes
+closes-batch (operator_state.Group state) true false last closes = refl
+closes-batch (operator_state.Group state) false false last closes = refl
+closes-batch operator_state.Sink empty true last closes = closes
+closes-batch operator_state.Sink empty false last closes = refl
 
 -- ---- in order
 
-pub may-take_row : (d : Duty) (building : Bool) (taken : ℕ) (ins : List Incoming) → IsInOrder d building taken ins → taken < 2 ^ 40 → MayTakeRow d building
-may-take_row duty.Scan building taken ins order few = tt
-may-take_row (duty.Filter cond) building taken ins order few = tt
-may-take_row (duty.Project from) building taken ins order few = tt
-may-take_row (duty.Join state) building taken ins order few = order.0
-may-take_row (duty.Group state) building taken ins order few = omega arith
-may-take_row duty.Sink building taken ins order few = tt
+pub may-take_row : (d : OperatorState) (building : Bool) (taken : ℕ) (ins : List Incoming) → IsInOrder d building taken ins → taken < 2 ^ 40 → MayTakeRow d building
+may-take_row operator_state.Scan building taken ins order few = tt
+may-take_row (operator_state.Filter cond) building taken ins order few = tt
+may-take_row (operator_state.Project from) building taken ins order few = tt
+may-take_row (operator_state.Join state) building taken ins order few = order.0
+may-take_row (operator_state.Group state) building taken ins order few = omega arith
+may-take_row operator_state.Sink building taken ins order few = tt
 
-pub in_order-row : (d now : Duty) (building : Bool) (found : Option (List Value)) (taken : ℕ) (ins : List Incoming) → Becomes d building found now
+pub in_order-row : (d now : OperatorState) (building : Bool) (found : Option (List Value)) (taken : ℕ) (ins : List Incoming) → Becomes d building found now
     → IsInOrder d building taken ins → IsInOrder now building (taken + 1) ins
-in_order-row duty.Scan now building found taken ins becomes order = subst (λ d. IsInOrder d building (taken + 1) ins) (sym becomes) tt
-in_order-row (duty.Filter cond) now building found taken ins becomes order = subst (λ d. IsInOrder d building (taken + 1) ins) (sym becomes) tt
-in_order-row (duty.Project from) now building found taken ins becomes order = subst (λ d. IsInOrder d building (taken + 1) ins) (sym becomes) tt
-in_order-row (duty.Join state) now building found taken ins becomes order =
+in_order-row operator_state.Scan now building found taken ins becomes order = subst (λ d. IsInOrder d building (taken + 1) ins) (sym becomes) tt
+in_order-row (operator_state.Filter cond) now building found taken ins becomes order = subst (λ d. IsInOrder d building (taken + 1) ins) (sym becomes) tt
+in_order-row (operator_state.Project from) now building found taken ins becomes order = subst (λ d. IsInOrder d building (taken + 1) ins) (sym becomes) tt
+in_order-row (operator_state.Join state) now building found taken ins becomes order =
     subst (λ d. IsInOrder d building (taken + 1) ins) (sym becomes) ((built-keys building found state).2 ∙ order.0, order.1)
-in_order-row (duty.Group state) now building found taken ins becomes order =
+in_order-row (operator_state.Group state) now building found taken ins becomes order =
     let fed = becomes.2.fed in
     let after : becomes.0.fed ≤ taken + 1 = omega arith in
     subst (λ d. IsInOrder d building (taken + 1) ins) (sym becomes.1) after
-in_order-row duty.Sink now building found taken ins becomes order = subst (λ d. IsInOrder d building (taken + 1) ins) (sym becomes) tt
+in_order-row operator_state.Sink now building found taken ins becomes order = subst (λ d. IsInOrder d building (taken + 1) ins) (sym becomes) tt
 
 -- a sender of the build side that has not ended
 unbuilt : (front back : List Incoming) (one : Incoming) → one.builds ≡ true → one.ended ≡ false → have_builders_ended (front ++ one ∷ back) ≡ true → ⊥
@@ -204,28 +204,28 @@ still-built front back one now probes same built =
     list_all-append (λ (other : Incoming). not other.builds || other.ended) front (now ∷ back)
     ∙ and_from _ _ parts.0 (and_from _ _ (rw (same, probes) refl) later.1)
 
-pub in_order-batch : (d : Duty) (building : Bool) (taken : ℕ) (ins after : List Incoming) (one : Incoming) (batch : Batch) → IsTaken ins one batch after
+pub in_order-batch : (d : OperatorState) (building : Bool) (taken : ℕ) (ins after : List Incoming) (one : Incoming) (batch : Batch) → IsTaken ins one batch after
     → IsInOrder d building taken ins → IsInOrder (turned_to one.builds d) one.builds taken after
-in_order-batch duty.Scan building taken ins after one batch so order = tt
-in_order-batch (duty.Filter cond) building taken ins after one batch so order = tt
-in_order-batch (duty.Project from) building taken ins after one batch so order = tt
-in_order-batch (duty.Join state) building taken ins after one batch so order = by building one.builds refl order
+in_order-batch operator_state.Scan building taken ins after one batch so order = tt
+in_order-batch (operator_state.Filter cond) building taken ins after one batch so order = tt
+in_order-batch (operator_state.Project from) building taken ins after one batch so order = tt
+in_order-batch (operator_state.Join state) building taken ins after one batch so order = by building one.builds refl order
   where
     by : (was b : Bool) → one.builds ≡ b → (state.sealed ≡ not was) × (was ≡ false → have_builders_ended ins ≡ true)
-        → IsInOrder (duty.Join (if b then state else record state { sealed = true })) b taken after
+        → IsInOrder (operator_state.Join (if b then state else record state { sealed = true })) b taken after
     by true true e order = (order.0, λ no. absurd (false≢true (sym no)))
     by false true e order = absurd (unbuilt so.front so.back one e so.unended (ap have_builders_ended (sym so.found) ∙ order.1 refl))
     by was false e order =
         let built : have_builders_ended ins ≡ true = rw e at so.side in
         (refl, λ no. ap have_builders_ended so.after_it ∙ still-built so.front so.back one (without_first batch so.later one) e refl (ap have_builders_ended (sym so.found) ∙ built))
-in_order-batch (duty.Group state) building taken ins after one batch so order = order
-in_order-batch duty.Sink building taken ins after one batch so order = tt
+in_order-batch (operator_state.Group state) building taken ins after one batch so order = order
+in_order-batch operator_state.Sink building taken ins after one batch so order = tt
 
-pub in_order-settled : (d : Duty) (building : Bool) (taken : ℕ) (ins later : List Incoming) → have_builders_ended later ≡ have_builders_ended ins
+pub in_order-settled : (d : OperatorState) (building : Bool) (taken : ℕ) (ins later : List Incoming) → have_builders_ended later ≡ have_builders_ended ins
     → IsInOrder d building taken ins → IsInOrder d building taken later
-in_order-settled duty.Scan building taken ins later same order = tt
-in_order-settled (duty.Filter cond) building taken ins later same order = tt
-in_order-settled (duty.Project from) building taken ins later same order = tt
-in_order-settled (duty.Join state) building taken ins later same order = (order.0, λ no. same ∙ order.1 no)
-in_order-settled (duty.Group state) building taken ins later same order = order
-in_order-settled duty.Sink building taken ins later same order = tt
+in_order-settled operator_state.Scan building taken ins later same order = tt
+in_order-settled (operator_state.Filter cond) building taken ins later same order = tt
+in_order-settled (operator_state.Project from) building taken ins later same order = tt
+in_order-settled (operator_state.Join state) building taken ins later same order = (order.0, λ no. same ∙ order.1 no)
+in_order-settled (operator_state.Group state) building taken ins later same order = order
+in_order-settled operator_state.Sink building taken ins later same order = tt

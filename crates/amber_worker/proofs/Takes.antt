@@ -22,8 +22,8 @@ use Rattle.amber_worker.specs.Links.{waiting_from}
 use Rattle.amber_worker.specs.Stands.{DoesKind, Keeps, Placement, ReceiveAll, Receives, Shows}
 use Rattle.amber_worker.specs.WorkerState.{WorkerState}
 use Rattle.amber_worker.specs.Steps.{Closes, batch_taken}
-use Rattle.amber_worker.specs.declared.duty.Duty.{Duty}
-use Rattle.amber_worker.specs.declared.duty.Duty.TheVariants as duty
+use Rattle.amber_worker.specs.declared.operator_state.OperatorState.{OperatorState}
+use Rattle.amber_worker.specs.declared.operator_state.OperatorState.TheVariants as operator_state
 use Rattle.amber_meaning.proofs.Led.{Leads-push}
 use Rattle.amber_worker.proofs.Journals.{AreEntries-push}
 use Rattle.amber_worker.proofs.Moves.{IsWorking, all-ended, all-gone, closing-same, free-shown}
@@ -177,21 +177,21 @@ waits-other sender (first ∷ front) back one now own other =
 
 -- ---- what was handed
 
-not-scan : (d : Duty) (kind : What) (constants : List Value) (role : Role) (share handed more : List Handed) → DoesKind d kind constants role → (role.senders ≡ [] → ⊥)
+not-scan : (d : OperatorState) (kind : What) (constants : List Value) (role : Role) (share handed more : List Handed) → DoesKind d kind constants role → (role.senders ≡ [] → ⊥)
     → share_or kind share (handed ++ more) ≡ share_or kind share handed ++ more
-not-scan duty.Scan (what.Scan file) constants role share handed more does some = absurd (some does)
-not-scan (duty.Filter cond) (what.Scan file) constants role share handed more does some = absurd does
-not-scan (duty.Project from) (what.Scan file) constants role share handed more does some = absurd does
-not-scan duty.Sink (what.Scan file) constants role share handed more does some = absurd does
-not-scan (duty.Join state) (what.Scan file) constants role share handed more does some = absurd does
-not-scan (duty.Group state) (what.Scan file) constants role share handed more does some = absurd does
+not-scan operator_state.Scan (what.Scan file) constants role share handed more does some = absurd (some does)
+not-scan (operator_state.Filter cond) (what.Scan file) constants role share handed more does some = absurd does
+not-scan (operator_state.Project from) (what.Scan file) constants role share handed more does some = absurd does
+not-scan operator_state.Sink (what.Scan file) constants role share handed more does some = absurd does
+not-scan (operator_state.Join state) (what.Scan file) constants role share handed more does some = absurd does
+not-scan (operator_state.Group state) (what.Scan file) constants role share handed more does some = absurd does
 not-scan d (what.Filter input cond) constants role share handed more does some = refl
 not-scan d (what.Project input columns) constants role share handed more does some = refl
 not-scan d (what.Join build probe build_keys probe_keys) constants role share handed more does some = refl
 not-scan d (what.Group input keys aggs) constants role share handed more does some = refl
 not-scan d (what.Sink input) constants role share handed more does some = refl
 
-fed-more : (d : Duty) (constants : List Value) (role : Role) (taken : List Taken) (from : ℕ) (batch : Batch) → DoesKind d role.task.kind constants role → (role.senders ≡ [] → ⊥)
+fed-more : (d : OperatorState) (constants : List Value) (role : Role) (taken : List Taken) (from : ℕ) (batch : Batch) → DoesKind d role.task.kind constants role → (role.senders ≡ [] → ⊥)
     → fed role (taken ++ as_taken from batch ∷ []) ≡ fed role taken ++ map (row_from from) batch.rows
 unfolding fed
 fed-more d constants role taken from batch does some =
@@ -285,7 +285,7 @@ record TakesOne (w : WorkerState) (one : Incoming) (batch : Batch) (ins : List I
   rest : w.rest ≡ []
   pending : w.pending ≡ []
   taken_so : IsTaken w.ins one batch ins
-  closes : Closes w.duty (eqb (length batch.rows) 0 && have_all_ended ins) last
+  closes : Closes w.operator_state (eqb (length batch.rows) 0 && have_all_ended ins) last
 
 received-all : (placement : Placement) (orders : Orders) (w : WorkerState) (p : Position) (sent : ℕ → List Batch) (one : Incoming) (batch : Batch) (ins : List Incoming) (last : List (List Value))
     → Shows placement orders w p sent → (takes : TakesOne w one batch ins last) → ReceiveAll placement.role.senders p.taken (takes.taken_so.front ++ one ∷ takes.taken_so.back)
@@ -320,7 +320,7 @@ fed-now : (placement : Placement) (orders : Orders) (w : WorkerState) (p : Posit
 fed-now placement orders w p sent one batch ins last shows takes =
     let so = takes.taken_so in
     let all = received-all placement orders w p sent one batch ins last shows takes in
-    fed-more w.duty orders.constants placement.role p.taken one.from batch shows.duty
+    fed-more w.operator_state orders.constants placement.role p.taken one.from batch shows.operator_state
     (no-sender placement.role.senders one.from (is-sender p.taken placement.role.senders so.front so.back one all))
 
 -- all that was handed before was taken
@@ -378,8 +378,8 @@ last-is placement orders w p sent one batch ins last shows takes =
     let task : Task = placement.role.task in
     let later : List Taken = p.taken ++ as_taken one.from batch ∷ [] in
     let over = over-is placement orders w p sent one batch ins last shows takes in
-    closing-is w.duty task.kind orders.constants placement.role task (taken_of placement.role p) (is_complete placement.role later (length p.constants)) last shows.duty shows.state
-    (subst (λ b. Closes w.duty b last) over takes.closes)
+    closing-is w.operator_state task.kind orders.constants placement.role task (taken_of placement.role p) (is_complete placement.role later (length p.constants)) last shows.operator_state shows.state
+    (subst (λ b. Closes w.operator_state b last) over takes.closes)
     ∙ closing-same (is_complete placement.role later (length p.constants)) task.kind task (taken_of placement.role p) (fed placement.role later)
     (λ e. let end = and_parts (have_ended placement.role.senders later) _ e in
     let here = eqb-true (length p.constants) (length (fed placement.role later)) end.1 in
@@ -417,8 +417,8 @@ shows-batch_taken placement orders w p sent one batch ins last shows takes =
     record {
       op = shows.op;
       number = shows.number;
-      duty = does-turned w.duty one.builds placement.role.task.kind orders.constants placement.role shows.duty;
-      state = rw taken_same (has-turned w.duty one.builds placement.role.task (taken_of placement.role p) shows.state);
+      operator_state = does-turned w.operator_state one.builds placement.role.task.kind orders.constants placement.role shows.operator_state;
+      state = rw taken_same (has-turned w.operator_state one.builds placement.role.task (taken_of placement.role p) shows.state);
       columns = shows.columns;
       build_columns = shows.build_columns;
       sides = rw so.after_it (sides-next placement.role.task so.front so.back one (without_first batch so.later one) refl refl (rw so.found at shows.sides));
@@ -472,7 +472,7 @@ same-batches placement orders w p sent one batch ins shows so sender = rw (so.af
 
 -- wherever a worker stood, it stands once it took a batch
 pub Keeps-batch_taken : (w : WorkerState) (one : Incoming) (batch : Batch) (ins : List Incoming) (last : List (List Value)) → w.rest ≡ [] → w.pending ≡ []
-    → IsTaken w.ins one batch ins → one.from < 2 ^ 32 → one.taken < 2 ^ 64 → Closes w.duty (eqb (length batch.rows) 0 && have_all_ended ins) last
+    → IsTaken w.ins one batch ins → one.from < 2 ^ 32 → one.taken < 2 ^ 64 → Closes w.operator_state (eqb (length batch.rows) 0 && have_all_ended ins) last
     → IsWorking w → Keeps w (batch_taken one batch ins last w)
 unfolding Keeps
 Keeps-batch_taken w one batch ins last rest pending so few small closes works placement orders start p sent stands =

@@ -8,8 +8,8 @@ use Rattle.amber_meaning.specs.Task.{Handed}
 use Rattle.amber_scan.specs.declared.share.Scanned.{Scanned}
 use Rattle.amber_link.specs.Incoming.{Incoming, have_builders_ended}
 use Rattle.amber_link.specs.Outgoing.{Outgoing}
-use Rattle.amber_worker.specs.declared.duty.Duty.{Duty}
-use Rattle.amber_worker.specs.declared.duty.Duty.TheVariants as duty
+use Rattle.amber_worker.specs.declared.operator_state.OperatorState.{OperatorState}
+use Rattle.amber_worker.specs.declared.operator_state.OperatorState.TheVariants as operator_state
 use Rattle.amber_worker.specs.declared.taking.Rest.{Rest}
 
 -- a row as it was handed by a sender
@@ -38,19 +38,19 @@ rows_moved entry.Finish = 0
 
 -- what is kept of a join is sealed once the batches at hand are of the probe side, and then the build side has ended; a group was
 -- fed no more rows than were taken
-abbrev pub IsInOrder : Duty → Bool → ℕ → List Incoming → Type 0
-IsInOrder duty.Scan building taken ins = Unit {0}
-IsInOrder (duty.Filter cond) building taken ins = Unit {0}
-IsInOrder (duty.Project from) building taken ins = Unit {0}
-IsInOrder (duty.Join state) building taken ins = (state.sealed ≡ not building) × (building ≡ false → have_builders_ended ins ≡ true)
-IsInOrder (duty.Group state) building taken ins = state.fed ≤ taken
-IsInOrder duty.Sink building taken ins = Unit {0}
+abbrev pub IsInOrder : OperatorState → Bool → ℕ → List Incoming → Type 0
+IsInOrder operator_state.Scan building taken ins = Unit {0}
+IsInOrder (operator_state.Filter cond) building taken ins = Unit {0}
+IsInOrder (operator_state.Project from) building taken ins = Unit {0}
+IsInOrder (operator_state.Join state) building taken ins = (state.sealed ≡ not building) × (building ≡ false → have_builders_ended ins ≡ true)
+IsInOrder (operator_state.Group state) building taken ins = state.fed ≤ taken
+IsInOrder operator_state.Sink building taken ins = Unit {0}
 
 -- what a worker counts is within its steps, and these are few; one that has a share is a scan's and has no senders
-pub record AreFew (does : Duty) (building : Bool) (share : Option (List Scanned)) (taken emitted batches : ℕ) (finished : Bool) (ins : List Incoming) (out : Option Outgoing)
+pub record AreFew (does : OperatorState) (building : Bool) (share : Option (List Scanned)) (taken emitted batches : ℕ) (finished : Bool) (ins : List Incoming) (out : Option Outgoing)
     (journal : List Entry) : Type 0 where
   pub in_order : IsInOrder does building taken ins
-  pub scans : IfSome share (λ _. does ≡ duty.Scan)
+  pub scans : IfSome share (λ _. does ≡ operator_state.Scan)
   pub shares : IfSome share (λ _. ins ≡ [])
   pub steps : taken + emitted + batches + one_if finished ≤ 2 ^ 40
   pub received : All (λ one. one.taken ≤ batches) ins

@@ -12,19 +12,19 @@ use Rattle.amber_link.specs.Incoming.{Incoming}
 use Rattle.amber_link.specs.Outgoing.{Outgoing}
 use Rattle.amber_worker.specs.Fields.{rest_in}
 use Rattle.amber_worker.specs.WorkerState.{WorkerState}
-use Rattle.amber_worker.specs.declared.duty.Duty.{Duty}
-use Rattle.amber_worker.specs.declared.duty.Duty.TheVariants as duty
+use Rattle.amber_worker.specs.declared.operator_state.OperatorState.{OperatorState}
+use Rattle.amber_worker.specs.declared.operator_state.OperatorState.TheVariants as operator_state
 
 -- what a worker does is what the workflow says
-abbrev pub IsDutyOf : Duty → What → Type 0
-IsDutyOf duty.Scan (what.Scan file) = Unit {0}
-IsDutyOf (duty.Filter cond) (what.Filter input own) = cond ≡ own
-IsDutyOf (duty.Project from) (what.Project input columns) = from ≡ columns
-IsDutyOf (duty.Join state) (what.Join build probe build_keys probe_keys) =
+abbrev pub IsOperatorStateOf : OperatorState → What → Type 0
+IsOperatorStateOf operator_state.Scan (what.Scan file) = Unit {0}
+IsOperatorStateOf (operator_state.Filter cond) (what.Filter input own) = cond ≡ own
+IsOperatorStateOf (operator_state.Project from) (what.Project input columns) = from ≡ columns
+IsOperatorStateOf (operator_state.Join state) (what.Join build probe build_keys probe_keys) =
     state ≡ record { build_keys = build_keys; probe_keys = probe_keys; rows = []; sealed = false }
-IsDutyOf (duty.Group state) (what.Group input keys aggs) = (state.keys ≡ keys) × (state.aggs ≡ aggs) × Stands state []
-IsDutyOf duty.Sink (what.Sink input) = Unit {0}
-IsDutyOf _ _ = ⊥
+IsOperatorStateOf (operator_state.Group state) (what.Group input keys aggs) = (state.keys ≡ keys) × (state.aggs ≡ aggs) × Stands state []
+IsOperatorStateOf operator_state.Sink (what.Sink input) = Unit {0}
+IsOperatorStateOf _ _ = ⊥
 
 -- the operator whose columns the rows have that are handed to an operator of this kind, of a join on its probe side
 abbrev pub handing_operator : What → ℕ → ℕ
@@ -74,7 +74,7 @@ pub record IsFresh (flow : List Operator) (worker size : ℕ) (share : Option (L
   pub reader : IsReceiver flow (op_of flow worker) receiver
   pub op : w.op ≡ op_of flow worker
   pub number : w.number ≡ worker
-  pub does : IsDutyOf w.duty (what_at flow (op_of flow worker))
+  pub does : IsOperatorStateOf w.operator_state (what_at flow (op_of flow worker))
   pub columns : w.columns ≡ columns_at flow (handing_operator (what_at flow (op_of flow worker)) (op_of flow worker))
   pub build_columns : w.build_columns ≡ built_columns flow (what_at flow (op_of flow worker))
   pub building : w.building ≡ is_join (what_at flow (op_of flow worker))

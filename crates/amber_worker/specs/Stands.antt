@@ -26,8 +26,8 @@ use Rattle.amber_link.specs.Outgoing.{Outgoing}
 use Rattle.amber_worker.specs.Fields.{handed_of}
 use Rattle.amber_worker.specs.Links.{waiting_from}
 use Rattle.amber_worker.specs.WorkerState.{WorkerState, steps_in}
-use Rattle.amber_worker.specs.declared.duty.Duty.{Duty}
-use Rattle.amber_worker.specs.declared.duty.Duty.TheVariants as duty
+use Rattle.amber_worker.specs.declared.operator_state.OperatorState.{OperatorState}
+use Rattle.amber_worker.specs.declared.operator_state.OperatorState.TheVariants as operator_state
 use Rattle.amber_worker.specs.declared.given.Given.{Given}
 use Rattle.amber_worker.specs.declared.turn.Turn.{Turn}
 use Rattle.amber_worker.specs.declared.turn.Turn.TheVariants as turn
@@ -83,23 +83,23 @@ HasShare (Some share) role = map handed_of share ≡ role.share
 -- ---- the parts of a worker
 
 -- what a worker does is what its role says, under these constants
-abbrev pub DoesKind : Duty → What → List Value → Role → Type 0
-DoesKind duty.Scan (what.Scan file) constants role = role.senders ≡ []
-DoesKind (duty.Filter cond) (what.Filter input own) constants role = cond ≡ with_constant own constants
-DoesKind (duty.Project from) (what.Project input columns) constants role = from ≡ columns
-DoesKind (duty.Join state) (what.Join build probe build_keys probe_keys) constants role = (state.build_keys ≡ build_keys) × (state.probe_keys ≡ probe_keys)
-DoesKind (duty.Group state) (what.Group input keys aggs) constants role = (state.keys ≡ keys) × (state.aggs ≡ aggs)
-DoesKind duty.Sink (what.Sink input) constants role = Unit {0}
+abbrev pub DoesKind : OperatorState → What → List Value → Role → Type 0
+DoesKind operator_state.Scan (what.Scan file) constants role = role.senders ≡ []
+DoesKind (operator_state.Filter cond) (what.Filter input own) constants role = cond ≡ with_constant own constants
+DoesKind (operator_state.Project from) (what.Project input columns) constants role = from ≡ columns
+DoesKind (operator_state.Join state) (what.Join build probe build_keys probe_keys) constants role = (state.build_keys ≡ build_keys) × (state.probe_keys ≡ probe_keys)
+DoesKind (operator_state.Group state) (what.Group input keys aggs) constants role = (state.keys ≡ keys) × (state.aggs ≡ aggs)
+DoesKind operator_state.Sink (what.Sink input) constants role = Unit {0}
 DoesKind _ _ constants role = ⊥
 
 -- what a worker keeps of the rows that it took: of a join the build side, of a group what its rows stand for
-abbrev pub HasTaken : Duty → Task → List Handed → Type 0
-HasTaken duty.Scan task handed = Unit {0}
-HasTaken (duty.Filter cond) task handed = Unit {0}
-HasTaken (duty.Project from) task handed = Unit {0}
-HasTaken (duty.Join state) task handed = state.rows ≡ built_of task handed
-HasTaken (duty.Group state) task handed = GroupStands state (rows_in task handed)
-HasTaken duty.Sink task handed = Unit {0}
+abbrev pub HasTaken : OperatorState → Task → List Handed → Type 0
+HasTaken operator_state.Scan task handed = Unit {0}
+HasTaken (operator_state.Filter cond) task handed = Unit {0}
+HasTaken (operator_state.Project from) task handed = Unit {0}
+HasTaken (operator_state.Join state) task handed = state.rows ≡ built_of task handed
+HasTaken (operator_state.Group state) task handed = GroupStands state (rows_in task handed)
+HasTaken operator_state.Sink task handed = Unit {0}
 
 -- the rows that a worker keeps for the answer, of those that it took
 abbrev pub kept_of : What → Task → List Handed → List (List Value)
@@ -152,8 +152,8 @@ SendAll placement (receiver ∷ receivers) rows ended sent (one ∷ more) =
 pub record Shows (placement : Placement) (orders : Orders) (w : WorkerState) (p : Position) (sent : ℕ → List Batch) : Type 0 where
   pub op : w.op ≡ placement.op
   pub number : w.number ≡ placement.number
-  pub duty : DoesKind w.duty placement.role.task.kind orders.constants placement.role
-  pub state : HasTaken w.duty placement.role.task (taken_of placement.role p)
+  pub operator_state : DoesKind w.operator_state placement.role.task.kind orders.constants placement.role
+  pub state : HasTaken w.operator_state placement.role.task (taken_of placement.role p)
   pub columns : w.columns ≡ placement.role.task.columns
   pub build_columns : w.build_columns ≡ placement.role.task.build_columns
   -- which of its senders are of the build side, that these are senders all, and whether what is left is of that side

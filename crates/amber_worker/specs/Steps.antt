@@ -20,8 +20,8 @@ use Rattle.amber_link.specs.Incoming.{Incoming, IsTaken, have_all_ended}
 use Rattle.amber_link.specs.Outgoing.{Outgoing, with_end, with_row}
 use Rattle.amber_worker.specs.Fields.{row_from, rows_moved}
 use Rattle.amber_worker.specs.WorkerState.{WorkerState}
-use Rattle.amber_worker.specs.declared.duty.Duty.{Duty}
-use Rattle.amber_worker.specs.declared.duty.Duty.TheVariants as duty
+use Rattle.amber_worker.specs.declared.operator_state.OperatorState.{OperatorState}
+use Rattle.amber_worker.specs.declared.operator_state.OperatorState.TheVariants as operator_state
 use Rattle.amber_worker.specs.declared.taking.Fate.{Fate}
 use Rattle.amber_worker.specs.declared.taking.Gains.{Gains}
 use Rattle.amber_worker.specs.declared.taking.Fate.TheVariants as fate
@@ -29,30 +29,30 @@ use Rattle.amber_worker.specs.declared.taking.Fate.TheVariants as fate
 -- ---- rows
 
 -- the rows that go on of a row that suits, of the build side or not
-abbrev pub gives : Duty → Bool → List Value → List (List Value)
-gives duty.Scan builds row = row ∷ []
-gives (duty.Filter cond) builds row = if holds_of cond row then row ∷ [] else []
-gives (duty.Project from) builds row = picked from row ∷ []
-gives (duty.Join state) builds row = if builds then [] else matches_of state.build_keys state.probe_keys state.rows row
-gives (duty.Group state) builds row = []
-gives duty.Sink builds row = []
+abbrev pub gives : OperatorState → Bool → List Value → List (List Value)
+gives operator_state.Scan builds row = row ∷ []
+gives (operator_state.Filter cond) builds row = if holds_of cond row then row ∷ [] else []
+gives (operator_state.Project from) builds row = picked from row ∷ []
+gives (operator_state.Join state) builds row = if builds then [] else matches_of state.build_keys state.probe_keys state.rows row
+gives (operator_state.Group state) builds row = []
+gives operator_state.Sink builds row = []
 
-abbrev pub gives_if : Duty → Bool → Option (List Value) → List (List Value)
-gives_if duty builds None = []
-gives_if duty builds (Some row) = gives duty builds row
+abbrev pub gives_if : OperatorState → Bool → Option (List Value) → List (List Value)
+gives_if operator_state builds None = []
+gives_if operator_state builds (Some row) = gives operator_state builds row
 
 -- the rows that are kept of a row that suits
-abbrev pub keeps : Duty → List Value → List (List Value)
-keeps duty.Scan row = []
-keeps (duty.Filter cond) row = []
-keeps (duty.Project from) row = []
-keeps (duty.Join state) row = []
-keeps (duty.Group state) row = []
-keeps duty.Sink row = row ∷ []
+abbrev pub keeps : OperatorState → List Value → List (List Value)
+keeps operator_state.Scan row = []
+keeps (operator_state.Filter cond) row = []
+keeps (operator_state.Project from) row = []
+keeps (operator_state.Join state) row = []
+keeps (operator_state.Group state) row = []
+keeps operator_state.Sink row = row ∷ []
 
-abbrev pub keeps_if : Duty → Option (List Value) → List (List Value)
-keeps_if duty None = []
-keeps_if duty (Some row) = keeps duty row
+abbrev pub keeps_if : OperatorState → Option (List Value) → List (List Value)
+keeps_if operator_state None = []
+keeps_if operator_state (Some row) = keeps operator_state row
 
 -- what a join keeps of the build side, with this row where it suits
 abbrev pub built_with : Bool → Option (List Value) → Join → Join
@@ -68,13 +68,13 @@ pub record Feeds (found : Option (List Value)) (old new : Group) : Type 0 where
   pub stands : (rows : List (List Value)) → GroupStands old rows → GroupStands new (rows ++ option_to_list found)
 
 -- what a worker keeps of the rows that it took becomes this with another row
-abbrev pub Becomes : Duty → Bool → Option (List Value) → Duty → Type 0
-Becomes duty.Scan builds found new = new ≡ duty.Scan
-Becomes (duty.Filter cond) builds found new = new ≡ duty.Filter cond
-Becomes (duty.Project from) builds found new = new ≡ duty.Project from
-Becomes (duty.Join state) builds found new = new ≡ duty.Join (built_with builds found state)
-Becomes (duty.Group state) builds found new = (now : Group) × (new ≡ duty.Group now) × Feeds found state now
-Becomes duty.Sink builds found new = new ≡ duty.Sink
+abbrev pub Becomes : OperatorState → Bool → Option (List Value) → OperatorState → Type 0
+Becomes operator_state.Scan builds found new = new ≡ operator_state.Scan
+Becomes (operator_state.Filter cond) builds found new = new ≡ operator_state.Filter cond
+Becomes (operator_state.Project from) builds found new = new ≡ operator_state.Project from
+Becomes (operator_state.Join state) builds found new = new ≡ operator_state.Join (built_with builds found state)
+Becomes (operator_state.Group state) builds found new = (now : Group) × (new ≡ operator_state.Group now) × Feeds found state now
+Becomes operator_state.Sink builds found new = new ≡ operator_state.Sink
 
 -- the rows of the groups, once nothing more can come
 abbrev pub GivesGroups : Group → Bool → List (List Value) → Type 0
@@ -82,40 +82,40 @@ GivesGroups state true rows = (fed : List (List Value)) → GroupStands state fe
 GivesGroups state false rows = rows ≡ []
 
 -- the rows that a worker gives at the end, once nothing more can come
-abbrev pub Closes : Duty → Bool → List (List Value) → Type 0
-Closes duty.Scan over rows = rows ≡ []
-Closes (duty.Filter cond) over rows = rows ≡ []
-Closes (duty.Project from) over rows = rows ≡ []
-Closes (duty.Join state) over rows = rows ≡ []
-Closes (duty.Group state) over rows = GivesGroups state over rows
-Closes duty.Sink over rows = rows ≡ []
+abbrev pub Closes : OperatorState → Bool → List (List Value) → Type 0
+Closes operator_state.Scan over rows = rows ≡ []
+Closes (operator_state.Filter cond) over rows = rows ≡ []
+Closes (operator_state.Project from) over rows = rows ≡ []
+Closes (operator_state.Join state) over rows = rows ≡ []
+Closes (operator_state.Group state) over rows = GivesGroups state over rows
+Closes operator_state.Sink over rows = rows ≡ []
 
 -- the batches at hand are of the build side, or of the other: then what a join keeps is sealed
-abbrev pub turned_to : Bool → Duty → Duty
-turned_to builds duty.Scan = duty.Scan
-turned_to builds (duty.Filter cond) = duty.Filter cond
-turned_to builds (duty.Project from) = duty.Project from
-turned_to builds (duty.Join state) = duty.Join (if builds then state else record state { sealed = true })
-turned_to builds (duty.Group state) = duty.Group state
-turned_to builds duty.Sink = duty.Sink
+abbrev pub turned_to : Bool → OperatorState → OperatorState
+turned_to builds operator_state.Scan = operator_state.Scan
+turned_to builds (operator_state.Filter cond) = operator_state.Filter cond
+turned_to builds (operator_state.Project from) = operator_state.Project from
+turned_to builds (operator_state.Join state) = operator_state.Join (if builds then state else record state { sealed = true })
+turned_to builds (operator_state.Group state) = operator_state.Group state
+turned_to builds operator_state.Sink = operator_state.Sink
 
 -- a worker may take a row of this side: a build row before what is kept is sealed, a probe row after
-abbrev pub MayTakeRow : Duty → Bool → Type 0
-MayTakeRow duty.Scan builds = Unit {0}
-MayTakeRow (duty.Filter cond) builds = Unit {0}
-MayTakeRow (duty.Project from) builds = Unit {0}
-MayTakeRow (duty.Join state) builds = state.sealed ≡ not builds
-MayTakeRow (duty.Group state) builds = state.fed < 2 ^ 40
-MayTakeRow duty.Sink builds = Unit {0}
+abbrev pub MayTakeRow : OperatorState → Bool → Type 0
+MayTakeRow operator_state.Scan builds = Unit {0}
+MayTakeRow (operator_state.Filter cond) builds = Unit {0}
+MayTakeRow (operator_state.Project from) builds = Unit {0}
+MayTakeRow (operator_state.Join state) builds = state.sealed ≡ not builds
+MayTakeRow (operator_state.Group state) builds = state.fed < 2 ^ 40
+MayTakeRow operator_state.Sink builds = Unit {0}
 
 -- a worker keeps something of the rows that it took
-abbrev pub has_state : Duty → Bool
-has_state duty.Scan = false
-has_state (duty.Filter cond) = false
-has_state (duty.Project from) = false
-has_state (duty.Join state) = true
-has_state (duty.Group state) = true
-has_state duty.Sink = false
+abbrev pub has_state : OperatorState → Bool
+has_state operator_state.Scan = false
+has_state (operator_state.Filter cond) = false
+has_state (operator_state.Project from) = false
+has_state (operator_state.Join state) = true
+has_state (operator_state.Group state) = true
+has_state operator_state.Sink = false
 
 -- what becomes of a row: the rows that go on, and those that are kept
 abbrev pub passed_of : Fate → List Value → List (List Value)
@@ -140,12 +140,12 @@ pub record AreSame (old new : Gains) : Type 0 where
 pub record GainsRecord (share : List Scanned) (op : ℕ) (columns : List Column) (old : Gains) (later : List Scanned) (new : Gains) : Type 0 where
   pub one : Scanned
   pub first : share ≡ one ∷ later
-  pub pending : new.pending.items ≡ old.pending.items ++ gives_if duty.Scan false (row_in columns one.what)
+  pub pending : new.pending.items ≡ old.pending.items ++ gives_if operator_state.Scan false (row_in columns one.what)
   pub refused : new.refused.items ≡ old.refused.items ++ refusal_in op one.number one.what
   pub kept : new.kept.items ≡ old.kept.items
 
 -- a row was taken of a batch
-pub record GainsRow (rows : List (List Value)) (d : Duty) (columns : List Column) (old : Gains) (later : List (List Value)) (new : Gains) : Type 0 where
+pub record GainsRow (rows : List (List Value)) (d : OperatorState) (columns : List Column) (old : Gains) (later : List (List Value)) (new : Gains) : Type 0 where
   pub row : List Value
   pub first : rows ≡ row ∷ later
   pub pending : new.pending.items ≡ old.pending.items ++ gives_if d false (row_in columns (Ok row))
@@ -170,7 +170,7 @@ pub record JoinsRow (rows : List (List Value)) (columns : List Column) (builds :
   pub row : List Value
   pub first : rows ≡ row ∷ later
   pub state : new ≡ built_with builds (row_in columns (Ok row)) old
-  pub pending_so : after ≡ pending ++ gives_if (duty.Join old) builds (row_in columns (Ok row))
+  pub pending_so : after ≡ pending ++ gives_if (operator_state.Join old) builds (row_in columns (Ok row))
 
 -- a group was fed a row, the last one where nothing more can come
 pub record FeedsNext (found : Option (List Value)) (over : Bool) (old : Group) (pending : List (List Value)) (new : Group) (after : List (List Value)) : Type 0 where
@@ -187,7 +187,7 @@ pub record GroupsRow (rows : List (List Value)) (columns : List Column) (over : 
   pub fed : FeedsNext (row_in columns (Ok row)) over old pending new after
 
 -- the first row of a batch was taken
-pub record GainsAny (rows : List (List Value)) (columns : List Column) (builds over : Bool) (d : Duty) (old : Gains) (later : List (List Value)) (now : Duty)
+pub record GainsAny (rows : List (List Value)) (columns : List Column) (builds over : Bool) (d : OperatorState) (old : Gains) (later : List (List Value)) (now : OperatorState)
     (new : Gains) : Type 0 where
   pub row : List Value
   pub first : rows ≡ row ∷ later
@@ -199,7 +199,7 @@ pub record GainsAny (rows : List (List Value)) (columns : List Column) (builds o
   pub kept : new.kept.items ≡ old.kept.items ++ keeps_if d (row_in columns (Ok row))
 
 -- the next of what was handed was taken, the last one where nothing more can come
-pub record GainsNext (handed : List Handed) (op : ℕ) (columns : List Column) (builds over : Bool) (d : Duty) (old : Gains) (later : List Handed) (now : Duty)
+pub record GainsNext (handed : List Handed) (op : ℕ) (columns : List Column) (builds over : Bool) (d : OperatorState) (old : Gains) (later : List Handed) (now : OperatorState)
     (new : Gains) : Type 0 where
   pub one : Handed
   pub first : handed ≡ one ∷ later
@@ -244,14 +244,14 @@ abbrev pub columns_at_hand : WorkerState → List Column
 columns_at_hand w = if w.building then w.build_columns else w.columns
 
 -- a row was taken; what the worker keeps became this, and these rows are given at the end
-abbrev pub row_taken : Handed → List Handed → Duty → List (List Value) → WorkerState → WorkerState
+abbrev pub row_taken : Handed → List Handed → OperatorState → List (List Value) → WorkerState → WorkerState
 row_taken one later now last w = record w {
-  duty = now;
+  operator_state = now;
   rest = later;
-  pending = (w.pending ++ gives_if w.duty w.building (row_in (columns_at_hand w) one.what)) ++ last;
+  pending = (w.pending ++ gives_if w.operator_state w.building (row_in (columns_at_hand w) one.what)) ++ last;
   taken = w.taken + 1;
   refused = w.refused ++ refusal_in w.op one.from one.what;
-  kept = w.kept ++ keeps_if w.duty (row_in (columns_at_hand w) one.what);
+  kept = w.kept ++ keeps_if w.operator_state (row_in (columns_at_hand w) one.what);
   journal = with_go w.journal 1 0;
 }
 
@@ -259,10 +259,10 @@ row_taken one later now last w = record w {
 pub record TakesRow (old new : WorkerState) : Type 0 where
   pub one : Handed
   pub later : List Handed
-  pub now : Duty
+  pub now : OperatorState
   pub last : List (List Value)
   pub first : old.rest ≡ one ∷ later
-  pub becomes : Becomes old.duty old.building (row_in (columns_at_hand old) one.what) now
+  pub becomes : Becomes old.operator_state old.building (row_in (columns_at_hand old) one.what) now
   pub closes : Closes now ((length old.rest == 1) && have_all_ended old.ins) last
   pub after : new ≡ row_taken one later now last old
 
@@ -284,7 +284,7 @@ row_emitted_from (row ∷ later) w = row_emitted row later w
 -- a batch of this sender was taken; these rows are given at the end
 abbrev pub batch_taken : Incoming → Batch → List Incoming → List (List Value) → WorkerState → WorkerState
 batch_taken one batch ins last w = record w {
-  duty = turned_to one.builds w.duty;
+  operator_state = turned_to one.builds w.operator_state;
   building = one.builds;
   rest = map (row_from one.from) batch.rows;
   pending = last;
@@ -310,7 +310,7 @@ pub record TakesBatch (old new : WorkerState) : Type 0 where
   pub from_small : one.from < 2 ^ 32
   pub number_small : one.taken < 2 ^ 64
   pub last : List (List Value)
-  pub closes : Closes old.duty ((length batch.rows == 0) && have_all_ended ins) last
+  pub closes : Closes old.operator_state ((length batch.rows == 0) && have_all_ended ins) last
   pub after : new ≡ batch_taken one batch ins last old
 
 -- neither paused nor held, and no entry speaks of very many rows
@@ -320,13 +320,13 @@ pub record IsCalm (w : WorkerState) : Type 0 where
   pub few : All (λ one. rows_moved one < 2 ^ 63) w.journal
 
 -- what a worker shows by what it does
-abbrev pub IsExtra : Duty → ℕ → ℕ → Extra → Type 0
-IsExtra duty.Scan refused kept shown = shown ≡ extra.Scan refused
-IsExtra (duty.Filter cond) refused kept shown = shown ≡ extra.Nothing
-IsExtra (duty.Project from) refused kept shown = shown ≡ extra.Nothing
-IsExtra (duty.Join state) refused kept shown = shown ≡ extra.Join (length (first_keys state.build_keys state.rows)) (length state.rows)
-IsExtra (duty.Group state) refused kept shown = (rows : List (List Value)) → GroupStands state rows → shown ≡ extra.Group (length (first_keys state.keys rows))
-IsExtra duty.Sink refused kept shown = shown ≡ extra.Sink kept
+abbrev pub IsExtra : OperatorState → ℕ → ℕ → Extra → Type 0
+IsExtra operator_state.Scan refused kept shown = shown ≡ extra.Scan refused
+IsExtra (operator_state.Filter cond) refused kept shown = shown ≡ extra.Nothing
+IsExtra (operator_state.Project from) refused kept shown = shown ≡ extra.Nothing
+IsExtra (operator_state.Join state) refused kept shown = shown ≡ extra.Join (length (first_keys state.build_keys state.rows)) (length state.rows)
+IsExtra (operator_state.Group state) refused kept shown = (rows : List (List Value)) → GroupStands state rows → shown ≡ extra.Group (length (first_keys state.keys rows))
+IsExtra operator_state.Sink refused kept shown = shown ≡ extra.Sink kept
 
 -- what a worker shows
 pub record IsShown (w : WorkerState) (view : WorkerView) : Type 0 where
@@ -336,13 +336,13 @@ pub record IsShown (w : WorkerState) (view : WorkerView) : Type 0 where
   pub pending : view.pending ≡ length w.pending
   pub stand : view.stand ≡ (if w.finished then stand.Finished else stand.Ready)
   pub next : view.next ≡ first_of w.pending
-  pub extra : IsExtra w.duty (length w.refused) (length w.kept) view.extra
+  pub extra : IsExtra w.operator_state (length w.refused) (length w.kept) view.extra
 
 -- the keys that a worker has refused
-abbrev pub IsRefused : Duty → List (List Value) → Type 0
-IsRefused duty.Scan keys = keys ≡ []
-IsRefused (duty.Filter cond) keys = keys ≡ []
-IsRefused (duty.Project from) keys = keys ≡ []
-IsRefused (duty.Join state) keys = keys ≡ []
-IsRefused (duty.Group state) keys = (rows : List (List Value)) → GroupStands state rows → keys ≡ refused_keys state.keys state.aggs rows
-IsRefused duty.Sink keys = keys ≡ []
+abbrev pub IsRefused : OperatorState → List (List Value) → Type 0
+IsRefused operator_state.Scan keys = keys ≡ []
+IsRefused (operator_state.Filter cond) keys = keys ≡ []
+IsRefused (operator_state.Project from) keys = keys ≡ []
+IsRefused (operator_state.Join state) keys = keys ≡ []
+IsRefused (operator_state.Group state) keys = (rows : List (List Value)) → GroupStands state rows → keys ≡ refused_keys state.keys state.aggs rows
+IsRefused operator_state.Sink keys = keys ≡ []

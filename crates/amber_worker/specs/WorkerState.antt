@@ -9,7 +9,7 @@ use Rattle.amber_meaning.specs.Task.{Handed}
 use Rattle.amber_meaning.specs.declared.answer.Refusal.{Refusal}
 use Rattle.amber_link.specs.Incoming.{Incoming, has_some, have_all_ended, have_builders_ended, may_come}
 use Rattle.amber_link.specs.Outgoing.{Outgoing}
-use Rattle.amber_worker.specs.declared.duty.Duty.{Duty}
+use Rattle.amber_worker.specs.declared.operator_state.OperatorState.{OperatorState}
 use Rattle.amber_worker.specs.declared.turn.Turn.{Turn}
 use Rattle.amber_worker.specs.declared.turn.Turn.TheVariants as turn
 
@@ -18,7 +18,7 @@ pub record WorkerState : Type 0 where
   pub op : ℕ
   pub number : ℕ
   -- what it does with a row, the columns of the rows that it is handed, and of a build side
-  pub duty : Duty
+  pub operator_state : OperatorState
   pub columns : List Column
   pub build_columns : List Column
   -- whether the batches at hand are of the build side, as those of a join are at first

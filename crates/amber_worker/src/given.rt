@@ -1,7 +1,7 @@
 ghost use Rattle.std.specs.Prelude.{◌≡◌, ◌++◌, map, IfOk, OnOk};
 ghost use Rattle.amber_worker.specs.Steps.{IsRefused};
 
-use crate::duty::Duty;
+use crate::operator_state::OperatorState;
 use amber_meaning::{Refusal, Refusals};
 use amber_rows::{Row, Rows};
 use std::alloc::{AllocError, Global};
@@ -14,15 +14,15 @@ pub struct Given {
 }
 
 // The keys that a worker has refused: of a group those that have no row.
-pub(crate) fn refused_keys(alloc: Global, duty: &Duty) -> Result<Vec<Row>, AllocError>
-    ensures { IfOk result (λ keys. IsRefused duty.now keys.items) }
+pub(crate) fn refused_keys(alloc: Global, operator_state: &OperatorState) -> Result<Vec<Row>, AllocError>
+    ensures { IfOk result (λ keys. IsRefused operator_state.now keys.items) }
 {
-    match duty {
-        Duty::Group(state) => {
+    match operator_state {
+        OperatorState::Group(state) => {
             let grouped = state.finish()?;
             Ok(grouped.refused.into_inner())
         }
-        Duty::Scan | Duty::Filter(_) | Duty::Project(_) | Duty::Join(_) | Duty::Sink => {
+        OperatorState::Scan | OperatorState::Filter(_) | OperatorState::Project(_) | OperatorState::Join(_) | OperatorState::Sink => {
             Ok(Vec::new(alloc))
         }
     }

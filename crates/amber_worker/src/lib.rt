@@ -11,7 +11,7 @@
 //! leads there by the rules of a run: `specs/Stands.antt` says what it is for a worker to stand at a position.
 #![tactic(auto)]
 
-pub mod duty;
+pub mod operator_state;
 pub mod given;
 mod grouping;
 mod joining;
@@ -23,7 +23,7 @@ mod taking;
 pub mod turn;
 pub mod worker;
 
-pub use duty::Duty;
+pub use operator_state::OperatorState;
 pub use given::Given;
 pub use std::alloc::AllocError as NoMemory;
 pub use turn::Turn;

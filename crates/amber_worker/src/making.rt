@@ -4,9 +4,9 @@ ghost use Rattle.std.specs.Prelude.{◌≡◌, nat_lt, [], ◌∷◌, if◌then�
 ghost use Rattle.amber_rows.specs.Crew.{reads, what_at};
 ghost use Rattle.amber_rows.specs.FlowRules.{columns_at, inputs_of};
 ghost use Rattle.amber_meaning.specs.Plan.{built_columns};
-ghost use Rattle.amber_worker.specs.Made.{IsDutyOf, fresh_inbox, fresh_inboxes, fresh_outbox, handing_operator, is_join};
+ghost use Rattle.amber_worker.specs.Made.{IsOperatorStateOf, fresh_inbox, fresh_inboxes, fresh_outbox, handing_operator, is_join};
 
-use crate::duty::Duty;
+use crate::operator_state::OperatorState;
 use amber_group::GroupState;
 use amber_join::JoinState;
 use amber_link::{Inbox, Outbox};
@@ -68,15 +68,15 @@ fn copied_aggs(alloc: Global, aggs: &Aggs) -> Result<Aggs, AllocError>
 }
 
 // What a worker of this kind does with a row.
-pub(crate) fn duty_of(alloc: Global, what: &What) -> Result<Duty, AllocError>
-    ensures { IfOk result (λ duty. IsDutyOf duty what.now) }
+pub(crate) fn operator_state_of(alloc: Global, what: &What) -> Result<OperatorState, AllocError>
+    ensures { IfOk result (λ operator_state. IsOperatorStateOf operator_state what.now) }
 {
     match what {
-        What::Scan { .. } => Ok(Duty::Scan),
-        What::Filter { cond, .. } => Ok(Duty::Filter(FilterState::new(condition_of(cond)?))),
+        What::Scan { .. } => Ok(OperatorState::Scan),
+        What::Filter { cond, .. } => Ok(OperatorState::Filter(FilterState::new(condition_of(cond)?))),
         What::Project { from, .. } => {
             let columns = copied_cols(alloc, from)?;
-            Ok(Duty::Project(ProjectState::new(alloc, columns)))
+            Ok(OperatorState::Project(ProjectState::new(alloc, columns)))
         }
         What::Join {
             build_keys,
@@ -85,14 +85,14 @@ pub(crate) fn duty_of(alloc: Global, what: &What) -> Result<Duty, AllocError>
         } => {
             let build = copied_cols(alloc, build_keys)?;
             let probe = copied_cols(alloc, probe_keys)?;
-            Ok(Duty::Join(JoinState::new(alloc, build, probe)))
+            Ok(OperatorState::Join(JoinState::new(alloc, build, probe)))
         }
         What::Group { keys, aggs, .. } => {
             let keys = copied_cols(alloc, keys)?;
             let aggs = copied_aggs(alloc, aggs)?;
-            Ok(Duty::Group(GroupState::new(alloc, keys, aggs)))
+            Ok(OperatorState::Group(GroupState::new(alloc, keys, aggs)))
         }
-        What::Sink { .. } => Ok(Duty::Sink),
+        What::Sink { .. } => Ok(OperatorState::Sink),
     }
 }
 

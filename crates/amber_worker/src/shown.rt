@@ -4,7 +4,7 @@ ghost use Rattle.std.specs.Prelude.{◌≡◌, IfOk, if◌then◌else◌, length
 ghost use Rattle.amber_meaning.specs.Views.{first_of};
 ghost use Rattle.amber_worker.specs.Steps.{IsExtra};
 
-use crate::duty::Duty;
+use crate::operator_state::OperatorState;
 use crate::taking::Gains;
 use amber_meaning::{Extra, Stand};
 use amber_rows::Row;
@@ -33,22 +33,22 @@ pub(crate) fn stand_of(finished: bool) -> Stand
 }
 
 // What a worker shows by what it does.
-pub(crate) fn extra_of(duty: &Duty, gains: &Gains) -> Extra
-    ensures { IsExtra duty.now (length gains.now.refused.items) (length gains.now.kept.items) result }
+pub(crate) fn extra_of(operator_state: &OperatorState, gains: &Gains) -> Extra
+    ensures { IsExtra operator_state.now (length gains.now.refused.items) (length gains.now.kept.items) result }
 {
-    match duty {
-        Duty::Scan => Extra::Scan {
+    match operator_state {
+        OperatorState::Scan => Extra::Scan {
             refused: gains.refused.len() as u64,
         },
-        Duty::Filter(_) | Duty::Project(_) => Extra::Nothing,
-        Duty::Join(state) => Extra::Join {
+        OperatorState::Filter(_) | OperatorState::Project(_) => Extra::Nothing,
+        OperatorState::Join(state) => Extra::Join {
             keys: state.keys(),
             built: state.rows(),
         },
-        Duty::Group(state) => Extra::Group {
+        OperatorState::Group(state) => Extra::Group {
             groups: state.groups(),
         },
-        Duty::Sink => Extra::Sink {
+        OperatorState::Sink => Extra::Sink {
             kept: gains.kept.len() as u64,
         },
     }

@@ -8,7 +8,7 @@ ghost use Rattle.amber_link.specs.Incoming.{has_some, have_all_ended};
 ghost use Rattle.amber_worker.specs.Fields.{handed_in};
 ghost use Rattle.amber_worker.specs.Steps.{AreSame, Closes, GainsAny, GainsNext, GainsRecord, GainsRow, MayTakeRow, gives_if, has_state, held_back_of, keeps_if, passed_of, turned_to};
 
-use crate::duty::Duty;
+use crate::operator_state::OperatorState;
 use crate::grouping::{rows_of_groups, take_grouped};
 use crate::joining::take_joined;
 use amber_link::{Inbox, have_ended};
@@ -66,34 +66,34 @@ pub(crate) enum Fate {
 }
 
 // What becomes of a row that suits.
-fn suited_fate(duty: &Duty, row: &Row) -> Result<Fate, AllocError>
-    requires plain { has_state duty.now ≡ false }
-    ensures goes_on { IfOk result (λ fate. passed_of fate row.now ≡ gives_if duty.now false (Some row.now)) }
-    ensures stays { IfOk result (λ fate. held_back_of fate row.now ≡ keeps_if duty.now (Some row.now)) }
+fn suited_fate(operator_state: &OperatorState, row: &Row) -> Result<Fate, AllocError>
+    requires plain { has_state operator_state.now ≡ false }
+    ensures goes_on { IfOk result (λ fate. passed_of fate row.now ≡ gives_if operator_state.now false (Some row.now)) }
+    ensures stays { IfOk result (λ fate. held_back_of fate row.now ≡ keeps_if operator_state.now (Some row.now)) }
 {
-    match duty {
-        Duty::Scan => Ok(Fate::Passed),
-        Duty::Filter(state) => {
+    match operator_state {
+        OperatorState::Scan => Ok(Fate::Passed),
+        OperatorState::Filter(state) => {
             if state.passes(row) {
                 Ok(Fate::Passed)
             } else {
                 Ok(Fate::Dropped)
             }
         }
-        Duty::Project(state) => Ok(Fate::Made(state.pick(row)?)),
-        Duty::Sink => Ok(Fate::Kept),
-        Duty::Join(_) | Duty::Group(_) => unreachable!(),
+        OperatorState::Project(state) => Ok(Fate::Made(state.pick(row)?)),
+        OperatorState::Sink => Ok(Fate::Kept),
+        OperatorState::Join(_) | OperatorState::Group(_) => unreachable!(),
     }
 }
 
 // What becomes of a row; one that does not suit the columns is dropped.
-pub(crate) fn fate_of(duty: &Duty, columns: &Schema, row: &Row) -> Result<Fate, AllocError>
-    requires plain { has_state duty.now ≡ false }
-    ensures goes_on { IfOk result (λ fate. passed_of fate row.now ≡ gives_if duty.now false (row_in columns.now (Ok row.now))) }
-    ensures stays { IfOk result (λ fate. held_back_of fate row.now ≡ keeps_if duty.now (row_in columns.now (Ok row.now))) }
+pub(crate) fn fate_of(operator_state: &OperatorState, columns: &Schema, row: &Row) -> Result<Fate, AllocError>
+    requires plain { has_state operator_state.now ≡ false }
+    ensures goes_on { IfOk result (λ fate. passed_of fate row.now ≡ gives_if operator_state.now false (row_in columns.now (Ok row.now))) }
+    ensures stays { IfOk result (λ fate. held_back_of fate row.now ≡ keeps_if operator_state.now (row_in columns.now (Ok row.now))) }
 {
     if suits(row, columns) {
-        suited_fate(duty, row)
+        suited_fate(operator_state, row)
     } else {
         Ok(Fate::Dropped)
     }
@@ -124,7 +124,7 @@ pub(crate) fn put_record(
 )
     requires room { deque_len pending.old < deque_capacity pending.old }
     requires room_for_refused { vec_len refused.old < vec_capacity refused.old }
-    ensures goes_on { pending.new.items ≡ pending.old.items ++ gives_if Duty.Scan false (row_in columns.now one.what) }
+    ensures goes_on { pending.new.items ≡ pending.old.items ++ gives_if OperatorState.Scan false (row_in columns.now one.what) }
     ensures refused { refused.new.items ≡ refused.old.items ++ refusal_in op one.number one.what }
 {
     match one.what {
@@ -165,13 +165,13 @@ fn take_record(
 // Takes the next row of a batch, of which a worker keeps nothing but for the answer.
 fn take_handed(
     rows: &mut VecDeque<Row>,
-    duty: &Duty,
+    operator_state: &OperatorState,
     columns: &Schema,
     gains: &mut Gains,
 ) -> Result<(), AllocError>
     requires some { has_some rows.old.items ≡ true }
-    requires plain { has_state duty.now ≡ false }
-    ensures ok { OnOk result (GainsRow rows.old.items duty.now columns.now gains.old rows.new.items gains.new) }
+    requires plain { has_state operator_state.now ≡ false }
+    ensures ok { OnOk result (GainsRow rows.old.items operator_state.now columns.now gains.old rows.new.items gains.new) }
     ensures rows_on_err { OnErr result (rows.new.items ≡ rows.old.items) }
     ensures gains_on_err { OnErr result (AreSame gains.old gains.new) }
 {
@@ -180,7 +180,7 @@ fn take_handed(
     let Some(next) = rows.front() else {
         unreachable!()
     };
-    let fate = fate_of(duty, columns, next)?;
+    let fate = fate_of(operator_state, columns, next)?;
     let Some(row) = rows.pop_front() else {
         unreachable!()
     };
@@ -194,27 +194,27 @@ fn take_any(
     columns: &Schema,
     builds: bool,
     over: bool,
-    duty: &mut Duty,
+    operator_state: &mut OperatorState,
     gains: &mut Gains,
 ) -> Result<(), AllocError>
     requires some { has_some rows.old.items ≡ true }
-    requires may { MayTakeRow duty.old builds }
-    ensures ok { OnOk result (GainsAny rows.old.items columns.now builds over duty.old gains.old rows.new.items duty.new gains.new) }
+    requires may { MayTakeRow operator_state.old builds }
+    ensures ok { OnOk result (GainsAny rows.old.items columns.now builds over operator_state.old gains.old rows.new.items operator_state.new gains.new) }
     ensures rows_on_err { OnErr result (rows.new.items ≡ rows.old.items) }
-    ensures duty_on_err { OnErr result (duty.new ≡ duty.old) }
+    ensures operator_state_on_err { OnErr result (operator_state.new ≡ operator_state.old) }
     ensures gains_on_err { OnErr result (AreSame gains.old gains.new) }
 {
-    match duty {
-        Duty::Join(state) => {
+    match operator_state {
+        OperatorState::Join(state) => {
             take_joined(rows, columns, builds, state, &mut gains.pending)?;
             Ok(())
         }
-        Duty::Group(state) => {
+        OperatorState::Group(state) => {
             take_grouped(rows, columns, over, state, &mut gains.pending)?;
             Ok(())
         }
-        Duty::Scan | Duty::Filter(_) | Duty::Project(_) | Duty::Sink => {
-            take_handed(rows, duty, columns, gains)?;
+        OperatorState::Scan | OperatorState::Filter(_) | OperatorState::Project(_) | OperatorState::Sink => {
+            take_handed(rows, operator_state, columns, gains)?;
             Ok(())
         }
     }
@@ -227,16 +227,16 @@ pub(crate) fn take_next(
     columns: &Schema,
     builds: bool,
     over: bool,
-    duty: &mut Duty,
+    operator_state: &mut OperatorState,
     gains: &mut Gains,
 ) -> Result<(), AllocError>
     requires some { has_some (handed_in rest.old) ≡ true }
-    requires scans { IfSome rest.old.share (λ _. duty.old ≡ Duty.Scan) }
-    requires may { MayTakeRow duty.old builds }
-    ensures ok { OnOk result (GainsNext (handed_in rest.old) op columns.now builds over duty.old gains.old (handed_in rest.new) duty.new gains.new) }
+    requires scans { IfSome rest.old.share (λ _. operator_state.old ≡ OperatorState.Scan) }
+    requires may { MayTakeRow operator_state.old builds }
+    ensures ok { OnOk result (GainsNext (handed_in rest.old) op columns.now builds over operator_state.old gains.old (handed_in rest.new) operator_state.new gains.new) }
     ensures shares { is_some rest.new.share ≡ is_some rest.old.share }
     ensures rest_on_err { OnErr result (handed_in rest.new ≡ handed_in rest.old) }
-    ensures duty_on_err { OnErr result (duty.new ≡ duty.old) }
+    ensures operator_state_on_err { OnErr result (operator_state.new ≡ operator_state.old) }
     ensures gains_on_err { OnErr result (AreSame gains.old gains.new) }
 {
     match &mut rest.share {
@@ -245,7 +245,7 @@ pub(crate) fn take_next(
             Ok(())
         }
         None => {
-            take_any(&mut rest.rows, columns, builds, over, duty, gains)?;
+            take_any(&mut rest.rows, columns, builds, over, operator_state, gains)?;
             Ok(())
         }
     }
@@ -272,20 +272,20 @@ pub(crate) fn is_last(rest: &Rest, ins: &[Inbox]) -> bool
 // The rows that are given at the end, where a batch is empty; none where it is not.
 pub(crate) fn closing_of(
     alloc: Global,
-    duty: &Duty,
+    operator_state: &OperatorState,
     empty: bool,
 ) -> Result<VecDeque<Row>, AllocError>
-    ensures { IfOk result (λ last. Closes duty.now empty last.items) }
+    ensures { IfOk result (λ last. Closes operator_state.now empty last.items) }
 {
     if !empty {
         return Ok(VecDeque::new(alloc));
     }
-    match duty {
-        Duty::Group(state) => {
+    match operator_state {
+        OperatorState::Group(state) => {
             let last = rows_of_groups(state)?;
             Ok(last)
         }
-        Duty::Scan | Duty::Filter(_) | Duty::Project(_) | Duty::Join(_) | Duty::Sink => {
+        OperatorState::Scan | OperatorState::Filter(_) | OperatorState::Project(_) | OperatorState::Join(_) | OperatorState::Sink => {
             Ok(VecDeque::new(alloc))
         }
     }
@@ -302,15 +302,15 @@ pub(crate) fn close(pending: &mut VecDeque<Row>, last: VecDeque<Row>, over: bool
 }
 
 // The batches at hand are of the build side, or of the other: then what a join keeps is sealed.
-pub(crate) fn turn_to(duty: &mut Duty, builds: bool)
-    ensures { duty.new ≡ turned_to builds duty.old }
+pub(crate) fn turn_to(operator_state: &mut OperatorState, builds: bool)
+    ensures { operator_state.new ≡ turned_to builds operator_state.old }
 {
-    match duty {
-        Duty::Join(state) => {
+    match operator_state {
+        OperatorState::Join(state) => {
             if !builds {
                 state.seal();
             }
         }
-        Duty::Scan | Duty::Filter(_) | Duty::Project(_) | Duty::Group(_) | Duty::Sink => {}
+        OperatorState::Scan | OperatorState::Filter(_) | OperatorState::Project(_) | OperatorState::Group(_) | OperatorState::Sink => {}
     }
 }

@@ -12,12 +12,12 @@ ghost use Rattle.amber_worker.specs.Steps.{IsCalm, IsShown, TakesBatch, TakesRow
 ghost use Rattle.amber_worker.specs.Made.{IsFresh};
 ghost use Rattle.amber_worker.specs.Stands.{AreAlone, HasShare, HasTurned, IsGivenOf, IsViewOf, Keeps, Stands, first_orders, is_scan, placement_of};
 
-use crate::duty::Duty;
+use crate::operator_state::OperatorState;
 use crate::given::{Given, add_keys, refused_keys};
 use crate::journal::note_go;
 use crate::links::{emit_first, end, has_receiver, settle_into, waiting_receiver};
 use crate::making::{
-    build_columns_of, columns_of, duty_of, inboxes_of, is_join, outbox_of, receiver_of,
+    build_columns_of, columns_of, operator_state_of, inboxes_of, is_join, outbox_of, receiver_of,
 };
 use crate::shown::{extra_of, first_copy, stand_of};
 use crate::taking::{Gains, Rest, close, closing_of, is_last, side_columns, take_next, turn_to};
@@ -40,7 +40,7 @@ pub struct Worker {
     alloc: Global,
     op: u32,
     number: u32,
-    duty: Duty,
+    operator_state: OperatorState,
     columns: Schema,
     build_columns: Schema,
     building: bool,
@@ -66,7 +66,7 @@ impl Model for Worker {
     ghost view = { λ a. record {
       op = a.op;
       number = a.number;
-      duty = a.duty;
+      operator_state = a.operator_state;
       columns = a.columns;
       build_columns = a.build_columns;
       building = a.building;
@@ -87,7 +87,7 @@ impl Model for Worker {
       journal = a.journal.items;
     } };
 
-    ghost invariant = { λ a. AreFew a.duty a.building a.rest.share a.taken a.emitted a.batches a.finished a.ins.items a.out a.journal.items };
+    ghost invariant = { λ a. AreFew a.operator_state a.building a.rest.share a.taken a.emitted a.batches a.finished a.ins.items a.out a.journal.items };
 }
 
 impl Worker {
@@ -133,7 +133,7 @@ impl Worker {
         let operators = flow.get();
         let op = flow.op_of(worker);
         let what = &operators[op as usize - 1].what;
-        let duty = duty_of(alloc, what)?;
+        let operator_state = operator_state_of(alloc, what)?;
         let columns = columns_of(alloc, flow, what, op)?;
         let build_columns = build_columns_of(alloc, flow, what)?;
         let building = is_join(what);
@@ -154,7 +154,7 @@ impl Worker {
             alloc,
             op,
             number: worker,
-            duty,
+            operator_state,
             columns,
             build_columns,
             building,
@@ -208,7 +208,7 @@ impl Worker {
             columns,
             self.building,
             over,
-            &mut self.duty,
+            &mut self.operator_state,
             &mut self.gains,
         )?;
         note_go(&mut self.journal, 1, 0);
@@ -243,7 +243,7 @@ impl Worker {
             return Ok(false);
         };
         let empty = is_empty_at(self.ins.as_slice(), place);
-        let last = closing_of(self.alloc, &self.duty, empty)?;
+        let last = closing_of(self.alloc, &self.operator_state, empty)?;
         self.journal.reserve(1)?;
         let Found {
             from,
@@ -253,7 +253,7 @@ impl Worker {
         } = take_at(self.ins.as_mut_slice(), place);
         let over = have_ended(self.ins.as_slice());
         close(&mut self.gains.pending, last, over);
-        turn_to(&mut self.duty, builds);
+        turn_to(&mut self.operator_state, builds);
         self.building = builds;
         self.journal.push_reserved(Entry::Take {
             from,
@@ -394,7 +394,7 @@ impl Worker {
             pending: self.gains.pending.len() as u64,
             stand: stand_of(self.finished),
             next,
-            extra: extra_of(&self.duty, &self.gains),
+            extra: extra_of(&self.operator_state, &self.gains),
         })
     }
 
@@ -405,7 +405,7 @@ impl Worker {
         let Worker {
             alloc,
             op,
-            duty,
+            operator_state,
             gains,
             ..
         } = self;
@@ -414,7 +414,7 @@ impl Worker {
             mut kept,
             ..
         } = gains;
-        let mut keys = refused_keys(alloc, &duty)?;
+        let mut keys = refused_keys(alloc, &operator_state)?;
         sort(&mut keys);
         add_keys(op, keys, &mut refused)?;
         sort(&mut kept);

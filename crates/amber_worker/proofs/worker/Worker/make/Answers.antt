@@ -4,7 +4,7 @@ use Rattle.amber_rows.specs.FlowRules.{columns_at, inputs_of}
 use Rattle.amber_rows.specs.declared.flow.What.{What}
 use Rattle.amber_worker.specs.Fields.{rest_in}
 use Rattle.amber_meaning.specs.Plan.{built_columns}
-use Rattle.amber_worker.specs.Made.{IsDutyOf, fresh_inboxes, handing_operator, is_join}
+use Rattle.amber_worker.specs.Made.{IsOperatorStateOf, fresh_inboxes, handing_operator, is_join}
 use Rattle.amber_worker.proofs.Fresh.{few-fresh, inputs-some, is-receiver, kind-here, op-there}
 use Rattle.amber_worker.proofs.worker.Worker.make.Goals as goal
 
@@ -36,19 +36,19 @@ pub invariant_of-result : goal.invariant_of-result
 invariant_of-result c =
     let kind = kind-here c.args.flow.now c.get-operators.result.now c.args.worker c.op_of-op.result c.index-operators-op.result c.requires.alone c.requires.there
     c.get-operators.ensures.operators c.op_of-op.ensures in
-    let D : What → Type 0 = λ kind. IsDutyOf c.in_ok-duty.duty kind in
-    let does = subst D kind c.in_ok-duty.ensures in
+    let D : What → Type 0 = λ kind. IsOperatorStateOf c.in_ok-operator_state.operator_state kind in
+    let does = subst D kind c.in_ok-operator_state.ensures in
     let ins = c.in_ok-ins.ensures ∙ ap fresh_inboxes kind in
     rw (c.is_join-building.ensures ∙ ap is_join kind)
-    (few-fresh c.in_ok-duty.duty (what_at c.args.flow.now (op_of c.args.flow.now c.args.worker)) c.args.share _ _ c.receiver_of-receiver.result c.args.batch _
+    (few-fresh c.in_ok-operator_state.operator_state (what_at c.args.flow.now (op_of c.args.flow.now c.args.worker)) c.args.share _ _ c.receiver_of-receiver.result c.args.batch _
     does c.requires.shared ins c.outbox_of-out.ensures c.requires.some c.new-5.ensures.items)
 
 pub returns : goal.returns
 returns c =
     let kind = kind-here c.args.flow.now c.get-operators.result.now c.args.worker c.op_of-op.result c.index-operators-op.result c.requires.alone c.requires.there
     c.get-operators.ensures.operators c.op_of-op.ensures in
-    let D : What → Type 0 = λ kind. IsDutyOf c.in_ok-duty.duty kind in
-    let does = subst D kind c.in_ok-duty.ensures in
+    let D : What → Type 0 = λ kind. IsOperatorStateOf c.in_ok-operator_state.operator_state kind in
+    let does = subst D kind c.in_ok-operator_state.ensures in
     let ins = c.in_ok-ins.ensures ∙ ap fresh_inboxes kind in
     record {
       receiver = c.receiver_of-receiver.result;

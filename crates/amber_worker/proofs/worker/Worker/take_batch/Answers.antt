@@ -28,7 +28,7 @@ returns-clause-taken c =
     let after = rw c.as_mut_slice.ensures.value at c.take_at-from.ensures.empty in
     rw (← c.self.view_is)
     (takes-batch _ c.take_at-from.result.from c.take_at-from.result.number c.take_at-from.result.builds c.take_at-from.result.batch c.take_at-from.new.ins _ _ _
-    c.turn_to.new.duty c.in_ok-last.last.items c.close.new.pending.items c.is_empty_at-empty.result c.have_ended-over.result
+    c.turn_to.new.operator_state c.in_ok-last.last.items c.close.new.pending.items c.is_empty_at-empty.result c.have_ended-over.result
     (rw c.as_mut_slice.ensures.value at c.take_at-from.ensures.taken) (search rules) (search rules)
     (rw (no-share _ _ c.in-Some.place c.self.invariant.shares there, c.from_vec.ensures.items, c.into_inner.ensures) refl)
     (written-back _ _ _ len stays)

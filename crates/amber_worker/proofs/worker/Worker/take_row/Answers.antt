@@ -22,7 +22,7 @@ pub returns-clause-ok : goal.returns-clause-ok
 returns-clause-ok c =
     let gains = c.in_ok-take_next.ensures.ok in
     rw (← c.self.view_is)
-    (takes-row _ gains.one (handed_in c.take_next.new.rest) c.take_next.new.duty gains.last (handed_in c.take_next.new.rest) c.take_next.new.gains.pending.items
+    (takes-row _ gains.one (handed_in c.take_next.new.rest) c.take_next.new.operator_state gains.last (handed_in c.take_next.new.rest) c.take_next.new.gains.pending.items
     c.take_next.new.gains.refused.items c.take_next.new.gains.kept.items c.note_go.new.journal.items c.side_columns-columns.result.now c.is_last-over.result
     c.side_columns-columns.ensures
     (c.is_last-over.ensures ∙ ap (λ ins. eqb (length (handed_in c.self.inside.rest)) 1 && have_all_ended ins) c.as_slice.ensures.value)

@@ -4,7 +4,7 @@ use amber_ops::{FilterState, ProjectState};
 
 /// What a worker does with a row that suits its columns.
 #[derive(Debug, Drop)]
-pub enum Duty {
+pub enum OperatorState {
     /// Passes it on.
     Scan,
     /// Passes it on where the condition holds.
