@@ -8,7 +8,7 @@ use Rattle.amber_log.specs.declared.log.Log.{Log}
 use Rattle.amber_meaning.specs.Replay.{state_after}
 use Rattle.amber_meaning.specs.Texts.{answer_text}
 use Rattle.amber_meaning.specs.Views.{answer_in}
-use Rattle.amber_home.specs.Estate.{Closes, Estate, end_item, query_of}
+use Rattle.amber_home.specs.HomeState.{Closes, HomeState, end_item, query_of}
 use Rattle.amber_home.specs.declared.phase.Phase.TheVariants as phase
 use Rattle.amber_debug.specs.declared.done.EndErr.{EndErr}
 use Rattle.amber_debug.specs.declared.done.EndErr.TheVariants as end_err
@@ -20,7 +20,7 @@ IsLastText log text = (before : List Item) (last : Item) → log.items ≡ befor
 
 -- the leg stands in the log, with its text and the text of the answer; or it was too long, and stands there; or memory ran out before
 -- or behind that
-abbrev pub EndsAs : Result Done EndErr → Estate → Estate → Type 0
+abbrev pub EndsAs : Result Done EndErr → HomeState → HomeState → Type 0
 EndsAs (Ok done) old new =
     (leg : Closes old new close.Cut) × (done.item ≡ item_text (end_item leg.parts close.Cut))
     × (done.reply ≡ answer_text old.flow (answer_in (query_of old) (state_after (query_of old) new.log.items)))

@@ -1,3 +1,3 @@
 pub mod Ending
 pub mod Session
-pub use Rattle.amber_home.specs.Estate
+pub use Rattle.amber_home.specs.HomeState

@@ -11,7 +11,7 @@ use Rattle.amber_log.specs.declared.log.Log.{Log}
 use Rattle.amber_meaning.specs.Legal.{IsLegal, Query, query_over}
 use Rattle.amber_meaning.specs.Replay.{state_after}
 use Rattle.amber_meaning.specs.Transcript.{reply_of}
-use Rattle.amber_home.specs.Estate.{Estate, is_spent, query_of}
+use Rattle.amber_home.specs.HomeState.{HomeState, is_spent, query_of}
 use Rattle.amber_debug.specs.declared.done.DebugErr.{DebugErr}
 use Rattle.amber_debug.specs.declared.done.DebugErr.TheVariants as debug_err
 use Rattle.amber_debug.specs.declared.done.Done.{Done}
@@ -33,7 +33,7 @@ abbrev pub query_in : Session → Query
 query_in d = query_over d.flow d.files d.log.batch d.most
 
 -- the home's log is legal, and a session whose home is spent is cut off
-pub record IsKept (home : Estate) (spent : Bool) : Type 0 where
+pub record IsKept (home : HomeState) (spent : Bool) : Type 0 where
   pub legal : IsLegal (query_of home) home.log
   pub told : is_spent home.phase ≡ true → spent ≡ true
 

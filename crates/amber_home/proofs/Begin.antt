@@ -22,7 +22,7 @@ use Rattle.amber_worker.specs.Stands.{AreAlone, Stands, first_orders, placement_
 use Rattle.amber_worker.specs.WorkerState.{WorkerState}
 use Rattle.amber_home.specs.declared.error.HomeErr.{HomeErr}
 use Rattle.amber_home.specs.declared.error.HomeErr.TheVariants as home_err
-use Rattle.amber_home.specs.Estate.{NamesScan}
+use Rattle.amber_home.specs.HomeState.{NamesScan}
 use Rattle.amber_home.specs.Start.{AreEmpty, NamesOperator, StandsAt, kind_at, schema_at}
 use Rattle.amber_home.specs.Standing.{Standing, no_worker_state, sent_by, worker_state_at}
 use Rattle.amber_home.proofs.Alone.{crew-alone, kind-here, schema-here}

@@ -20,7 +20,7 @@ use Rattle.amber_worker.specs.Links.{waiting_for, waiting_from}
 use Rattle.amber_worker.specs.Stands.{first_orders, placement_of}
 use Rattle.amber_worker.specs.WorkerState.{WorkerState}
 use Rattle.amber_worker.proofs.Settling.{sent-made, steps-shown}
-use Rattle.amber_home.specs.Estate.{end_item}
+use Rattle.amber_home.specs.HomeState.{end_item}
 use Rattle.amber_home.specs.Finish.{IsClosed}
 use Rattle.amber_home.specs.Leg.{IsDone}
 use Rattle.amber_home.specs.Parts.{parts_from, reached}

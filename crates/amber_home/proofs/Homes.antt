@@ -13,7 +13,7 @@ use Rattle.amber_meaning.specs.Legal.{IsLegal, Query, query_over}
 use Rattle.amber_meaning.specs.Replay.{state_after}
 use Rattle.amber_meaning.specs.Views.{answer_in}
 use Rattle.amber_worker.specs.WorkerState.{WorkerState}
-use Rattle.amber_home.specs.Estate.{Closes, Ends, Estate, end_item, is_spent}
+use Rattle.amber_home.specs.HomeState.{Closes, Ends, HomeState, end_item, is_spent}
 use Rattle.amber_home.specs.Finish.{Finishes, HasRun, IsClosed, IsRun, IsStart}
 use Rattle.amber_home.specs.Kept.{IsHome, Rests}
 use Rattle.amber_home.specs.Start.{HasNotBegun}
@@ -71,7 +71,7 @@ module _ (flow : List Operator) (files : List (List ℕ)) (most : ℕ) (log : Lo
     over = λ _. over-after closed is;
   }
 
-  abbrev closed-home : Estate
+  abbrev closed-home : HomeState
   closed-home = record { flow = flow; files = files; most = most; log = record { batch = log.batch; items = items }; phase = phase.Over }
 
   closes : (closed : Close) (now : Phase) → items ≡ log.items ++ end_item parts closed ∷ []
@@ -81,13 +81,13 @@ module _ (flow : List Operator) (files : List (List ℕ)) (most : ℕ) (log : Lo
     is = λ i. record { flow = flow; files = files; most = most; log = record { batch = log.batch; items = is i }; phase = phase.Over };
   }
 
-  pub ends-long : (old : Estate) (now : Phase) → record { flow = flow; files = files; most = most; log = log; phase = now } ≡ old
+  pub ends-long : (old : HomeState) (now : Phase) → record { flow = flow; files = files; most = most; log = log; phase = now } ≡ old
       → items ≡ log.items ++ end_item parts close.Long ∷ [] → HasRun query parts None → Ends (Err leg_err.Long) old closed-home
   ends-long old now view is run =
       let ended = ended-after close.Long is run in
       subst (λ o. Ends (Err leg_err.Long) o closed-home) view (closes close.Long now is, ended.0, ended.1)
 
-  pub ends-cut : (old : Estate) (now : Phase) (answer : Answer) → record { flow = flow; files = files; most = most; log = log; phase = now } ≡ old
+  pub ends-cut : (old : HomeState) (now : Phase) (answer : Answer) → record { flow = flow; files = files; most = most; log = log; phase = now } ≡ old
       → items ≡ log.items ++ end_item parts close.Cut ∷ [] → HasRun query parts (Some answer) → Ends (Ok answer) old closed-home
   ends-cut old now answer view is run =
       let ended = ended-after close.Cut is run.0 in

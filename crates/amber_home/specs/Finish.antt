@@ -12,7 +12,7 @@ use Rattle.amber_meaning.specs.Replay.{state_after}
 use Rattle.amber_meaning.specs.State.{State, have_finished, steps_in}
 use Rattle.amber_meaning.specs.Views.{answer_in}
 use Rattle.amber_worker.specs.WorkerState.{WorkerState}
-use Rattle.amber_home.specs.Estate.{end_item}
+use Rattle.amber_home.specs.HomeState.{end_item}
 use Rattle.amber_home.specs.Start.{HasNotBegun}
 use Rattle.amber_home.specs.declared.finish.Finished.{Finished}
 

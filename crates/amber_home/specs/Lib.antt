@@ -1,5 +1,5 @@
 pub mod Answers
-pub mod Estate
+pub mod HomeState
 pub mod Finish
 pub mod Kept
 pub mod Leg

@@ -7,7 +7,7 @@ ghost use Rattle.amber_meaning.specs.Legal.{query_over};
 ghost use Rattle.amber_meaning.specs.Plain.{is_scan, list_at};
 ghost use Rattle.amber_meaning.specs.Position.{origin};
 ghost use Rattle.amber_worker.specs.Stands.{AreAlone, Stands, first_orders, placement_of};
-ghost use Rattle.amber_home.specs.Estate.{BeginsOrNames};
+ghost use Rattle.amber_home.specs.HomeState.{BeginsOrNames};
 ghost use Rattle.amber_home.specs.Start.{AreEmpty, HasHeader, HasNotBegun, HoldsRecords, StandsAt, kind_at, schema_at};
 
 use crate::error::HomeErr;

@@ -3,7 +3,7 @@ ghost use Rattle.amber_log.specs.Grammar.{ends_over};
 ghost use Rattle.amber_meaning.specs.Legal.{IsLegal};
 ghost use Rattle.amber_meaning.specs.Plain.{scan_count};
 ghost use Rattle.amber_worker.specs.Stands.{AreAlone};
-ghost use Rattle.amber_home.specs.Estate.{BeginsOrNames, Ends, is_spent, query_of};
+ghost use Rattle.amber_home.specs.HomeState.{BeginsOrNames, Ends, is_spent, query_of};
 
 use crate::crew::start_crew;
 use crate::error::{HomeErr, LegErr};
@@ -30,9 +30,9 @@ pub struct Home {
 }
 
 impl Model for Home {
-    ghost use Rattle.amber_home.specs.Estate.{Estate};
+    ghost use Rattle.amber_home.specs.HomeState.{HomeState};
 
-    ghost Value = { Estate };
+    ghost Value = { HomeState };
 
     ghost view = { λ a. record { flow = a.flow; files = a.files; most = a.most; log = a.log; phase = a.phase } };
 

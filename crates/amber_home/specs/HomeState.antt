@@ -20,7 +20,7 @@ use Rattle.amber_home.specs.declared.error.LegErr.TheVariants as leg_err
 use Rattle.amber_home.specs.declared.phase.Phase.{Phase}
 use Rattle.amber_home.specs.declared.phase.Phase.TheVariants as phase
 
-pub record Estate : Type 0 where
+pub record HomeState : Type 0 where
   pub flow : List Operator
   -- the scans' files
   pub files : List (List ℕ)
@@ -30,7 +30,7 @@ pub record Estate : Type 0 where
   pub phase : Phase
 
 -- what is run
-abbrev pub query_of : Estate → Query
+abbrev pub query_of : HomeState → Query
 query_of e = query_over e.flow e.files e.log.batch e.most
 
 abbrev pub is_spent : Phase → Bool
@@ -57,13 +57,13 @@ abbrev pub with_item : Log → Item → Log
 with_item log one = record log { items = log.items ++ one ∷ [] }
 
 -- the last leg stands in the log, closed so, and nothing else has changed
-pub record Closes (old new : Estate) (closed : Close) : Type 0 where
+pub record Closes (old new : HomeState) (closed : Close) : Type 0 where
   pub parts : List Part
   pub is : new ≡ record old { log = with_item old.log (end_item parts closed); phase = phase.Over }
 
 -- what a leg to the end leaves: all have finished, and the answer is that of the state; or the steps are as many as may be, and
 -- somebody has not finished; or only memory was wanting
-abbrev pub Ends : Result Answer LegErr → Estate → Estate → Type 0
+abbrev pub Ends : Result Answer LegErr → HomeState → HomeState → Type 0
 Ends (Ok answer) old new =
     Closes old new close.Cut × (have_finished (state_after (query_of old) new.log.items) ≡ true)
     × (answer ≡ answer_in (query_of old) (state_after (query_of old) new.log.items))
