@@ -22,7 +22,7 @@ use Rattle.amber_meaning.specs.Plan as plan
 use Rattle.amber_meaning.proofs.Operators.{numbered-here}
 use Rattle.amber_scan.specs.Shares as shares
 use Rattle.amber_scan.specs.declared.share.Scanned.{Scanned}
-use Rattle.amber_worker.specs.Fields.{handed_of}
+use Rattle.amber_worker.specs.Fields.{arrival_of}
 use Rattle.amber_worker.specs.Stands as stands
 use Rattle.amber_worker.specs.Stands.{AreAlone}
 use Rattle.amber_worker.specs.Stands.{HasShare, Stands, first_orders, placement_of}
@@ -116,21 +116,21 @@ abbrev Records : Type 0
 Records = List (Result (List Value) RowFault)
 
 shared-same : (workers place number : ℕ) (records : Records)
-    → map handed_of (shares.share_of workers place (shares.with_numbers number records)) ≡ filter (λ handed. plan.turn_of workers handed.from == place) (plan.with_numbers number records)
+    → map arrival_of (shares.share_of workers place (shares.with_numbers number records)) ≡ filter (λ arrivals. plan.turn_of workers arrivals.from == place) (plan.with_numbers number records)
 unfolding shares.share_of shares.with_numbers plan.with_numbers
 shared-same workers place number [] = refl
 shared-same workers place number (one ∷ more) = by (plan.turn_of workers number == place) (shared-same workers place (number + 1) more)
   where
     by : (b : Bool)
-        → map handed_of (shares.share_of workers place (shares.with_numbers (number + 1) more)) ≡ filter (λ handed. plan.turn_of workers handed.from == place) (plan.with_numbers (number + 1) more)
-        → map handed_of (if b then record { number = number; what = one } ∷ shares.share_of workers place (shares.with_numbers (number + 1) more)
+        → map arrival_of (shares.share_of workers place (shares.with_numbers (number + 1) more)) ≡ filter (λ arrivals. plan.turn_of workers arrivals.from == place) (plan.with_numbers (number + 1) more)
+        → map arrival_of (if b then record { number = number; what = one } ∷ shares.share_of workers place (shares.with_numbers (number + 1) more)
         else shares.share_of workers place (shares.with_numbers (number + 1) more))
-        ≡ (if b then record { from = number; what = one } ∷ filter (λ handed. plan.turn_of workers handed.from == place) (plan.with_numbers (number + 1) more)
-        else filter (λ handed. plan.turn_of workers handed.from == place) (plan.with_numbers (number + 1) more))
+        ≡ (if b then record { from = number; what = one } ∷ filter (λ arrivals. plan.turn_of workers arrivals.from == place) (plan.with_numbers (number + 1) more)
+        else filter (λ arrivals. plan.turn_of workers arrivals.from == place) (plan.with_numbers (number + 1) more))
     by true rest = ap (λ xs. record { from = number; what = one } ∷ xs) rest
     by false rest = rest
 
-pub share-same : (records : Records) → map handed_of (shares.share_of 1 0 (shares.with_numbers 1 records)) ≡ plan.share_of records 1 0
+pub share-same : (records : Records) → map arrival_of (shares.share_of 1 0 (shares.with_numbers 1 records)) ≡ plan.share_of records 1 0
 unfolding plan.share_of
 share-same records = shared-same 1 0 1 records
 
@@ -156,7 +156,7 @@ pub stands-scan : (flow : List Operator) (k size : ℕ) (o : Operator) (file : L
     → StandsAt flow k size (records_at (kind_at flow k) (schema_at flow k) file) w
 stands-scan flow k size o file share w alone h is holds made records own =
     made records
-    (ap (map handed_of) holds ∙ share-same (records_at o.what o.schema file)
+    (ap (map arrival_of) holds ∙ share-same (records_at o.what o.schema file)
     ∙ ap (λ r. plan.share_of r 1 0) (sym (own ∙ ap (λ kind. records_at kind (schema_at flow k) file) (kind-here flow k o h is) ∙ ap (λ columns. records_at o.what columns file) (schema-here flow k o h is)))
     ∙ sym (role-share flow records k alone h))
 

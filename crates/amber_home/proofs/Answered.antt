@@ -16,9 +16,9 @@ use Rattle.amber_meaning.specs.declared.answer.Answer.{Answer}
 use Rattle.amber_meaning.specs.Legal.{Query, role_in}
 use Rattle.amber_meaning.specs.Plain.{refused_groups}
 use Rattle.amber_meaning.specs.Plan.{role_of, task_of}
-use Rattle.amber_meaning.specs.Position.{Position, Taken, fed, handed_by, share_or}
+use Rattle.amber_meaning.specs.Position.{Position, Taken, fed, arrivals_of, share_or}
 use Rattle.amber_meaning.specs.State.{position_at}
-use Rattle.amber_meaning.specs.Task.{Handed, Task}
+use Rattle.amber_meaning.specs.Task.{Arrival, Task}
 use Rattle.amber_meaning.specs.Views.{answer_in, by_number, insert_numbered, op_refuses, refusal_in, refused_in, rows_in, sink_rows, taken_by, taken_of, worker_refuses}
 use Rattle.amber_worker.specs.Stands.{AreAlone, kept_of, placement_of}
 use Rattle.amber_worker.specs.WorkerState.{WorkerState}
@@ -32,14 +32,14 @@ use Rattle.amber_home.proofs.Reached.{listed-at}
 -- ---- the order of what was refused
 
 -- no record of these has a fault
-abbrev NoFault : List Handed → Type 0
-NoFault handed = (op : ℕ) → refused_in op handed ≡ []
+abbrev NoFault : List Arrival → Type 0
+NoFault arrivals = (op : ℕ) → refused_in op arrivals ≡ []
 
 both-none : {A : Type 0} (xs ys : List A) → xs ++ ys ≡ [] → (xs ≡ []) × (ys ≡ [])
 both-none [] ys e = (refl, e)
 both-none (x ∷ xs) ys e = cc
 
-insert-none : (op : ℕ) (one : Handed) (handed : List Handed) → refused_in op (one ∷ handed) ≡ [] → refused_in op (insert_numbered one handed) ≡ []
+insert-none : (op : ℕ) (one : Arrival) (arrivals : List Arrival) → refused_in op (one ∷ arrivals) ≡ [] → refused_in op (insert_numbered one arrivals) ≡ []
 unfolding insert_numbered
 insert-none op one [] none = none
 insert-none op one (other ∷ more) none = by (ltb other.from one.from) (insert-none op one more (first-and-rest))
@@ -57,7 +57,7 @@ insert-none op one (other ∷ more) none = by (ltb other.from one.from) (insert-
     by true inserted = ap (λ xs. xs ++ refused_in op (insert_numbered one more)) rest.0 ∙ inserted
     by false inserted = none
 
-sorted-none : (op : ℕ) (handed : List Handed) → refused_in op handed ≡ [] → refused_in op (by_number handed) ≡ []
+sorted-none : (op : ℕ) (arrivals : List Arrival) → refused_in op arrivals ≡ [] → refused_in op (by_number arrivals) ≡ []
 unfolding by_number
 sorted-none op [] none = refl
 sorted-none op (one ∷ more) none =
@@ -68,37 +68,37 @@ rows-none : (op from : ℕ) (rows : List (List Value)) → refused_in op (map (�
 rows-none op from [] = refl
 rows-none op from (row ∷ rows) = rows-none op from rows
 
-refused-append : (op : ℕ) (xs ys : List Handed) → refused_in op (xs ++ ys) ≡ refused_in op xs ++ refused_in op ys
-refused-append op xs ys = flat_map-append (λ (one : Handed). refusal_in op one.from one.what) xs ys
+refused-append : (op : ℕ) (xs ys : List Arrival) → refused_in op (xs ++ ys) ≡ refused_in op xs ++ refused_in op ys
+refused-append op xs ys = flat_map-append (λ (one : Arrival). refusal_in op one.from one.what) xs ys
 
-batches-none : (op : ℕ) (taken : List Taken) → refused_in op (flat_map handed_by taken) ≡ []
+batches-none : (op : ℕ) (taken : List Taken) → refused_in op (flat_map arrivals_of taken) ≡ []
 batches-none op [] = refl
 batches-none op (one ∷ more) =
-    refused-append op (handed_by one) (flat_map handed_by more) ∙ ap (λ xs. xs ++ refused_in op (flat_map handed_by more)) (rows-none op one.from one.batch.rows) ∙ batches-none op more
+    refused-append op (arrivals_of one) (flat_map arrivals_of more) ∙ ap (λ xs. xs ++ refused_in op (flat_map arrivals_of more)) (rows-none op one.from one.batch.rows) ∙ batches-none op more
 
-take-none : (op n : ℕ) (handed : List Handed) → refused_in op handed ≡ [] → refused_in op (take n handed) ≡ []
-take-none op zero handed none = refl
+take-none : (op n : ℕ) (arrivals : List Arrival) → refused_in op arrivals ≡ [] → refused_in op (take n arrivals) ≡ []
+take-none op zero arrivals none = refl
 take-none op (suc n) [] none = refl
 take-none op (suc n) (one ∷ more) none =
     let parts = both-none (refusal_in op one.from one.what) (refused_in op more) none in
     ap (λ xs. xs ++ refused_in op (take n more)) parts.0 ∙ take-none op n more parts.1
 
 -- what an operator's one worker has refused is in the order of the records
-ordered : (op n : ℕ) (kind : What) (share : List Handed) (taken : List Taken) → by_number (take n share) ≡ take n share
-    → refused_in op (by_number (take n (share_or kind share (flat_map handed_by taken)))) ≡ refused_in op (take n (share_or kind share (flat_map handed_by taken)))
+ordered : (op n : ℕ) (kind : What) (share : List Arrival) (taken : List Taken) → by_number (take n share) ≡ take n share
+    → refused_in op (by_number (take n (share_or kind share (flat_map arrivals_of taken)))) ≡ refused_in op (take n (share_or kind share (flat_map arrivals_of taken)))
 ordered op n (what.Scan file) share taken rising = ap (refused_in op) rising
 ordered op n (what.Filter input cond) share taken rising = others op n taken
   where
-    others : (op n : ℕ) (taken : List Taken) → refused_in op (by_number (take n (flat_map handed_by taken))) ≡ refused_in op (take n (flat_map handed_by taken))
-    others op n taken = let none = take-none op n (flat_map handed_by taken) (batches-none op taken) in sorted-none op (take n (flat_map handed_by taken)) none ∙ sym none
+    others : (op n : ℕ) (taken : List Taken) → refused_in op (by_number (take n (flat_map arrivals_of taken))) ≡ refused_in op (take n (flat_map arrivals_of taken))
+    others op n taken = let none = take-none op n (flat_map arrivals_of taken) (batches-none op taken) in sorted-none op (take n (flat_map arrivals_of taken)) none ∙ sym none
 ordered op n (what.Project input columns) share taken rising =
-    let none = take-none op n (flat_map handed_by taken) (batches-none op taken) in sorted-none op (take n (flat_map handed_by taken)) none ∙ sym none
+    let none = take-none op n (flat_map arrivals_of taken) (batches-none op taken) in sorted-none op (take n (flat_map arrivals_of taken)) none ∙ sym none
 ordered op n (what.Join build probe build_keys probe_keys) share taken rising =
-    let none = take-none op n (flat_map handed_by taken) (batches-none op taken) in sorted-none op (take n (flat_map handed_by taken)) none ∙ sym none
+    let none = take-none op n (flat_map arrivals_of taken) (batches-none op taken) in sorted-none op (take n (flat_map arrivals_of taken)) none ∙ sym none
 ordered op n (what.Group input keys aggs) share taken rising =
-    let none = take-none op n (flat_map handed_by taken) (batches-none op taken) in sorted-none op (take n (flat_map handed_by taken)) none ∙ sym none
+    let none = take-none op n (flat_map arrivals_of taken) (batches-none op taken) in sorted-none op (take n (flat_map arrivals_of taken)) none ∙ sym none
 ordered op n (what.Sink input) share taken rising =
-    let none = take-none op n (flat_map handed_by taken) (batches-none op taken) in sorted-none op (take n (flat_map handed_by taken)) none ∙ sym none
+    let none = take-none op n (flat_map arrivals_of taken) (batches-none op taken) in sorted-none op (take n (flat_map arrivals_of taken)) none ∙ sym none
 
 -- ---- one operator
 
@@ -119,7 +119,7 @@ refuses-alone query positions worker alone inside =
     let op : op_of query.flow worker ≡ worker + 1 = op-alone query.flow worker alone inside in
     let role = role_in query worker in
     let p = positions worker in
-    ap (λ handed. refused_in (worker + 1) (by_number handed) ++ refused_groups (worker + 1)
+    ap (λ arrivals. refused_in (worker + 1) (by_number arrivals) ++ refused_groups (worker + 1)
     (flat_map (λ one. worker_refuses (role_in query one) (position_at (reached query positions).positions one)) (workers_of query.flow (worker + 1)))) (taken-alone query positions worker alone inside)
     ∙ ap (λ xs. xs ++ refused_groups (worker + 1) (flat_map (λ one. worker_refuses (role_in query one) (position_at (reached query positions).positions one)) (workers_of query.flow (worker + 1))))
     (ordered (worker + 1) (length p.constants) role.task.kind role.share p.taken (by_number-share query.flow query.records worker (length p.constants)))
@@ -152,13 +152,13 @@ last-sink (operator ∷ next ∷ more) (suc n) ends long =
     ap (λ found. is_sink (kind_at found)) (numbered-next (operator ∷ next ∷ more) (suc n) ∙ sym (numbered-next (next ∷ more) n))
     ∙ last-sink (next ∷ more) n (and_parts (not (is_sink operator.what)) (ends_in_sink (next ∷ more)) ends).1 (omega arith)
 
-kept-sink : (kind : What) (task : Task) (handed : List Handed) → is_sink kind ≡ true → kept_of kind task handed ≡ rows_in task handed
-kept-sink (what.Scan file) task handed e = absurd (false≢true e)
-kept-sink (what.Filter input cond) task handed e = absurd (false≢true e)
-kept-sink (what.Project input columns) task handed e = absurd (false≢true e)
-kept-sink (what.Join build probe build_keys probe_keys) task handed e = absurd (false≢true e)
-kept-sink (what.Group input keys aggs) task handed e = absurd (false≢true e)
-kept-sink (what.Sink input) task handed e = refl
+kept-sink : (kind : What) (task : Task) (arrivals : List Arrival) → is_sink kind ≡ true → kept_of kind task arrivals ≡ rows_in task arrivals
+kept-sink (what.Scan file) task arrivals e = absurd (false≢true e)
+kept-sink (what.Filter input cond) task arrivals e = absurd (false≢true e)
+kept-sink (what.Project input columns) task arrivals e = absurd (false≢true e)
+kept-sink (what.Join build probe build_keys probe_keys) task arrivals e = absurd (false≢true e)
+kept-sink (what.Group input keys aggs) task arrivals e = absurd (false≢true e)
+kept-sink (what.Sink input) task arrivals e = refl
 
 sink-last : (query : Query) (positions : ℕ → Position) (m : ℕ) → IsFlow query.flow → AreAlone query.flow → length query.flow ≡ m + 1
     → rows_before query positions (suc m) ≡ sort_rows (rows_in (role_in query m).task (taken_of (role_in query m) (positions m)))

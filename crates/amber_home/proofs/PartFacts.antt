@@ -110,20 +110,20 @@ are-parts number (w ∷ more) few text = by (has_some w.journal) refl (are-parts
 
 -- ---- as the code takes them
 
-pub read-handed : (xs crew : List WorkerState) (i : ℕ) (d : WorkerState) → i < length xs → crew ≡ map without_journal (take i xs) ++ drop i xs → get_or crew i d ≡ get_or xs i d
-read-handed xs crew i d h is =
+pub read-arrivals : (xs crew : List WorkerState) (i : ℕ) (d : WorkerState) → i < length xs → crew ≡ map without_journal (take i xs) ++ drop i xs → get_or crew i d ≡ get_or xs i d
+read-arrivals xs crew i d h is =
     let long : length (map without_journal (take i xs)) ≡ i = length-map (take i xs) without_journal ∙ length-take-le i xs (omega (arith, h)) in
     let none : i - i ≡ 0 = omega arith in
     ap (λ ys. get_or ys i d) is ∙ get_or-append_right (map without_journal (take i xs)) (drop i xs) i i d long (omega arith)
     ∙ ap (λ n. get_or (drop i xs) n d) none ∙ get_or-drop i xs 0 d ∙ ap (λ n. get_or xs n d) (add-zero i)
 
-pub handed-next : (xs crew : List WorkerState) (i : ℕ) (d now : WorkerState) → i < length xs → crew ≡ map without_journal (take i xs) ++ drop i xs
+pub arrivals-next : (xs crew : List WorkerState) (i : ℕ) (d now : WorkerState) → i < length xs → crew ≡ map without_journal (take i xs) ++ drop i xs
     → now ≡ without_journal (get_or crew i d) → set crew i now ≡ map without_journal (take (i + 1) xs) ++ drop (i + 1) xs
-handed-next xs crew i d now h is now-is =
+arrivals-next xs crew i d now h is now-is =
     let w = get_or xs i d in
     let long : length (map without_journal (take i xs)) ≡ i = length-map (take i xs) without_journal ∙ length-take-le i xs (omega (arith, h)) in
     let split : drop i xs ≡ w ∷ drop (i + 1) xs = drop_more xs i d h in
-    let it : now ≡ without_journal w = now-is ∙ ap without_journal (read-handed xs crew i d h is) in
+    let it : now ≡ without_journal w = now-is ∙ ap without_journal (read-arrivals xs crew i d h is) in
     ap (λ ys. set ys i now) (is ∙ ap (λ ys. map without_journal (take i xs) ++ ys) split)
     ∙ ap (λ n. set (map without_journal (take i xs) ++ w ∷ drop (i + 1) xs) n now) (sym long)
     ∙ set-append_seam (map without_journal (take i xs)) w (drop (i + 1) xs) now
@@ -137,7 +137,7 @@ pub parts-next : (xs crew : List WorkerState) (i : ℕ) (d : WorkerState) (old n
 unfolding parts_from
 parts-next xs crew i d old new whole entries h is entries-is grown rest =
     let split : drop i xs ≡ get_or xs i d ∷ drop (i + 1) xs = drop_more xs i d h in
-    let journal : entries ≡ (get_or xs i d).journal = entries-is ∙ ap (λ w. w.journal) (read-handed xs crew i d h is) in
+    let journal : entries ≡ (get_or xs i d).journal = entries-is ∙ ap (λ w. w.journal) (read-arrivals xs crew i d h is) in
     ap (λ ys. ys ++ parts_from (i + 1) (drop (i + 1) xs)) (grown ∙ ap (λ es. old ++ part_of i es) journal)
     ∙ append_assoc old (part_of i (get_or xs i d).journal) (parts_from (i + 1) (drop (i + 1) xs))
     ∙ ap (λ ys. old ++ parts_from i ys) (sym split)

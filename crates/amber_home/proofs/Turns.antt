@@ -72,16 +72,16 @@ Standing-turned query crew positions worker now standing here keeps =
 -- ---- batches that are moved
 
 module _ (crew : List WorkerState) (from to : ℕ) (given taker : WorkerState) (from-inside : from < length crew) (to-inside : to < length crew) (apart : from ≢ to) where
-  abbrev handed : List WorkerState
-  handed = set (set crew from given) to taker
+  abbrev arrivals : List WorkerState
+  arrivals = set (set crew from given) to taker
 
-  taker-here : worker_state_at handed to ≡ taker
+  taker-here : worker_state_at arrivals to ≡ taker
   taker-here = get_or-set_same (set crew from given) to taker no_worker_state (rw length-set to-inside)
 
-  giver-here : worker_state_at handed from ≡ given
+  giver-here : worker_state_at arrivals from ≡ given
   giver-here = get_or-set_other (set crew from given) to from taker no_worker_state apart ∙ get_or-set_same crew from given no_worker_state from-inside
 
-  other-here : (k : ℕ) → k ≢ from → k ≢ to → worker_state_at handed k ≡ worker_state_at crew k
+  other-here : (k : ℕ) → k ≢ from → k ≢ to → worker_state_at arrivals k ≡ worker_state_at crew k
   other-here k not-from not-to = get_or-set_other (set crew from given) to k taker no_worker_state not-to ∙ get_or-set_other crew from k given no_worker_state not-from
 
 module _ (crew : List WorkerState) (positions : ℕ → Position) (from to : ℕ) (batches : List Batch) (given taker : WorkerState)

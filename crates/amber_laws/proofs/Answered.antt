@@ -19,8 +19,8 @@ use Rattle.amber_meaning.specs.Plain.{answer_from, is_scan, list_at, outputs, re
 use Rattle.amber_meaning.specs.Plan.{role_of, task_of}
 use Rattle.amber_meaning.specs.State.{State, have_finished}
 use Rattle.amber_meaning.specs.Stops.{op_numbers}
-use Rattle.amber_meaning.specs.Task.{Handed, Task, suiting}
-use Rattle.amber_meaning.specs.Total.{dealt_to, given, handed_from}
+use Rattle.amber_meaning.specs.Task.{Arrival, Task, suiting}
+use Rattle.amber_meaning.specs.Total.{dealt_to, given, arrivals_from}
 use Rattle.amber_meaning.specs.Views.{answer_in, by_number, keys_refused, op_refuses, refusal_in, refused_in, rows_in, sink_rows, taken_by, taken_of, worker_refuses}
 use Rattle.amber_meaning.specs.declared.answer.Refusal.{Refusal}
 use Rattle.amber_meaning.specs.declared.answer.Refusal.TheVariants as refusal
@@ -93,7 +93,7 @@ scan-refuses query state h op some within scan =
     let all = Join _ _ _ (taken-together query state h op) (scan-whole query h.flow (dealt_to query) op some within scan) in
     ap (refused_in op) (records-ordered (list_at query.records op) (taken_by query state op) all) ∙ records-refused op (list_at query.records op) 1
 
-rows-fine : (op sender : ℕ) (rows : List (List Value)) → flat_map (λ (one : Handed). refusal_in op one.from one.what) (handed_from sender rows) ≡ []
+rows-fine : (op sender : ℕ) (rows : List (List Value)) → flat_map (λ (one : Arrival). refusal_in op one.from one.what) (arrivals_from sender rows) ≡ []
 rows-fine op sender [] = refl
 rows-fine op sender (row ∷ rows) = rows-fine op sender rows
 
@@ -101,7 +101,7 @@ fed-fine : (op : ℕ) (dealt : ℕ → List (List Value)) (feeders : List ℕ) �
 unfolding fed_by
 fed-fine op dealt [] = refl
 fed-fine op dealt (sender ∷ feeders) =
-    flat_map-append (λ (one : Handed). refusal_in op one.from one.what) (handed_from sender (dealt sender)) (flat_map (λ sender. handed_from sender (dealt sender)) feeders)
+    flat_map-append (λ (one : Arrival). refusal_in op one.from one.what) (arrivals_from sender (dealt sender)) (flat_map (λ sender. arrivals_from sender (dealt sender)) feeders)
     ∙ rw (rows-fine op sender (dealt sender)) (fed-fine op dealt feeders)
 
 others-refuse : (query : Query) (state : State) → IsDone query state → (op : ℕ) → 0 < op → op ≤ length query.flow → is_scan (what_at query.flow op) ≡ false
@@ -110,11 +110,11 @@ others-refuse query state h op some within rows =
     let all = Join _ _ _ (taken-together query state h op) (rows-whole query h.flow (dealt_to query) op some within rows) in
     let ordered = Join _ _ _ (ordered-same (taken_by query state op)) all in
     same-none (refused_in op (by_number (taken_by query state op))) (refused_in op (fed_by (dealt_to query) (feeders_of query.flow op)))
-    (same-flat_map (λ (one : Handed). refusal_in op one.from one.what) ordered) (fed-fine op (dealt_to query) (feeders_of query.flow op))
+    (same-flat_map (λ (one : Arrival). refusal_in op one.from one.what) ordered) (fed-fine op (dealt_to query) (feeders_of query.flow op))
 
 -- ---- refused keys
 
-keys-same : (kind : What) (task : Task) {xs ys : List Handed} → Same xs ys → Same (keys_refused kind task xs) (keys_refused kind task ys)
+keys-same : (kind : What) (task : Task) {xs ys : List Arrival} → Same xs ys → Same (keys_refused kind task xs) (keys_refused kind task ys)
 keys-same (what.Scan file) task h = same-self []
 keys-same (what.Filter input cond) task h = same-self []
 keys-same (what.Project input columns) task h = same-self []

@@ -12,7 +12,7 @@ use Rattle.amber_meaning.specs.Legal.{Query, role_in}
 use Rattle.amber_meaning.specs.Plain.{list_at}
 use Rattle.amber_meaning.specs.Plan.{role_of}
 use Rattle.amber_meaning.specs.Position.{share_or}
-use Rattle.amber_meaning.specs.Total.{dealt_by, dealt_stream, dealt_to, given, gives, handed_from}
+use Rattle.amber_meaning.specs.Total.{dealt_by, dealt_stream, dealt_to, given, gives, arrivals_from}
 use Rattle.amber_laws.proofs.Bags.{among, equal-among}
 
 -- what a worker gives, from what those before it give
@@ -48,7 +48,7 @@ unfolding given
 given-same query worker f g same =
     let role = role_in query worker in
     ap (share_or role.task.kind role.share)
-    (equal-among (λ sender. handed_from sender (dealt_stream query f worker sender)) (λ sender. handed_from sender (dealt_stream query g worker sender))
+    (equal-among (λ sender. arrivals_from sender (dealt_stream query f worker sender)) (λ sender. arrivals_from sender (dealt_stream query g worker sender))
     role.senders (λ sender known. rw (same sender known) refl))
 
 -- each worker gives what its task makes of what its senders give

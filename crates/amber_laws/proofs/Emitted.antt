@@ -10,8 +10,8 @@ use Rattle.amber_meaning.specs.Legal.{AreOffered, Begins, Query, batches_for, ro
 use Rattle.amber_meaning.specs.Plan.{role_of}
 use Rattle.amber_meaning.specs.Position.{Position, Taken, emitted_rows, fed, has_last, have_ended, is_complete, kept, produced_rows, product, share_or, taken_from}
 use Rattle.amber_meaning.specs.State.{State, first_constants, position_at}
-use Rattle.amber_meaning.specs.Task.{Handed, Role, closing, produce, yields}
-use Rattle.amber_meaning.specs.Total.{dealt_stream, dealt_to, given, gives, handed_from, task_constants}
+use Rattle.amber_meaning.specs.Task.{Arrival, Role, closing, produce, yields}
+use Rattle.amber_meaning.specs.Total.{dealt_stream, dealt_to, given, gives, arrivals_from, task_constants}
 use Rattle.amber_meaning.specs.Views.{taken_of}
 use Rattle.amber_meaning.proofs.Lists.{list_all-member}
 use Rattle.amber_laws.proofs.Bags.{Join, Part, Same, among, part-begin, part-both, part-filter, part-flat_map, part-none, part-same, part-then, same-filter}
@@ -70,7 +70,7 @@ has-ended senders taken sender e known = list_all-member (has_last taken) sender
 fed-each : (query : Query) (state : State) → IsRun query state → (worker : ℕ) → worker < crew_of query.flow
     → Same (fed (role_in query worker) (stands state worker).taken)
     (share_or (role_in query worker).task.kind (role_in query worker).share
-    (flat_map (λ sender. handed_from sender (rows_taken state worker sender)) (role_in query worker).senders))
+    (flat_map (λ sender. arrivals_from sender (rows_taken state worker sender)) (role_in query worker).senders))
 unfolding fed
 fed-each query state run worker less =
     share-same (role_in query worker).task.kind (role_in query worker).share
@@ -103,11 +103,11 @@ finished-below query state first run zero worker below less e = absurd (omega ar
 finished-below query state first run (suc n) worker below less e =
     let role = role_in query worker in
     let sound = run.sound worker less in
-    let handed = given-by query state run worker less (sound.ended e)
+    let arrivals = given-by query state run worker less (sound.ended e)
     (λ sender known over.
     let before = sender-before query first worker sender known in
     finished-below query state first run n sender (omega arith) (omega arith) over) in
-    rw (emitted-whole role (stands state worker) sound e, dealt-from query first worker less) (gives-keeps role.task handed)
+    rw (emitted-whole role (stands state worker) sound e, dealt-from query first worker less) (gives-keeps role.task arrivals)
 
 -- a finished worker has emitted the rows that it is dealt
 pub finished-dealt : (query : Query) (state : State) → SendersFirst query.flow → IsRun query state → (worker : ℕ) → worker < crew_of query.flow
@@ -147,7 +147,7 @@ part-by query state run worker less dealt =
     (part-filter (λ row. eqb (receiver_of query.flow sender row) worker) (dealt sender known)))))
 
 -- what was produced is part of what all yields
-product-part : (role : Role) (p : Position) (all : List Handed) → IsSound role p → Part (fed role p.taken) all
+product-part : (role : Role) (p : Position) (all : List Arrival) → IsSound role p → Part (fed role p.taken) all
     → (have_ended role.senders p.taken ≡ true → Same (fed role p.taken) all) → Part (produced_rows role p) (gives role.task all)
 unfolding product gives
 product-part role p all s part whole =
@@ -186,11 +186,11 @@ emitted-below query state first run zero worker below less = absurd (omega arith
 emitted-below query state first run (suc n) worker below less =
     let role = role_in query worker in
     let sound = run.sound worker less in
-    let handed = part-by query state run worker less
+    let arrivals = part-by query state run worker less
     (λ sender known.
     let before = sender-before query first worker sender known in
     emitted-below query state first run n sender (omega arith) (omega arith)) in
-    let made = product-part role (stands state worker) (given query (dealt_to query) worker) sound handed (ended-given query state first run worker less) in
+    let made = product-part role (stands state worker) (given query (dealt_to query) worker) sound arrivals (ended-given query state first run worker less) in
     let produced : List (List Value) = produced_rows role (stands state worker) in
     let gone : ℕ = length (stands state worker).fates in
     let begin : Part (take gone produced) produced = rw (take-append-drop gone produced) at (part-begin (take gone produced) (drop gone produced)) in

@@ -16,8 +16,8 @@ use Rattle.amber_rows.specs.declared.cond.Cond.{Cond}
 use Rattle.amber_rows.specs.declared.value.Value.{Value}
 use Rattle.amber_rows.specs.declared.flow.What.TheVariants as what
 use Rattle.amber_rows.specs.declared.flow.Operator.{Operator}
-use Rattle.amber_meaning.specs.Task.{Handed, Task, built_of, closing, columns_from, is_builder, suiting, yields, yields_row}
-use Rattle.amber_meaning.specs.Total.{gives, handed_from}
+use Rattle.amber_meaning.specs.Task.{Arrival, Task, built_of, closing, columns_from, is_builder, suiting, yields, yields_row}
+use Rattle.amber_meaning.specs.Total.{gives, arrivals_from}
 use Rattle.amber_laws.proofs.Bags.{among, among-first, among-more, equal-among}
 use Rattle.amber_laws.proofs.Links.{fed_by, filter_flat}
 use Rattle.amber_laws.proofs.Made.{task_with}
@@ -28,20 +28,20 @@ use Rattle.amber_laws.proofs.Spread.{flat-flat}
 abbrev pub AreSuiting : Task → (ℕ → List (List Value)) → List ℕ → Type 0
 AreSuiting task dealt senders = (sender : ℕ) → among sender senders ≡ true → list_all (suits_of (columns_from task sender)) (dealt sender) ≡ true
 
-abbrev one_from : ℕ → List Value → Handed
+abbrev one_from : ℕ → List Value → Arrival
 one_from sender row = record { from = sender; what = Ok row }
 
-fed_each : {Y : Type 0} (f : Handed → List Y) (dealt : ℕ → List (List Value)) (senders : List ℕ)
+fed_each : {Y : Type 0} (f : Arrival → List Y) (dealt : ℕ → List (List Value)) (senders : List ℕ)
     → flat_map f (fed_by dealt senders) ≡ flat_map (λ sender. flat_map (λ row. f (one_from sender row)) (dealt sender)) senders
 unfolding fed_by
 fed_each f dealt [] = refl
 fed_each f dealt (sender ∷ senders) =
-    flat_map-append f (handed_from sender (dealt sender)) (flat_map (λ other. handed_from other (dealt other)) senders)
-    ∙ ap (λ l. l ++ flat_map f (flat_map (λ other. handed_from other (dealt other)) senders)) (flat_map-map f (one_from sender) (dealt sender))
+    flat_map-append f (arrivals_from sender (dealt sender)) (flat_map (λ other. arrivals_from other (dealt other)) senders)
+    ∙ ap (λ l. l ++ flat_map f (flat_map (λ other. arrivals_from other (dealt other)) senders)) (flat_map-map f (one_from sender) (dealt sender))
     ∙ ap (λ l. flat_map (λ row. f (one_from sender row)) (dealt sender) ++ l) (fed_each f dealt senders)
 
 -- rows that suit yield what their kind says
-yields_rows : (task : Task) (before : List Handed) (sender : ℕ) (rows : List (List Value)) → list_all (suits_of (columns_from task sender)) rows ≡ true
+yields_rows : (task : Task) (before : List Arrival) (sender : ℕ) (rows : List (List Value)) → list_all (suits_of (columns_from task sender)) rows ≡ true
     → flat_map (λ row. yields task before (one_from sender row) []) rows ≡ flat_map (yields_row task task.kind before sender []) rows
 unfolding yields
 yields_rows task before sender [] h = refl
@@ -49,7 +49,7 @@ yields_rows task before sender (row ∷ rows) h =
     let parts = and_parts (suits_of (columns_from task sender) row) (list_all (suits_of (columns_from task sender)) rows) h in
     rw parts.0 (ap (λ l. yields_row task task.kind before sender [] row ++ l) (yields_rows task before sender rows parts.1))
 
-yields_fed : (task : Task) (before : List Handed) (dealt : ℕ → List (List Value)) (senders : List ℕ) → AreSuiting task dealt senders
+yields_fed : (task : Task) (before : List Arrival) (dealt : ℕ → List (List Value)) (senders : List ℕ) → AreSuiting task dealt senders
     → flat_map (λ one. yields task before one []) (fed_by dealt senders) ≡ flat_map (λ sender. flat_map (yields_row task task.kind before sender []) (dealt sender)) senders
 yields_fed task before dealt senders h =
     fed_each (λ one. yields task before one []) dealt senders
@@ -57,7 +57,7 @@ yields_fed task before dealt senders h =
     senders (λ sender k. yields_rows task before sender (dealt sender) (h sender k))
 
 suiting_rows : (task : Task) (sender : ℕ) (rows : List (List Value)) → list_all (suits_of (columns_from task sender)) rows ≡ true
-    → filter_map (suiting task) (handed_from sender rows) ≡ rows
+    → filter_map (suiting task) (arrivals_from sender rows) ≡ rows
 suiting_rows task sender [] h = refl
 suiting_rows task sender (row ∷ rows) h =
     let parts = and_parts (suits_of (columns_from task sender) row) (list_all (suits_of (columns_from task sender)) rows) h in
@@ -71,7 +71,7 @@ rows-fed task dealt [] h = refl
 rows-fed task dealt (sender ∷ senders) h =
     let first = suiting_rows task sender (dealt sender) (h sender (among-first sender senders)) in
     let rest = rows-fed task dealt senders (λ other k. h other (among-more other sender senders k)) in
-    filter_map-append (suiting task) (handed_from sender (dealt sender)) (flat_map (λ other. handed_from other (dealt other)) senders) ∙ rw (first, rest) refl
+    filter_map-append (suiting task) (arrivals_from sender (dealt sender)) (flat_map (λ other. arrivals_from other (dealt other)) senders) ∙ rw (first, rest) refl
 
 -- ---- filters and projects
 
@@ -139,13 +139,13 @@ group-gives flow op input keys aggs dealt senders h =
 
 fed_both : (dealt : ℕ → List (List Value)) (xs ys : List ℕ) → fed_by dealt (xs ++ ys) ≡ fed_by dealt xs ++ fed_by dealt ys
 unfolding fed_by
-fed_both dealt xs ys = flat_map-append (λ sender. handed_from sender (dealt sender)) xs ys
+fed_both dealt xs ys = flat_map-append (λ sender. arrivals_from sender (dealt sender)) xs ys
 
-all_same : (test : ℕ → Bool) (sender : ℕ) (rows : List (List Value)) → test sender ≡ true → filter (λ one. test one.from) (handed_from sender rows) ≡ handed_from sender rows
+all_same : (test : ℕ → Bool) (sender : ℕ) (rows : List (List Value)) → test sender ≡ true → filter (λ one. test one.from) (arrivals_from sender rows) ≡ arrivals_from sender rows
 all_same test sender [] e = refl
 all_same test sender (row ∷ rows) e = rw e (ap (λ l. one_from sender row ∷ l) (all_same test sender rows e))
 
-none_same : (test : ℕ → Bool) (sender : ℕ) (rows : List (List Value)) → test sender ≡ false → filter (λ one. test one.from) (handed_from sender rows) ≡ []
+none_same : (test : ℕ → Bool) (sender : ℕ) (rows : List (List Value)) → test sender ≡ false → filter (λ one. test one.from) (arrivals_from sender rows) ≡ []
 none_same test sender [] e = refl
 none_same test sender (row ∷ rows) e = rw e (none_same test sender rows e)
 
@@ -154,8 +154,8 @@ fed_all : (test : ℕ → Bool) (dealt : ℕ → List (List Value)) (senders : L
     → filter (λ one. test one.from) (fed_by dealt senders) ≡ fed_by dealt senders
 unfolding fed_by
 fed_all test dealt senders h =
-    filter_flat (λ (one : Handed). test one.from) (λ sender. handed_from sender (dealt sender)) senders
-    ∙ equal-among (λ sender. filter (λ one. test one.from) (handed_from sender (dealt sender))) (λ sender. handed_from sender (dealt sender)) senders
+    filter_flat (λ (one : Arrival). test one.from) (λ sender. arrivals_from sender (dealt sender)) senders
+    ∙ equal-among (λ sender. filter (λ one. test one.from) (arrivals_from sender (dealt sender))) (λ sender. arrivals_from sender (dealt sender)) senders
     (λ sender k. all_same test sender (dealt sender) (h sender k))
 
 fed_none : (test : ℕ → Bool) (dealt : ℕ → List (List Value)) (senders : List ℕ) → ((sender : ℕ) → among sender senders ≡ true → test sender ≡ false)
@@ -163,7 +163,7 @@ fed_none : (test : ℕ → Bool) (dealt : ℕ → List (List Value)) (senders : 
 unfolding fed_by
 fed_none test dealt [] h = refl
 fed_none test dealt (sender ∷ senders) h =
-    filter-append (λ (one : Handed). test one.from) (handed_from sender (dealt sender)) (flat_map (λ other. handed_from other (dealt other)) senders)
+    filter-append (λ (one : Arrival). test one.from) (arrivals_from sender (dealt sender)) (flat_map (λ other. arrivals_from other (dealt other)) senders)
     ∙ rw (none_same test sender (dealt sender) (h sender (among-first sender senders))) (fed_none test dealt senders (λ other k. h other (among-more other sender senders k)))
 
 -- what stands of the build side, where the builders are handed first
@@ -177,7 +177,7 @@ built_fed task dealt builders others e h apart =
     fed_none (is_builder task) dealt others (λ sender k. ap (among sender) e ∙ apart sender k) in
     let first : filter (λ one. is_builder task one.from) (fed_by dealt (builders ++ others)) ≡ fed_by dealt builders =
     ap (filter (λ one. is_builder task one.from)) (fed_both dealt builders others)
-    ∙ filter-append (λ (one : Handed). is_builder task one.from) (fed_by dealt builders) (fed_by dealt others)
+    ∙ filter-append (λ (one : Arrival). is_builder task one.from) (fed_by dealt builders) (fed_by dealt others)
     ∙ rw (left, right) (append-nil (fed_by dealt builders)) in
     ap (filter_map (suiting task)) first ∙ rows-fed task dealt builders (λ sender k. h sender (among-left sender builders others k))
 

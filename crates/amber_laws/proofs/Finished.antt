@@ -9,8 +9,8 @@ use Rattle.amber_rows.specs.Operators.{matches_of}
 use Rattle.amber_rows.specs.declared.value.Value.{Value}
 use Rattle.amber_rows.specs.declared.flow.What.{What}
 use Rattle.amber_rows.specs.declared.flow.What.TheVariants as what
-use Rattle.amber_meaning.specs.Task.{Handed, Role, Task, built_of, closing, is_builder, produce, suiting, yields, yields_if, yields_row}
-use Rattle.amber_meaning.specs.Position.{Position, Taken, emitted_rows, fed, handed_by, have_ended, is_complete, kept, produced_rows, product, share_or}
+use Rattle.amber_meaning.specs.Task.{Arrival, Role, Task, built_of, closing, is_builder, produce, suiting, yields, yields_if, yields_row}
+use Rattle.amber_meaning.specs.Position.{Position, Taken, emitted_rows, fed, arrivals_of, have_ended, is_complete, kept, produced_rows, product, share_or}
 use Rattle.amber_meaning.specs.State.{first_constants}
 use Rattle.amber_meaning.specs.Total.{gives, task_constants}
 use Rattle.amber_meaning.specs.Views.{taken_of}
@@ -18,7 +18,7 @@ use Rattle.amber_laws.proofs.Sound.{IsBuildFirst, IsSound}
 
 -- ---- a filter's own constant
 
-row-constant : (task : Task) (kind : What) (before : List Handed) (from : ℕ) (row : List Value)
+row-constant : (task : Task) (kind : What) (before : List Arrival) (from : ℕ) (row : List Value)
     → yields_row task kind before from (first_constants kind) row ≡ yields_row task kind before from [] row
 row-constant task (what.Scan file) before from row = refl
 row-constant task (what.Filter input cond) before from row = refl
@@ -28,7 +28,7 @@ row-constant task (what.Group input keys aggs) before from row = refl
 row-constant task (what.Sink input) before from row = refl
 
 -- the constants at the start are those in the task
-pub yields-constant : (task : Task) (before : List Handed) (one : Handed) → yields task before one (first_constants task.kind) ≡ yields task before one (task_constants task)
+pub yields-constant : (task : Task) (before : List Arrival) (one : Arrival) → yields task before one (first_constants task.kind) ≡ yields task before one (task_constants task)
 unfolding yields
 yields-constant task before one = by (suiting task one)
   where
@@ -56,46 +56,46 @@ for_join (what.Group input keys aggs) A B f h = tt
 for_join (what.Sink input) A B f h = tt
 
 -- no row of a join's build side stands behind one of its probe side
-abbrev pub AreBuildFirst : Task → List Handed → Type 0
+abbrev pub AreBuildFirst : Task → List Arrival → Type 0
 AreBuildFirst task [] = Unit {0}
-AreBuildFirst task (one ∷ more) = (is_builder task one.from ≡ false → list_all (λ (other : Handed). not (is_builder task other.from)) more ≡ true) × AreBuildFirst task more
+AreBuildFirst task (one ∷ more) = (is_builder task one.from ≡ false → list_all (λ (other : Arrival). not (is_builder task other.from)) more ≡ true) × AreBuildFirst task more
 
 -- rows of one batch, all from one sender, before rows that keep the order
-same-sender : (task : Task) (from : ℕ) (rows : List (List Value)) (more : List Handed)
-    → (is_builder task from ≡ false → list_all (λ (other : Handed). not (is_builder task other.from)) more ≡ true) → AreBuildFirst task more
+same-sender : (task : Task) (from : ℕ) (rows : List (List Value)) (more : List Arrival)
+    → (is_builder task from ≡ false → list_all (λ (other : Arrival). not (is_builder task other.from)) more ≡ true) → AreBuildFirst task more
     → AreBuildFirst task (map (λ row. record { from = from; what = Ok row }) rows ++ more)
 same-sender task from [] more h rest = rest
 same-sender task from (row ∷ rows) more h rest = (
-  λ e. list_all-append (λ (other : Handed). not (is_builder task other.from)) (map (λ row. record { from = from; what = Ok row }) rows) more
+  λ e. list_all-append (λ (other : Arrival). not (is_builder task other.from)) (map (λ row. record { from = from; what = Ok row }) rows) more
       ∙ and_from _ _ (others e rows) (h e),
   same-sender task from rows more h rest,
 )
   where
     others : is_builder task from ≡ false → (rows : List (List Value))
-        → list_all (λ (other : Handed). not (is_builder task other.from)) (map (λ row. record { from = from; what = Ok row }) rows) ≡ true
+        → list_all (λ (other : Arrival). not (is_builder task other.from)) (map (λ row. record { from = from; what = Ok row }) rows) ≡ true
     others e [] = refl
     others e (row ∷ rows) = and_from _ _ (ap not e) (others e rows)
 
 others-rows : (task : Task) (taken : List Taken) → list_all (λ (other : Taken). not (is_builder task other.from)) taken ≡ true
-    → list_all (λ (other : Handed). not (is_builder task other.from)) (flat_map handed_by taken) ≡ true
+    → list_all (λ (other : Arrival). not (is_builder task other.from)) (flat_map arrivals_of taken) ≡ true
 others-rows task [] e = refl
 others-rows task (t ∷ taken) e =
     let parts = and_parts (not (is_builder task t.from)) _ e in
-    list_all-append (λ (other : Handed). not (is_builder task other.from)) (handed_by t) (flat_map handed_by taken)
+    list_all-append (λ (other : Arrival). not (is_builder task other.from)) (arrivals_of t) (flat_map arrivals_of taken)
     ∙ and_from _ _ (here parts.0 t.batch.rows) (others-rows task taken parts.1)
   where
     here : not (is_builder task t.from) ≡ true → (rows : List (List Value))
-        → list_all (λ (other : Handed). not (is_builder task other.from)) (map (λ row. record { from = t.from; what = Ok row }) rows) ≡ true
+        → list_all (λ (other : Arrival). not (is_builder task other.from)) (map (λ row. record { from = t.from; what = Ok row }) rows) ≡ true
     here e [] = refl
     here e (row ∷ rows) = and_from _ _ e (here e rows)
 
-rows-first : (task : Task) (taken : List Taken) → IsBuildFirst task taken → AreBuildFirst task (flat_map handed_by taken)
+rows-first : (task : Task) (taken : List Taken) → IsBuildFirst task taken → AreBuildFirst task (flat_map arrivals_of taken)
 rows-first task [] h = tt
 rows-first task (t ∷ taken) h =
-    same-sender task t.from t.batch.rows (flat_map handed_by taken) (λ e. others-rows task taken (h.0 e)) (rows-first task taken h.1)
+    same-sender task t.from t.batch.rows (flat_map arrivals_of taken) (λ e. others-rows task taken (h.0 e)) (rows-first task taken h.1)
 
-fed-first : (kind : What) (task : Task) (share : List Handed) (taken : List Taken) → IsBuildFirst task taken
-    → ForJoin kind (AreBuildFirst task (share_or kind share (flat_map handed_by taken)))
+fed-first : (kind : What) (task : Task) (share : List Arrival) (taken : List Taken) → IsBuildFirst task taken
+    → ForJoin kind (AreBuildFirst task (share_or kind share (flat_map arrivals_of taken)))
 fed-first (what.Scan file) task share taken h = tt
 fed-first (what.Filter input cond) task share taken h = tt
 fed-first (what.Project input columns) task share taken h = tt
@@ -104,18 +104,18 @@ fed-first (what.Group input keys aggs) task share taken h = tt
 fed-first (what.Sink input) task share taken h = tt
 
 -- rows of the probe side change nothing in the build side
-built-others : (task : Task) (xs ys : List Handed) → list_all (λ (other : Handed). not (is_builder task other.from)) ys ≡ true → built_of task (xs ++ ys) ≡ built_of task xs
+built-others : (task : Task) (xs ys : List Arrival) → list_all (λ (other : Arrival). not (is_builder task other.from)) ys ≡ true → built_of task (xs ++ ys) ≡ built_of task xs
 unfolding built_of
 built-others task xs ys e =
-    ap (filter_map (suiting task)) (filter-append (λ (one : Handed). is_builder task one.from) xs ys ∙ ap (λ l. filter (λ (one : Handed). is_builder task one.from) xs ++ l) (none ys e) ∙ append-nil _)
+    ap (filter_map (suiting task)) (filter-append (λ (one : Arrival). is_builder task one.from) xs ys ∙ ap (λ l. filter (λ (one : Arrival). is_builder task one.from) xs ++ l) (none ys e) ∙ append-nil _)
   where
-    none : (ys : List Handed) → list_all (λ (other : Handed). not (is_builder task other.from)) ys ≡ true → filter (λ (one : Handed). is_builder task one.from) ys ≡ []
+    none : (ys : List Arrival) → list_all (λ (other : Arrival). not (is_builder task other.from)) ys ≡ true → filter (λ (one : Arrival). is_builder task one.from) ys ≡ []
     none [] e = refl
     none (y ∷ ys) e =
         let parts = and_parts (not (is_builder task y.from)) _ e in
         rw (not-true (is_builder task y.from) parts.0) (none ys parts.1)
 
-row-settled : (task : Task) (kind : What) (before : List Handed) (one : Handed) (more : List Handed) (constants row : List Value)
+row-settled : (task : Task) (kind : What) (before : List Arrival) (one : Arrival) (more : List Arrival) (constants row : List Value)
     → ForJoin kind (AreBuildFirst task (one ∷ more)) → yields_row task kind before one.from constants row ≡ yields_row task kind (before ++ one ∷ more) one.from constants row
 row-settled task (what.Scan file) before one more constants row h = refl
 row-settled task (what.Filter input cond) before one more constants row h = refl
@@ -126,12 +126,12 @@ row-settled task (what.Join build probe build_keys probe_keys) before one more c
         → (if b then [] else matches_of build_keys probe_keys (built_of task before) row) ≡ (if b then [] else matches_of build_keys probe_keys (built_of task (before ++ one ∷ more)) row)
     by true e = refl
     by false e =
-        let others : list_all (λ (other : Handed). not (is_builder task other.from)) (one ∷ more) ≡ true = and_from _ _ (ap not e) (h.0 e) in
+        let others : list_all (λ (other : Arrival). not (is_builder task other.from)) (one ∷ more) ≡ true = and_from _ _ (ap not e) (h.0 e) in
         ap (λ built. matches_of build_keys probe_keys built row) (sym (built-others task before (one ∷ more) others))
 row-settled task (what.Group input keys aggs) before one more constants row h = refl
 row-settled task (what.Sink input) before one more constants row h = refl
 
-yields-settled : (task : Task) (before : List Handed) (one : Handed) (more : List Handed) (constants : List Value)
+yields-settled : (task : Task) (before : List Arrival) (one : Arrival) (more : List Arrival) (constants : List Value)
     → ForJoin task.kind (AreBuildFirst task (one ∷ more)) → yields task before one constants ≡ yields task (before ++ one ∷ more) one constants
 unfolding yields
 yields-settled task before one more constants h = by (suiting task one)
@@ -141,7 +141,7 @@ yields-settled task before one more constants h = by (suiting task one)
     by (Some row) = row-settled task task.kind before one more constants row h
 
 -- what is produced along all that was handed, where the build side came first, does not depend on what came before
-produce-settled : (task : Task) (before hs : List Handed) (constants : List Value) → ForJoin task.kind (AreBuildFirst task hs)
+produce-settled : (task : Task) (before hs : List Arrival) (constants : List Value) → ForJoin task.kind (AreBuildFirst task hs)
     → produce task before hs (replicate (length hs) constants) ≡ flat_map (λ one. yields task (before ++ hs) one constants) hs
 unfolding produce
 produce-settled task before [] constants h = refl
@@ -177,12 +177,12 @@ pub product-whole : (role : Role) (p : Position) → IsSound role p → have_end
     → produced_rows role p ≡ gives role.task (fed role p.taken)
 unfolding product gives fed
 product-whole role p s ended all =
-    let handed : List Handed = fed role p.taken in
+    let arrivals : List Arrival = fed role p.taken in
     let complete : is_complete role p.taken (length p.constants) ≡ true = and_from _ _ ended (eq-eqb _ _ all) in
-    let steady : p.constants ≡ replicate (length handed) (first_constants role.task.kind) = s.steady ∙ ap (λ n. replicate n (first_constants role.task.kind)) all in
-    let first = produce-settled role.task [] handed (first_constants role.task.kind) (fed-first role.task.kind role.task role.share p.taken s.build_first) in
-    let own = flat_map-same (λ one. yields role.task handed one (first_constants role.task.kind)) (λ one. yields role.task handed one (task_constants role.task)) (yields-constant role.task handed) handed in
-    rw complete (ap (λ l. l ++ closing role.task handed) (ap (produce role.task [] handed) steady ∙ first ∙ own))
+    let steady : p.constants ≡ replicate (length arrivals) (first_constants role.task.kind) = s.steady ∙ ap (λ n. replicate n (first_constants role.task.kind)) all in
+    let first = produce-settled role.task [] arrivals (first_constants role.task.kind) (fed-first role.task.kind role.task role.share p.taken s.build_first) in
+    let own = flat_map-same (λ one. yields role.task arrivals one (first_constants role.task.kind)) (λ one. yields role.task arrivals one (task_constants role.task)) (yields-constant role.task arrivals) arrivals in
+    rw complete (ap (λ l. l ++ closing role.task arrivals) (ap (produce role.task [] arrivals) steady ∙ first ∙ own))
 
 pub emitted-whole : (role : Role) (p : Position) → IsSound role p → p.finished ≡ true → emitted_rows role p ≡ gives role.task (fed role p.taken)
 emitted-whole role p s e =

@@ -12,9 +12,9 @@ use Rattle.amber_rows.specs.declared.flow.What.{What}
 use Rattle.amber_rows.specs.declared.flow.What.TheVariants as what
 use Rattle.amber_meaning.specs.Legal.{Query, role_in}
 use Rattle.amber_meaning.specs.Plan.{role_of}
-use Rattle.amber_meaning.specs.Position.{Taken, handed_by, share_or, taken_from}
-use Rattle.amber_meaning.specs.Task.{Handed, Task, built_of, closing, closing_rows, is_builder, produce, suiting, yields, yields_if, yields_row}
-use Rattle.amber_meaning.specs.Total.{gives, handed_from, task_constants}
+use Rattle.amber_meaning.specs.Position.{Taken, arrivals_of, share_or, taken_from}
+use Rattle.amber_meaning.specs.Task.{Arrival, Task, built_of, closing, closing_rows, is_builder, produce, suiting, yields, yields_if, yields_row}
+use Rattle.amber_meaning.specs.Total.{gives, arrivals_from, task_constants}
 use Rattle.amber_laws.proofs.Bags.{Same, Empty, Join, Part, among, are_different, equal-among, part-among, part-begin, part-both, part-filter, part-filter_map, part-map, part-none, part-self, part-then, same-among, same-both, same-dealt, same-each, same-filter, same-filter_map, same-flat_map, same-map, same-self, same-turned, sent_to}
 use Rattle.amber_meaning.proofs.Chunks.{batch_rows}
 use Rattle.amber_laws.proofs.Grouping.{grouped-same}
@@ -22,13 +22,13 @@ use Rattle.amber_laws.proofs.Numbers.{different-below, different-kept}
 
 -- ---- what a task gives
 
-built-same : (task : Task) {xs ys : List Handed} → Same xs ys → Same (built_of task xs) (built_of task ys)
+built-same : (task : Task) {xs ys : List Arrival} → Same xs ys → Same (built_of task xs) (built_of task ys)
 unfolding built_of
-built-same task h = same-filter_map (suiting task) (same-filter (λ (one : Handed). is_builder task one.from) h)
+built-same task h = same-filter_map (suiting task) (same-filter (λ (one : Arrival). is_builder task one.from) h)
 
-built-part : (task : Task) {xs ys : List Handed} → Part xs ys → Part (built_of task xs) (built_of task ys)
+built-part : (task : Task) {xs ys : List Arrival} → Part xs ys → Part (built_of task xs) (built_of task ys)
 unfolding built_of
-built-part task h = part-filter_map (suiting task) (part-filter (λ (one : Handed). is_builder task one.from) h)
+built-part task h = part-filter_map (suiting task) (part-filter (λ (one : Arrival). is_builder task one.from) h)
 
 matches-part : (build_keys probe_keys : List ℕ) (row : List Value) {xs ys : List (List Value)} → Part xs ys
     → Part (matches_of build_keys probe_keys xs row) (matches_of build_keys probe_keys ys row)
@@ -42,7 +42,7 @@ unfolding matches_of
 matches-same build_keys probe_keys row h =
     same-map (λ other. row ++ other) (same-filter (λ other. same_row (picked build_keys other) (picked probe_keys row)) h)
 
-row-part : (task : Task) (kind : What) (from : ℕ) (constants row : List Value) {xs ys : List Handed} → Part xs ys
+row-part : (task : Task) (kind : What) (from : ℕ) (constants row : List Value) {xs ys : List Arrival} → Part xs ys
     → Part (yields_row task kind xs from constants row) (yields_row task kind ys from constants row)
 row-part task (what.Scan file) from constants row h = part-self _
 row-part task (what.Filter input cond) from constants row h = part-self _
@@ -55,7 +55,7 @@ row-part task (what.Join build probe build_keys probe_keys) from constants row {
 row-part task (what.Group input keys aggs) from constants row h = part-self _
 row-part task (what.Sink input) from constants row h = part-self _
 
-row-same : (task : Task) (kind : What) (from : ℕ) (constants row : List Value) {xs ys : List Handed} → Same xs ys
+row-same : (task : Task) (kind : What) (from : ℕ) (constants row : List Value) {xs ys : List Arrival} → Same xs ys
     → Same (yields_row task kind xs from constants row) (yields_row task kind ys from constants row)
 row-same task (what.Scan file) from constants row h = same-self _
 row-same task (what.Filter input cond) from constants row h = same-self _
@@ -68,7 +68,7 @@ row-same task (what.Join build probe build_keys probe_keys) from constants row {
 row-same task (what.Group input keys aggs) from constants row h = same-self _
 row-same task (what.Sink input) from constants row h = same-self _
 
-pub yields-part : (task : Task) (one : Handed) (constants : List Value) {xs ys : List Handed} → Part xs ys → Part (yields task xs one constants) (yields task ys one constants)
+pub yields-part : (task : Task) (one : Arrival) (constants : List Value) {xs ys : List Arrival} → Part xs ys → Part (yields task xs one constants) (yields task ys one constants)
 unfolding yields
 yields-part task one constants {xs} {ys} h = by (suiting task one)
   where
@@ -76,7 +76,7 @@ yields-part task one constants {xs} {ys} h = by (suiting task one)
     by None = part-self []
     by (Some row) = row-part task task.kind one.from constants row h
 
-yields-same : (task : Task) (one : Handed) (constants : List Value) {xs ys : List Handed} → Same xs ys → Same (yields task xs one constants) (yields task ys one constants)
+yields-same : (task : Task) (one : Arrival) (constants : List Value) {xs ys : List Arrival} → Same xs ys → Same (yields task xs one constants) (yields task ys one constants)
 unfolding yields
 yields-same task one constants {xs} {ys} h = by (suiting task one)
   where
@@ -92,12 +92,12 @@ closing_rows-same (what.Join build probe build_keys probe_keys) h = Empty
 closing_rows-same (what.Group input keys aggs) h = grouped-same keys aggs h
 closing_rows-same (what.Sink input) h = Empty
 
-pub closing-same : (task : Task) {xs ys : List Handed} → Same xs ys → Same (closing task xs) (closing task ys)
+pub closing-same : (task : Task) {xs ys : List Arrival} → Same xs ys → Same (closing task xs) (closing task ys)
 unfolding closing
 closing-same task h = closing_rows-same task.kind (same-filter_map (suiting task) h)
 
 -- what a task gives does not depend on the order in which things are handed
-pub gives-keeps : (task : Task) {xs ys : List Handed} → Same xs ys → Same (gives task xs) (gives task ys)
+pub gives-keeps : (task : Task) {xs ys : List Arrival} → Same xs ys → Same (gives task xs) (gives task ys)
 unfolding gives
 gives-keeps task {xs} {ys} h =
     let each : Same (flat_map (λ one. yields task xs one (task_constants task)) xs) (flat_map (λ one. yields task ys one (task_constants task)) xs) =
@@ -105,7 +105,7 @@ gives-keeps task {xs} {ys} h =
     same-both (Join _ _ _ each (same-flat_map (λ one. yields task ys one (task_constants task)) h)) (closing-same task h)
 
 -- what is produced along the first of what was handed is part of what all of it yields
-pub produce-part : (task : Task) (before hs all : List Handed) (constants : List Value) (n : ℕ) → Part (before ++ hs) all
+pub produce-part : (task : Task) (before hs all : List Arrival) (constants : List Value) (n : ℕ) → Part (before ++ hs) all
     → Part (produce task before hs (replicate n constants)) (flat_map (λ one. yields task all one constants) hs)
 unfolding produce
 produce-part task before [] all constants n h = part-self []
@@ -117,7 +117,7 @@ produce-part task before (one ∷ more) all constants (suc n) h =
 
 -- ---- what a worker is given
 
-pub share-same : (kind : What) (share : List Handed) {xs ys : List Handed} → Same xs ys → Same (share_or kind share xs) (share_or kind share ys)
+pub share-same : (kind : What) (share : List Arrival) {xs ys : List Arrival} → Same xs ys → Same (share_or kind share xs) (share_or kind share ys)
 share-same (what.Scan file) share h = same-self share
 share-same (what.Filter input cond) share h = h
 share-same (what.Project input columns) share h = h
@@ -125,7 +125,7 @@ share-same (what.Join build probe build_keys probe_keys) share h = h
 share-same (what.Group input keys aggs) share h = h
 share-same (what.Sink input) share h = h
 
-pub share-part : (kind : What) (share : List Handed) {xs ys : List Handed} → Part xs ys → Part (share_or kind share xs) (share_or kind share ys)
+pub share-part : (kind : What) (share : List Arrival) {xs ys : List Arrival} → Part xs ys → Part (share_or kind share xs) (share_or kind share ys)
 share-part (what.Scan file) share h = part-self share
 share-part (what.Filter input cond) share h = h
 share-part (what.Project input columns) share h = h
@@ -134,8 +134,8 @@ share-part (what.Group input keys aggs) share h = h
 share-part (what.Sink input) share h = h
 
 -- one handed list for each sender
-abbrev handed_each : List ℕ → (ℕ → List (List Value)) → List Handed
-handed_each senders rows = flat_map (λ sender. handed_from sender (rows sender)) senders
+abbrev arrivals_each : List ℕ → (ℕ → List (List Value)) → List Arrival
+arrivals_each senders rows = flat_map (λ sender. arrivals_from sender (rows sender)) senders
 
 flat_map-flat : {A B C : Type 0} (f : B → List C) (g : A → List B) (xs : List A) → flat_map f (flat_map g xs) ≡ flat_map (λ x. flat_map f (g x)) xs
 flat_map-flat f g [] = refl
@@ -145,32 +145,32 @@ abbrev taken_sender : Taken → ℕ
 taken_sender t = t.from
 
 -- what was taken of one sender
-handed-one : (taken : List Taken) (sender : ℕ) → flat_map handed_by (sent_to taken_sender taken sender) ≡ handed_from sender (flat_map batch_rows (taken_from taken sender))
+arrivals-one : (taken : List Taken) (sender : ℕ) → flat_map arrivals_of (sent_to taken_sender taken sender) ≡ arrivals_from sender (flat_map batch_rows (taken_from taken sender))
 unfolding taken_from
-handed-one [] sender = refl
-handed-one (t ∷ taken) sender = by (eqb t.from sender) refl (handed-one taken sender)
+arrivals-one [] sender = refl
+arrivals-one (t ∷ taken) sender = by (eqb t.from sender) refl (arrivals-one taken sender)
   where
     by : (b : Bool) → eqb t.from sender ≡ b
-        → flat_map handed_by (sent_to taken_sender taken sender) ≡ handed_from sender (flat_map batch_rows (map (λ (one : Taken). one.batch) (sent_to taken_sender taken sender)))
-        → flat_map handed_by (cond b (t ∷ sent_to taken_sender taken sender) (sent_to taken_sender taken sender))
-        ≡ handed_from sender (flat_map batch_rows (map (λ (one : Taken). one.batch) (cond b (t ∷ sent_to taken_sender taken sender) (sent_to taken_sender taken sender))))
+        → flat_map arrivals_of (sent_to taken_sender taken sender) ≡ arrivals_from sender (flat_map batch_rows (map (λ (one : Taken). one.batch) (sent_to taken_sender taken sender)))
+        → flat_map arrivals_of (cond b (t ∷ sent_to taken_sender taken sender) (sent_to taken_sender taken sender))
+        ≡ arrivals_from sender (flat_map batch_rows (map (λ (one : Taken). one.batch) (cond b (t ∷ sent_to taken_sender taken sender) (sent_to taken_sender taken sender))))
     by true e h =
-        let first : handed_by t ≡ handed_from sender t.batch.rows = ap (λ from. handed_from from t.batch.rows) (eqb-true t.from sender e) in
-        ap (λ l. handed_by t ++ l) h
-        ∙ ap (λ l. l ++ handed_from sender (flat_map batch_rows (map (λ (one : Taken). one.batch) (sent_to taken_sender taken sender)))) first
+        let first : arrivals_of t ≡ arrivals_from sender t.batch.rows = ap (λ from. arrivals_from from t.batch.rows) (eqb-true t.from sender e) in
+        ap (λ l. arrivals_of t ++ l) h
+        ∙ ap (λ l. l ++ arrivals_from sender (flat_map batch_rows (map (λ (one : Taken). one.batch) (sent_to taken_sender taken sender)))) first
         ∙ sym (map-append (λ row. record { from = sender; what = Ok row }) t.batch.rows (flat_map batch_rows (map (λ (one : Taken). one.batch) (sent_to taken_sender taken sender))))
     by false e h = h
 
 -- what was taken, sender by sender
 pub taken-each : (senders : List ℕ) (taken : List Taken) → are_different senders ≡ true → list_all (λ (t : Taken). among t.from senders) taken ≡ true
-    → Same (flat_map handed_by taken) (handed_each senders (λ sender. flat_map batch_rows (taken_from taken sender)))
+    → Same (flat_map arrivals_of taken) (arrivals_each senders (λ sender. flat_map batch_rows (taken_from taken sender)))
 taken-each senders taken apart known =
-    let split : Same (flat_map handed_by taken) (flat_map handed_by (flat_map (sent_to taken_sender taken) senders)) =
-    same-flat_map handed_by (same-turned (same-dealt taken_sender senders apart taken known)) in
+    let split : Same (flat_map arrivals_of taken) (flat_map arrivals_of (flat_map (sent_to taken_sender taken) senders)) =
+    same-flat_map arrivals_of (same-turned (same-dealt taken_sender senders apart taken known)) in
     rw (
-      flat_map-flat handed_by (sent_to taken_sender taken) senders,
-      equal-among (λ sender. flat_map handed_by (sent_to taken_sender taken sender)) (λ sender. handed_from sender (flat_map batch_rows (taken_from taken sender))) senders
-          (λ sender h. handed-one taken sender),
+      flat_map-flat arrivals_of (sent_to taken_sender taken) senders,
+      equal-among (λ sender. flat_map arrivals_of (sent_to taken_sender taken sender)) (λ sender. arrivals_from sender (flat_map batch_rows (taken_from taken sender))) senders
+          (λ sender h. arrivals-one taken sender),
     ) at split
 
 pub senders-apart : (query : Query) (worker : ℕ) → are_different (role_in query worker).senders ≡ true
@@ -179,13 +179,13 @@ senders-apart query worker = different-kept (λ sender. sends_to query.flow send
 
 -- streams that are the same, or part of others
 pub each-same : (senders : List ℕ) (f g : ℕ → List (List Value)) → ((sender : ℕ) → among sender senders ≡ true → Same (f sender) (g sender))
-    → Same (handed_each senders f) (handed_each senders g)
+    → Same (arrivals_each senders f) (arrivals_each senders g)
 each-same senders f g h =
-    same-among (λ sender. handed_from sender (f sender)) (λ sender. handed_from sender (g sender)) senders
+    same-among (λ sender. arrivals_from sender (f sender)) (λ sender. arrivals_from sender (g sender)) senders
     (λ sender known. same-map (λ row. record { from = sender; what = Ok row }) (h sender known))
 
 pub each-part : (senders : List ℕ) (f g : ℕ → List (List Value)) → ((sender : ℕ) → among sender senders ≡ true → Part (f sender) (g sender))
-    → Part (handed_each senders f) (handed_each senders g)
+    → Part (arrivals_each senders f) (arrivals_each senders g)
 each-part senders f g h =
-    part-among (λ sender. handed_from sender (f sender)) (λ sender. handed_from sender (g sender)) senders
+    part-among (λ sender. arrivals_from sender (f sender)) (λ sender. arrivals_from sender (g sender)) senders
     (λ sender known. part-map (λ row. record { from = sender; what = Ok row }) (h sender known))

@@ -20,8 +20,8 @@ use Rattle.amber_meaning.specs.Legal.{Query}
 use Rattle.amber_meaning.specs.Plain.{is_scan, list_at}
 use Rattle.amber_meaning.specs.Plan.{role_of, share_of, task_of, turn_of, with_numbers}
 use Rattle.amber_meaning.specs.Position.{share_or}
-use Rattle.amber_meaning.specs.Task.{Handed}
-use Rattle.amber_meaning.specs.Total.{dealt_stream, given, handed_from}
+use Rattle.amber_meaning.specs.Task.{Arrival}
+use Rattle.amber_meaning.specs.Total.{dealt_stream, given, arrivals_from}
 use Rattle.amber_laws.proofs.Bags.{Same, Join, among, among-first, among-more, are_different, equal-among, same-among, same-dealt, same-flat_map, same-is, sent_to}
 use Rattle.amber_laws.proofs.Numbers.{among-cases, among-flat, among-kept, below-in, different-below, different-both, different-kept, in-below, kept-among, same-members}
 use Rattle.amber_laws.proofs.Crews.{different-workers, own-worker, place-worker, worker-known, worker-op, worker-within}
@@ -140,31 +140,31 @@ row_part (Ok row) = row
 row_part (Err why) = []
 
 -- the worker that gets what is handed to the workers of an operator
-abbrev pub scan_route : List Operator → ℕ → Handed → ℕ
+abbrev pub scan_route : List Operator → ℕ → Arrival → ℕ
 scan_route flow op one = first_worker_of flow op + turn_of (worker_count flow op) one.from
 
-abbrev pub row_route : List Operator → Handed → ℕ
+abbrev pub row_route : List Operator → Arrival → ℕ
 row_route flow one = receiver_of flow one.from (row_part one.what)
 
 -- what the workers of an operator that is no scan are given, one feeder after the other
-unfoldable pub fed_by : (ℕ → List (List Value)) → List ℕ → List Handed
-fed_by dealt feeders = flat_map (λ sender. handed_from sender (dealt sender)) feeders
+unfoldable pub fed_by : (ℕ → List (List Value)) → List ℕ → List Arrival
+fed_by dealt feeders = flat_map (λ sender. arrivals_from sender (dealt sender)) feeders
 
-pub share-scan : (kind : What) (share handed : List Handed) → is_scan kind ≡ true → share_or kind share handed ≡ share
-share-scan (what.Scan file) share handed e = refl
-share-scan (what.Filter input test) share handed e = absurd (false≢true e)
-share-scan (what.Project input from) share handed e = absurd (false≢true e)
-share-scan (what.Join build probe build_keys probe_keys) share handed e = absurd (false≢true e)
-share-scan (what.Group input keys aggs) share handed e = absurd (false≢true e)
-share-scan (what.Sink input) share handed e = absurd (false≢true e)
+pub share-scan : (kind : What) (share arrivals : List Arrival) → is_scan kind ≡ true → share_or kind share arrivals ≡ share
+share-scan (what.Scan file) share arrivals e = refl
+share-scan (what.Filter input test) share arrivals e = absurd (false≢true e)
+share-scan (what.Project input from) share arrivals e = absurd (false≢true e)
+share-scan (what.Join build probe build_keys probe_keys) share arrivals e = absurd (false≢true e)
+share-scan (what.Group input keys aggs) share arrivals e = absurd (false≢true e)
+share-scan (what.Sink input) share arrivals e = absurd (false≢true e)
 
-pub share-rows : (kind : What) (share handed : List Handed) → is_scan kind ≡ false → share_or kind share handed ≡ handed
-share-rows (what.Scan file) share handed e = absurd (false≢true (sym e))
-share-rows (what.Filter input test) share handed e = refl
-share-rows (what.Project input from) share handed e = refl
-share-rows (what.Join build probe build_keys probe_keys) share handed e = refl
-share-rows (what.Group input keys aggs) share handed e = refl
-share-rows (what.Sink input) share handed e = refl
+pub share-rows : (kind : What) (share arrivals : List Arrival) → is_scan kind ≡ false → share_or kind share arrivals ≡ arrivals
+share-rows (what.Scan file) share arrivals e = absurd (false≢true (sym e))
+share-rows (what.Filter input test) share arrivals e = refl
+share-rows (what.Project input from) share arrivals e = refl
+share-rows (what.Join build probe build_keys probe_keys) share arrivals e = refl
+share-rows (what.Group input keys aggs) share arrivals e = refl
+share-rows (what.Sink input) share arrivals e = refl
 
 -- ---- scans
 
@@ -191,7 +191,7 @@ scan-given query dealt op worker scan mine =
           | inr e ↦ ne_eqb turn (worker - first) (λ same. eqb-false (first + turn) worker e (omega (arith, same, low))) ∙ sym e
         ]
 
-pub scan-routed : (query : Query) → IsFlow query.flow → (op : ℕ) → 0 < op → op ≤ length query.flow → (all : List Handed)
+pub scan-routed : (query : Query) → IsFlow query.flow → (op : ℕ) → 0 < op → op ≤ length query.flow → (all : List Arrival)
     → list_all (λ one. among (scan_route query.flow op one) (workers_of query.flow op)) all ≡ true
 scan-routed query is op some within all =
     list_all-every (λ one. among (scan_route query.flow op one) (workers_of query.flow op)) all
@@ -203,20 +203,20 @@ pub filter_flat : {X : Type 0} (test : X → Bool) (f : ℕ → List X) (ns : Li
 filter_flat test f [] = refl
 filter_flat test f (n ∷ ns) = filter-append test (f n) (flat_map f ns) ∙ ap (λ l. filter test (f n) ++ l) (filter_flat test f ns)
 
-pub filter_handed : (flow : List Operator) (sender worker : ℕ) (rows : List (List Value))
-    → sent_to (row_route flow) (handed_from sender rows) worker ≡ handed_from sender (filter (λ row. eqb (receiver_of flow sender row) worker) rows)
-filter_handed flow sender worker [] = refl
-filter_handed flow sender worker (row ∷ rows) = by (eqb (receiver_of flow sender row) worker) (filter_handed flow sender worker rows)
+pub filter_arrivals : (flow : List Operator) (sender worker : ℕ) (rows : List (List Value))
+    → sent_to (row_route flow) (arrivals_from sender rows) worker ≡ arrivals_from sender (filter (λ row. eqb (receiver_of flow sender row) worker) rows)
+filter_arrivals flow sender worker [] = refl
+filter_arrivals flow sender worker (row ∷ rows) = by (eqb (receiver_of flow sender row) worker) (filter_arrivals flow sender worker rows)
   where
     kept : List (List Value)
     kept = filter (λ one. eqb (receiver_of flow sender one) worker) rows
 
-    one : Handed
+    one : Arrival
     one = record { from = sender; what = Ok row }
 
-    by : (b : Bool) → sent_to (row_route flow) (handed_from sender rows) worker ≡ handed_from sender kept
-        → cond b (one ∷ sent_to (row_route flow) (handed_from sender rows) worker) (sent_to (row_route flow) (handed_from sender rows) worker)
-        ≡ handed_from sender (cond b (row ∷ kept) kept)
+    by : (b : Bool) → sent_to (row_route flow) (arrivals_from sender rows) worker ≡ arrivals_from sender kept
+        → cond b (one ∷ sent_to (row_route flow) (arrivals_from sender rows) worker) (sent_to (row_route flow) (arrivals_from sender rows) worker)
+        ≡ arrivals_from sender (cond b (row ∷ kept) kept)
     by true e = ap (λ l. one ∷ l) e
     by false e = e
 
@@ -242,25 +242,25 @@ unfolding given role_of task_of fed_by
 rows-given query is dealt op worker some within rows mine =
     let flow = query.flow in
     let own : op_of flow worker ≡ op = worker-op flow op worker mine in
-    let f = λ (sender : ℕ). handed_from sender (dealt_stream query dealt worker sender) in
+    let f = λ (sender : ℕ). arrivals_from sender (dealt_stream query dealt worker sender) in
     let test = λ (sender : ℕ). sends_to flow sender worker in
     let feeders = feeders_of flow op in
-    let whole : flat_map f (filter test feeders) ≡ sent_to (row_route flow) (flat_map (λ sender. handed_from sender (dealt sender)) feeders) worker =
-    only_senders f test feeders (λ sender h e. ap (handed_from sender)
+    let whole : flat_map f (filter test feeders) ≡ sent_to (row_route flow) (flat_map (λ sender. arrivals_from sender (dealt sender)) feeders) worker =
+    only_senders f test feeders (λ sender h e. ap (arrivals_from sender)
     (none_kept (λ row. eqb (receiver_of flow sender row) worker) (dealt sender) (λ row. not_followed flow is op worker sender row some within mine h e)))
-    ∙ equal-among f (λ sender. sent_to (row_route flow) (handed_from sender (dealt sender)) worker) feeders
-    (λ sender h. sym (filter_handed flow sender worker (dealt sender)))
-    ∙ sym (filter_flat (λ one. eqb (row_route flow one) worker) (λ sender. handed_from sender (dealt sender)) feeders) in
+    ∙ equal-among f (λ sender. sent_to (row_route flow) (arrivals_from sender (dealt sender)) worker) feeders
+    (λ sender h. sym (filter_arrivals flow sender worker (dealt sender)))
+    ∙ sym (filter_flat (λ one. eqb (row_route flow one) worker) (λ sender. arrivals_from sender (dealt sender)) feeders) in
     rw (own, share-rows (what_at flow op) (share_of (list_at query.records op) (worker_count flow op) (worker - first_worker_of flow op)) (flat_map f (senders_of flow worker)) rows)
-    (Join (flat_map f (senders_of flow worker)) (flat_map f (filter test feeders)) (sent_to (row_route flow) (flat_map (λ sender. handed_from sender (dealt sender)) feeders) worker)
+    (Join (flat_map f (senders_of flow worker)) (flat_map f (filter test feeders)) (sent_to (row_route flow) (flat_map (λ sender. arrivals_from sender (dealt sender)) feeders) worker)
     (same-flat_map f (senders-feed flow is op worker some within mine))
-    (same-is (flat_map f (filter test feeders)) (sent_to (row_route flow) (flat_map (λ sender. handed_from sender (dealt sender)) feeders) worker) whole))
+    (same-is (flat_map f (filter test feeders)) (sent_to (row_route flow) (flat_map (λ sender. arrivals_from sender (dealt sender)) feeders) worker) whole))
 
-handed_routed : (flow : List Operator) → IsFlow flow → (op sender : ℕ) → 0 < op → op ≤ length flow → among sender (feeders_of flow op) ≡ true → (rows : List (List Value))
-    → list_all (λ one. among (row_route flow one) (workers_of flow op)) (handed_from sender rows) ≡ true
-handed_routed flow is op sender some within h [] = refl
-handed_routed flow is op sender some within h (row ∷ rows) =
-    and_from _ _ (receiver_in flow is op sender row some within h) (handed_routed flow is op sender some within h rows)
+arrivals_routed : (flow : List Operator) → IsFlow flow → (op sender : ℕ) → 0 < op → op ≤ length flow → among sender (feeders_of flow op) ≡ true → (rows : List (List Value))
+    → list_all (λ one. among (row_route flow one) (workers_of flow op)) (arrivals_from sender rows) ≡ true
+arrivals_routed flow is op sender some within h [] = refl
+arrivals_routed flow is op sender some within h (row ∷ rows) =
+    and_from _ _ (receiver_in flow is op sender row some within h) (arrivals_routed flow is op sender some within h rows)
 
 flat_all : {X : Type 0} (test : X → Bool) (f : ℕ → List X) (ns : List ℕ) → ((n : ℕ) → among n ns ≡ true → list_all test (f n) ≡ true) → list_all test (flat_map f ns) ≡ true
 flat_all test f [] h = refl
@@ -272,8 +272,8 @@ pub rows-routed : (query : Query) → IsFlow query.flow → (dealt : ℕ → Lis
     → list_all (λ one. among (row_route query.flow one) (workers_of query.flow op)) (fed_by dealt (feeders_of query.flow op)) ≡ true
 unfolding fed_by
 rows-routed query is dealt op some within =
-    flat_all (λ one. among (row_route query.flow one) (workers_of query.flow op)) (λ sender. handed_from sender (dealt sender)) (feeders_of query.flow op)
-    (λ sender h. handed_routed query.flow is op sender some within h (dealt sender))
+    flat_all (λ one. among (row_route query.flow one) (workers_of query.flow op)) (λ sender. arrivals_from sender (dealt sender)) (feeders_of query.flow op)
+    (λ sender h. arrivals_routed query.flow is op sender some within h (dealt sender))
 
 -- ---- all workers together
 

@@ -19,8 +19,8 @@ use Rattle.amber_rows.specs.declared.flow.What.TheVariants as what
 use Rattle.amber_rows.specs.declared.flow.Operator.{Operator}
 use Rattle.amber_meaning.proofs.Operators.{numbered-within}
 use Rattle.amber_meaning.specs.Legal.{Query, role_in}
-use Rattle.amber_meaning.specs.Plan.{built_columns, builders_in, handed_columns, role_of, task_of}
-use Rattle.amber_meaning.specs.Task.{Handed, Task, built_of, closing, columns_from, is_builder, row_in, suiting, yields, yields_if, yields_row}
+use Rattle.amber_meaning.specs.Plan.{built_columns, builders_in, arrival_columns, role_of, task_of}
+use Rattle.amber_meaning.specs.Task.{Arrival, Task, built_of, closing, columns_from, is_builder, row_in, suiting, yields, yields_if, yields_row}
 use Rattle.amber_meaning.specs.Total.{dealt_to, given, gives}
 use Rattle.amber_laws.proofs.Crews.{op-within}
 use Rattle.amber_laws.proofs.Dealt.{dealt-is}
@@ -81,7 +81,7 @@ made flow is op some within =
 -- ---- what one row yields
 
 -- a row that suits fits the columns of its sender's side
-pub suiting-suits : (task : Task) (one : Handed) (row : List Value) → suiting task one ≡ Some row → suits_of (columns_from task one.from) row ≡ true
+pub suiting-suits : (task : Task) (one : Arrival) (row : List Value) → suiting task one ≡ Some row → suits_of (columns_from task one.from) row ≡ true
 suiting-suits task one row e = by one.what e
   where
     if_suits : (other : List Value) (b : Bool) → suits_of (columns_from task one.from) other ≡ b → cond b (Some other) None ≡ Some row → suits_of (columns_from task one.from) row ≡ true
@@ -92,7 +92,7 @@ suiting-suits task one row e = by one.what e
     by (Err why) f = absurd (none-some row f)
     by (Ok other) f = if_suits other (suits_of (columns_from task one.from) other) refl f
 
-yields_suit : (task : Task) (before : List Handed) (one : Handed) (columns : List Column)
+yields_suit : (task : Task) (before : List Arrival) (one : Arrival) (columns : List Column)
     → ((row : List Value) → suits_of (columns_from task one.from) row ≡ true → list_all (suits_of columns) (yields_row task task.kind before one.from [] row) ≡ true)
     → list_all (suits_of columns) (yields task before one []) ≡ true
 unfolding yields
@@ -106,7 +106,7 @@ yields_suit task before one columns h = by (suiting task one) refl
 abbrev pub task_with : List Operator → ℕ → What → Task
 task_with flow op kind = record {
   kind = kind;
-  columns = handed_columns flow op kind;
+  columns = arrival_columns flow op kind;
   build_columns = built_columns flow kind;
   builders = builders_in flow kind;
 }
@@ -116,14 +116,14 @@ one_suits columns row true h = rw h refl
 one_suits columns row false h = refl
 
 -- of the build side each row that suits fits the build columns
-built_suit : (task : Task) (handed : List Handed) → list_all (suits_of task.build_columns) (built_of task handed) ≡ true
+built_suit : (task : Task) (arrivals : List Arrival) → list_all (suits_of task.build_columns) (built_of task arrivals) ≡ true
 unfolding built_of
-built_suit task handed =
+built_suit task arrivals =
     all-found (suits_of task.build_columns) (λ one. is_builder task one.from) (suiting task)
     (λ one row b e. ap (λ side. suits_of (cond side task.build_columns task.columns) row) (sym b) ∙ suiting-suits task one row e)
-    (filter (λ one. is_builder task one.from) handed) (all_pass (λ one. is_builder task one.from) handed)
+    (filter (λ one. is_builder task one.from) arrivals) (all_pass (λ one. is_builder task one.from) arrivals)
   where
-    all_pass : (test : Handed → Bool) (xs : List Handed) → list_all test (filter test xs) ≡ true
+    all_pass : (test : Arrival → Bool) (xs : List Arrival) → list_all test (filter test xs) ≡ true
     all_pass test [] = refl
     all_pass test (x ∷ xs) = by (test x) refl (all_pass test xs)
       where
@@ -131,7 +131,7 @@ built_suit task handed =
         by true e rest = and_from (test x) (list_all test (filter test xs)) e rest
         by false e rest = rest
 
-row_suits : (flow : List Operator) (op : ℕ) (kind : What) (before : List Handed) (from : ℕ) (row : List Value) → AreMade flow kind (columns_at flow op)
+row_suits : (flow : List Operator) (op : ℕ) (kind : What) (before : List Arrival) (from : ℕ) (row : List Value) → AreMade flow kind (columns_at flow op)
     → suits_of (columns_from (task_with flow op kind) from) row ≡ true
     → list_all (suits_of (columns_at flow op)) (yields_row (task_with flow op kind) kind before from [] row) ≡ true
 row_suits flow op (what.Scan file) before from row m h = rw h refl
@@ -154,40 +154,40 @@ row_suits flow op (what.Group input keys aggs) before from row m h = refl
 row_suits flow op (what.Sink input) before from row m h = refl
 
 -- the rows that suit, of what the workers of an operator with no build side are handed
-rows_suit : (task : Task) (handed : List Handed) → task.builders ≡ [] → list_all (suits_of task.columns) (filter_map (suiting task) handed) ≡ true
-rows_suit task handed e =
-    all-found (suits_of task.columns) (λ (one : Handed). true) (suiting task)
+rows_suit : (task : Task) (arrivals : List Arrival) → task.builders ≡ [] → list_all (suits_of task.columns) (filter_map (suiting task) arrivals) ≡ true
+rows_suit task arrivals e =
+    all-found (suits_of task.columns) (λ (one : Arrival). true) (suiting task)
     (λ one row t f. ap (λ builders. suits_of (columns_from (record task { builders = builders }) one.from) row) (sym e) ∙ suiting-suits task one row f)
-    handed (all-true handed)
+    arrivals (all-true arrivals)
 
-closing_suits : (flow : List Operator) (op : ℕ) (kind : What) (handed : List Handed) → AreMade flow kind (columns_at flow op)
-    → list_all (suits_of (columns_at flow op)) (closing (task_with flow op kind) handed) ≡ true
+closing_suits : (flow : List Operator) (op : ℕ) (kind : What) (arrivals : List Arrival) → AreMade flow kind (columns_at flow op)
+    → list_all (suits_of (columns_at flow op)) (closing (task_with flow op kind) arrivals) ≡ true
 unfolding closing
-closing_suits flow op (what.Scan file) handed m = refl
-closing_suits flow op (what.Filter input test) handed m = refl
-closing_suits flow op (what.Project input from) handed m = refl
-closing_suits flow op (what.Join build probe build_keys probe_keys) handed m = refl
-closing_suits flow op (what.Group input keys aggs) handed m =
+closing_suits flow op (what.Scan file) arrivals m = refl
+closing_suits flow op (what.Filter input test) arrivals m = refl
+closing_suits flow op (what.Project input from) arrivals m = refl
+closing_suits flow op (what.Join build probe build_keys probe_keys) arrivals m = refl
+closing_suits flow op (what.Group input keys aggs) arrivals m =
     let task = task_with flow op (what.Group input keys aggs) in
-    grouped-suit (columns_at flow input) (columns_at flow op) keys aggs (filter_map (suiting task) handed) (rows_suit task handed refl) m
-closing_suits flow op (what.Sink input) handed m = refl
+    grouped-suit (columns_at flow input) (columns_at flow op) keys aggs (filter_map (suiting task) arrivals) (rows_suit task arrivals refl) m
+closing_suits flow op (what.Sink input) arrivals m = refl
 
-gives_suit : (flow : List Operator) (op : ℕ) (kind : What) (handed : List Handed) → AreMade flow kind (columns_at flow op)
-    → list_all (suits_of (columns_at flow op)) (gives (task_with flow op kind) handed) ≡ true
+gives_suit : (flow : List Operator) (op : ℕ) (kind : What) (arrivals : List Arrival) → AreMade flow kind (columns_at flow op)
+    → list_all (suits_of (columns_at flow op)) (gives (task_with flow op kind) arrivals) ≡ true
 unfolding gives
-gives_suit flow op kind handed m =
+gives_suit flow op kind arrivals m =
     let task = task_with flow op kind in
-    list_all-append (suits_of (columns_at flow op)) (flat_map (λ one. yields task handed one []) handed) (closing task handed)
+    list_all-append (suits_of (columns_at flow op)) (flat_map (λ one. yields task arrivals one []) arrivals) (closing task arrivals)
     ∙ and_from _ _
-    (all-flat (suits_of (columns_at flow op)) (λ one. yields task handed one [])
-    (λ one. yields_suit task handed one (columns_at flow op) (λ row h. row_suits flow op kind handed one.from row m h)) handed)
-    (closing_suits flow op kind handed m)
+    (all-flat (suits_of (columns_at flow op)) (λ one. yields task arrivals one [])
+    (λ one. yields_suit task arrivals one (columns_at flow op) (λ row h. row_suits flow op kind arrivals one.from row m h)) arrivals)
+    (closing_suits flow op kind arrivals m)
 
 -- whatever the workers of an operator are handed, what they give suits the operator's columns
-pub gives-suit : (flow : List Operator) → IsFlow flow → (op : ℕ) → 0 < op → op ≤ length flow → (handed : List Handed)
-    → list_all (suits_of (columns_at flow op)) (gives (task_of flow op) handed) ≡ true
+pub gives-suit : (flow : List Operator) → IsFlow flow → (op : ℕ) → 0 < op → op ≤ length flow → (arrivals : List Arrival)
+    → list_all (suits_of (columns_at flow op)) (gives (task_of flow op) arrivals) ≡ true
 unfolding task_of
-gives-suit flow is op some within handed = gives_suit flow op (what_at flow op) handed (made flow is op some within)
+gives-suit flow is op some within arrivals = gives_suit flow op (what_at flow op) arrivals (made flow is op some within)
 
 pub role-task : (query : Query) (worker : ℕ) → (role_in query worker).task ≡ task_of query.flow (op_of query.flow worker)
 unfolding role_of

@@ -5,14 +5,14 @@ use Rattle.amber_rows.specs.declared.value.Value.{Value}
 use Rattle.amber_rows.specs.declared.record.RowFault.{RowFault}
 use Rattle.amber_meaning.specs.Plain.{refused_records}
 use Rattle.amber_meaning.specs.Plan.{with_numbers}
-use Rattle.amber_meaning.specs.Task.{Handed}
+use Rattle.amber_meaning.specs.Task.{Arrival}
 use Rattle.amber_meaning.specs.Views.{by_number, insert_numbered, refused_in}
 use Rattle.amber_meaning.specs.declared.answer.Refusal.TheVariants as refusal
 use Rattle.amber_laws.proofs.Bags.{Same, Empty, Keep, Turn, Join, among, are_different, same-any, same-map, same-self}
 
 -- ---- the order of numbers
 
-insert-turn : (x y : Handed) (zs : List Handed) → (x.from ≡ y.from → ⊥) → insert_numbered x (insert_numbered y zs) ≡ insert_numbered y (insert_numbered x zs)
+insert-turn : (x y : Arrival) (zs : List Arrival) → (x.from ≡ y.from → ⊥) → insert_numbered x (insert_numbered y zs) ≡ insert_numbered y (insert_numbered x zs)
 unfolding insert_numbered
 insert-turn x y [] ne = by (ltb y.from x.from) (ltb x.from y.from) refl refl
   where
@@ -42,8 +42,8 @@ insert-turn x y (z ∷ zs) ne = by (ltb z.from x.from) (ltb z.from y.from) refl 
     by false false e f h = ends (ltb y.from x.from) (ltb x.from y.from) refl refl e f
 
 -- the numbers of records
-abbrev pub numbers_in : List Handed → List ℕ
-numbers_in xs = map (λ (one : Handed). one.from) xs
+abbrev pub numbers_in : List Arrival → List ℕ
+numbers_in xs = map (λ (one : Arrival). one.from) xs
 
 different-turn : (a b : ℕ) (p q r : Bool) → eqb b a ≡ eqb a b → (not (eqb b a || p) && (not q && r)) ≡ (not (eqb a b || q) && (not p && r))
 different-turn a b p q r e = rw e (by (eqb a b) p q)
@@ -71,7 +71,7 @@ same-different (Turn x y xs) = different-turn x y (among x xs) (among y xs) (are
 same-different (Join xs ys zs h k) = same-different h ∙ same-different k
 
 -- records with different numbers have one order
-by_number-same : {xs ys : List Handed} → Same xs ys → are_different (numbers_in xs) ≡ true → by_number xs ≡ by_number ys
+by_number-same : {xs ys : List Arrival} → Same xs ys → are_different (numbers_in xs) ≡ true → by_number xs ≡ by_number ys
 unfolding by_number
 by_number-same Empty d = refl
 by_number-same (Keep x xs ys h) d = ap (insert_numbered x) (by_number-same h (and_parts (not (among x.from (numbers_in xs))) _ d).1)
@@ -79,9 +79,9 @@ by_number-same (Turn x y xs) d =
     let apart = or_parts (eqb y.from x.from) _ (not-true _ (and_parts (not (eqb y.from x.from || among x.from (numbers_in xs))) _ d).0) in
     insert-turn x y (by_number xs) (λ e. eqb-false y.from x.from apart.0 (sym e))
 by_number-same (Join xs ys zs h k) d =
-    by_number-same h d ∙ by_number-same k (sym (same-different (same-map (λ (one : Handed). one.from) h)) ∙ d)
+    by_number-same h d ∙ by_number-same k (sym (same-different (same-map (λ (one : Arrival). one.from) h)) ∙ d)
 
-insert-same : (x : Handed) (xs : List Handed) → Same (insert_numbered x xs) (x ∷ xs)
+insert-same : (x : Arrival) (xs : List Arrival) → Same (insert_numbered x xs) (x ∷ xs)
 unfolding insert_numbered
 insert-same x [] = same-self (x ∷ [])
 insert-same x (y ∷ ys) = by (ltb y.from x.from) (insert-same x ys)
@@ -90,7 +90,7 @@ insert-same x (y ∷ ys) = by (ltb y.from x.from) (insert-same x ys)
     by true h = Join (y ∷ insert_numbered x ys) (y ∷ x ∷ ys) (x ∷ y ∷ ys) (Keep y (insert_numbered x ys) (x ∷ ys) h) (Turn y x ys)
     by false h = same-self (x ∷ y ∷ ys)
 
-pub ordered-same : (xs : List Handed) → Same (by_number xs) xs
+pub ordered-same : (xs : List Arrival) → Same (by_number xs) xs
 unfolding by_number
 ordered-same [] = Empty
 ordered-same (x ∷ xs) = Join (insert_numbered x (by_number xs)) (x ∷ by_number xs) (x ∷ xs) (insert-same x (by_number xs)) (Keep x (by_number xs) xs (ordered-same xs))
@@ -116,9 +116,9 @@ numbered-ordered (one ∷ next ∷ more) n =
     ∙ rw (le-ltb (n + 1) n (omega arith)) refl
 
 -- records that were dealt out stand, put in order, as they were
-pub records-ordered : (records : List (Result (List Value) RowFault)) (xs : List Handed) → Same xs (with_numbers 1 records) → by_number xs ≡ with_numbers 1 records
+pub records-ordered : (records : List (Result (List Value) RowFault)) (xs : List Arrival) → Same xs (with_numbers 1 records) → by_number xs ≡ with_numbers 1 records
 records-ordered records xs h =
-    by_number-same h (same-different (same-map (λ (one : Handed). one.from) h) ∙ numbered-apart records 1) ∙ numbered-ordered records 1
+    by_number-same h (same-different (same-map (λ (one : Arrival). one.from) h) ∙ numbered-apart records 1) ∙ numbered-ordered records 1
 
 -- those with a fault are refused
 pub records-refused : (op : ℕ) (records : List (Result (List Value) RowFault)) (n : ℕ) → refused_in op (with_numbers n records) ≡ refused_records op n records

@@ -28,7 +28,7 @@ use Rattle.amber_meaning.specs.ScanFiles.{files_left, records_at}
 use Rattle.amber_meaning.specs.Legal.{Query, query_over}
 use Rattle.amber_meaning.specs.Plain.{is_scan, list_at, next_file, outputs, records_of, rows_of}
 use Rattle.amber_meaning.specs.Plan.{with_numbers}
-use Rattle.amber_meaning.specs.Task.{Handed, closing, yields}
+use Rattle.amber_meaning.specs.Task.{Arrival, closing, yields}
 use Rattle.amber_meaning.specs.Total.{dealt_to, given, gives}
 use Rattle.amber_meaning.specs.Views.{rows_in}
 use Rattle.amber_laws.proofs.Answered.{IsDealtOut, plain_rows, rows_given}
@@ -123,10 +123,10 @@ scan_alone flow op file number (Ok row ∷ records) h =
     rw parts.0 (ap (λ l. row ∷ l) (scan_alone flow op file (number + 1) records parts.1))
 scan_alone flow op file number (Err why ∷ records) h = scan_alone flow op file (number + 1) records h
 
-scan_gives : (flow : List Operator) (op : ℕ) (file : List ℕ) (handed : List Handed)
-    → gives (task_with flow op (what.Scan file)) handed ≡ flat_map (λ one. yields (task_with flow op (what.Scan file)) [] one []) handed
+scan_gives : (flow : List Operator) (op : ℕ) (file : List ℕ) (arrivals : List Arrival)
+    → gives (task_with flow op (what.Scan file)) arrivals ≡ flat_map (λ one. yields (task_with flow op (what.Scan file)) [] one []) arrivals
 unfolding gives closing yields
-scan_gives flow op file handed = append-nil (flat_map (λ one. yields (task_with flow op (what.Scan file)) [] one []) handed)
+scan_gives flow op file arrivals = append-nil (flat_map (λ one. yields (task_with flow op (what.Scan file)) [] one []) arrivals)
 
 scan-together : (query : Query) (op : ℕ) (file : List ℕ) → IsOperator query op (what.Scan file) → AreTyped query
     → Same (flat_map (dealt_to query) (workers_of query.flow op)) (filter_map ok_of (list_at query.records op))

@@ -21,8 +21,8 @@ use Rattle.amber_meaning.proofs.Lists.{list_all-every}
 use Rattle.amber_meaning.specs.Legal.{Query, role_in}
 use Rattle.amber_meaning.specs.Plain.{is_scan}
 use Rattle.amber_meaning.specs.Plan.{task_of}
-use Rattle.amber_meaning.specs.Task.{Handed, Task, closing, columns_from, suiting, yields}
-use Rattle.amber_meaning.specs.Total.{dealt_to, given, gives, handed_from}
+use Rattle.amber_meaning.specs.Task.{Arrival, Task, closing, columns_from, suiting, yields}
+use Rattle.amber_meaning.specs.Total.{dealt_to, given, gives, arrivals_from}
 use Rattle.amber_meaning.specs.Views.{rows_in}
 use Rattle.amber_laws.proofs.Bags.{Same, Join, among, equal-among, same-among, same-filter_map, same-flat_map, same-is, sent_to}
 use Rattle.amber_laws.proofs.Crews.{different-workers, place-worker, worker-known, worker-op}
@@ -31,7 +31,7 @@ use Rattle.amber_laws.proofs.Fed.{AreSuiting, filter-gives, group-gives, join-gi
 use Rattle.amber_laws.proofs.Flows.{reader-is, sides-differ, some-workers}
 use Rattle.amber_laws.proofs.Given.{gives-keeps}
 use Rattle.amber_laws.proofs.Grouping.{refused_keys-same}
-use Rattle.amber_laws.proofs.Links.{fed_by, feeder-reads, feeders_of, filter_flat, filter_handed, row_route, rows-given, rows-whole}
+use Rattle.amber_laws.proofs.Links.{fed_by, feeder-reads, feeders_of, filter_flat, filter_arrivals, row_route, rows-given, rows-whole}
 use Rattle.amber_laws.proofs.Made.{dealt-suit, role-task, task_with}
 use Rattle.amber_laws.proofs.Numbers.{among-cases, among-left, among-right}
 use Rattle.amber_laws.proofs.Spread.{by_key, flat-flat, found-flat, grouped-spread, joined-spread, refused-spread}
@@ -117,36 +117,36 @@ apart_sides query op build probe build_keys probe_keys h sender k =
 -- ---- kinds whose rows are made one by one
 
 -- what the workers give together, where a task makes the same of each row, whatever else it is handed
-pub one-by-one : (query : Query) (op : ℕ) (kind : What) → IsOperator query op kind → (make : Handed → List (List Value))
-    → ((handed : List Handed) → gives (task_with query.flow op kind) handed ≡ flat_map make handed) → (all : List Handed)
+pub one-by-one : (query : Query) (op : ℕ) (kind : What) → IsOperator query op kind → (make : Arrival → List (List Value))
+    → ((arrivals : List Arrival) → gives (task_with query.flow op kind) arrivals ≡ flat_map make arrivals) → (all : List Arrival)
     → Same (flat_map (given query (dealt_to query)) (workers_of query.flow op)) all
     → Same (flat_map (dealt_to query) (workers_of query.flow op)) (gives (task_with query.flow op kind) all)
 one-by-one query op kind h make e all whole =
     let workers = workers_of query.flow op in
-    let handed = given query (dealt_to query) in
-    let each : flat_map (dealt_to query) workers ≡ flat_map make (flat_map handed workers) =
-    equal-among (dealt_to query) (λ worker. flat_map make (handed worker)) workers (λ worker mine. worker_gives query op kind worker h mine ∙ e (handed worker))
-    ∙ flat-flat make handed workers in
-    Join (flat_map (dealt_to query) workers) (flat_map make (flat_map handed workers)) (gives (task_with query.flow op kind) all)
-    (same-is (flat_map (dealt_to query) workers) (flat_map make (flat_map handed workers)) each)
+    let arrivals = given query (dealt_to query) in
+    let each : flat_map (dealt_to query) workers ≡ flat_map make (flat_map arrivals workers) =
+    equal-among (dealt_to query) (λ worker. flat_map make (arrivals worker)) workers (λ worker mine. worker_gives query op kind worker h mine ∙ e (arrivals worker))
+    ∙ flat-flat make arrivals workers in
+    Join (flat_map (dealt_to query) workers) (flat_map make (flat_map arrivals workers)) (gives (task_with query.flow op kind) all)
+    (same-is (flat_map (dealt_to query) workers) (flat_map make (flat_map arrivals workers)) each)
     (rw (e all) (same-flat_map make whole))
 
 only_rows : (query : Query) (input : ℕ) → flat_map (dealt_to query) (only_input query.flow input) ≡ flat_map (dealt_to query) (workers_of query.flow input)
 only_rows query input = ap (flat_map (dealt_to query)) (append-nil (workers_of query.flow input))
 
 -- what a task makes of one row that looks at no other
-abbrev alone : Task → Handed → List (List Value)
+abbrev alone : Task → Arrival → List (List Value)
 alone task one = yields task [] one []
 
-filter_alone : (flow : List Operator) (op input : ℕ) (test : Cond) (handed : List Handed)
-    → gives (task_with flow op (what.Filter input test)) handed ≡ flat_map (alone (task_with flow op (what.Filter input test))) handed
+filter_alone : (flow : List Operator) (op input : ℕ) (test : Cond) (arrivals : List Arrival)
+    → gives (task_with flow op (what.Filter input test)) arrivals ≡ flat_map (alone (task_with flow op (what.Filter input test))) arrivals
 unfolding gives closing yields
-filter_alone flow op input test handed = append-nil (flat_map (alone (task_with flow op (what.Filter input test))) handed)
+filter_alone flow op input test arrivals = append-nil (flat_map (alone (task_with flow op (what.Filter input test))) arrivals)
 
-project_alone : (flow : List Operator) (op input : ℕ) (from : List ℕ) (handed : List Handed)
-    → gives (task_with flow op (what.Project input from)) handed ≡ flat_map (alone (task_with flow op (what.Project input from))) handed
+project_alone : (flow : List Operator) (op input : ℕ) (from : List ℕ) (arrivals : List Arrival)
+    → gives (task_with flow op (what.Project input from)) arrivals ≡ flat_map (alone (task_with flow op (what.Project input from))) arrivals
 unfolding gives closing yields
-project_alone flow op input from handed = append-nil (flat_map (alone (task_with flow op (what.Project input from))) handed)
+project_alone flow op input from arrivals = append-nil (flat_map (alone (task_with flow op (what.Project input from))) arrivals)
 
 feeders_are : (query : Query) (op : ℕ) (kind : What) → IsOperator query op kind → feeders_of query.flow op ≡ flat_map (workers_of query.flow) (inputs_of kind)
 unfolding feeders_of
@@ -208,9 +208,9 @@ sent_fed : (query : Query) (senders : List ℕ) (worker : ℕ)
     → sent_to (row_route query.flow) (fed_by (dealt_to query) senders) worker ≡ fed_by (sent_rows query worker) senders
 unfolding fed_by
 sent_fed query senders worker =
-    filter_flat (λ one. eqb (row_route query.flow one) worker) (λ sender. handed_from sender (dealt_to query sender)) senders
-    ∙ equal-among (λ sender. sent_to (row_route query.flow) (handed_from sender (dealt_to query sender)) worker) (λ sender. handed_from sender (sent_rows query worker sender)) senders
-    (λ sender k. filter_handed query.flow sender worker (dealt_to query sender))
+    filter_flat (λ one. eqb (row_route query.flow one) worker) (λ sender. arrivals_from sender (dealt_to query sender)) senders
+    ∙ equal-among (λ sender. sent_to (row_route query.flow) (arrivals_from sender (dealt_to query sender)) worker) (λ sender. arrivals_from sender (sent_rows query worker sender)) senders
+    (λ sender k. filter_arrivals query.flow sender worker (dealt_to query sender))
 
 sent_suiting : (query : Query) (task : Task) (senders : List ℕ) (worker : ℕ) → AreSuiting task (dealt_to query) senders → AreSuiting task (sent_rows query worker) senders
 sent_suiting query task senders worker h sender k =
@@ -347,10 +347,10 @@ pub sink-together : (query : Query) (op input : ℕ) → IsOperator query op (wh
 sink-together query op input h =
     let task = task_with query.flow op (what.Sink input) in
     let workers = workers_of query.flow op in
-    let handed = given query (dealt_to query) in
+    let arrivals = given query (dealt_to query) in
     let senders = only_input query.flow input in
-    Join (flat_map (λ worker. rows_in task (handed worker)) workers) (rows_in task (flat_map handed workers)) (flat_map (dealt_to query) (workers_of query.flow input))
-    (same-is _ _ (found-flat (suiting task) handed workers))
-    (Join (rows_in task (flat_map handed workers)) (rows_in task (fed_by (dealt_to query) senders)) (flat_map (dealt_to query) (workers_of query.flow input))
+    Join (flat_map (λ worker. rows_in task (arrivals worker)) workers) (rows_in task (flat_map arrivals workers)) (flat_map (dealt_to query) (workers_of query.flow input))
+    (same-is _ _ (found-flat (suiting task) arrivals workers))
+    (Join (rows_in task (flat_map arrivals workers)) (rows_in task (fed_by (dealt_to query) senders)) (flat_map (dealt_to query) (workers_of query.flow input))
     (same-filter_map (suiting task) (whole_rows query op (what.Sink input) h refl))
     (same-is _ _ (rows-fed task (dealt_to query) senders (sink_suiting query op input h.flow) ∙ only_rows query input)))

@@ -15,7 +15,7 @@ use Rattle.amber_meaning.specs.Legal.{Query, query_over}
 use Rattle.amber_meaning.specs.Plain.{is_scan, list_at, records_of}
 use Rattle.amber_meaning.specs.Plan.{with_numbers}
 use Rattle.amber_meaning.specs.Stops.{op_numbers}
-use Rattle.amber_meaning.specs.Total.{dealt_to, given, handed_from, step_total, work_of}
+use Rattle.amber_meaning.specs.Total.{dealt_to, given, arrivals_from, step_total, work_of}
 use Rattle.amber_laws.proofs.Answered.{plain_rows}
 use Rattle.amber_laws.proofs.Bags.{Same, among, among-first, among-more, are_different, same-length, same-sum, same_times}
 use Rattle.amber_laws.proofs.Crews.{different-workers, op-within, own-worker, worker-known, worker-op}
@@ -58,8 +58,8 @@ scan-taken query op is some within scan =
 fed-length : (dealt : ℕ → List (List Value)) (feeders : List ℕ) → length (fed_by dealt feeders) ≡ sum_by (λ sender. length (dealt sender)) feeders
 unfolding fed_by
 fed-length dealt feeders =
-    length-flat_map (λ sender. handed_from sender (dealt sender)) feeders
-    ∙ sum-each (λ sender. length (handed_from sender (dealt sender))) (λ sender. length (dealt sender)) feeders (λ sender h. length-map (dealt sender) _)
+    length-flat_map (λ sender. arrivals_from sender (dealt sender)) feeders
+    ∙ sum-each (λ sender. length (arrivals_from sender (dealt sender))) (λ sender. length (dealt sender)) feeders (λ sender h. length-map (dealt sender) _)
 
 -- the rows of an input's workers are its rows
 input-length : (query : Query) (op : ℕ) → IsFlow query.flow → AreTyped query → 0 < op → op ≤ length query.flow → (input : ℕ) → among input (inputs_of (what_at query.flow op)) ≡ true

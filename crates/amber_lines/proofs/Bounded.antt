@@ -12,7 +12,7 @@ use Rattle.amber_meaning.specs.Legal.{Begins}
 use Rattle.amber_meaning.specs.Position.{Position, Taken, fed, has_last, have_ended, is_complete, origin, pending_rows, produced_rows, product}
 use Rattle.amber_meaning.specs.Rules.{Leads, MayGo, MayHold, MayTake, Moves, Orders, first_is_watched, took, went}
 use Rattle.amber_meaning.specs.State.{let_go, without_held}
-use Rattle.amber_meaning.specs.Task.{Handed, Role, Task, closing, produce, yields}
+use Rattle.amber_meaning.specs.Task.{Arrival, Role, Task, closing, produce, yields}
 use Rattle.amber_meaning.proofs.Lists.{list_all-member}
 use Rattle.amber_meaning.proofs.OneState.{Leads-keeps}
 use Rattle.amber_meaning.proofs.Orderly.{IsOrderly, fed-more, marked-front, not-ended, produce-more, product-before}
@@ -35,14 +35,14 @@ product-taken role taken from batch ks within orderly known =
     let all = taken ++ record { from = from; batch = batch } ∷ [] in
     let more = fed-more role taken (record { from = from; batch = batch } ∷ []) in
     let same : produce role.task [] (fed role all) ks ≡ produce role.task [] (fed role taken) ks =
-    ap (λ (hs : List Handed). produce role.task [] hs ks) more.1 ∙ produce-more role.task [] (fed role taken) more.0 ks within in (
+    ap (λ (hs : List Arrival). produce role.task [] hs ks) more.1 ∙ produce-more role.task [] (fed role taken) more.0 ks within in (
       if is_complete role all (length ks) then closing role.task (fed role all) else [],
       ap (λ (rows : List (List Value)). rows ++ (if is_complete role all (length ks) then closing role.task (fed role all) else []))
           (product-before role taken ks early ∙ sym same),
     )
 
 -- as rows of them are taken
-produce-later : (task : Task) (before hs : List Handed) (ks later : List (List Value))
+produce-later : (task : Task) (before hs : List Arrival) (ks later : List (List Value))
     → (more : List (List Value)) × (produce task before (hs) (ks ++ later) ≡ produce task before hs ks ++ more)
 unfolding produce
 produce-later task before [] ks later = ([], refl)

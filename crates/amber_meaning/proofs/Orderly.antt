@@ -10,8 +10,8 @@ use Rattle.amber_rows.specs.declared.value.Value.{Value}
 use Rattle.amber_rows.specs.declared.batch.Batch.{Batch}
 use Rattle.amber_rows.specs.declared.flow.What.{What}
 use Rattle.amber_rows.specs.declared.flow.What.TheVariants as what
-use Rattle.amber_meaning.specs.Task.{Handed, Role, Task, produce, yields}
-use Rattle.amber_meaning.specs.Position.{Taken, fed, handed_by, has_last, have_ended, product, share_or, taken_from}
+use Rattle.amber_meaning.specs.Task.{Arrival, Role, Task, produce, yields}
+use Rattle.amber_meaning.specs.Position.{Taken, fed, arrivals_of, has_last, have_ended, product, share_or, taken_from}
 use Rattle.amber_meaning.proofs.OneState.{taken_from-push}
 
 -- ---- lists of batches of which only the last may be marked
@@ -80,7 +80,7 @@ not-ended role taken from batch orderly known e =
 
 -- ---- what was handed and produced
 
-pub share_or-more : (kind : What) (share xs ys : List Handed) → (more : List Handed) × (share_or kind share (xs ++ ys) ≡ share_or kind share xs ++ more)
+pub share_or-more : (kind : What) (share xs ys : List Arrival) → (more : List Arrival) × (share_or kind share (xs ++ ys) ≡ share_or kind share xs ++ more)
 share_or-more (what.Scan file) share xs ys = ([], sym (append-nil share))
 share_or-more (what.Filter input cond) share xs ys = (ys, refl)
 share_or-more (what.Project input columns) share xs ys = (ys, refl)
@@ -88,13 +88,13 @@ share_or-more (what.Join build probe build_keys probe_keys) share xs ys = (ys, r
 share_or-more (what.Group input keys aggs) share xs ys = (ys, refl)
 share_or-more (what.Sink input) share xs ys = (ys, refl)
 
-pub fed-more : (role : Role) (xs ys : List Taken) → (more : List Handed) × (fed role (xs ++ ys) ≡ fed role xs ++ more)
+pub fed-more : (role : Role) (xs ys : List Taken) → (more : List Arrival) × (fed role (xs ++ ys) ≡ fed role xs ++ more)
 unfolding fed
 fed-more role xs ys =
-    let some = share_or-more role.task.kind role.share (flat_map handed_by xs) (flat_map handed_by ys) in
-    (some.0, rw (flat_map-append handed_by xs ys) some.1)
+    let some = share_or-more role.task.kind role.share (flat_map arrivals_of xs) (flat_map arrivals_of ys) in
+    (some.0, rw (flat_map-append arrivals_of xs ys) some.1)
 
-pub produce-more : (task : Task) (before hs more : List Handed) (ks : List (List Value)) → length ks ≤ length hs
+pub produce-more : (task : Task) (before hs more : List Arrival) (ks : List (List Value)) → length ks ≤ length hs
     → produce task before (hs ++ more) ks ≡ produce task before hs ks
 unfolding produce
 produce-more task before [] [] ks h = refl

@@ -9,16 +9,16 @@ use Rattle.amber_rows.specs.declared.flow.What.{What}
 use Rattle.amber_rows.specs.declared.flow.What.TheVariants as what
 use Rattle.amber_rows.specs.declared.flow.Operator.{Operator}
 use Rattle.amber_meaning.specs.Plain.{list_at}
-use Rattle.amber_meaning.specs.Task.{Handed, Role, Task}
+use Rattle.amber_meaning.specs.Task.{Arrival, Role, Task}
 
 -- the columns of what the workers of an operator are handed, of a join on its probe side
-abbrev pub handed_columns : List Operator → ℕ → What → List Column
-handed_columns flow op (what.Scan file) = columns_at flow op
-handed_columns flow op (what.Filter input cond) = columns_at flow input
-handed_columns flow op (what.Project input from) = columns_at flow input
-handed_columns flow op (what.Join build probe build_keys probe_keys) = columns_at flow probe
-handed_columns flow op (what.Group input keys aggs) = columns_at flow input
-handed_columns flow op (what.Sink input) = columns_at flow input
+abbrev pub arrival_columns : List Operator → ℕ → What → List Column
+arrival_columns flow op (what.Scan file) = columns_at flow op
+arrival_columns flow op (what.Filter input cond) = columns_at flow input
+arrival_columns flow op (what.Project input from) = columns_at flow input
+arrival_columns flow op (what.Join build probe build_keys probe_keys) = columns_at flow probe
+arrival_columns flow op (what.Group input keys aggs) = columns_at flow input
+arrival_columns flow op (what.Sink input) = columns_at flow input
 
 -- of a join's build side the columns, and the workers
 abbrev pub built_columns : List Operator → What → List Column
@@ -41,13 +41,13 @@ builders_in flow (what.Sink input) = []
 unfoldable pub task_of : List Operator → ℕ → Task
 task_of flow op = record {
   kind = what_at flow op;
-  columns = handed_columns flow op (what_at flow op);
+  columns = arrival_columns flow op (what_at flow op);
   build_columns = built_columns flow (what_at flow op);
   builders = builders_in flow (what_at flow op);
 }
 
 -- records with their numbers from this one on
-unfoldable pub with_numbers : ℕ → List (Result (List Value) RowFault) → List Handed
+unfoldable pub with_numbers : ℕ → List (Result (List Value) RowFault) → List Arrival
 with_numbers number [] = []
 with_numbers number (one ∷ more) = record { from = number; what = one } ∷ with_numbers (number + 1) more
 
@@ -56,8 +56,8 @@ abbrev pub turn_of : ℕ → ℕ → ℕ
 turn_of workers number = (number - 1) % workers
 
 -- the share of a scan's worker: every record whose turn is its own
-unfoldable pub share_of : List (Result (List Value) RowFault) → ℕ → ℕ → List Handed
-share_of records workers place = filter (λ handed. turn_of workers handed.from == place) (with_numbers 1 records)
+unfoldable pub share_of : List (Result (List Value) RowFault) → ℕ → ℕ → List Arrival
+share_of records workers place = filter (λ arrivals. turn_of workers arrivals.from == place) (with_numbers 1 records)
 
 -- the role of a worker
 unfoldable pub role_of : List Operator → List (List (Result (List Value) RowFault)) → ℕ → Role

@@ -5,7 +5,7 @@ use Rattle.amber_rows.specs.declared.value.Value.{Value}
 use Rattle.amber_rows.specs.declared.batch.Batch.{Batch}
 use Rattle.amber_rows.specs.declared.flow.What.{What}
 use Rattle.amber_rows.specs.declared.flow.What.TheVariants as what
-use Rattle.amber_meaning.specs.Task.{Handed, Role, closing, produce}
+use Rattle.amber_meaning.specs.Task.{Arrival, Role, closing, produce}
 
 -- a batch that was taken, and its sender
 pub record Taken : Type 0 where
@@ -34,20 +34,20 @@ origin = record { taken = []; constants = []; fates = []; hand = 0; held = false
 
 -- ---- what was handed
 
-abbrev pub handed_by : Taken → List Handed
-handed_by taken = map (λ row. record { from = taken.from; what = Ok row }) taken.batch.rows
+abbrev pub arrivals_of : Taken → List Arrival
+arrivals_of taken = map (λ row. record { from = taken.from; what = Ok row }) taken.batch.rows
 
-abbrev pub share_or : What → List Handed → List Handed → List Handed
-share_or (what.Scan file) share handed = share
-share_or (what.Filter input cond) share handed = handed
-share_or (what.Project input columns) share handed = handed
-share_or (what.Join build probe build_keys probe_keys) share handed = handed
-share_or (what.Group input keys aggs) share handed = handed
-share_or (what.Sink input) share handed = handed
+abbrev pub share_or : What → List Arrival → List Arrival → List Arrival
+share_or (what.Scan file) share arrivals = share
+share_or (what.Filter input cond) share arrivals = arrivals
+share_or (what.Project input columns) share arrivals = arrivals
+share_or (what.Join build probe build_keys probe_keys) share arrivals = arrivals
+share_or (what.Group input keys aggs) share arrivals = arrivals
+share_or (what.Sink input) share arrivals = arrivals
 
 -- all that a worker was handed: the rows of the batches that it took, one after the other, or a scan's share
-unfoldable pub fed : Role → List Taken → List Handed
-fed role taken = share_or role.task.kind role.share (flat_map handed_by taken)
+unfoldable pub fed : Role → List Taken → List Arrival
+fed role taken = share_or role.task.kind role.share (flat_map arrivals_of taken)
 
 -- the batches taken from one sender
 unfoldable pub taken_from : List Taken → ℕ → List Batch
@@ -76,7 +76,7 @@ abbrev pub produced_rows : Role → Position → List (List Value)
 produced_rows role p = product role p.taken p.constants
 
 -- what was handed and not yet taken
-abbrev pub rest_of : Role → Position → List Handed
+abbrev pub rest_of : Role → Position → List Arrival
 rest_of role p = drop (length p.constants) (fed role p.taken)
 
 -- the rows that were produced and are not gone

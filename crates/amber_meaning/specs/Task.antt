@@ -12,7 +12,7 @@ use Rattle.amber_rows.specs.declared.flow.What.{What}
 use Rattle.amber_rows.specs.declared.flow.What.TheVariants as what
 
 -- a row that a worker is handed, and the worker that sent it; for a scan a typed record, and its number
-pub record Handed : Type 0 where
+pub record Arrival : Type 0 where
   pub from : ℕ
   pub what : Result (List Value) RowFault
 
@@ -28,7 +28,7 @@ pub record Task : Type 0 where
 pub record Role : Type 0 where
   pub task : Task
   pub senders : List ℕ
-  pub share : List Handed
+  pub share : List Arrival
 
 -- ---- rows that suit
 
@@ -45,12 +45,12 @@ row_in columns (Err why) = None
 row_in columns (Ok row) = if suits_of columns row then Some row else None
 
 -- the row that a worker was handed, if it is one and suits its columns
-abbrev pub suiting : Task → Handed → Option (List Value)
-suiting task handed = row_in (columns_from task handed.from) handed.what
+abbrev pub suiting : Task → Arrival → Option (List Value)
+suiting task arrivals = row_in (columns_from task arrivals.from) arrivals.what
 
 -- the build side of what a worker was handed
-unfoldable pub built_of : Task → List Handed → List (List Value)
-built_of task handed = filter_map (suiting task) (filter (λ one. is_builder task one.from) handed)
+unfoldable pub built_of : Task → List Arrival → List (List Value)
+built_of task arrivals = filter_map (suiting task) (filter (λ one. is_builder task one.from) arrivals)
 
 -- ---- what a row yields
 
@@ -60,7 +60,7 @@ with_constant cond [] = cond
 with_constant cond (constant ∷ more) = record cond { constant = constant }
 
 -- the rows that a row from this worker yields under these constants, where these were handed before it
-abbrev pub yields_row : Task → What → List Handed → ℕ → List Value → List Value → List (List Value)
+abbrev pub yields_row : Task → What → List Arrival → ℕ → List Value → List Value → List (List Value)
 yields_row task (what.Scan file) before from constants row = row ∷ []
 yields_row task (what.Filter input cond) before from constants row = if holds_of (with_constant cond constants) row then row ∷ [] else []
 yields_row task (what.Project input columns) before from constants row = picked columns row ∷ []
@@ -69,19 +69,19 @@ yields_row task (what.Join build probe build_keys probe_keys) before from consta
 yields_row task (what.Group input keys aggs) before from constants row = []
 yields_row task (what.Sink input) before from constants row = []
 
-abbrev pub yields_if : Task → List Handed → ℕ → List Value → Option (List Value) → List (List Value)
+abbrev pub yields_if : Task → List Arrival → ℕ → List Value → Option (List Value) → List (List Value)
 yields_if task before from constants None = []
 yields_if task before from constants (Some row) = yields_row task task.kind before from constants row
 
 -- the rows that something handed to a worker yields, where these were handed before it
-unfoldable pub yields : Task → List Handed → Handed → List Value → List (List Value)
-yields task before handed constants = yields_if task before handed.from constants (suiting task handed)
+unfoldable pub yields : Task → List Arrival → Arrival → List Value → List (List Value)
+yields task before arrivals constants = yields_if task before arrivals.from constants (suiting task arrivals)
 
 -- what a worker produces of what it was handed, of which it took as many as there are constants, each under those then in force
-unfoldable pub produce : Task → List Handed → List Handed → List (List Value) → List (List Value)
+unfoldable pub produce : Task → List Arrival → List Arrival → List (List Value) → List (List Value)
 produce task before [] constants = []
-produce task before (handed ∷ more) [] = []
-produce task before (handed ∷ more) (constants ∷ later) = yields task before handed constants ++ produce task (before ++ handed ∷ []) more later
+produce task before (arrivals ∷ more) [] = []
+produce task before (arrivals ∷ more) (constants ∷ later) = yields task before arrivals constants ++ produce task (before ++ arrivals ∷ []) more later
 
 abbrev pub closing_rows : What → List (List Value) → List (List Value)
 closing_rows (what.Scan file) rows = []
@@ -92,5 +92,5 @@ closing_rows (what.Group input keys aggs) rows = grouped keys aggs rows
 closing_rows (what.Sink input) rows = []
 
 -- what a worker produces at the end, once it was handed all of this: the rows of its groups
-unfoldable pub closing : Task → List Handed → List (List Value)
-closing task handed = closing_rows task.kind (filter_map (suiting task) handed)
+unfoldable pub closing : Task → List Arrival → List (List Value)
+closing task arrivals = closing_rows task.kind (filter_map (suiting task) arrivals)

@@ -7,28 +7,28 @@ use Rattle.amber_rows.specs.declared.value.Value.{Value}
 use Rattle.amber_meaning.specs.Legal.{Query, role_in}
 use Rattle.amber_meaning.specs.Plain.{list_at}
 use Rattle.amber_meaning.specs.Position.{share_or}
-use Rattle.amber_meaning.specs.Task.{Handed, Task, closing, yields}
+use Rattle.amber_meaning.specs.Task.{Arrival, Task, closing, yields}
 
 -- rows as they come from a sender
-abbrev pub handed_from : ℕ → List (List Value) → List Handed
-handed_from sender rows = map (λ row. record { from = sender; what = Ok row }) rows
+abbrev pub arrivals_from : ℕ → List (List Value) → List Arrival
+arrivals_from sender rows = map (λ row. record { from = sender; what = Ok row }) rows
 
 -- the rows that a sender was dealt and that go to this receiver
 abbrev pub dealt_stream : Query → (ℕ → List (List Value)) → ℕ → ℕ → List (List Value)
 dealt_stream query dealt receiver sender = filter (λ row. receiver_of query.flow sender row == receiver) (dealt sender)
 
 -- what a worker is handed in all: a scan its share, others what their senders give them, one sender after the other
-unfoldable pub given : Query → (ℕ → List (List Value)) → ℕ → List Handed
+unfoldable pub given : Query → (ℕ → List (List Value)) → ℕ → List Arrival
 given query dealt worker =
     let role = role_in query worker in
-    share_or role.task.kind role.share (flat_map (λ sender. handed_from sender (dealt_stream query dealt worker sender)) role.senders)
+    share_or role.task.kind role.share (flat_map (λ sender. arrivals_from sender (dealt_stream query dealt worker sender)) role.senders)
 
 abbrev pub task_constants : Task → List Value
 task_constants task = []
 
 -- what a worker gives in all, that was handed all of this
-unfoldable pub gives : Task → List Handed → List (List Value)
-gives task handed = flat_map (λ one. yields task handed one (task_constants task)) handed ++ closing task handed
+unfoldable pub gives : Task → List Arrival → List (List Value)
+gives task arrivals = flat_map (λ one. yields task arrivals one (task_constants task)) arrivals ++ closing task arrivals
 
 -- what the first workers give, in order of their numbers
 unfoldable pub dealt_by : Query → ℕ → List (List (List Value))

@@ -24,12 +24,12 @@ use Rattle.amber_meaning.specs.Plain.{refused_groups}
 use Rattle.amber_meaning.specs.Position.{Position, emitted_count, fed, pending_rows, rest_of}
 use Rattle.amber_meaning.specs.Stops.{op_numbers}
 use Rattle.amber_meaning.specs.State.{Counting, State, arms_at, counted_at, position_at}
-use Rattle.amber_meaning.specs.Task.{Handed, Role, Task, built_of, suiting}
+use Rattle.amber_meaning.specs.Task.{Arrival, Role, Task, built_of, suiting}
 
 -- ---- one worker
 
 -- what a worker has taken of what it was handed
-abbrev pub taken_of : Role → Position → List Handed
+abbrev pub taken_of : Role → Position → List Arrival
 taken_of role p = take (length p.constants) (fed role p.taken)
 
 abbrev pub stand_of : Position → Stand
@@ -40,22 +40,22 @@ abbrev pub refusal_in : ℕ → ℕ → Result (List Value) RowFault → List Re
 refusal_in op number (Ok row) = []
 refusal_in op number (Err why) = refusal.Record op number why ∷ []
 
-abbrev pub refused_in : ℕ → List Handed → List Refusal
-refused_in op handed = flat_map (λ one. refusal_in op one.from one.what) handed
+abbrev pub refused_in : ℕ → List Arrival → List Refusal
+refused_in op arrivals = flat_map (λ one. refusal_in op one.from one.what) arrivals
 
 -- the rows that a worker took and that suit
-abbrev pub rows_in : Task → List Handed → List (List Value)
-rows_in task handed = filter_map (suiting task) handed
+abbrev pub rows_in : Task → List Arrival → List (List Value)
+rows_in task arrivals = filter_map (suiting task) arrivals
 
 -- what a worker shows by its kind, that took these
-abbrev pub extra_of : Task → What → List Handed → Extra
-extra_of task (what.Scan file) handed = extra.Scan (length (refused_in 0 handed))
-extra_of task (what.Filter input cond) handed = extra.Nothing
-extra_of task (what.Project input columns) handed = extra.Nothing
-extra_of task (what.Join build probe build_keys probe_keys) handed =
-    extra.Join (length (first_keys build_keys (built_of task handed))) (length (built_of task handed))
-extra_of task (what.Group input keys aggs) handed = extra.Group (length (first_keys keys (rows_in task handed)))
-extra_of task (what.Sink input) handed = extra.Sink (length (rows_in task handed))
+abbrev pub extra_of : Task → What → List Arrival → Extra
+extra_of task (what.Scan file) arrivals = extra.Scan (length (refused_in 0 arrivals))
+extra_of task (what.Filter input cond) arrivals = extra.Nothing
+extra_of task (what.Project input columns) arrivals = extra.Nothing
+extra_of task (what.Join build probe build_keys probe_keys) arrivals =
+    extra.Join (length (first_keys build_keys (built_of task arrivals))) (length (built_of task arrivals))
+extra_of task (what.Group input keys aggs) arrivals = extra.Group (length (first_keys keys (rows_in task arrivals)))
+extra_of task (what.Sink input) arrivals = extra.Sink (length (rows_in task arrivals))
 
 abbrev pub first_of : {A : Type 0} → List A → Option A
 first_of [] = None
@@ -91,28 +91,28 @@ inspected_of query state op = record {
 -- ---- the answer in a state
 
 -- what the workers of an operator took, one worker after the other
-unfoldable pub taken_by : Query → State → ℕ → List Handed
+unfoldable pub taken_by : Query → State → ℕ → List Arrival
 taken_by query state op = flat_map (λ worker. taken_of (role_in query worker) (position_at state.positions worker)) (workers_of query.flow op)
 
 -- the keys of a worker's groups that have no row, once all was taken
-abbrev pub keys_refused : What → Task → List Handed → List (List Value)
-keys_refused (what.Scan file) task handed = []
-keys_refused (what.Filter input cond) task handed = []
-keys_refused (what.Project input columns) task handed = []
-keys_refused (what.Join build probe build_keys probe_keys) task handed = []
-keys_refused (what.Group input keys aggs) task handed = refused_keys keys aggs (rows_in task handed)
-keys_refused (what.Sink input) task handed = []
+abbrev pub keys_refused : What → Task → List Arrival → List (List Value)
+keys_refused (what.Scan file) task arrivals = []
+keys_refused (what.Filter input cond) task arrivals = []
+keys_refused (what.Project input columns) task arrivals = []
+keys_refused (what.Join build probe build_keys probe_keys) task arrivals = []
+keys_refused (what.Group input keys aggs) task arrivals = refused_keys keys aggs (rows_in task arrivals)
+keys_refused (what.Sink input) task arrivals = []
 
 abbrev pub worker_refuses : Role → Position → List (List Value)
 worker_refuses role p = keys_refused role.task.kind role.task (taken_of role p)
 
 -- a record put before the first with a greater number
-unfoldable pub insert_numbered : Handed → List Handed → List Handed
+unfoldable pub insert_numbered : Arrival → List Arrival → List Arrival
 insert_numbered one [] = one ∷ []
 insert_numbered one (other ∷ more) = if nat_lt other.from one.from then other ∷ insert_numbered one more else one ∷ other ∷ more
 
 -- records in the order of their numbers
-unfoldable pub by_number : List Handed → List Handed
+unfoldable pub by_number : List Arrival → List Arrival
 by_number [] = []
 by_number (one ∷ more) = insert_numbered one (by_number more)
 

@@ -9,7 +9,7 @@ use Rattle.amber_rows.specs.declared.batch.Batch.{Batch}
 use Rattle.amber_log.specs.declared.entry.Entry.{Entry}
 use Rattle.amber_log.specs.declared.entry.Entry.TheVariants as entry
 use Rattle.amber_meaning.specs.Position.{one_if}
-use Rattle.amber_meaning.specs.Task.{Handed, row_in}
+use Rattle.amber_meaning.specs.Task.{Arrival, row_in}
 use Rattle.amber_meaning.specs.Views.{refusal_in}
 use Rattle.amber_scan.specs.declared.share.Scanned.{Scanned}
 use Rattle.amber_link.specs.Incoming.{Incoming, IsTaken, have_all_ended, have_builders_ended}
@@ -87,7 +87,7 @@ few-row does now building found share later taken emitted batches finished ins o
   moved = λ k d below. let within = within-with_go (taken + emitted) journal 1 0 refl few.moved k d below in omega arith;
 }
 
-pub takes-row : (w : WorkerState) (one : Handed) (later : List Handed) (now : OperatorState) (last : List (List Value)) (rest : List Handed) (pending : List (List Value)) (refused : List _)
+pub takes-row : (w : WorkerState) (one : Arrival) (later : List Arrival) (now : OperatorState) (last : List (List Value)) (rest : List Arrival) (pending : List (List Value)) (refused : List _)
     (kept : List (List Value)) (journal : List Entry) (columns : List _) (over : Bool)
     → columns ≡ columns_at_hand w → over ≡ (eqb (length w.rest) 1 && have_all_ended w.ins)
     → w.rest ≡ one ∷ later → rest ≡ later → Becomes w.operator_state w.building (row_in columns one.what) now → Closes now over last
@@ -195,7 +195,7 @@ pub no-share : (share : Option (List Scanned)) (ins : List Incoming) (place : �
 no-share None ins place h less = refl
 no-share (Some x) ins place h less = let empty = ap length h in absurd (omega arith)
 
-pub takes-batch : (w : WorkerState) (from number : ℕ) (builds : Bool) (batch : Batch) (ins found : List Incoming) (rest : List Handed) (journal : List Entry) (now : OperatorState)
+pub takes-batch : (w : WorkerState) (from number : ℕ) (builds : Bool) (batch : Batch) (ins found : List Incoming) (rest : List Arrival) (journal : List Entry) (now : OperatorState)
     (closing pending : List (List Value)) (empty over : Bool)
     → ((one : Incoming) × (one.from ≡ from) × (one.taken ≡ number) × (one.builds ≡ builds) × IsTaken w.ins one batch ins) → from < 2 ^ 32 → number < 2 ^ 64
     → rest ≡ map (row_from from) batch.rows → found ≡ ins → journal ≡ w.journal ++ entry.Take from number ∷ [] → now ≡ turned_to builds w.operator_state

@@ -18,11 +18,11 @@ use Rattle.amber_rows.specs.declared.flow.What.TheVariants as what
 use Rattle.amber_rows.specs.declared.flow.Operator.{Operator}
 use Rattle.amber_log.specs.Grammar.{AreEntries}
 use Rattle.amber_log.specs.declared.entry.Entry.{Entry}
-use Rattle.amber_meaning.specs.Plan.{builders_in, handed_columns, role_of, task_of}
+use Rattle.amber_meaning.specs.Plan.{builders_in, arrival_columns, role_of, task_of}
 use Rattle.amber_meaning.specs.Position.{fed, is_complete, kept, origin, product, share_or, taken_from}
 use Rattle.amber_meaning.specs.Rules.{Leads}
 use Rattle.amber_meaning.specs.State.{first_constants}
-use Rattle.amber_meaning.specs.Task.{Handed, Role, Task, built_of, closing, closing_rows, suiting}
+use Rattle.amber_meaning.specs.Task.{Arrival, Role, Task, built_of, closing, closing_rows, suiting}
 use Rattle.amber_meaning.proofs.Lists.{numbered-next}
 use Rattle.amber_scan.specs.declared.share.Scanned.{Scanned}
 use Rattle.amber_join.specs.Join.{Join}
@@ -61,13 +61,13 @@ has-first (operator_state.Group state) (what.Group input keys aggs) task is = is
 has-first operator_state.Sink kind task is = tt
 has-first d kind task is = absurd is
 
-columns-handed : (flow : List Operator) (op : ℕ) (kind : What) → columns_at flow (handing_operator kind op) ≡ handed_columns flow op kind
-columns-handed flow op (what.Scan file) = refl
-columns-handed flow op (what.Filter input cond) = refl
-columns-handed flow op (what.Project input from) = refl
-columns-handed flow op (what.Join build probe build_keys probe_keys) = refl
-columns-handed flow op (what.Group input keys aggs) = refl
-columns-handed flow op (what.Sink input) = refl
+columns-arrivals : (flow : List Operator) (op : ℕ) (kind : What) → columns_at flow (handing_operator kind op) ≡ arrival_columns flow op kind
+columns-arrivals flow op (what.Scan file) = refl
+columns-arrivals flow op (what.Filter input cond) = refl
+columns-arrivals flow op (what.Project input from) = refl
+columns-arrivals flow op (what.Join build probe build_keys probe_keys) = refl
+columns-arrivals flow op (what.Group input keys aggs) = refl
+columns-arrivals flow op (what.Sink input) = refl
 
 -- a scan is handed its share, all others nothing yet
 rest-first : (kind : What) (share : Option (List Scanned)) (role : Role) → is_some share ≡ is_scan kind → HasShare share role
@@ -104,7 +104,7 @@ product-first role none =
     by false = refl
 
 -- nothing is closing before anything was handed
-closing-first : (kind : What) (task : Task) (share : List Handed) → closing_rows kind (filter_map (suiting task) (share_or kind share [])) ≡ []
+closing-first : (kind : What) (task : Task) (share : List Arrival) → closing_rows kind (filter_map (suiting task) (share_or kind share [])) ≡ []
 unfolding grouped first_keys
 closing-first (what.Scan file) task share = refl
 closing-first (what.Filter input cond) task share = refl
@@ -230,7 +230,7 @@ builders-so flow (what.Group input keys aggs) is alone within = refl
 builders-so flow (what.Sink input) is alone within = refl
 
 -- what is left at first is of a scan
-building-first : (kind : What) (share : List Handed) → All (λ (one : Handed). among (builders_alone kind) one.from ≡ is_join kind) (share_or kind share [])
+building-first : (kind : What) (share : List Arrival) → All (λ (one : Arrival). among (builders_alone kind) one.from ≡ is_join kind) (share_or kind share [])
 building-first (what.Scan file) share = λ k d less. refl
 building-first (what.Filter input cond) share = λ k d less. absurd (omega arith)
 building-first (what.Project input from) share = λ k d less. absurd (omega arith)
@@ -318,7 +318,7 @@ shows-first flow records size worker share w is alone there some op shared has f
     builders-so flow kind is alone (inputs-within flow (op_of flow worker) is positive within) in
     let nothing = product-first role (closing-first kind task role.share) in
     let B : List ℕ → Type 0 = λ list. All (λ (one : Incoming). one.builds ≡ among list one.from) w.ins in
-    let C : List ℕ → Type 0 = λ list. All (λ (one : Handed). among list one.from ≡ w.building) w.rest in
+    let C : List ℕ → Type 0 = λ list. All (λ (one : Arrival). among list one.from ≡ w.building) w.rest in
     let S : List ℕ → Type 0 = λ list. (sender : ℕ) → among list sender ≡ true → among (senders_of flow worker) sender ≡ true in
     let rest : w.rest ≡ share_or kind role.share [] = fresh.rest ∙ rest-first kind share role shared has in
     record {
@@ -326,7 +326,7 @@ shows-first flow records size worker share w is alone there some op shared has f
       number = fresh.number;
       operator_state = does-first w.operator_state kind role fresh.does scans;
       state = has-first w.operator_state kind task fresh.does;
-      columns = fresh.columns ∙ columns-handed flow (op_of flow worker) kind;
+      columns = fresh.columns ∙ columns-arrivals flow (op_of flow worker) kind;
       build_columns = fresh.build_columns;
       sides = subst B (sym builders) (rw fresh.ins (sides-first kind apart inputs));
       builders = subst S (sym builders) (λ sender h. rw senders (builders-first kind sender h));

@@ -15,7 +15,7 @@ use Rattle.amber_rows.specs.declared.flow.What.TheVariants as what
 use Rattle.amber_log.specs.declared.entry.Entry.TheVariants as entry
 use Rattle.amber_meaning.specs.Position.{Position, Taken, emitted_rows, fed, have_ended, is_complete, is_emitted, product}
 use Rattle.amber_meaning.specs.Rules.{IsFree, MayFinish, MayGo, Orders, product_with, produced_with, went}
-use Rattle.amber_meaning.specs.Task.{Handed, Role, Task, closing, closing_rows, columns_from, is_builder, produce, row_in, suiting, yields, yields_if, yields_row}
+use Rattle.amber_meaning.specs.Task.{Arrival, Role, Task, closing, closing_rows, columns_from, is_builder, produce, row_in, suiting, yields, yields_if, yields_row}
 use Rattle.amber_meaning.specs.Views.{refusal_in, refused_in, rows_in, taken_of}
 use Rattle.amber_link.specs.Incoming.{Incoming, have_all_ended}
 use Rattle.amber_link.specs.Outgoing.{Outgoing, with_end, with_row}
@@ -48,7 +48,7 @@ free-shown placement orders w p sent shows works = record {
 -- ---- what a row yields
 
 -- a row that suits yields what the worker gives of it
-yields-given : (d : OperatorState) (task : Task) (kind : What) (constants : List Value) (role : Role) (before : List Handed) (from : ℕ) (row : List Value)
+yields-given : (d : OperatorState) (task : Task) (kind : What) (constants : List Value) (role : Role) (before : List Arrival) (from : ℕ) (row : List Value)
     → DoesKind d kind constants role → HasTaken d task before → yields_row task kind before from constants row ≡ gives d (is_builder task from) row
 yields-given operator_state.Scan task (what.Scan file) constants role before from row does has = refl
 yields-given (operator_state.Filter cond) task (what.Filter input own) constants role before from row does has = rw does refl
@@ -59,7 +59,7 @@ yields-given operator_state.Sink task (what.Sink input) constants role before fr
 yields-given d task kind constants role before from row does has = absurd does
 
 -- what is handed yields what the worker gives of it
-yields-all : (d : OperatorState) (task : Task) (constants : List Value) (role : Role) (before : List Handed) (one : Handed) → DoesKind d task.kind constants role → HasTaken d task before
+yields-all : (d : OperatorState) (task : Task) (constants : List Value) (role : Role) (before : List Arrival) (one : Arrival) → DoesKind d task.kind constants role → HasTaken d task before
     → yields task before one constants ≡ gives_if d (is_builder task one.from) (suiting task one)
 unfolding yields
 yields-all d task constants role before one does has = by (suiting task one)
@@ -77,7 +77,7 @@ sink-keeps None = refl
 sink-keeps (Some row) = refl
 
 -- what is kept for the answer, with one more that was taken
-kept-more : (d : OperatorState) (task : Task) (kind : What) (constants : List Value) (role : Role) (taken : List Handed) (one : Handed) → DoesKind d kind constants role
+kept-more : (d : OperatorState) (task : Task) (kind : What) (constants : List Value) (role : Role) (taken : List Arrival) (one : Arrival) → DoesKind d kind constants role
     → kept_of kind task (taken ++ one ∷ []) ≡ kept_of kind task taken ++ keeps_if d (suiting task one)
 kept-more operator_state.Scan task (what.Scan file) constants role taken one does = sym (nothing_kept operator_state.Scan (suiting task one) (λ row. refl))
 kept-more (operator_state.Filter cond) task (what.Filter input own) constants role taken one does = sym (nothing_kept (operator_state.Filter cond) (suiting task one) (λ row. refl))
@@ -89,13 +89,13 @@ kept-more operator_state.Sink task (what.Sink input) constants role taken one do
 kept-more d task kind constants role taken one does = absurd does
 
 -- what is refused, with one more that was taken
-refused-more : (op : ℕ) (taken : List Handed) (one : Handed) → refused_in op (taken ++ one ∷ []) ≡ refused_in op taken ++ refusal_in op one.from one.what
+refused-more : (op : ℕ) (taken : List Arrival) (one : Arrival) → refused_in op (taken ++ one ∷ []) ≡ refused_in op taken ++ refusal_in op one.from one.what
 refused-more op taken one = flat_map-append _ taken (one ∷ []) ∙ ap (λ l. refused_in op taken ++ l) (append-nil _)
 
 -- ---- a row is taken
 
 -- the facts of a row that is taken
-record TakesOne (placement : Placement) (orders : Orders) (w : WorkerState) (p : Position) (sent : ℕ → List Batch) (one : Handed) (later : List Handed) (now : OperatorState)
+record TakesOne (placement : Placement) (orders : Orders) (w : WorkerState) (p : Position) (sent : ℕ → List Batch) (one : Arrival) (later : List Arrival) (now : OperatorState)
     (last : List (List Value)) : Type 0 where
   shows : Shows placement orders w p sent
   rest : w.rest ≡ one ∷ later
@@ -108,12 +108,12 @@ abbrev with_one : Orders → Position → Position
 with_one orders p = went orders 1 0 p
 
 -- the side of what is at hand
-side-is : (placement : Placement) (orders : Orders) (w : WorkerState) (p : Position) (sent : ℕ → List Batch) (one : Handed) (later : List Handed) (now : OperatorState) (last : List (List Value))
+side-is : (placement : Placement) (orders : Orders) (w : WorkerState) (p : Position) (sent : ℕ → List Batch) (one : Arrival) (later : List Arrival) (now : OperatorState) (last : List (List Value))
     → TakesOne placement orders w p sent one later now last → All (λ other. is_builder placement.role.task other.from ≡ w.building) (one ∷ later)
 side-is placement orders w p sent one later now last takes = rw takes.rest at takes.shows.building
 
 -- the row at hand, if it suits
-found-is : (placement : Placement) (orders : Orders) (w : WorkerState) (p : Position) (sent : ℕ → List Batch) (one : Handed) (later : List Handed) (now : OperatorState) (last : List (List Value))
+found-is : (placement : Placement) (orders : Orders) (w : WorkerState) (p : Position) (sent : ℕ → List Batch) (one : Arrival) (later : List Arrival) (now : OperatorState) (last : List (List Value))
     → TakesOne placement orders w p sent one later now last → row_in (columns_at_hand w) one.what ≡ suiting placement.role.task one
 found-is placement orders w p sent one later now last takes =
     let builds : is_builder placement.role.task one.from ≡ w.building = side-is placement orders w p sent one later now last takes 0 one (omega arith) in
@@ -124,7 +124,7 @@ found-is placement orders w p sent one later now last takes =
     same false e = takes.shows.columns ∙ rw e refl
 
 -- what is kept becomes what the task says
-becomes-is : (placement : Placement) (orders : Orders) (w : WorkerState) (p : Position) (sent : ℕ → List Batch) (one : Handed) (later : List Handed) (now : OperatorState) (last : List (List Value))
+becomes-is : (placement : Placement) (orders : Orders) (w : WorkerState) (p : Position) (sent : ℕ → List Batch) (one : Arrival) (later : List Arrival) (now : OperatorState) (last : List (List Value))
     → TakesOne placement orders w p sent one later now last → Becomes w.operator_state (is_builder placement.role.task one.from) (suiting placement.role.task one) now
 becomes-is placement orders w p sent one later now last takes =
     let builds : is_builder placement.role.task one.from ≡ w.building = side-is placement orders w p sent one later now last takes 0 one (omega arith) in
@@ -132,7 +132,7 @@ becomes-is placement orders w p sent one later now last takes =
     let Q : Bool → Type 0 = λ b. Becomes w.operator_state b (suiting placement.role.task one) now in
     subst Q (sym builds) (subst P (found-is placement orders w p sent one later now last takes) takes.becomes)
 
-taken-now : (placement : Placement) (orders : Orders) (w : WorkerState) (p : Position) (sent : ℕ → List Batch) (one : Handed) (later : List Handed) (now : OperatorState) (last : List (List Value))
+taken-now : (placement : Placement) (orders : Orders) (w : WorkerState) (p : Position) (sent : ℕ → List Batch) (one : Arrival) (later : List Arrival) (now : OperatorState) (last : List (List Value))
     → TakesOne placement orders w p sent one later now last → take (length p.constants + 1) (fed placement.role p.taken) ≡ taken_of placement.role p ++ one ∷ []
 taken-now placement orders w p sent one later now last takes = take-next (length p.constants) (fed placement.role p.taken) one later (sym takes.shows.rest ∙ takes.rest)
 
@@ -144,13 +144,13 @@ all-ended (sender ∷ senders) taken [] h = absurd h
 all-ended (sender ∷ senders) taken (one ∷ ins) h = rw (h.0.ended, all-ended senders taken ins h.2) refl
 
 -- of the same rows the same are closing
-pub closing-same : (over : Bool) (kind : What) (task : Task) (handed all : List Handed) → (over ≡ true → handed ≡ all)
-    → (if over then closing_rows kind (filter_map (suiting task) handed) else []) ≡ (if over then closing_rows kind (filter_map (suiting task) all) else [])
-closing-same true kind task handed all same = ap (λ l. closing_rows kind (filter_map (suiting task) l)) (same refl)
-closing-same false kind task handed all same = refl
+pub closing-same : (over : Bool) (kind : What) (task : Task) (arrivals all : List Arrival) → (over ≡ true → arrivals ≡ all)
+    → (if over then closing_rows kind (filter_map (suiting task) arrivals) else []) ≡ (if over then closing_rows kind (filter_map (suiting task) all) else [])
+closing-same true kind task arrivals all same = ap (λ l. closing_rows kind (filter_map (suiting task) l)) (same refl)
+closing-same false kind task arrivals all same = refl
 
 -- nothing more can come behind this row
-over-is : (placement : Placement) (orders : Orders) (w : WorkerState) (p : Position) (sent : ℕ → List Batch) (one : Handed) (later : List Handed) (now : OperatorState) (last : List (List Value))
+over-is : (placement : Placement) (orders : Orders) (w : WorkerState) (p : Position) (sent : ℕ → List Batch) (one : Arrival) (later : List Arrival) (now : OperatorState) (last : List (List Value))
     → TakesOne placement orders w p sent one later now last → (eqb (length w.rest) 1 && have_all_ended w.ins) ≡ is_complete placement.role p.taken (length p.constants + 1)
 over-is placement orders w p sent one later now last takes =
     let shows = takes.shows in
@@ -162,7 +162,7 @@ over-is placement orders w p sent one later now last takes =
     (same-test (length w.rest) 1 (length p.constants + 1) (length (fed placement.role p.taken)) (λ e. omega arith) (λ e. omega arith))
 
 -- the rows that are given at the end
-last-is : (placement : Placement) (orders : Orders) (w : WorkerState) (p : Position) (sent : ℕ → List Batch) (one : Handed) (later : List Handed) (now : OperatorState) (last : List (List Value))
+last-is : (placement : Placement) (orders : Orders) (w : WorkerState) (p : Position) (sent : ℕ → List Batch) (one : Arrival) (later : List Arrival) (now : OperatorState) (last : List (List Value))
     → TakesOne placement orders w p sent one later now last
     → last ≡ (if is_complete placement.role p.taken (length p.constants + 1) then closing placement.role.task (fed placement.role p.taken) else [])
 unfolding closing
@@ -181,7 +181,7 @@ last-is placement orders w p sent one later now last takes =
     sym (taken-now placement orders w p sent one later now last takes) ∙ take_all (length p.constants + 1) (fed placement.role p.taken) (omega arith))
 
 -- what was produced with this row
-product-one : (placement : Placement) (orders : Orders) (w : WorkerState) (p : Position) (sent : ℕ → List Batch) (one : Handed) (later : List Handed) (now : OperatorState) (last : List (List Value))
+product-one : (placement : Placement) (orders : Orders) (w : WorkerState) (p : Position) (sent : ℕ → List Batch) (one : Arrival) (later : List Arrival) (now : OperatorState) (last : List (List Value))
     → TakesOne placement orders w p sent one later now last
     → product placement.role p.taken (p.constants ++ orders.constants ∷ [])
     ≡ product placement.role p.taken p.constants ++ (gives_if w.operator_state w.building (row_in (columns_at_hand w) one.what) ++ last)
@@ -210,7 +210,7 @@ all-gone placement orders w p sent shows none =
     let within = shows.produced in
     omega arith
 
-may-take_row : (placement : Placement) (orders : Orders) (w : WorkerState) (p : Position) (sent : ℕ → List Batch) (one : Handed) (later : List Handed) (now : OperatorState) (last : List (List Value))
+may-take_row : (placement : Placement) (orders : Orders) (w : WorkerState) (p : Position) (sent : ℕ → List Batch) (one : Arrival) (later : List Arrival) (now : OperatorState) (last : List (List Value))
     → TakesOne placement orders w p sent one later now last → IsWorking w → MayGo placement.role orders p 1 0
 may-take_row placement orders w p sent one later now_does last takes works =
     let shows = takes.shows in
@@ -238,7 +238,7 @@ both_false : (b : Bool) → (b && false) ≡ false
 both_false true = refl
 both_false false = refl
 
-shows-row_taken : (placement : Placement) (orders : Orders) (w : WorkerState) (p : Position) (sent : ℕ → List Batch) (one : Handed) (later : List Handed) (now : OperatorState) (last : List (List Value))
+shows-row_taken : (placement : Placement) (orders : Orders) (w : WorkerState) (p : Position) (sent : ℕ → List Batch) (one : Arrival) (later : List Arrival) (now : OperatorState) (last : List (List Value))
     → TakesOne placement orders w p sent one later now last → Shows placement orders (row_taken one later now last w) (with_one orders p) sent
 shows-row_taken placement orders w p sent one later now last takes =
     let shows = takes.shows in
@@ -285,7 +285,7 @@ shows-row_taken placement orders w p sent one later now last takes =
     }
 
 -- wherever a worker stood, it stands once it took a row
-pub Keeps-row_taken : (w : WorkerState) (one : Handed) (later : List Handed) (now : OperatorState) (last : List (List Value)) → w.rest ≡ one ∷ later → w.pending ≡ []
+pub Keeps-row_taken : (w : WorkerState) (one : Arrival) (later : List Arrival) (now : OperatorState) (last : List (List Value)) → w.rest ≡ one ∷ later → w.pending ≡ []
     → Becomes w.operator_state w.building (row_in (columns_at_hand w) one.what) now → Closes now (eqb (length w.rest) 1 && have_all_ended w.ins) last
     → IsWorking w → Keeps w (row_taken one later now last w)
 unfolding Keeps

@@ -4,7 +4,7 @@ use Rattle.std.proofs.lemmas.Bool.{eq-eqb, eqb-true, false≢true}
 use Rattle.std.proofs.lemmas.List.{append-nil}
 use Rattle.amber_rows.specs.declared.value.Value.{Value}
 use Rattle.amber_meaning.specs.Position.{Taken, fed, have_ended, is_complete, kept, product}
-use Rattle.amber_meaning.specs.Task.{Handed, Role, Task, closing, produce, yields}
+use Rattle.amber_meaning.specs.Task.{Arrival, Role, Task, closing, produce, yields}
 
 -- ---- a list that is left from a place on
 
@@ -45,33 +45,33 @@ left-behind n xs ys e = rw e (by xs)
 
 -- ---- what rows yield
 
-pub produce-none : (task : Task) (before handed : List Handed) → produce task before handed [] ≡ []
+pub produce-none : (task : Task) (before arrivals : List Arrival) → produce task before arrivals [] ≡ []
 unfolding produce
 produce-none task before [] = refl
-produce-none task before (one ∷ handed) = refl
+produce-none task before (one ∷ arrivals) = refl
 
 -- a row more was taken
-pub produce-next : (task : Task) (before handed : List Handed) (constants : List (List Value)) (one : Handed) (more : List Handed) (now : List Value)
-    → drop (length constants) handed ≡ one ∷ more
-    → produce task before handed (constants ++ now ∷ []) ≡ produce task before handed constants ++ yields task (before ++ take (length constants) handed) one now
+pub produce-next : (task : Task) (before arrivals : List Arrival) (constants : List (List Value)) (one : Arrival) (more : List Arrival) (now : List Value)
+    → drop (length constants) arrivals ≡ one ∷ more
+    → produce task before arrivals (constants ++ now ∷ []) ≡ produce task before arrivals constants ++ yields task (before ++ take (length constants) arrivals) one now
 unfolding produce
 produce-next task before [] [] one more now e = cc
 produce-next task before [] (k ∷ constants) one more now e = cc
-produce-next task before (x ∷ handed) [] one more now e =
+produce-next task before (x ∷ arrivals) [] one more now e =
     let same : x ≡ one = cc in
-    rw (same, produce-none task (before ++ one ∷ []) handed, append-nil, append-nil) refl
-produce-next task before (x ∷ handed) (k ∷ constants) one more now e =
-    rw (produce-next task (before ++ x ∷ []) handed constants one more now e, append_assoc, append_assoc) refl
+    rw (same, produce-none task (before ++ one ∷ []) arrivals, append-nil, append-nil) refl
+produce-next task before (x ∷ arrivals) (k ∷ constants) one more now e =
+    rw (produce-next task (before ++ x ∷ []) arrivals constants one more now e, append_assoc, append_assoc) refl
 
 -- more was handed than was taken
-pub produce-longer : (task : Task) (before handed more : List Handed) (constants : List (List Value)) → length constants ≤ length handed
-    → produce task before (handed ++ more) constants ≡ produce task before handed constants
+pub produce-longer : (task : Task) (before arrivals more : List Arrival) (constants : List (List Value)) → length constants ≤ length arrivals
+    → produce task before (arrivals ++ more) constants ≡ produce task before arrivals constants
 unfolding produce
 produce-longer task before [] more [] h = produce-none task before more
 produce-longer task before [] more (k ∷ constants) h = absurd (omega arith)
-produce-longer task before (x ∷ handed) more [] h = refl
-produce-longer task before (x ∷ handed) more (k ∷ constants) h =
-    ap (λ rows. yields task before x k ++ rows) (produce-longer task (before ++ x ∷ []) handed more constants (omega arith))
+produce-longer task before (x ∷ arrivals) more [] h = refl
+produce-longer task before (x ∷ arrivals) more (k ∷ constants) h =
+    ap (λ rows. yields task before x k ++ rows) (produce-longer task (before ++ x ∷ []) arrivals more constants (omega arith))
 
 -- a worker to whom more can come has produced what its rows yield
 pub product-open : (role : Role) (taken : List Taken) (constants : List (List Value)) → is_complete role taken (length constants) ≡ false

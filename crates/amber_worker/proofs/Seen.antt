@@ -4,7 +4,7 @@ use Rattle.amber_rows.specs.declared.value.Value.{Value}
 use Rattle.amber_rows.specs.declared.record.RowFault.{RowFault}
 use Rattle.amber_rows.specs.declared.flow.What.{What}
 use Rattle.amber_rows.specs.declared.flow.What.TheVariants as what
-use Rattle.amber_meaning.specs.Task.{Handed, Role, Task}
+use Rattle.amber_meaning.specs.Task.{Arrival, Role, Task}
 use Rattle.amber_meaning.specs.Views.{extra_of, first_of, refusal_in, refused_in, rows_in, taken_of, view_of}
 use Rattle.amber_meaning.specs.declared.answer.Refusal.{Refusal}
 use Rattle.amber_meaning.specs.declared.view.Extra.{Extra}
@@ -18,7 +18,7 @@ use Rattle.amber_worker.specs.declared.operator_state.OperatorState.{OperatorSta
 use Rattle.amber_worker.specs.declared.operator_state.OperatorState.TheVariants as operator_state
 
 -- as many refusals, whichever operator they are named for
-length-refused : (a b : ℕ) (handed : List Handed) → length (refused_in a handed) ≡ length (refused_in b handed)
+length-refused : (a b : ℕ) (arrivals : List Arrival) → length (refused_in a arrivals) ≡ length (refused_in b arrivals)
 length-refused a b [] = refl
 length-refused a b (one ∷ more) =
     let rest = length-refused a b more in
@@ -29,19 +29,19 @@ length-refused a b (one ∷ more) =
     same (Ok row) = refl
     same (Err why) = refl
 
-extra-is : (d : OperatorState) (kind : What) (constants : List Value) (role : Role) (task : Task) (op : ℕ) (handed : List Handed) (refused : List Refusal) (keep : List (List Value)) (shown : Extra)
-    → DoesKind d kind constants role → HasTaken d task handed → refused ≡ refused_in op handed → keep ≡ kept_of kind task handed
-    → IsExtra d (length refused) (length keep) shown → shown ≡ extra_of task kind handed
-extra-is operator_state.Scan (what.Scan file) constants role task op handed refused keep shown does has refused_is kept_is is =
-    is ∙ ap extra.Scan (ap length refused_is ∙ length-refused op 0 handed)
-extra-is (operator_state.Filter cond) (what.Filter input own) constants role task op handed refused keep shown does has refused_is kept_is is = is
-extra-is (operator_state.Project columns) (what.Project input own) constants role task op handed refused keep shown does has refused_is kept_is is = is
-extra-is (operator_state.Join state) (what.Join build probe build_keys probe_keys) constants role task op handed refused keep shown does has refused_is kept_is is =
+extra-is : (d : OperatorState) (kind : What) (constants : List Value) (role : Role) (task : Task) (op : ℕ) (arrivals : List Arrival) (refused : List Refusal) (keep : List (List Value)) (shown : Extra)
+    → DoesKind d kind constants role → HasTaken d task arrivals → refused ≡ refused_in op arrivals → keep ≡ kept_of kind task arrivals
+    → IsExtra d (length refused) (length keep) shown → shown ≡ extra_of task kind arrivals
+extra-is operator_state.Scan (what.Scan file) constants role task op arrivals refused keep shown does has refused_is kept_is is =
+    is ∙ ap extra.Scan (ap length refused_is ∙ length-refused op 0 arrivals)
+extra-is (operator_state.Filter cond) (what.Filter input own) constants role task op arrivals refused keep shown does has refused_is kept_is is = is
+extra-is (operator_state.Project columns) (what.Project input own) constants role task op arrivals refused keep shown does has refused_is kept_is is = is
+extra-is (operator_state.Join state) (what.Join build probe build_keys probe_keys) constants role task op arrivals refused keep shown does has refused_is kept_is is =
     is ∙ rw (does.0, has) refl
-extra-is (operator_state.Group state) (what.Group input keys aggs) constants role task op handed refused keep shown does has refused_is kept_is is =
-    is (rows_in task handed) has ∙ rw does.0 refl
-extra-is operator_state.Sink (what.Sink input) constants role task op handed refused keep shown does has refused_is kept_is is = is ∙ ap extra.Sink (ap length kept_is)
-extra-is d kind constants role task op handed refused keep shown does has refused_is kept_is is = absurd does
+extra-is (operator_state.Group state) (what.Group input keys aggs) constants role task op arrivals refused keep shown does has refused_is kept_is is =
+    is (rows_in task arrivals) has ∙ rw does.0 refl
+extra-is operator_state.Sink (what.Sink input) constants role task op arrivals refused keep shown does has refused_is kept_is is = is ∙ ap extra.Sink (ap length kept_is)
+extra-is d kind constants role task op arrivals refused keep shown does has refused_is kept_is is = absurd does
 
 stands-so : (finished held : Bool) → held ≡ false
     → (if finished then stand.Finished else stand.Ready) ≡ (if finished then stand.Finished else (if held then stand.Held else stand.Ready))

@@ -5,22 +5,22 @@ use Rattle.amber_rows.specs.declared.value.Value.{Value}
 use Rattle.amber_rows.specs.declared.record.RowFault.{RowFault}
 use Rattle.amber_rows.specs.declared.flow.Operator.{Operator}
 use Rattle.amber_meaning.specs.Plan.{role_of, share_of, turn_of, with_numbers}
-use Rattle.amber_meaning.specs.Task.{Handed}
+use Rattle.amber_meaning.specs.Task.{Arrival}
 use Rattle.amber_meaning.specs.Views.{by_number, insert_numbered}
 use Rattle.amber_scan.specs.Shares.{share_of as dealt_share, turn_of as dealt_turn, with_numbers as with_record_numbers}
 use Rattle.amber_scan.specs.declared.share.Scanned.{Scanned}
-use Rattle.amber_worker.specs.Fields.{handed_of}
+use Rattle.amber_worker.specs.Fields.{arrival_of}
 
 -- records whose numbers rise, from this one on
-abbrev Rise : ℕ → List Handed → Type 0
+abbrev Rise : ℕ → List Arrival → Type 0
 Rise least [] = Unit {0}
 Rise least (one ∷ more) = (least ≤ one.from) × Rise one.from more
 
-rise-lower : (a b : ℕ) (handed : List Handed) → a ≤ b → Rise b handed → Rise a handed
+rise-lower : (a b : ℕ) (arrivals : List Arrival) → a ≤ b → Rise b arrivals → Rise a arrivals
 rise-lower a b [] less h = tt
 rise-lower a b (one ∷ more) less h = (let here = h.0 in omega arith, h.1)
 
-rise-filter : (test : Handed → Bool) (least : ℕ) (handed : List Handed) → Rise least handed → Rise least (filter test handed)
+rise-filter : (test : Arrival → Bool) (least : ℕ) (arrivals : List Arrival) → Rise least arrivals → Rise least (filter test arrivals)
 rise-filter test least [] h = tt
 rise-filter test least (one ∷ more) h = by (test one) (rise-filter test one.from more h.1)
   where
@@ -28,8 +28,8 @@ rise-filter test least (one ∷ more) h = by (test one) (rise-filter test one.fr
     by true rest = (h.0, rest)
     by false rest = rise-lower least one.from (filter test more) h.0 rest
 
-rise-take : (n least : ℕ) (handed : List Handed) → Rise least handed → Rise least (take n handed)
-rise-take zero least handed h = tt
+rise-take : (n least : ℕ) (arrivals : List Arrival) → Rise least arrivals → Rise least (take n arrivals)
+rise-take zero least arrivals h = tt
 rise-take (suc n) least [] h = tt
 rise-take (suc n) least (one ∷ more) h = (h.0, rise-take n one.from more h.1)
 
@@ -39,12 +39,12 @@ rise-numbers number [] = tt
 rise-numbers number (one ∷ more) = (omega arith, rise-lower number (number + 1) (with_numbers (number + 1) more) (omega arith) (rise-numbers (number + 1) more))
 
 -- rising records are in their order
-rising-sorted : (least : ℕ) (handed : List Handed) → Rise least handed → by_number handed ≡ handed
+rising-sorted : (least : ℕ) (arrivals : List Arrival) → Rise least arrivals → by_number arrivals ≡ arrivals
 unfolding by_number insert_numbered
 rising-sorted least [] h = refl
 rising-sorted least (one ∷ more) h = rw (rising-sorted one.from more h.1) (first more h.1)
   where
-    first : (more : List Handed) → Rise one.from more → insert_numbered one more ≡ one ∷ more
+    first : (more : List Arrival) → Rise one.from more → insert_numbered one more ≡ one ∷ more
     first [] h = refl
     first (other ∷ more) h = rw (le-ltb other.from one.from h.0) refl
 
@@ -57,26 +57,26 @@ by_number-share flow records worker n =
 
 -- ---- the share that is dealt
 
-numbered-so : (number : ℕ) (records : List (Result (List Value) RowFault)) → map handed_of (with_record_numbers number records) ≡ with_numbers number records
+numbered-so : (number : ℕ) (records : List (Result (List Value) RowFault)) → map arrival_of (with_record_numbers number records) ≡ with_numbers number records
 unfolding with_numbers with_record_numbers
 numbered-so number [] = refl
 numbered-so number (one ∷ more) = ap (λ l. record { from = number; what = one } ∷ l) (numbered-so (number + 1) more)
 
 filter-map_so : (workers place : ℕ) (scanned : List Scanned)
-    → map handed_of (filter (λ one. eqb (dealt_turn workers one.number) place) scanned) ≡ filter (λ handed. eqb (turn_of workers handed.from) place) (map handed_of scanned)
+    → map arrival_of (filter (λ one. eqb (dealt_turn workers one.number) place) scanned) ≡ filter (λ arrivals. eqb (turn_of workers arrivals.from) place) (map arrival_of scanned)
 filter-map_so workers place [] = refl
 filter-map_so workers place (one ∷ more) = by (eqb (turn_of workers one.number) place) (filter-map_so workers place more)
   where
     by : (b : Bool)
-        → map handed_of (filter (λ one. eqb (dealt_turn workers one.number) place) more) ≡ filter (λ handed. eqb (turn_of workers handed.from) place) (map handed_of more)
-        → map handed_of (if b then one ∷ filter (λ one. eqb (dealt_turn workers one.number) place) more else filter (λ one. eqb (dealt_turn workers one.number) place) more)
-        ≡ (if b then handed_of one ∷ filter (λ handed. eqb (turn_of workers handed.from) place) (map handed_of more) else filter (λ handed. eqb (turn_of workers handed.from) place) (map handed_of more))
-    by true rest = ap (λ l. handed_of one ∷ l) rest
+        → map arrival_of (filter (λ one. eqb (dealt_turn workers one.number) place) more) ≡ filter (λ arrivals. eqb (turn_of workers arrivals.from) place) (map arrival_of more)
+        → map arrival_of (if b then one ∷ filter (λ one. eqb (dealt_turn workers one.number) place) more else filter (λ one. eqb (dealt_turn workers one.number) place) more)
+        ≡ (if b then arrival_of one ∷ filter (λ arrivals. eqb (turn_of workers arrivals.from) place) (map arrival_of more) else filter (λ arrivals. eqb (turn_of workers arrivals.from) place) (map arrival_of more))
+    by true rest = ap (λ l. arrival_of one ∷ l) rest
     by false rest = rest
 
 -- the share that a worker is dealt is what it is handed
 pub share-dealt : (records : List (Result (List Value) RowFault)) (workers place : ℕ)
-    → map handed_of (dealt_share workers place (with_record_numbers 1 records)) ≡ share_of records workers place
+    → map arrival_of (dealt_share workers place (with_record_numbers 1 records)) ≡ share_of records workers place
 unfolding share_of dealt_share
 share-dealt records workers place =
-    filter-map_so workers place (with_record_numbers 1 records) ∙ ap (λ l. filter (λ handed. eqb (turn_of workers handed.from) place) l) (numbered-so 1 records)
+    filter-map_so workers place (with_record_numbers 1 records) ∙ ap (λ l. filter (λ arrivals. eqb (turn_of workers arrivals.from) place) l) (numbered-so 1 records)

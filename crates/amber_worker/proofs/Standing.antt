@@ -4,7 +4,7 @@ use Rattle.amber_rows.specs.Order.{sort_rows}
 use Rattle.amber_rows.specs.declared.value.Value.{Value}
 use Rattle.amber_rows.specs.declared.flow.What.{What}
 use Rattle.amber_rows.specs.declared.flow.What.TheVariants as what
-use Rattle.amber_meaning.specs.Task.{Handed, Role, Task}
+use Rattle.amber_meaning.specs.Task.{Arrival, Role, Task}
 use Rattle.amber_meaning.specs.Views.{keys_refused, rows_in, taken_of}
 use Rattle.amber_meaning.specs.declared.answer.Refusal.TheVariants as refusal
 use Rattle.amber_worker.specs.Stands.{DoesKind, HasTaken, IsGivenOf, Keeps}
@@ -20,15 +20,15 @@ unfolding Keeps
 Keeps-refl w placement orders start p sent stands = (p, stands, λ sender. refl)
 
 -- the keys that a worker has refused are those of the rows that it took
-keys-are : (d : OperatorState) (kind : What) (constants : List Value) (role : Role) (task : Task) (handed : List Handed) (keys : List (List Value))
-    → DoesKind d kind constants role → HasTaken d task handed → IsRefused d keys → keys ≡ keys_refused kind task handed
-keys-are operator_state.Scan (what.Scan file) constants role task handed keys does has refused = refused
-keys-are (operator_state.Filter cond) (what.Filter input own) constants role task handed keys does has refused = refused
-keys-are (operator_state.Project from) (what.Project input columns) constants role task handed keys does has refused = refused
-keys-are (operator_state.Join state) (what.Join build probe build_keys probe_keys) constants role task handed keys does has refused = refused
-keys-are (operator_state.Group state) (what.Group input own aggs) constants role task handed keys does has refused = refused (rows_in task handed) has ∙ rw (does.0, does.1) refl
-keys-are operator_state.Sink (what.Sink input) constants role task handed keys does has refused = refused
-keys-are d kind constants role task handed keys does has refused = absurd does
+keys-are : (d : OperatorState) (kind : What) (constants : List Value) (role : Role) (task : Task) (arrivals : List Arrival) (keys : List (List Value))
+    → DoesKind d kind constants role → HasTaken d task arrivals → IsRefused d keys → keys ≡ keys_refused kind task arrivals
+keys-are operator_state.Scan (what.Scan file) constants role task arrivals keys does has refused = refused
+keys-are (operator_state.Filter cond) (what.Filter input own) constants role task arrivals keys does has refused = refused
+keys-are (operator_state.Project from) (what.Project input columns) constants role task arrivals keys does has refused = refused
+keys-are (operator_state.Join state) (what.Join build probe build_keys probe_keys) constants role task arrivals keys does has refused = refused
+keys-are (operator_state.Group state) (what.Group input own aggs) constants role task arrivals keys does has refused = refused (rows_in task arrivals) has ∙ rw (does.0, does.1) refl
+keys-are operator_state.Sink (what.Sink input) constants role task arrivals keys does has refused = refused
+keys-are d kind constants role task arrivals keys does has refused = absurd does
 
 -- what a worker hands out is what it gives in its position
 pub given-is : (w : WorkerState) (given : Given) (keys : List (List Value)) → IsRefused w.operator_state keys → given.refused ≡ w.refused ++ map (refusal.Group w.op) (sort_rows keys)

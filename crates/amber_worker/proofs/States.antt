@@ -11,7 +11,7 @@ use Rattle.amber_rows.specs.declared.flow.What.{What}
 use Rattle.amber_rows.specs.declared.flow.What.TheVariants as what
 use Rattle.amber_group.specs.Group.{Group, Stands as GroupStands}
 use Rattle.amber_join.specs.Join.{Join}
-use Rattle.amber_meaning.specs.Task.{Handed, Role, Task, built_of, closing_rows, is_builder, suiting}
+use Rattle.amber_meaning.specs.Task.{Arrival, Role, Task, built_of, closing_rows, is_builder, suiting}
 use Rattle.amber_meaning.specs.Views.{rows_in}
 use Rattle.amber_link.specs.Incoming.{Incoming, IsTaken, have_builders_ended, without_first}
 use Rattle.amber_worker.specs.Fields.{IsInOrder}
@@ -60,7 +60,7 @@ does-more (operator_state.Group state) now builds found kind constants role beco
     subst (λ d. DoesKind d kind constants role) (sym becomes.1) (group-does state becomes.0 kind constants role becomes.2.keys becomes.2.aggs does)
 does-more operator_state.Sink now builds found kind constants role becomes does = subst (λ d. DoesKind d kind constants role) (sym becomes) does
 
-one-found : (task : Task) (one : Handed) → filter_map (suiting task) (one ∷ []) ≡ option_to_list (suiting task one)
+one-found : (task : Task) (one : Arrival) → filter_map (suiting task) (one ∷ []) ≡ option_to_list (suiting task one)
 one-found task one = by (suiting task one) refl
   where
     by : (o : Option (List Value)) → suiting task one ≡ o → filter_map (suiting task) (one ∷ []) ≡ option_to_list o
@@ -68,39 +68,39 @@ one-found task one = by (suiting task one) refl
     by (Some row) e = rw e refl
 
 -- the rows that suit, with one more
-pub rows-more : (task : Task) (handed : List Handed) (one : Handed) → rows_in task (handed ++ one ∷ []) ≡ rows_in task handed ++ option_to_list (suiting task one)
-rows-more task handed one = filter_map-append (suiting task) handed (one ∷ []) ∙ ap (λ l. rows_in task handed ++ l) (one-found task one)
+pub rows-more : (task : Task) (arrivals : List Arrival) (one : Arrival) → rows_in task (arrivals ++ one ∷ []) ≡ rows_in task arrivals ++ option_to_list (suiting task one)
+rows-more task arrivals one = filter_map-append (suiting task) arrivals (one ∷ []) ∙ ap (λ l. rows_in task arrivals ++ l) (one-found task one)
 
 -- the build side, with one more
-built-more : (task : Task) (handed : List Handed) (one : Handed) (state : Join) → state.rows ≡ built_of task handed
-    → (built_with (is_builder task one.from) (suiting task one) state).rows ≡ built_of task (handed ++ one ∷ [])
+built-more : (task : Task) (arrivals : List Arrival) (one : Arrival) (state : Join) → state.rows ≡ built_of task arrivals
+    → (built_with (is_builder task one.from) (suiting task one) state).rows ≡ built_of task (arrivals ++ one ∷ [])
 unfolding built_of
-built-more task handed one state is =
+built-more task arrivals one state is =
     by (is_builder task one.from) (suiting task one) (one-found task one)
-    ∙ sym (ap (λ l. filter_map (suiting task) l) (filter-append (λ other. is_builder task other.from) handed (one ∷ []))
-    ∙ filter_map-append (suiting task) (filter (λ other. is_builder task other.from) handed) (if is_builder task one.from then one ∷ [] else []))
+    ∙ sym (ap (λ l. filter_map (suiting task) l) (filter-append (λ other. is_builder task other.from) arrivals (one ∷ []))
+    ∙ filter_map-append (suiting task) (filter (λ other. is_builder task other.from) arrivals) (if is_builder task one.from then one ∷ [] else []))
   where
     all : List (List Value)
-    all = filter_map (suiting task) (filter (λ other. is_builder task other.from) handed)
+    all = filter_map (suiting task) (filter (λ other. is_builder task other.from) arrivals)
 
     by : (b : Bool) (o : Option (List Value)) → filter_map (suiting task) (one ∷ []) ≡ option_to_list o
-        → (built_with b o state).rows ≡ filter_map (suiting task) (filter (λ other. is_builder task other.from) handed) ++ filter_map (suiting task) (if b then one ∷ [] else [])
+        → (built_with b o state).rows ≡ filter_map (suiting task) (filter (λ other. is_builder task other.from) arrivals) ++ filter_map (suiting task) (if b then one ∷ [] else [])
     by true None e = rw e (is ∙ sym (append-nil _))
     by true (Some row) e = rw e (ap (λ l. l ++ row ∷ []) is)
     by false None e = is ∙ sym (append-nil _)
     by false (Some row) e = is ∙ sym (append-nil _)
 
 -- what a worker keeps is of the rows that it took, with one more
-pub has-more : (d now : OperatorState) (task : Task) (handed : List Handed) (one : Handed) → Becomes d (is_builder task one.from) (suiting task one) now
-    → HasTaken d task handed → HasTaken now task (handed ++ one ∷ [])
-has-more operator_state.Scan now task handed one becomes has = subst (λ d. HasTaken d task (handed ++ one ∷ [])) (sym becomes) tt
-has-more (operator_state.Filter cond) now task handed one becomes has = subst (λ d. HasTaken d task (handed ++ one ∷ [])) (sym becomes) tt
-has-more (operator_state.Project from) now task handed one becomes has = subst (λ d. HasTaken d task (handed ++ one ∷ [])) (sym becomes) tt
-has-more (operator_state.Join state) now task handed one becomes has = subst (λ d. HasTaken d task (handed ++ one ∷ [])) (sym becomes) (built-more task handed one state has)
-has-more (operator_state.Group state) now task handed one becomes has =
+pub has-more : (d now : OperatorState) (task : Task) (arrivals : List Arrival) (one : Arrival) → Becomes d (is_builder task one.from) (suiting task one) now
+    → HasTaken d task arrivals → HasTaken now task (arrivals ++ one ∷ [])
+has-more operator_state.Scan now task arrivals one becomes has = subst (λ d. HasTaken d task (arrivals ++ one ∷ [])) (sym becomes) tt
+has-more (operator_state.Filter cond) now task arrivals one becomes has = subst (λ d. HasTaken d task (arrivals ++ one ∷ [])) (sym becomes) tt
+has-more (operator_state.Project from) now task arrivals one becomes has = subst (λ d. HasTaken d task (arrivals ++ one ∷ [])) (sym becomes) tt
+has-more (operator_state.Join state) now task arrivals one becomes has = subst (λ d. HasTaken d task (arrivals ++ one ∷ [])) (sym becomes) (built-more task arrivals one state has)
+has-more (operator_state.Group state) now task arrivals one becomes has =
     let P : List (List Value) → Type 0 = λ rows. GroupStands becomes.0 rows in
-    subst (λ d. HasTaken d task (handed ++ one ∷ [])) (sym becomes.1) (subst P (sym (rows-more task handed one)) (becomes.2.stands (rows_in task handed) has))
-has-more operator_state.Sink now task handed one becomes has = subst (λ d. HasTaken d task (handed ++ one ∷ [])) (sym becomes) tt
+    subst (λ d. HasTaken d task (arrivals ++ one ∷ [])) (sym becomes.1) (subst P (sym (rows-more task arrivals one)) (becomes.2.stands (rows_in task arrivals) has))
+has-more operator_state.Sink now task arrivals one becomes has = subst (λ d. HasTaken d task (arrivals ++ one ∷ [])) (sym becomes) tt
 
 -- ---- a batch more
 
@@ -115,39 +115,39 @@ does-turned (operator_state.Join state) false kind constants role does = join-do
 does-turned (operator_state.Group state) builds kind constants role does = does
 does-turned operator_state.Sink builds kind constants role does = does
 
-pub has-turned : (d : OperatorState) (builds : Bool) (task : Task) (handed : List Handed) → HasTaken d task handed → HasTaken (turned_to builds d) task handed
-has-turned operator_state.Scan builds task handed has = has
-has-turned (operator_state.Filter cond) builds task handed has = has
-has-turned (operator_state.Project from) builds task handed has = has
-has-turned (operator_state.Join state) true task handed has = has
-has-turned (operator_state.Join state) false task handed has = has
-has-turned (operator_state.Group state) builds task handed has = has
-has-turned operator_state.Sink builds task handed has = has
+pub has-turned : (d : OperatorState) (builds : Bool) (task : Task) (arrivals : List Arrival) → HasTaken d task arrivals → HasTaken (turned_to builds d) task arrivals
+has-turned operator_state.Scan builds task arrivals has = has
+has-turned (operator_state.Filter cond) builds task arrivals has = has
+has-turned (operator_state.Project from) builds task arrivals has = has
+has-turned (operator_state.Join state) true task arrivals has = has
+has-turned (operator_state.Join state) false task arrivals has = has
+has-turned (operator_state.Group state) builds task arrivals has = has
+has-turned operator_state.Sink builds task arrivals has = has
 
 -- ---- the end
 
-group-closes : (state : Group) (input : ℕ) (keys : List ℕ) (aggs : List _) (task : Task) (handed : List Handed) (over : Bool) (last : List (List Value))
-    → state.keys ≡ keys → state.aggs ≡ aggs → GroupStands state (rows_in task handed) → GivesGroups state over last
-    → last ≡ (if over then closing_rows (what.Group input keys aggs) (filter_map (suiting task) handed) else [])
-group-closes state input keys aggs task handed true last is_keys is_aggs has closes = closes (rows_in task handed) has ∙ rw (is_keys, is_aggs) refl
-group-closes state input keys aggs task handed false last is_keys is_aggs has closes = closes
+group-closes : (state : Group) (input : ℕ) (keys : List ℕ) (aggs : List _) (task : Task) (arrivals : List Arrival) (over : Bool) (last : List (List Value))
+    → state.keys ≡ keys → state.aggs ≡ aggs → GroupStands state (rows_in task arrivals) → GivesGroups state over last
+    → last ≡ (if over then closing_rows (what.Group input keys aggs) (filter_map (suiting task) arrivals) else [])
+group-closes state input keys aggs task arrivals true last is_keys is_aggs has closes = closes (rows_in task arrivals) has ∙ rw (is_keys, is_aggs) refl
+group-closes state input keys aggs task arrivals false last is_keys is_aggs has closes = closes
 
 nothing-closes : (over : Bool) (last rows : List (List Value)) → last ≡ [] → rows ≡ [] → last ≡ (if over then rows else [])
 nothing-closes true last rows e none = e ∙ sym none
 nothing-closes false last rows e none = e
 
 -- the rows given at the end are those of the groups, once nothing more can come
-pub closing-is : (d : OperatorState) (kind : What) (constants : List Value) (role : Role) (task : Task) (handed : List Handed) (over : Bool) (last : List (List Value))
-    → DoesKind d kind constants role → HasTaken d task handed → Closes d over last
-    → last ≡ (if over then closing_rows kind (filter_map (suiting task) handed) else [])
-closing-is operator_state.Scan (what.Scan file) constants role task handed over last does has closes = nothing-closes over last [] closes refl
-closing-is (operator_state.Filter cond) (what.Filter input own) constants role task handed over last does has closes = nothing-closes over last [] closes refl
-closing-is (operator_state.Project from) (what.Project input columns) constants role task handed over last does has closes = nothing-closes over last [] closes refl
-closing-is (operator_state.Join state) (what.Join b p build_keys probe_keys) constants role task handed over last does has closes = nothing-closes over last [] closes refl
-closing-is (operator_state.Group state) (what.Group input keys aggs) constants role task handed over last does has closes =
-    group-closes state input keys aggs task handed over last does.0 does.1 has closes
-closing-is operator_state.Sink (what.Sink input) constants role task handed over last does has closes = nothing-closes over last [] closes refl
-closing-is d kind constants role task handed over last does has closes = absurd does
+pub closing-is : (d : OperatorState) (kind : What) (constants : List Value) (role : Role) (task : Task) (arrivals : List Arrival) (over : Bool) (last : List (List Value))
+    → DoesKind d kind constants role → HasTaken d task arrivals → Closes d over last
+    → last ≡ (if over then closing_rows kind (filter_map (suiting task) arrivals) else [])
+closing-is operator_state.Scan (what.Scan file) constants role task arrivals over last does has closes = nothing-closes over last [] closes refl
+closing-is (operator_state.Filter cond) (what.Filter input own) constants role task arrivals over last does has closes = nothing-closes over last [] closes refl
+closing-is (operator_state.Project from) (what.Project input columns) constants role task arrivals over last does has closes = nothing-closes over last [] closes refl
+closing-is (operator_state.Join state) (what.Join b p build_keys probe_keys) constants role task arrivals over last does has closes = nothing-closes over last [] closes refl
+closing-is (operator_state.Group state) (what.Group input keys aggs) constants role task arrivals over last does has closes =
+    group-closes state input keys aggs task arrivals over last does.0 does.1 has closes
+closing-is operator_state.Sink (what.Sink input) constants role task arrivals over last does has closes = nothing-closes over last [] closes refl
+closing-is d kind constants role task arrivals over last does has closes = absurd does
 
 -- an empty batch closes where all have ended
 pub closes-batch : (d : OperatorState) (empty over : Bool) (last : List (List Value)) → Closes d empty last → Closes d (empty && over) (if over then last else [])

@@ -12,9 +12,9 @@ use Rattle.amber_rows.specs.declared.batch.Batch.{Batch}
 use Rattle.amber_rows.specs.declared.flow.What.{What}
 use Rattle.amber_rows.specs.declared.flow.What.TheVariants as what
 use Rattle.amber_log.specs.declared.entry.Entry.TheVariants as entry
-use Rattle.amber_meaning.specs.Position.{Position, Taken, fed, handed_by, has_last, have_ended, is_complete, product, share_or, taken_from}
+use Rattle.amber_meaning.specs.Position.{Position, Taken, fed, arrivals_of, has_last, have_ended, is_complete, product, share_or, taken_from}
 use Rattle.amber_meaning.specs.Rules.{MayTake, Orders, may_take_from, took}
-use Rattle.amber_meaning.specs.Task.{Handed, Role, Task, closing, is_builder, produce}
+use Rattle.amber_meaning.specs.Task.{Arrival, Role, Task, closing, is_builder, produce}
 use Rattle.amber_meaning.specs.Views.{taken_of}
 use Rattle.amber_link.specs.Incoming.{Incoming, IsTaken, have_all_ended, have_builders_ended, without_first}
 use Rattle.amber_worker.specs.Fields.{row_from}
@@ -177,27 +177,27 @@ waits-other sender (first ∷ front) back one now own other =
 
 -- ---- what was handed
 
-not-scan : (d : OperatorState) (kind : What) (constants : List Value) (role : Role) (share handed more : List Handed) → DoesKind d kind constants role → (role.senders ≡ [] → ⊥)
-    → share_or kind share (handed ++ more) ≡ share_or kind share handed ++ more
-not-scan operator_state.Scan (what.Scan file) constants role share handed more does some = absurd (some does)
-not-scan (operator_state.Filter cond) (what.Scan file) constants role share handed more does some = absurd does
-not-scan (operator_state.Project from) (what.Scan file) constants role share handed more does some = absurd does
-not-scan operator_state.Sink (what.Scan file) constants role share handed more does some = absurd does
-not-scan (operator_state.Join state) (what.Scan file) constants role share handed more does some = absurd does
-not-scan (operator_state.Group state) (what.Scan file) constants role share handed more does some = absurd does
-not-scan d (what.Filter input cond) constants role share handed more does some = refl
-not-scan d (what.Project input columns) constants role share handed more does some = refl
-not-scan d (what.Join build probe build_keys probe_keys) constants role share handed more does some = refl
-not-scan d (what.Group input keys aggs) constants role share handed more does some = refl
-not-scan d (what.Sink input) constants role share handed more does some = refl
+not-scan : (d : OperatorState) (kind : What) (constants : List Value) (role : Role) (share arrivals more : List Arrival) → DoesKind d kind constants role → (role.senders ≡ [] → ⊥)
+    → share_or kind share (arrivals ++ more) ≡ share_or kind share arrivals ++ more
+not-scan operator_state.Scan (what.Scan file) constants role share arrivals more does some = absurd (some does)
+not-scan (operator_state.Filter cond) (what.Scan file) constants role share arrivals more does some = absurd does
+not-scan (operator_state.Project from) (what.Scan file) constants role share arrivals more does some = absurd does
+not-scan operator_state.Sink (what.Scan file) constants role share arrivals more does some = absurd does
+not-scan (operator_state.Join state) (what.Scan file) constants role share arrivals more does some = absurd does
+not-scan (operator_state.Group state) (what.Scan file) constants role share arrivals more does some = absurd does
+not-scan d (what.Filter input cond) constants role share arrivals more does some = refl
+not-scan d (what.Project input columns) constants role share arrivals more does some = refl
+not-scan d (what.Join build probe build_keys probe_keys) constants role share arrivals more does some = refl
+not-scan d (what.Group input keys aggs) constants role share arrivals more does some = refl
+not-scan d (what.Sink input) constants role share arrivals more does some = refl
 
 fed-more : (d : OperatorState) (constants : List Value) (role : Role) (taken : List Taken) (from : ℕ) (batch : Batch) → DoesKind d role.task.kind constants role → (role.senders ≡ [] → ⊥)
     → fed role (taken ++ as_taken from batch ∷ []) ≡ fed role taken ++ map (row_from from) batch.rows
 unfolding fed
 fed-more d constants role taken from batch does some =
-    ap (λ handed. share_or role.task.kind role.share handed)
-    (flat_map-append handed_by taken (as_taken from batch ∷ []) ∙ ap (λ l. flat_map handed_by taken ++ l) (append-nil _))
-    ∙ not-scan d role.task.kind constants role role.share (flat_map handed_by taken) (map (row_from from) batch.rows) does some
+    ap (λ arrivals. share_or role.task.kind role.share arrivals)
+    (flat_map-append arrivals_of taken (as_taken from batch ∷ []) ∙ ap (λ l. flat_map arrivals_of taken ++ l) (append-nil _))
+    ∙ not-scan d role.task.kind constants role role.share (flat_map arrivals_of taken) (map (row_from from) batch.rows) does some
 
 -- ---- a batch is taken
 
@@ -256,10 +256,10 @@ sides-next task (first ∷ front) back one now builds from sides =
 
 -- all rows of a batch are of one side
 one-side : (task : Task) (from : ℕ) (builds : Bool) (rows : List (List Value)) → is_builder task from ≡ builds
-    → All (λ (other : Handed). is_builder task other.from ≡ builds) (map (row_from from) rows)
+    → All (λ (other : Arrival). is_builder task other.from ≡ builds) (map (row_from from) rows)
 one-side task from builds [] e = λ k d less. absurd (omega arith)
 one-side task from builds (row ∷ rows) e =
-    All-cons (λ (other : Handed). is_builder task other.from ≡ builds) (row_from from row) (map (row_from from) rows) e (one-side task from builds rows e)
+    All-cons (λ (other : Arrival). is_builder task other.from ≡ builds) (row_from from row) (map (row_from from) rows) e (one-side task from builds rows e)
 
 may-side : (role : Role) (taken : List Taken) (one : Incoming) (built : Bool) → one.builds ≡ is_builder role.task one.from → (one.builds || built) ≡ true
     → (built ≡ true → have_ended role.task.builders taken ≡ true) → may_take_from role taken one.from ≡ true
@@ -392,7 +392,7 @@ product-now : (placement : Placement) (orders : Orders) (w : WorkerState) (p : P
 product-now placement orders w p sent one batch ins last shows takes =
     let before = product-open placement.role p.taken p.constants (open-before placement orders w p sent one batch ins last shows takes) in
     let same : produce placement.role.task [] (fed placement.role (p.taken ++ as_taken one.from batch ∷ [])) p.constants ≡ product placement.role p.taken p.constants =
-    ap (λ handed. produce placement.role.task [] handed p.constants) (fed-now placement orders w p sent one batch ins last shows takes)
+    ap (λ arrivals. produce placement.role.task [] arrivals p.constants) (fed-now placement orders w p sent one batch ins last shows takes)
     ∙ produce-longer placement.role.task [] (fed placement.role p.taken) (map (row_from one.from) batch.rows) p.constants shows.within
     ∙ sym before in
     product-is placement.role (p.taken ++ as_taken one.from batch ∷ []) p.constants

@@ -4,7 +4,7 @@ use Rattle.amber_rows.specs.declared.value.Value.{Value}
 use Rattle.amber_log.specs.declared.entry.Entry.{Entry}
 use Rattle.amber_log.specs.declared.entry.Entry.TheVariants as entry
 use Rattle.amber_meaning.specs.Position.{one_if}
-use Rattle.amber_meaning.specs.Task.{Handed}
+use Rattle.amber_meaning.specs.Task.{Arrival}
 use Rattle.amber_scan.specs.declared.share.Scanned.{Scanned}
 use Rattle.amber_link.specs.Incoming.{Incoming, have_builders_ended}
 use Rattle.amber_link.specs.Outgoing.{Outgoing}
@@ -13,17 +13,17 @@ use Rattle.amber_worker.specs.declared.operator_state.OperatorState.TheVariants 
 use Rattle.amber_worker.specs.declared.taking.Rest.{Rest}
 
 -- a row as it was handed by a sender
-abbrev pub row_from : ℕ → List Value → Handed
+abbrev pub row_from : ℕ → List Value → Arrival
 row_from sender row = record { from = sender; what = Ok row }
 
 -- a record of a scan's share as what is handed
-abbrev pub handed_of : Scanned → Handed
-handed_of one = record { from = one.number; what = one.what }
+abbrev pub arrival_of : Scanned → Arrival
+arrival_of one = record { from = one.number; what = one.what }
 
 -- what is left: of a scan's share, or of the rows that a sender gave
-abbrev pub rest_in : Option (List Scanned) → ℕ → List (List Value) → List Handed
+abbrev pub rest_in : Option (List Scanned) → ℕ → List (List Value) → List Arrival
 rest_in None sender rows = map (row_from sender) rows
-rest_in (Some share) sender rows = map handed_of share
+rest_in (Some share) sender rows = map arrival_of share
 
 -- the rows that an entry takes and emits
 abbrev pub rows_moved : Entry → ℕ
@@ -58,5 +58,5 @@ pub record AreFew (does : OperatorState) (building : Bool) (share : Option (List
   pub sent : MatchOption out (Unit {0}) (λ one. one.made + length one.partial ≤ emitted + one_if finished)
   pub moved : All (λ one. rows_moved one ≤ taken + emitted) journal
 
-abbrev pub handed_in : Rest → List Handed
-handed_in rest = rest_in rest.share rest.from rest.rows.items
+abbrev pub arrivals_in : Rest → List Arrival
+arrivals_in rest = rest_in rest.share rest.from rest.rows.items

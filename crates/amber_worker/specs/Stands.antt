@@ -16,14 +16,14 @@ use Rattle.amber_meaning.specs.Plan.{role_of}
 use Rattle.amber_meaning.specs.Position.{Position, Taken, emitted_count, emitted_rows, fed, has_last, pending_rows, produced_rows, rest_of, taken_from}
 use Rattle.amber_meaning.specs.Rules.{Leads, Orders}
 use Rattle.amber_meaning.specs.State.{first_constants}
-use Rattle.amber_meaning.specs.Task.{Handed, Role, Task, built_of, is_builder, with_constant}
+use Rattle.amber_meaning.specs.Task.{Arrival, Role, Task, built_of, is_builder, with_constant}
 use Rattle.amber_meaning.specs.Plain.{refused_groups}
 use Rattle.amber_meaning.specs.Views.{refused_in, rows_in, taken_of, view_of, worker_refuses}
 use Rattle.amber_meaning.specs.declared.view.WorkerView.{WorkerView}
 use Rattle.amber_scan.specs.declared.share.Scanned.{Scanned}
 use Rattle.amber_link.specs.Incoming.{Incoming}
 use Rattle.amber_link.specs.Outgoing.{Outgoing}
-use Rattle.amber_worker.specs.Fields.{handed_of}
+use Rattle.amber_worker.specs.Fields.{arrival_of}
 use Rattle.amber_worker.specs.Links.{waiting_from}
 use Rattle.amber_worker.specs.WorkerState.{WorkerState, steps_in}
 use Rattle.amber_worker.specs.declared.operator_state.OperatorState.{OperatorState}
@@ -78,7 +78,7 @@ AreAlone flow = All (λ operator. operator.workers ≡ 1) flow
 -- a worker of a scan was given its share
 abbrev pub HasShare : Option (List Scanned) → Role → Type 0
 HasShare None role = Unit {0}
-HasShare (Some share) role = map handed_of share ≡ role.share
+HasShare (Some share) role = map arrival_of share ≡ role.share
 
 -- ---- the parts of a worker
 
@@ -93,22 +93,22 @@ DoesKind operator_state.Sink (what.Sink input) constants role = Unit {0}
 DoesKind _ _ constants role = ⊥
 
 -- what a worker keeps of the rows that it took: of a join the build side, of a group what its rows stand for
-abbrev pub HasTaken : OperatorState → Task → List Handed → Type 0
-HasTaken operator_state.Scan task handed = Unit {0}
-HasTaken (operator_state.Filter cond) task handed = Unit {0}
-HasTaken (operator_state.Project from) task handed = Unit {0}
-HasTaken (operator_state.Join state) task handed = state.rows ≡ built_of task handed
-HasTaken (operator_state.Group state) task handed = GroupStands state (rows_in task handed)
-HasTaken operator_state.Sink task handed = Unit {0}
+abbrev pub HasTaken : OperatorState → Task → List Arrival → Type 0
+HasTaken operator_state.Scan task arrivals = Unit {0}
+HasTaken (operator_state.Filter cond) task arrivals = Unit {0}
+HasTaken (operator_state.Project from) task arrivals = Unit {0}
+HasTaken (operator_state.Join state) task arrivals = state.rows ≡ built_of task arrivals
+HasTaken (operator_state.Group state) task arrivals = GroupStands state (rows_in task arrivals)
+HasTaken operator_state.Sink task arrivals = Unit {0}
 
 -- the rows that a worker keeps for the answer, of those that it took
-abbrev pub kept_of : What → Task → List Handed → List (List Value)
-kept_of (what.Scan file) task handed = []
-kept_of (what.Filter input cond) task handed = []
-kept_of (what.Project input columns) task handed = []
-kept_of (what.Join build probe build_keys probe_keys) task handed = []
-kept_of (what.Group input keys aggs) task handed = []
-kept_of (what.Sink input) task handed = rows_in task handed
+abbrev pub kept_of : What → Task → List Arrival → List (List Value)
+kept_of (what.Scan file) task arrivals = []
+kept_of (what.Filter input cond) task arrivals = []
+kept_of (what.Project input columns) task arrivals = []
+kept_of (what.Join build probe build_keys probe_keys) task arrivals = []
+kept_of (what.Group input keys aggs) task arrivals = []
+kept_of (what.Sink input) task arrivals = rows_in task arrivals
 
 -- what is kept of a sender: how many of its batches were taken, and whether the last was
 pub record Receives (sender : ℕ) (batches : List Taken) (one : Incoming) : Type 0 where

@@ -9,7 +9,7 @@ use Rattle.amber_group.specs.Group.{Group, Stands as GroupStands}
 use Rattle.amber_join.specs.Join.{Join}
 use Rattle.amber_log.specs.declared.entry.Entry.{Entry}
 use Rattle.amber_log.specs.declared.entry.Entry.TheVariants as entry
-use Rattle.amber_meaning.specs.Task.{Handed, row_in}
+use Rattle.amber_meaning.specs.Task.{Arrival, row_in}
 use Rattle.amber_meaning.specs.Views.{first_of, refusal_in}
 use Rattle.amber_meaning.specs.declared.view.Extra.{Extra}
 use Rattle.amber_meaning.specs.declared.view.Extra.TheVariants as extra
@@ -199,10 +199,10 @@ pub record GainsAny (rows : List (List Value)) (columns : List Column) (builds o
   pub kept : new.kept.items ≡ old.kept.items ++ keeps_if d (row_in columns (Ok row))
 
 -- the next of what was handed was taken, the last one where nothing more can come
-pub record GainsNext (handed : List Handed) (op : ℕ) (columns : List Column) (builds over : Bool) (d : OperatorState) (old : Gains) (later : List Handed) (now : OperatorState)
+pub record GainsNext (arrivals : List Arrival) (op : ℕ) (columns : List Column) (builds over : Bool) (d : OperatorState) (old : Gains) (later : List Arrival) (now : OperatorState)
     (new : Gains) : Type 0 where
-  pub one : Handed
-  pub first : handed ≡ one ∷ later
+  pub one : Arrival
+  pub first : arrivals ≡ one ∷ later
   pub becomes : Becomes d builds (row_in columns one.what) now
   pub last : List (List Value)
   pub closes : Closes now over last
@@ -244,7 +244,7 @@ abbrev pub columns_at_hand : WorkerState → List Column
 columns_at_hand w = if w.building then w.build_columns else w.columns
 
 -- a row was taken; what the worker keeps became this, and these rows are given at the end
-abbrev pub row_taken : Handed → List Handed → OperatorState → List (List Value) → WorkerState → WorkerState
+abbrev pub row_taken : Arrival → List Arrival → OperatorState → List (List Value) → WorkerState → WorkerState
 row_taken one later now last w = record w {
   operator_state = now;
   rest = later;
@@ -257,8 +257,8 @@ row_taken one later now last w = record w {
 
 -- the next row was taken
 pub record TakesRow (old new : WorkerState) : Type 0 where
-  pub one : Handed
-  pub later : List Handed
+  pub one : Arrival
+  pub later : List Arrival
   pub now : OperatorState
   pub last : List (List Value)
   pub first : old.rest ≡ one ∷ later

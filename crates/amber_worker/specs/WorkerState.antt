@@ -5,7 +5,7 @@ use Rattle.amber_rows.specs.declared.value.Value.{Value}
 use Rattle.amber_rows.specs.declared.column.Column.{Column}
 use Rattle.amber_log.specs.declared.entry.Entry.{Entry}
 use Rattle.amber_meaning.specs.Position.{one_if}
-use Rattle.amber_meaning.specs.Task.{Handed}
+use Rattle.amber_meaning.specs.Task.{Arrival}
 use Rattle.amber_meaning.specs.declared.answer.Refusal.{Refusal}
 use Rattle.amber_link.specs.Incoming.{Incoming, has_some, have_all_ended, have_builders_ended, may_come}
 use Rattle.amber_link.specs.Outgoing.{Outgoing}
@@ -24,7 +24,7 @@ pub record WorkerState : Type 0 where
   -- whether the batches at hand are of the build side, as those of a join are at first
   pub building : Bool
   -- what was handed and not yet taken, and what was produced and is not gone
-  pub rest : List Handed
+  pub rest : List Arrival
   pub pending : List (List Value)
   -- rows taken, rows emitted, batches taken
   pub taken : ℕ

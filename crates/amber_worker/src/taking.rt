@@ -5,7 +5,7 @@ ghost use Rattle.std.specs.VecDeque.{deque_capacity, deque_len};
 ghost use Rattle.amber_meaning.specs.Task.{row_in};
 ghost use Rattle.amber_meaning.specs.Views.{refusal_in};
 ghost use Rattle.amber_link.specs.Incoming.{has_some, have_all_ended};
-ghost use Rattle.amber_worker.specs.Fields.{handed_in};
+ghost use Rattle.amber_worker.specs.Fields.{arrivals_in};
 ghost use Rattle.amber_worker.specs.Steps.{AreSame, Closes, GainsAny, GainsNext, GainsRecord, GainsRow, MayTakeRow, gives_if, has_state, held_back_of, keeps_if, passed_of, turned_to};
 
 use crate::operator_state::OperatorState;
@@ -29,7 +29,7 @@ pub(crate) struct Rest {
 impl Rest {
     // How much is left.
     pub fn left(&self) -> u64
-        ensures { result ≡ length (handed_in self.now) }
+        ensures { result ≡ length (arrivals_in self.now) }
     {
         match &self.share {
             Some(share) => share.left(),
@@ -39,7 +39,7 @@ impl Rest {
 
     // Whether nothing is left.
     pub fn is_empty(&self) -> bool
-        ensures { has_some (handed_in self.now) ≡ not result }
+        ensures { has_some (arrivals_in self.now) ≡ not result }
     {
         match &self.share {
             Some(share) => share.left() == 0,
@@ -163,7 +163,7 @@ fn take_record(
 }
 
 // Takes the next row of a batch, of which a worker keeps nothing but for the answer.
-fn take_handed(
+fn take_arrival(
     rows: &mut VecDeque<Row>,
     operator_state: &OperatorState,
     columns: &Schema,
@@ -214,7 +214,7 @@ fn take_any(
             Ok(())
         }
         OperatorState::Scan | OperatorState::Filter(_) | OperatorState::Project(_) | OperatorState::Sink => {
-            take_handed(rows, operator_state, columns, gains)?;
+            take_arrival(rows, operator_state, columns, gains)?;
             Ok(())
         }
     }
@@ -230,12 +230,12 @@ pub(crate) fn take_next(
     operator_state: &mut OperatorState,
     gains: &mut Gains,
 ) -> Result<(), AllocError>
-    requires some { has_some (handed_in rest.old) ≡ true }
+    requires some { has_some (arrivals_in rest.old) ≡ true }
     requires scans { IfSome rest.old.share (λ _. operator_state.old ≡ OperatorState.Scan) }
     requires may { MayTakeRow operator_state.old builds }
-    ensures ok { OnOk result (GainsNext (handed_in rest.old) op columns.now builds over operator_state.old gains.old (handed_in rest.new) operator_state.new gains.new) }
+    ensures ok { OnOk result (GainsNext (arrivals_in rest.old) op columns.now builds over operator_state.old gains.old (arrivals_in rest.new) operator_state.new gains.new) }
     ensures shares { is_some rest.new.share ≡ is_some rest.old.share }
-    ensures rest_on_err { OnErr result (handed_in rest.new ≡ handed_in rest.old) }
+    ensures rest_on_err { OnErr result (arrivals_in rest.new ≡ arrivals_in rest.old) }
     ensures operator_state_on_err { OnErr result (operator_state.new ≡ operator_state.old) }
     ensures gains_on_err { OnErr result (AreSame gains.old gains.new) }
 {
@@ -264,7 +264,7 @@ pub(crate) fn side_columns<'a>(
 
 // Whether the next row is the last one that can come.
 pub(crate) fn is_last(rest: &Rest, ins: &[Inbox]) -> bool
-    ensures { result ≡ ((length (handed_in rest.now) == 1) && have_all_ended ins.now) }
+    ensures { result ≡ ((length (arrivals_in rest.now) == 1) && have_all_ended ins.now) }
 {
     rest.left() == 1 && have_ended(ins)
 }

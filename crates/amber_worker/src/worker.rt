@@ -61,7 +61,7 @@ impl Model for Worker {
 
     ghost Value = { WorkerState };
 
-    ghost use Rattle.amber_worker.specs.Fields.{AreFew, handed_in};
+    ghost use Rattle.amber_worker.specs.Fields.{AreFew, arrivals_in};
 
     ghost view = { λ a. record {
       op = a.op;
@@ -70,7 +70,7 @@ impl Model for Worker {
       columns = a.columns;
       build_columns = a.build_columns;
       building = a.building;
-      rest = handed_in a.rest;
+      rest = arrivals_in a.rest;
       pending = a.gains.pending.items;
       taken = a.taken;
       emitted = a.emitted;

@@ -20,16 +20,16 @@ returns-in_ok-answer-in-Cut c =
     c.deref_mut-2.ensures.value ∙ written-back c.args.crew.items c.run_crew.new.crew c.args.crew.len (search rules) (search rules) in
     let kept : length c.run_crew.new.crew ≡ length c.args.crew.items = search rules in
     let long : length c.args.crew.items ≤ c.args.crew.len = search rules in
-    let handed : c.take_parts.new.crew ≡ map without_journal c.run_crew.new.crew = c.in_ok-parts.ensures.crew ∙ ap (map without_journal) back in
+    let arrivals : c.take_parts.new.crew ≡ map without_journal c.run_crew.new.crew = c.in_ok-parts.ensures.crew ∙ ap (map without_journal) back in
     let same : length c.take_parts.new.crew ≡ length (take c.args.crew.len (c.run_crew.new.crew ++ drop (length c.run_crew.new.crew) c.args.crew.items)) =
-    ap length handed ∙ length-map c.run_crew.new.crew without_journal ∙ ap length (sym back ∙ c.deref_mut-2.ensures.value) in
+    ap length arrivals ∙ length-map c.run_crew.new.crew without_journal ∙ ap length (sym back ∙ c.deref_mut-2.ensures.value) in
     let within : length (take c.args.crew.len (c.run_crew.new.crew ++ drop (length c.run_crew.new.crew) c.args.crew.items)) ≤ c.args.crew.len =
     rw (ap length (sym c.deref_mut-2.ensures.value ∙ back)) (omega arith) in
     finish-cut c.args.flow.now c.args.most c.args.crew.items c.run_crew.new.crew c.in_ok-parts.parts c.in_ok-answer-in-Cut.answer
     (rw c.deref_mut.ensures.value at c.in_ok-close.ensures.stay) (rw c.in-Cut.is at c.in_ok-close.ensures.done)
     (c.in_ok-parts.ensures.parts ∙ ap (parts_from 0) back)
     (subst (λ xs. IsGatheredFrom c.args.flow.now xs c.in_ok-answer-in-Cut.answer)
-    (written-back (take c.args.crew.len (c.run_crew.new.crew ++ drop (length c.run_crew.new.crew) c.args.crew.items)) c.take_parts.new.crew c.args.crew.len same within ∙ handed)
+    (written-back (take c.args.crew.len (c.run_crew.new.crew ++ drop (length c.run_crew.new.crew) c.args.crew.items)) c.take_parts.new.crew c.args.crew.len same within ∙ arrivals)
     c.in_ok-answer-in-Cut.ensures)
 
 pub returns-in-Long : goal.returns-in-Long

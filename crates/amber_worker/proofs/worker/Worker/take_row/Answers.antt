@@ -1,6 +1,6 @@
 use Rattle.std.proofs.Common.{◌^◌, ◌<◌, ◌&&◌, eqb, length, refl, ◌∙◌, ap, arith}
 use Rattle.amber_link.specs.Incoming.{have_all_ended}
-use Rattle.amber_worker.specs.Fields.{handed_in}
+use Rattle.amber_worker.specs.Fields.{arrivals_in}
 use Rattle.amber_worker.specs.Steps.{with_go}
 use Rattle.amber_worker.proofs.Bounds.{few-row, takes-row}
 use Rattle.amber_worker.proofs.States.{may-take_row}
@@ -22,9 +22,9 @@ pub returns-clause-ok : goal.returns-clause-ok
 returns-clause-ok c =
     let gains = c.in_ok-take_next.ensures.ok in
     rw (← c.self.view_is)
-    (takes-row _ gains.one (handed_in c.take_next.new.rest) c.take_next.new.operator_state gains.last (handed_in c.take_next.new.rest) c.take_next.new.gains.pending.items
+    (takes-row _ gains.one (arrivals_in c.take_next.new.rest) c.take_next.new.operator_state gains.last (arrivals_in c.take_next.new.rest) c.take_next.new.gains.pending.items
     c.take_next.new.gains.refused.items c.take_next.new.gains.kept.items c.note_go.new.journal.items c.side_columns-columns.result.now c.is_last-over.result
     c.side_columns-columns.ensures
-    (c.is_last-over.ensures ∙ ap (λ ins. eqb (length (handed_in c.self.inside.rest)) 1 && have_all_ended ins) c.as_slice.ensures.value)
+    (c.is_last-over.ensures ∙ ap (λ ins. eqb (length (arrivals_in c.self.inside.rest)) 1 && have_all_ended ins) c.as_slice.ensures.value)
     gains.first refl gains.becomes gains.closes gains.pending gains.refused gains.kept
     (c.note_go.ensures ∙ ap (λ l. with_go l 1 0) c.reserve.ensures.items))
