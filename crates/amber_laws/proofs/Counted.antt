@@ -76,12 +76,12 @@ batches-whole query state first run worker sender less ended known =
     whole.count ∙ ap (λ n. n / query.size + 1) same
 
 -- rows that were emitted
-emitted-count : (role : Role) (p : Position) → IsSound role p → emitted_count p.fates ≡ length (emitted_rows role p)
+emitted-count : (role : Role) (p : Position) → IsSound role p → emitted_count p.outcomes ≡ length (emitted_rows role p)
 emitted-count role p s =
-    let gone : emitted_count (replicate (length p.fates) true) ≡ length p.fates =
-    omega (arith, sum_by-replicate (λ fate. if is_emitted fate then 1 else 0) (length p.fates) true) in
+    let gone : emitted_count (replicate (length p.outcomes) true) ≡ length p.outcomes =
+    omega (arith, sum_by-replicate (λ outcome. if is_emitted outcome then 1 else 0) (length p.outcomes) true) in
     ap emitted_count s.all_kept ∙ gone
-    ∙ sym (ap length (emitted-front role p s) ∙ length-take-le (length p.fates) (produced_rows role p) s.produced)
+    ∙ sym (ap length (emitted-front role p s) ∙ length-take-le (length p.outcomes) (produced_rows role p) s.produced)
 
 -- ---- one worker
 

@@ -177,8 +177,8 @@ kept-front (x ∷ xs) zero = refl
 kept-front (x ∷ xs) (suc n) = ap (λ l. x ∷ l) (kept-front xs n)
 
 -- the emitted rows are the first that were produced
-pub emitted-front : (role : Role) (p : Position) → IsSound role p → emitted_rows role p ≡ take (length p.fates) (produced_rows role p)
-emitted-front role p s = ap (kept (produced_rows role p)) s.all_kept ∙ kept-front (produced_rows role p) (length p.fates)
+pub emitted-front : (role : Role) (p : Position) → IsSound role p → emitted_rows role p ≡ take (length p.outcomes) (produced_rows role p)
+emitted-front role p s = ap (kept (produced_rows role p)) s.all_kept ∙ kept-front (produced_rows role p) (length p.outcomes)
 
 emitted-below : (query : Query) (state : State) → SendersFirst query.flow → IsRun query state → (n worker : ℕ) → worker < n → worker < crew_of query.flow
     → Part (emitted_at query state worker) (dealt_to query worker)
@@ -192,7 +192,7 @@ emitted-below query state first run (suc n) worker below less =
     emitted-below query state first run n sender (omega arith) (omega arith)) in
     let made = product-part role (stands state worker) (given query (dealt_to query) worker) sound arrivals (ended-given query state first run worker less) in
     let produced : List (List Value) = produced_rows role (stands state worker) in
-    let gone : ℕ = length (stands state worker).fates in
+    let gone : ℕ = length (stands state worker).outcomes in
     let begin : Part (take gone produced) produced = rw (take-append-drop gone produced) at (part-begin (take gone produced) (drop gone produced)) in
     rw (emitted-front role (stands state worker) sound, dealt-from query first worker less) (part-then begin made)
 

@@ -187,7 +187,7 @@ product-whole role p s ended all =
 pub emitted-whole : (role : Role) (p : Position) → IsSound role p → p.finished ≡ true → emitted_rows role p ≡ gives role.task (fed role p.taken)
 emitted-whole role p s e =
     let all = took-all role p s e in
-    let none : length (drop (length p.fates) (produced_rows role p)) ≡ 0 = ap length (s.no_pending e) in
-    let gone : length p.fates ≡ length (produced_rows role p) = omega (arith, length-drop (length p.fates) (produced_rows role p), s.produced) in
-    let fates : p.fates ≡ replicate (length (produced_rows role p)) true = s.all_kept ∙ ap (λ n. replicate n true) gone in
-    ap (kept (produced_rows role p)) fates ∙ kept-all (produced_rows role p) ∙ product-whole role p s (s.ended e) all
+    let none : length (drop (length p.outcomes) (produced_rows role p)) ≡ 0 = ap length (s.no_pending e) in
+    let gone : length p.outcomes ≡ length (produced_rows role p) = omega (arith, length-drop (length p.outcomes) (produced_rows role p), s.produced) in
+    let outcomes : p.outcomes ≡ replicate (length (produced_rows role p)) true = s.all_kept ∙ ap (λ n. replicate n true) gone in
+    ap (kept (produced_rows role p)) outcomes ∙ kept-all (produced_rows role p) ∙ product-whole role p s (s.ended e) all

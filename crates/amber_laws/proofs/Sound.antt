@@ -42,9 +42,9 @@ build_first-builder task (x ∷ xs) t e =
 
 pub record IsSound (role : Role) (p : Position) : Type 0 where
   pub within : length p.constants ≤ length (fed role p.taken)
-  pub produced : length p.fates ≤ length (produced_rows role p)
+  pub produced : length p.outcomes ≤ length (produced_rows role p)
   pub steady : p.constants ≡ replicate (length p.constants) (first_constants role.task.kind)
-  pub all_kept : p.fates ≡ replicate (length p.fates) true
+  pub all_kept : p.outcomes ≡ replicate (length p.outcomes) true
   pub known : list_all (λ (t : Taken). list_any (λ one. eqb one t.from) role.senders) p.taken ≡ true
   pub build_first : IsBuildFirst role.task p.taken
   pub sides : (list_all (λ (t : Taken). is_builder role.task t.from) p.taken ≡ true) ⊎ (have_ended role.task.builders p.taken ≡ true)
@@ -149,13 +149,13 @@ went-sound : (role : Role) (orders : Orders) (p : Position) (rows outs : ℕ) �
 went-sound role orders p rows outs e s may =
     let taken : length (p.constants ++ replicate rows orders.constants) ≡ length p.constants + rows =
     length-append p.constants _ ∙ ap (λ n. length p.constants + n) (length-replicate rows orders.constants) in
-    let gone : length (p.fates ++ replicate outs true) ≡ length p.fates + outs =
-    length-append p.fates _ ∙ ap (λ n. length p.fates + n) (length-replicate outs true) in
+    let gone : length (p.outcomes ++ replicate outs true) ≡ length p.outcomes + outs =
+    length-append p.outcomes _ ∙ ap (λ n. length p.outcomes + n) (length-replicate outs true) in
     record {
       within = rw taken may.within;
       produced = rw gone may.produced;
       steady = rw e (more-steady p.constants (first_constants role.task.kind) rows s.steady);
-      all_kept = more-steady p.fates true outs s.all_kept;
+      all_kept = more-steady p.outcomes true outs s.all_kept;
       known = s.known;
       build_first = s.build_first;
       sides = s.sides;

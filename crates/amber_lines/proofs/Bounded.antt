@@ -19,8 +19,8 @@ use Rattle.amber_meaning.proofs.Orderly.{IsOrderly, fed-more, marked-front, not-
 
 pub record IsBounded (role : Role) (p : Position) : Type 0 where
   pub within : length p.constants ≤ length (fed role p.taken)
-  pub produced : length p.fates ≤ length (produced_rows role p)
-  pub held : p.held ≡ true → length p.fates < length (produced_rows role p)
+  pub produced : length p.outcomes ≤ length (produced_rows role p)
+  pub held : p.held ≡ true → length p.outcomes < length (produced_rows role p)
 
 -- ---- what was produced only grows
 
@@ -100,10 +100,10 @@ let_go-bounded role p h = by p.held refl
 pub without_held-bounded : (role : Role) (p : Position) → IsBounded role p → IsBounded role (without_held p)
 without_held-bounded role p h = by p.held refl
   where
-    by : (b : Bool) → p.held ≡ b → IsBounded role (if b then record p { fates = p.fates ++ false ∷ []; held = false } else p)
+    by : (b : Bool) → p.held ≡ b → IsBounded role (if b then record p { outcomes = p.outcomes ++ false ∷ []; held = false } else p)
     by true e =
         let less = h.held e in
-        let size : length (p.fates ++ false ∷ []) ≡ length p.fates + 1 = length-append p.fates (false ∷ []) in
+        let size : length (p.outcomes ++ false ∷ []) ≡ length p.outcomes + 1 = length-append p.outcomes (false ∷ []) in
         record { within = h.within; produced = omega arith; held = λ f. absurd (false≢true f) }
     by false e = h
 
@@ -125,8 +125,8 @@ went-bounded : (role : Role) (orders : Orders) (p : Position) (rows outs : ℕ) 
 went-bounded role orders p rows outs may =
     let taken : length (p.constants ++ replicate rows orders.constants) ≡ length p.constants + rows =
     length-append p.constants (replicate rows orders.constants) ∙ ap (λ (n : ℕ). length p.constants + n) (length-replicate rows orders.constants) in
-    let gone : length (p.fates ++ replicate outs true) ≡ length p.fates + outs =
-    length-append p.fates (replicate outs true) ∙ ap (λ (n : ℕ). length p.fates + n) (length-replicate outs true) in
+    let gone : length (p.outcomes ++ replicate outs true) ≡ length p.outcomes + outs =
+    length-append p.outcomes (replicate outs true) ∙ ap (λ (n : ℕ). length p.outcomes + n) (length-replicate outs true) in
     let within = may.within in
     let produced = may.produced in
     record { within = omega arith; produced = omega arith; held = not_held p _ may.free.loose }
@@ -138,7 +138,7 @@ watched-some watch (row ∷ rows) e = omega arith
 held-bounded : (role : Role) (orders : Orders) (p : Position) → MayHold role orders p → IsBounded role p → IsBounded role (record p { held = true })
 held-bounded role orders p may h =
     let some = watched-some orders.watch (pending_rows role p) may.watched in
-    let size = length-drop (length p.fates) (produced_rows role p) in
+    let size = length-drop (length p.outcomes) (produced_rows role p) in
     record { within = h.within; produced = h.produced; held = λ e. omega arith }
 
 flags-bounded : (role : Role) (p : Position) (hand : ℕ) (waved paused finished : Bool) → IsBounded role p

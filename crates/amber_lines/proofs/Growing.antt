@@ -35,21 +35,21 @@ use Rattle.amber_lines.proofs.Splitting.{moved-of, worked-of}
 
 -- ---- fates over lists of rows
 
-kept-front : {A : Type 0} (xs more : List A) (fates : List Bool) → length fates ≤ length xs → kept (xs ++ more) fates ≡ kept xs fates
+kept-front : {A : Type 0} (xs more : List A) (outcomes : List Bool) → length outcomes ≤ length xs → kept (xs ++ more) outcomes ≡ kept xs outcomes
 unfolding kept
 kept-front [] [] [] h = refl
 kept-front [] (m ∷ more) [] h = refl
-kept-front [] more (fate ∷ fates) h = absurd (omega arith)
+kept-front [] more (outcome ∷ outcomes) h = absurd (omega arith)
 kept-front (x ∷ xs) more [] h = refl
-kept-front (x ∷ xs) more (true ∷ fates) h = ap (λ l. x ∷ l) (kept-front xs more fates (omega arith))
-kept-front (x ∷ xs) more (false ∷ fates) h = kept-front xs more fates (omega arith)
+kept-front (x ∷ xs) more (true ∷ outcomes) h = ap (λ l. x ∷ l) (kept-front xs more outcomes (omega arith))
+kept-front (x ∷ xs) more (false ∷ outcomes) h = kept-front xs more outcomes (omega arith)
 
-kept-later : {A : Type 0} (xs : List A) (fates others : List Bool) → Begins (kept xs fates) (kept xs (fates ++ others))
+kept-later : {A : Type 0} (xs : List A) (outcomes others : List Bool) → Begins (kept xs outcomes) (kept xs (outcomes ++ others))
 unfolding kept
-kept-later [] fates others = ([], refl)
+kept-later [] outcomes others = ([], refl)
 kept-later (x ∷ xs) [] others = (kept (x ∷ xs) others, refl)
-kept-later (x ∷ xs) (true ∷ fates) others = let rest = kept-later xs fates others in (rest.0, ap (λ l. x ∷ l) rest.1)
-kept-later (x ∷ xs) (false ∷ fates) others = kept-later xs fates others
+kept-later (x ∷ xs) (true ∷ outcomes) others = let rest = kept-later xs outcomes others in (rest.0, ap (λ l. x ∷ l) rest.1)
+kept-later (x ∷ xs) (false ∷ outcomes) others = kept-later xs outcomes others
 
 -- ---- one entry
 
@@ -66,7 +66,7 @@ took-grown : (role : Role) (p : Position) (from number : ℕ) (batch : Batch) �
 took-grown role p from number batch orderly may h =
     let longer = product-taken role p.taken from batch p.constants h.within orderly may.sender in
     let same : emitted_rows role (took from batch p) ≡ emitted_rows role p =
-    ap (λ (rows : List (List Value)). kept rows p.fates) (sym longer.1) ∙ kept-front (produced_rows role p) longer.0 p.fates h.produced in
+    ap (λ (rows : List (List Value)). kept rows p.outcomes) (sym longer.1) ∙ kept-front (produced_rows role p) longer.0 p.outcomes h.produced in
     record { emitted = rw same (Begins-refl (emitted_rows role p)); over = still p _ may.free.unfinished }
 
 went-grown : (role : Role) (orders : Orders) (p : Position) (rows outs : ℕ) → MayGo role orders p rows outs → IsBounded role p
@@ -74,9 +74,9 @@ went-grown : (role : Role) (orders : Orders) (p : Position) (rows outs : ℕ) �
 went-grown role orders p rows outs may h =
     let longer = product-later role p.taken p.constants rows orders.constants may.within in
     let all : List (List Value) = produced_rows role p ++ longer.0 in
-    let first : Begins (kept all p.fates) (kept all (p.fates ++ replicate outs true)) = kept-later all p.fates (replicate outs true) in
+    let first : Begins (kept all p.outcomes) (kept all (p.outcomes ++ replicate outs true)) = kept-later all p.outcomes (replicate outs true) in
     record {
-      emitted = rw (longer.1, ← kept-front (produced_rows role p) longer.0 p.fates h.produced) first;
+      emitted = rw (longer.1, ← kept-front (produced_rows role p) longer.0 p.outcomes h.produced) first;
       over = still p _ may.free.unfinished;
     }
 

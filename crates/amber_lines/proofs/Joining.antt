@@ -31,9 +31,9 @@ waved-both true outs others = by (cases_eq outs 0) (cases_eq others 0)
     by (inl none) (inr some) = rw (none, ne_eqb others 0 some, ne_eqb (0 + others) 0 (λ e. some (omega arith))) refl
     by (inr some) h = rw (ne_eqb outs 0 some, ne_eqb (outs + others) 0 (λ e. some (omega arith))) refl
 
-Position-path : (p q : Position) → p.taken ≡ q.taken → p.constants ≡ q.constants → p.fates ≡ q.fates → p.hand ≡ q.hand → p.held ≡ q.held → p.waved ≡ q.waved
+Position-path : (p q : Position) → p.taken ≡ q.taken → p.constants ≡ q.constants → p.outcomes ≡ q.outcomes → p.hand ≡ q.hand → p.held ≡ q.held → p.waved ≡ q.waved
     → p.paused ≡ q.paused → p.finished ≡ q.finished → p ≡ q
-Position-path p q a b c d e f g h = λ i. record { taken = a i; constants = b i; fates = c i; hand = d i; held = e i; waved = f i; paused = g i; finished = h i }
+Position-path p q a b c d e f g h = λ i. record { taken = a i; constants = b i; outcomes = c i; hand = d i; held = e i; waved = f i; paused = g i; finished = h i }
 
 replicate-both : {A : Type 0} (xs : List A) (n m : ℕ) (x : A) → (xs ++ replicate n x) ++ replicate m x ≡ xs ++ replicate (n + m) x
 replicate-both xs n m x = append_assoc xs (replicate n x) (replicate m x) ∙ ap (λ l. xs ++ l) (replicate-append-replicate n m x)
@@ -41,7 +41,7 @@ replicate-both xs n m x = append_assoc xs (replicate n x) (replicate m x) ∙ ap
 went-both : (orders : Orders) (p : Position) (rows outs more others : ℕ) → went orders more others (went orders rows outs p) ≡ went orders (rows + more) (outs + others) p
 went-both orders p rows outs more others =
     Position-path (went orders more others (went orders rows outs p)) (went orders (rows + more) (outs + others) p)
-    refl (replicate-both p.constants rows more orders.constants) (replicate-both p.fates outs others true)
+    refl (replicate-both p.constants rows more orders.constants) (replicate-both p.outcomes outs others true)
     (hand-both orders.counted p.hand outs others) refl (waved-both p.waved outs others) refl refl
 
 -- ---- rows that pass by the condition
@@ -66,15 +66,15 @@ product-both : (role : Role) (orders : Orders) (p : Position) (rows outs more : 
 product-both role orders p rows outs more = ap (product role p.taken) (replicate-both p.constants rows more orders.constants)
 
 -- rows of a list that grows: the next ones of the old list, and then the next ones of the new
-rows-both : (fates outs others : ℕ) (rows more all : List (List Value)) → all ≡ rows ++ more → fates + outs ≤ length rows
-    → take (outs + others) (drop fates all) ≡ take outs (drop fates rows) ++ take others (drop (fates + outs) all)
-rows-both fates outs others rows more all is within =
-    let size = length-drop fates rows in
-    take-add outs others (drop fates all)
-    ∙ ap (λ (l : List (List Value)). take outs (drop fates l) ++ take others (drop outs (drop fates all))) is
-    ∙ ap (λ (l : List (List Value)). take outs l ++ take others (drop outs (drop fates all))) (drop-append-le fates rows more (omega arith))
-    ∙ ap (λ (l : List (List Value)). l ++ take others (drop outs (drop fates all))) (take-append-le outs (drop fates rows) more (omega arith))
-    ∙ ap (λ (l : List (List Value)). take outs (drop fates rows) ++ take others l) (drop-drop outs fates all)
+rows-both : (outcomes outs others : ℕ) (rows more all : List (List Value)) → all ≡ rows ++ more → outcomes + outs ≤ length rows
+    → take (outs + others) (drop outcomes all) ≡ take outs (drop outcomes rows) ++ take others (drop (outcomes + outs) all)
+rows-both outcomes outs others rows more all is within =
+    let size = length-drop outcomes rows in
+    take-add outs others (drop outcomes all)
+    ∙ ap (λ (l : List (List Value)). take outs (drop outcomes l) ++ take others (drop outs (drop outcomes all))) is
+    ∙ ap (λ (l : List (List Value)). take outs l ++ take others (drop outs (drop outcomes all))) (drop-append-le outcomes rows more (omega arith))
+    ∙ ap (λ (l : List (List Value)). l ++ take others (drop outs (drop outcomes all))) (take-append-le outs (drop outcomes rows) more (omega arith))
+    ∙ ap (λ (l : List (List Value)). take outs (drop outcomes rows) ++ take others l) (drop-drop outs outcomes all)
 
 go-both : (role : Role) (orders : Orders) (p : Position) (rows outs more others : ℕ) → MayGo role orders p rows outs → MayGo role orders (went orders rows outs p) more others
     → MayGo role orders p (rows + more) (outs + others)
@@ -89,8 +89,8 @@ go-both role orders p rows outs more others a b =
       no_stop = no_stop;
     }
   where
-    gone : length (p.fates ++ replicate outs true) ≡ length p.fates + outs
-    gone = length-append p.fates (replicate outs true) ∙ ap (λ (n : ℕ). length p.fates + n) (length-replicate outs true)
+    gone : length (p.outcomes ++ replicate outs true) ≡ length p.outcomes + outs
+    gone = length-append p.outcomes (replicate outs true) ∙ ap (λ (n : ℕ). length p.outcomes + n) (length-replicate outs true)
 
     taken : length (p.constants ++ replicate rows orders.constants) ≡ length p.constants + rows
     taken = length-append p.constants (replicate rows orders.constants) ∙ ap (λ (n : ℕ). length p.constants + n) (length-replicate rows orders.constants)
@@ -101,7 +101,7 @@ go-both role orders p rows outs more others a b =
     within : length p.constants + (rows + more) ≤ length (fed role p.taken)
     within = let h = b.within in let size = taken in omega arith
 
-    produced : length p.fates + (outs + others) ≤ produced_with role orders p (rows + more)
+    produced : length p.outcomes + (outs + others) ≤ produced_with role orders p (rows + more)
     produced = let h = b.produced in let size = gone in let same = made more in omega arith
 
     -- the rows before the last
@@ -111,7 +111,7 @@ go-both role orders p rows outs more others a b =
     alone : more ≡ 0 → produced_with role orders p (rows + more - 1) ≡ produced_with role orders p (rows - 1)
     alone none = ap (produced_with role orders p) (omega arith)
 
-    drained : (more ≡ 0) ⊎ (more ≡ 0 → ⊥) → 0 < rows + more → produced_with role orders p (rows + more - 1) ≤ length p.fates + (outs + others)
+    drained : (more ≡ 0) ⊎ (more ≡ 0 → ⊥) → 0 < rows + more → produced_with role orders p (rows + more - 1) ≤ length p.outcomes + (outs + others)
     drained (inl none) some = let h = a.drained (omega arith) in let same = alone none in omega arith
     drained (inr more_some) some = let h = b.drained (omega arith) in let size = gone in let same = before more_some in omega arith
 
@@ -121,7 +121,7 @@ go-both role orders p rows outs more others a b =
     in_hand : orders.counted ≡ true → outs + others ≤ p.hand
     in_hand counted = let h = a.in_hand counted in let k = b.in_hand counted in let now = hand-now counted in omega arith
 
-    before_taking : orders.counted ≡ true → (more ≡ 0) ⊎ (more ≡ 0 → ⊥) → 0 < rows + more → produced_with role orders p (rows + more - 1) < length p.fates + p.hand
+    before_taking : orders.counted ≡ true → (more ≡ 0) ⊎ (more ≡ 0 → ⊥) → 0 < rows + more → produced_with role orders p (rows + more - 1) < length p.outcomes + p.hand
     before_taking counted (inl none) some = let h = a.before_taking counted (omega arith) in let same = alone none in omega arith
     before_taking counted (inr more_some) some =
         let h = b.before_taking counted (omega arith) in
@@ -134,18 +134,18 @@ go-both role orders p rows outs more others a b =
     all : List (List Value)
     all = product_with role orders p (rows + more)
 
-    no_stop : pass_by orders.watch p.waved (take (outs + others) (drop (length p.fates) all)) ≡ true
+    no_stop : pass_by orders.watch p.waved (take (outs + others) (drop (length p.outcomes) all)) ≡ true
     no_stop =
         let longer = product-later role p.taken (p.constants ++ replicate rows orders.constants) more orders.constants (let h = b.within in h) in
         let is : all ≡ product_with role orders p rows ++ longer.0 = sym (product-both role orders p rows outs more) ∙ longer.1 in
-        let first : List (List Value) = take outs (drop (length p.fates) (product_with role orders p rows)) in
-        let second : List (List Value) = take others (drop (length p.fates + outs) all) in
-        let dropped = length-drop (length p.fates) (product_with role orders p rows) in
-        let size : length first ≡ outs = length-take outs (drop (length p.fates) (product_with role orders p rows)) ∙ (let h = a.produced in omega arith) in
+        let first : List (List Value) = take outs (drop (length p.outcomes) (product_with role orders p rows)) in
+        let second : List (List Value) = take others (drop (length p.outcomes + outs) all) in
+        let dropped = length-drop (length p.outcomes) (product_with role orders p rows) in
+        let size : length first ≡ outs = length-take outs (drop (length p.outcomes) (product_with role orders p rows)) ∙ (let h = a.produced in omega arith) in
         let later : pass_by orders.watch (p.waved && eqb outs 0) second ≡ true =
         ap (λ (rows : List (List Value)). pass_by orders.watch (p.waved && eqb outs 0) (take others rows))
-        (ap (λ (n : ℕ). drop n all) (sym gone) ∙ ap (drop (length (p.fates ++ replicate outs true))) (sym (product-both role orders p rows outs more))) ∙ b.no_stop in
-        ap (pass_by orders.watch p.waved) (rows-both (length p.fates) outs others (product_with role orders p rows) longer.0 all is a.produced)
+        (ap (λ (n : ℕ). drop n all) (sym gone) ∙ ap (drop (length (p.outcomes ++ replicate outs true))) (sym (product-both role orders p rows outs more))) ∙ b.no_stop in
+        ap (pass_by orders.watch p.waved) (rows-both (length p.outcomes) outs others (product_with role orders p rows) longer.0 all is a.produced)
         ∙ pass-both orders.watch p.waved outs first second size a.no_stop later
 
 pub goes_join : GoesJoin

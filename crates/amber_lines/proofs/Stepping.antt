@@ -10,13 +10,13 @@ use Rattle.amber_meaning.specs.State.{State, position_at, steps_in}
 use Rattle.amber_meaning.specs.Task.{Role}
 use Rattle.amber_meaning.proofs.OneState.{position-get_or}
 
-emitted-more : (fates more : List Bool) → emitted_count fates ≤ emitted_count (fates ++ more)
-emitted-more fates more = let parts = sum_by-append (λ fate. if is_emitted fate then 1 else 0) fates more in omega arith
+emitted-more : (outcomes more : List Bool) → emitted_count outcomes ≤ emitted_count (outcomes ++ more)
+emitted-more outcomes more = let parts = sum_by-append (λ outcome. if is_emitted outcome then 1 else 0) outcomes more in omega arith
 
 went-steps : (orders : Orders) (p : Position) (rows outs : ℕ) → steps_of p ≤ steps_of (went orders rows outs p)
 went-steps orders p rows outs =
     let taken = length-append p.constants (replicate rows orders.constants) in
-    let gone = emitted-more p.fates (replicate outs true) in
+    let gone = emitted-more p.outcomes (replicate outs true) in
     omega arith
 
 took-steps : (p : Position) (t : Taken) → steps_of p ≤ steps_of (record p { taken = p.taken ++ t ∷ [] })

@@ -19,11 +19,11 @@ counting = record { target = 3; base = 0 ∷ [] }
 abbrev stopped : State
 stopped = record {
   arms = record no_arms { pause = Some 2 } ∷ record no_arms { pause = Some 4; count = Some counting; constants = zero } ∷ no_arms ∷ [];
-  positions = record origin { constants = replicate 5 []; fates = replicate 5 true; finished = true }
+  positions = record origin { constants = replicate 5 []; outcomes = replicate 5 true; finished = true }
       ∷ record origin {
         taken = record { from = 0; batch = record { seq = 0; rows = five; last = true } } ∷ [];
         constants = replicate 4 zero;
-        fates = replicate 3 true;
+        outcomes = replicate 3 true;
         held = true;
         finished = true;
       }

@@ -33,7 +33,7 @@ record IsLike (p q : Position) : Type 0 where
   constants : p.constants ≡ q.constants
   hand : p.hand ≡ q.hand
   finished : p.finished ≡ q.finished
-  emitted : (rows : List (List Value)) → kept rows p.fates ≡ kept rows q.fates
+  emitted : (rows : List (List Value)) → kept rows p.outcomes ≡ kept rows q.outcomes
   steps : steps_of p ≡ steps_of q
 
 IsLike-refl : (p : Position) → IsLike p p
@@ -46,28 +46,28 @@ let_go-like p = by p.held
     by true = record { taken = refl; constants = refl; hand = refl; finished = refl; emitted = λ rows. refl; steps = refl }
     by false = record { taken = refl; constants = refl; hand = refl; finished = refl; emitted = λ rows. refl; steps = refl }
 
-kept-dropped : (rows : List (List Value)) (fates : List Bool) → kept rows fates ≡ kept rows (fates ++ false ∷ [])
+kept-dropped : (rows : List (List Value)) (outcomes : List Bool) → kept rows outcomes ≡ kept rows (outcomes ++ false ∷ [])
 unfolding kept
-kept-dropped [] fates = refl
+kept-dropped [] outcomes = refl
 kept-dropped (row ∷ []) [] = refl
 kept-dropped (row ∷ next ∷ rows) [] = refl
-kept-dropped (row ∷ rows) (true ∷ fates) = ap (λ l. row ∷ l) (kept-dropped rows fates)
-kept-dropped (row ∷ rows) (false ∷ fates) = kept-dropped rows fates
+kept-dropped (row ∷ rows) (true ∷ outcomes) = ap (λ l. row ∷ l) (kept-dropped rows outcomes)
+kept-dropped (row ∷ rows) (false ∷ outcomes) = kept-dropped rows outcomes
 
-emitted-dropped : (fates : List Bool) → emitted_count fates ≡ emitted_count (fates ++ false ∷ [])
-emitted-dropped fates = let more = sum_by_push (λ fate. if is_emitted fate then 1 else 0) fates false in omega arith
+emitted-dropped : (outcomes : List Bool) → emitted_count outcomes ≡ emitted_count (outcomes ++ false ∷ [])
+emitted-dropped outcomes = let more = sum_by_push (λ outcome. if is_emitted outcome then 1 else 0) outcomes false in omega arith
 
 without_held-like : (p : Position) → IsLike p (without_held p)
 without_held-like p = by p.held
   where
-    by : (b : Bool) → IsLike p (if b then record p { fates = p.fates ++ false ∷ []; held = false } else p)
+    by : (b : Bool) → IsLike p (if b then record p { outcomes = p.outcomes ++ false ∷ []; held = false } else p)
     by true = record {
       taken = refl;
       constants = refl;
       hand = refl;
       finished = refl;
-      emitted = λ rows. kept-dropped rows p.fates;
-      steps = rw (← emitted-dropped p.fates);
+      emitted = λ rows. kept-dropped rows p.outcomes;
+      steps = rw (← emitted-dropped p.outcomes);
     }
     by false = IsLike-refl p
 

@@ -18,7 +18,7 @@ pub record Position : Type 0 where
   -- for each row that was taken the constants that were in force then; so its length is how many were taken
   pub constants : List (List Value)
   -- for each produced row that is gone whether it was emitted, and not dropped; so its length is how many are gone
-  pub fates : List Bool
+  pub outcomes : List Bool
   -- units of an armed count that were claimed and not used
   pub hand : ℕ
   -- stands before a row that meets the operator's condition
@@ -30,7 +30,7 @@ pub record Position : Type 0 where
 
 -- before anything was done
 abbrev pub origin : Position
-origin = record { taken = []; constants = []; fates = []; hand = 0; held = false; waved = false; paused = false; finished = false }
+origin = record { taken = []; constants = []; outcomes = []; hand = 0; held = false; waved = false; paused = false; finished = false }
 
 -- ---- what was handed
 
@@ -81,27 +81,27 @@ rest_of role p = drop (length p.constants) (fed role p.taken)
 
 -- the rows that were produced and are not gone
 abbrev pub pending_rows : Role → Position → List (List Value)
-pending_rows role p = drop (length p.fates) (produced_rows role p)
+pending_rows role p = drop (length p.outcomes) (produced_rows role p)
 
 -- of a list's first elements those with the fate true
 unfoldable pub kept : {A : Type 0} → List A → List Bool → List A
-kept [] fates = []
+kept [] outcomes = []
 kept (x ∷ xs) [] = []
-kept (x ∷ xs) (true ∷ fates) = x ∷ kept xs fates
-kept (x ∷ xs) (false ∷ fates) = kept xs fates
+kept (x ∷ xs) (true ∷ outcomes) = x ∷ kept xs outcomes
+kept (x ∷ xs) (false ∷ outcomes) = kept xs outcomes
 
 -- the rows that were emitted
 abbrev pub emitted_rows : Role → Position → List (List Value)
-emitted_rows role p = kept (produced_rows role p) p.fates
+emitted_rows role p = kept (produced_rows role p) p.outcomes
 
 -- ---- numbers
 
 abbrev pub is_emitted : Bool → Bool
-is_emitted fate = fate
+is_emitted outcome = outcome
 
 -- how many rows were emitted
 abbrev pub emitted_count : List Bool → ℕ
-emitted_count fates = count_by is_emitted fates
+emitted_count outcomes = count_by is_emitted outcomes
 
 abbrev pub one_if : Bool → ℕ
 one_if true = 1
@@ -109,4 +109,4 @@ one_if false = 0
 
 -- the steps so far: rows taken, rows emitted, batches taken, and the end
 abbrev pub steps_of : Position → ℕ
-steps_of p = length p.constants + emitted_count p.fates + length p.taken + one_if p.finished
+steps_of p = length p.constants + emitted_count p.outcomes + length p.taken + one_if p.finished

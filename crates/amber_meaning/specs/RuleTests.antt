@@ -23,11 +23,11 @@ may_take role p from number =
 unfoldable pub may_go : Role → Orders → Position → ℕ → ℕ → Bool
 may_go role orders p rows outs =
     is_free p && (nat_le (length p.constants + rows) (length (fed role p.taken))
-    && (nat_le (length p.fates + outs) (produced_with role orders p rows)
-    && ((not (nat_lt 0 rows) || nat_le (produced_with role orders p (rows - 1)) (length p.fates + outs))
+    && (nat_le (length p.outcomes + outs) (produced_with role orders p rows)
+    && ((not (nat_lt 0 rows) || nat_le (produced_with role orders p (rows - 1)) (length p.outcomes + outs))
     && ((not orders.counted || nat_le outs p.hand)
-    && ((not orders.counted || (not (nat_lt 0 rows) || nat_lt (produced_with role orders p (rows - 1)) (length p.fates + p.hand)))
-    && pass_by orders.watch p.waved (take outs (drop (length p.fates) (product_with role orders p rows))))))))
+    && ((not orders.counted || (not (nat_lt 0 rows) || nat_lt (produced_with role orders p (rows - 1)) (length p.outcomes + p.hand)))
+    && pass_by orders.watch p.waved (take outs (drop (length p.outcomes) (product_with role orders p rows))))))))
 
 unfoldable pub may_grant : Orders → Position → Bool
 may_grant orders p = orders.counted && not p.finished

@@ -67,13 +67,13 @@ pub record MayTake (role : Role) (p : Position) (from number : ℕ) : Type 0 whe
 pub record MayGo (role : Role) (orders : Orders) (p : Position) (rows outs : ℕ) : Type 0 where
   pub free : IsFree p
   pub within : length p.constants + rows ≤ length (fed role p.taken)
-  pub produced : length p.fates + outs ≤ produced_with role orders p rows
+  pub produced : length p.outcomes + outs ≤ produced_with role orders p rows
   -- a row is taken only where all that was produced before it is gone
-  pub drained : 0 < rows → produced_with role orders p (rows - 1) ≤ length p.fates + outs
+  pub drained : 0 < rows → produced_with role orders p (rows - 1) ≤ length p.outcomes + outs
   -- under a count each row is emitted with a unit, and each is taken while there is one
   pub in_hand : orders.counted ≡ true → outs ≤ p.hand
-  pub before_taking : orders.counted ≡ true → 0 < rows → produced_with role orders p (rows - 1) < length p.fates + p.hand
-  pub no_stop : pass_by orders.watch p.waved (take outs (drop (length p.fates) (product_with role orders p rows))) ≡ true
+  pub before_taking : orders.counted ≡ true → 0 < rows → produced_with role orders p (rows - 1) < length p.outcomes + p.hand
+  pub no_stop : pass_by orders.watch p.waved (take outs (drop (length p.outcomes) (product_with role orders p rows))) ≡ true
 
 -- claiming units of a count
 pub record MayGrant (orders : Orders) (p : Position) : Type 0 where
@@ -115,7 +115,7 @@ took from batch p = record p { taken = p.taken ++ record { from = from; batch = 
 abbrev pub went : Orders → ℕ → ℕ → Position → Position
 went orders rows outs p = record p {
   constants = p.constants ++ replicate rows orders.constants;
-  fates = p.fates ++ replicate outs true;
+  outcomes = p.outcomes ++ replicate outs true;
   hand = if orders.counted then p.hand - outs else p.hand;
   waved = p.waved && (outs == 0);
 }

@@ -52,11 +52,11 @@ crew_at flow state op = map (position_at state.positions) (workers_of flow op)
 
 -- how many rows an operator has emitted
 unfoldable pub emitted_by : List Operator → State → ℕ → ℕ
-emitted_by flow state op = sum_by (λ p. emitted_count p.fates) (crew_at flow state op)
+emitted_by flow state op = sum_by (λ p. emitted_count p.outcomes) (crew_at flow state op)
 
 -- how many rows a worker has emitted since so many were gone
 abbrev pub emitted_since : ℕ → Position → ℕ
-emitted_since base p = emitted_count (drop base p.fates)
+emitted_since base p = emitted_count (drop base p.outcomes)
 
 -- how many rows of these workers a count has counted
 unfoldable pub counted_by : List ℕ → List Position → ℕ
@@ -113,7 +113,7 @@ disarmed arms = record arms { pause = None; count = None; watch = None }
 
 -- the row before which a worker is held is dropped, neither emitted nor counted
 abbrev pub without_held : Position → Position
-without_held p = if p.held then record p { fates = p.fates ++ false ∷ []; held = false } else p
+without_held p = if p.held then record p { outcomes = p.outcomes ++ false ∷ []; held = false } else p
 
 -- the running number of an operator's worker
 abbrev pub worker_at : List Operator → ℕ → ℕ → ℕ
@@ -125,7 +125,7 @@ commanded flow command.Run state = state
 commanded flow command.End state = state
 commanded flow (command.Pause op n) state = with_arms (λ arms. record arms { pause = Some n }) op state
 commanded flow (command.Count op n) state =
-    with_arms (λ arms. record arms { count = Some (record { target = n; base = map (λ p. length p.fates) (crew_at flow state op) }) }) op state
+    with_arms (λ arms. record arms { count = Some (record { target = n; base = map (λ p. length p.outcomes) (crew_at flow state op) }) }) op state
 commanded flow (command.When op cond) state = with_arms (λ arms. record arms { watch = Some cond }) op state
 commanded flow (command.Clear op) state = with_arms disarmed op state
 commanded flow (command.Set op value) state = with_arms (λ arms. record arms { constants = value ∷ [] }) op state

@@ -65,7 +65,7 @@ unfoldable pub view_of : Role → Position → WorkerView
 view_of role p = record {
   taken = length p.constants;
   rest = length (rest_of role p);
-  out = emitted_count p.fates;
+  out = emitted_count p.outcomes;
   pending = length (pending_rows role p);
   stand = stand_of p;
   next = first_of (pending_rows role p);

@@ -155,7 +155,7 @@ batch_of_five = record { seq = 0; rows = cell 3 ∷ cell 1 ∷ cell 2 ∷ cell 5
 
 -- the batch was taken, so many of its rows, and so many rows were emitted
 abbrev place : ℕ → ℕ → Position
-place rows outs = record origin { taken = record { from = 0; batch = batch_of_five } ∷ []; constants = replicate rows (cell 2); fates = replicate outs true }
+place rows outs = record origin { taken = record { from = 0; batch = batch_of_five } ∷ []; constants = replicate rows (cell 2); outcomes = replicate outs true }
 
 abbrev shown : ℕ → ℕ → WorkerView
 shown rows outs = view_of (role_in (query five 400) 1) (place rows outs)

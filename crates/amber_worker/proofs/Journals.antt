@@ -29,10 +29,10 @@ AreEntries-push gone (first ∷ more) one text entry other = (text.0, text.1, Ar
 
 -- ---- rows more
 
-same_position : (p q : Position) → p.taken ≡ q.taken → p.constants ≡ q.constants → p.fates ≡ q.fates → p.hand ≡ q.hand → p.held ≡ q.held → p.waved ≡ q.waved
+same_position : (p q : Position) → p.taken ≡ q.taken → p.constants ≡ q.constants → p.outcomes ≡ q.outcomes → p.hand ≡ q.hand → p.held ≡ q.held → p.waved ≡ q.waved
     → p.paused ≡ q.paused → p.finished ≡ q.finished → p ≡ q
-same_position p q taken constants fates hand held waved paused finished =
-    λ i. record { taken = taken i; constants = constants i; fates = fates i; hand = hand i; held = held i; waved = waved i; paused = paused i; finished = finished i }
+same_position p q taken constants outcomes hand held waved paused finished =
+    λ i. record { taken = taken i; constants = constants i; outcomes = outcomes i; hand = hand i; held = held i; waved = waved i; paused = paused i; finished = finished i }
 
 none_yet : (a b : ℕ) → (eqb a 0 && eqb b 0) ≡ eqb (a + b) 0
 none_yet zero b = rw zero-add refl
@@ -48,7 +48,7 @@ pub went-went : (orders : Orders) (rows outs more others : ℕ) (p : Position) �
 went-went orders rows outs more others p plain =
     same_position _ _ refl
     (append_assoc p.constants _ _ ∙ ap (λ l. p.constants ++ l) (replicate-append-replicate rows more orders.constants))
-    (append_assoc p.fates _ _ ∙ ap (λ l. p.fates ++ l) (replicate-append-replicate outs others true))
+    (append_assoc p.outcomes _ _ ∙ ap (λ l. p.outcomes ++ l) (replicate-append-replicate outs others true))
     (rw plain.uncounted refl) refl (waved_both p.waved outs others) refl refl
 
 not_watched : (waved : Bool) (rows : List (List Value)) → pass_by None waved rows ≡ true
@@ -81,11 +81,11 @@ go-row : (role : Role) (orders : Orders) (p : Position) (rows outs : ℕ) → Ar
 go-row role orders p rows outs plain first second =
     let constants = length-append p.constants (replicate rows orders.constants) in
     let rows_gone = length-replicate rows orders.constants in
-    let fates = length-append p.fates (replicate outs true) in
+    let outcomes = length-append p.outcomes (replicate outs true) in
     let outs_gone = length-replicate outs true in
     let within = second.within in
     let produced = second.produced in
-    let drained : produced_with role orders (went orders rows outs p) 0 ≤ length (p.fates ++ replicate outs true) + 0 = second.drained (omega arith) in
+    let drained : produced_with role orders (went orders rows outs p) 0 ≤ length (p.outcomes ++ replicate outs true) + 0 = second.drained (omega arith) in
     let one = produced-went role orders p rows outs 1 in
     let before = produced-went role orders p rows outs 0 ∙ produced-same role orders p (rows + 0) (rows + 1 - 1) (omega arith) in
     record {
@@ -104,7 +104,7 @@ go-out : (role : Role) (orders : Orders) (p : Position) (rows outs : ℕ) → Ar
 go-out role orders p rows outs plain first second =
     let constants = length-append p.constants (replicate rows orders.constants) in
     let rows_gone = length-replicate rows orders.constants in
-    let fates = length-append p.fates (replicate outs true) in
+    let outcomes = length-append p.outcomes (replicate outs true) in
     let outs_gone = length-replicate outs true in
     let within = first.within in
     let produced = second.produced in
@@ -114,7 +114,7 @@ go-out role orders p rows outs plain first second =
       free = first.free;
       within = omega arith;
       produced = omega arith;
-      drained = λ some. let drained : produced_with role orders p (rows - 1) ≤ length p.fates + outs = first.drained (omega arith) in omega arith;
+      drained = λ some. let drained : produced_with role orders p (rows - 1) ≤ length p.outcomes + outs = first.drained (omega arith) in omega arith;
       in_hand = λ counted. absurd (not_counted orders plain counted);
       before_taking = λ counted. absurd (not_counted orders plain counted);
       no_stop = passes orders p.waved _ plain;

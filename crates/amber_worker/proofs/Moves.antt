@@ -204,9 +204,9 @@ product-one placement orders w p sent one later now last takes =
 
 -- all that was produced is gone
 pub all-gone : (placement : Placement) (orders : Orders) (w : WorkerState) (p : Position) (sent : ℕ → List Batch) → Shows placement orders w p sent → w.pending ≡ []
-    → length p.fates ≡ length (product placement.role p.taken p.constants)
+    → length p.outcomes ≡ length (product placement.role p.taken p.constants)
 all-gone placement orders w p sent shows none =
-    let gone = left-nothing (length p.fates) (product placement.role p.taken p.constants) (sym shows.pending ∙ none) in
+    let gone = left-nothing (length p.outcomes) (product placement.role p.taken p.constants) (sym shows.pending ∙ none) in
     let within = shows.produced in
     omega arith
 
@@ -227,7 +227,7 @@ may-take_row placement orders w p sent one later now_does last takes works =
       drained = λ some. omega arith;
       in_hand = λ counted. absurd (not_counted orders shows.plain counted);
       before_taking = λ counted. absurd (not_counted orders shows.plain counted);
-      no_stop = passes orders p.waved (take 0 (drop (length p.fates) (product_with placement.role orders p 1))) shows.plain;
+      no_stop = passes orders p.waved (take 0 (drop (length p.outcomes) (product_with placement.role orders p 1))) shows.plain;
     }
 
 both_true : (b : Bool) → (b && true) ≡ b
@@ -248,8 +248,8 @@ shows-row_taken placement orders w p sent one later now last takes =
     let more : length (p.constants ++ orders.constants ∷ []) ≡ length p.constants + 1 = omega (arith, length-append p.constants (orders.constants ∷ [])) in
     let grown = product-one placement orders w p sent one later now last takes in
     let gone = all-gone placement orders w p sent shows takes.pending in
-    let no_fate : p.fates ++ [] ≡ p.fates = append-nil p.fates in
-    let still : length p.fates ≤ length (product placement.role p.taken p.constants) = shows.produced in
+    let no_fate : p.outcomes ++ [] ≡ p.outcomes = append-nil p.outcomes in
+    let still : length p.outcomes ≤ length (product placement.role p.taken p.constants) = shows.produced in
     let lengths = length-append (product placement.role p.taken p.constants) (gives_if w.operator_state w.building (row_in (columns_at_hand w) one.what) ++ last) in
     let now_taken : take (length (p.constants ++ orders.constants ∷ [])) (fed placement.role p.taken) ≡ taken_of placement.role p ++ one ∷ [] =
     rw more (taken-now placement orders w p sent one later now last takes) in
@@ -267,7 +267,7 @@ shows-row_taken placement orders w p sent one later now last takes =
       building = λ k d less. side-is placement orders w p sent one later now last takes (suc k) d (omega arith);
       plain = shows.plain;
       rest = sym (rw more (left-next (length p.constants) (fed placement.role p.taken) one later left));
-      pending = rw (takes.pending, no_fate, grown) (sym (left-behind (length p.fates) (product placement.role p.taken p.constants) _ gone));
+      pending = rw (takes.pending, no_fate, grown) (sym (left-behind (length p.outcomes) (product placement.role p.taken p.constants) _ gone));
       taken = rw (more, shows.taken) refl;
       emitted = rw no_fate shows.emitted;
       batches = shows.batches;
@@ -373,7 +373,7 @@ open-outs placement orders w p sent shows works =
 may-emit_row : (placement : Placement) (orders : Orders) (w : WorkerState) (p : Position) (sent : ℕ → List Batch) (row : List Value) (later : List (List Value))
     → Shows placement orders w p sent → w.pending ≡ row ∷ later → IsWorking w → MayGo placement.role orders p 0 1
 may-emit_row placement orders w p sent row later shows pending works =
-    let produced = left-within (length p.fates) (product placement.role p.taken p.constants) row later (sym shows.pending ∙ pending) in
+    let produced = left-within (length p.outcomes) (product placement.role p.taken p.constants) row later (sym shows.pending ∙ pending) in
     let same : produced_with placement.role orders p 0 ≡ length (product placement.role p.taken p.constants) =
     ap (λ (constants : List (List Value)). length (product placement.role p.taken constants)) (append-nil p.constants) in
     let within = shows.within in
@@ -384,17 +384,17 @@ may-emit_row placement orders w p sent row later shows pending works =
       drained = λ none. absurd (omega arith);
       in_hand = λ counted. absurd (not_counted orders shows.plain counted);
       before_taking = λ counted. absurd (not_counted orders shows.plain counted);
-      no_stop = passes orders p.waved (take 1 (drop (length p.fates) (product_with placement.role orders p 0))) shows.plain;
+      no_stop = passes orders p.waved (take 1 (drop (length p.outcomes) (product_with placement.role orders p 0))) shows.plain;
     }
 
 shows-row_emitted : (placement : Placement) (orders : Orders) (w : WorkerState) (p : Position) (sent : ℕ → List Batch) (row : List Value) (later : List (List Value))
     → Shows placement orders w p sent → w.pending ≡ row ∷ later → IsWorking w → Shows placement orders (row_emitted row later w) (went orders 0 1 p) sent
 shows-row_emitted placement orders w p sent row later shows pending works =
-    let left : drop (length p.fates) (product placement.role p.taken p.constants) ≡ row ∷ later = sym shows.pending ∙ pending in
-    let produced = left-within (length p.fates) (product placement.role p.taken p.constants) row later left in
+    let left : drop (length p.outcomes) (product placement.role p.taken p.constants) ≡ row ∷ later = sym shows.pending ∙ pending in
+    let produced = left-within (length p.outcomes) (product placement.role p.taken p.constants) row later left in
     let no_row : p.constants ++ [] ≡ p.constants = append-nil p.constants in
-    let more : length (p.fates ++ true ∷ []) ≡ length p.fates + 1 = omega (arith, length-append p.fates (true ∷ [])) in
-    let counted = sum_by_push (λ fate. if is_emitted fate then 1 else 0) p.fates true in
+    let more : length (p.outcomes ++ true ∷ []) ≡ length p.outcomes + 1 = omega (arith, length-append p.outcomes (true ∷ [])) in
+    let counted = sum_by_push (λ fate. if is_emitted fate then 1 else 0) p.outcomes true in
     let open_still : p.finished ≡ false = sym shows.finished ∙ works.unfinished in
     record {
       op = shows.op;
@@ -408,7 +408,7 @@ shows-row_emitted placement orders w p sent row later shows pending works =
       building = shows.building;
       plain = shows.plain;
       rest = rw no_row shows.rest;
-      pending = rw (no_row, more) (sym (left-next (length p.fates) (product placement.role p.taken p.constants) row later left));
+      pending = rw (no_row, more) (sym (left-next (length p.outcomes) (product placement.role p.taken p.constants) row later left));
       taken = rw no_row shows.taken;
       emitted = let before = shows.emitted in omega arith;
       batches = shows.batches;
@@ -422,7 +422,7 @@ shows-row_emitted placement orders w p sent row later shows pending works =
       paused = shows.paused;
       finished = shows.finished;
       ins = shows.ins;
-      outs = rw (no_row, open_still, kept-next (product placement.role p.taken p.constants) p.fates row later left)
+      outs = rw (no_row, open_still, kept-next (product placement.role p.taken p.constants) p.outcomes row later left)
           (send_all-row placement placement.receivers (emitted_rows placement.role p) row sent w.outs (open-outs placement orders w p sent shows works));
     }
 

@@ -116,22 +116,22 @@ same-test a b c d there back = by (eqb a b) (eqb c d) refl refl
 -- ---- the rows that are kept
 
 -- of more rows than have a fate the same are kept
-pub kept-longer : {A : Type 0} (rows more : List A) (fates : List Bool) → length fates ≤ length rows → kept (rows ++ more) fates ≡ kept rows fates
+pub kept-longer : {A : Type 0} (rows more : List A) (outcomes : List Bool) → length outcomes ≤ length rows → kept (rows ++ more) outcomes ≡ kept rows outcomes
 unfolding kept
 kept-longer [] [] [] h = refl
 kept-longer [] (y ∷ more) [] h = refl
-kept-longer [] more (fate ∷ fates) h = absurd (omega arith)
+kept-longer [] more (fate ∷ outcomes) h = absurd (omega arith)
 kept-longer (x ∷ rows) more [] h = refl
-kept-longer (x ∷ rows) more (true ∷ fates) h = ap (λ l. x ∷ l) (kept-longer rows more fates (omega arith))
-kept-longer (x ∷ rows) more (false ∷ fates) h = kept-longer rows more fates (omega arith)
+kept-longer (x ∷ rows) more (true ∷ outcomes) h = ap (λ l. x ∷ l) (kept-longer rows more outcomes (omega arith))
+kept-longer (x ∷ rows) more (false ∷ outcomes) h = kept-longer rows more outcomes (omega arith)
 
 -- the next row is kept too
-pub kept-next : {A : Type 0} (rows : List A) (fates : List Bool) (row : A) (more : List A) → drop (length fates) rows ≡ row ∷ more
-    → kept rows (fates ++ true ∷ []) ≡ kept rows fates ++ row ∷ []
+pub kept-next : {A : Type 0} (rows : List A) (outcomes : List Bool) (row : A) (more : List A) → drop (length outcomes) rows ≡ row ∷ more
+    → kept rows (outcomes ++ true ∷ []) ≡ kept rows outcomes ++ row ∷ []
 unfolding kept
 kept-next [] [] row more e = cc
-kept-next [] (fate ∷ fates) row more e = cc
+kept-next [] (fate ∷ outcomes) row more e = cc
 kept-next (x ∷ []) [] row more e = let same : x ≡ row = cc in rw same refl
 kept-next (x ∷ y ∷ rows) [] row more e = let same : x ≡ row = cc in rw same refl
-kept-next (x ∷ rows) (true ∷ fates) row more e = ap (λ l. x ∷ l) (kept-next rows fates row more e)
-kept-next (x ∷ rows) (false ∷ fates) row more e = kept-next rows fates row more e
+kept-next (x ∷ rows) (true ∷ outcomes) row more e = ap (λ l. x ∷ l) (kept-next rows outcomes row more e)
+kept-next (x ∷ rows) (false ∷ outcomes) row more e = kept-next rows outcomes row more e

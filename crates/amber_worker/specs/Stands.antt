@@ -164,10 +164,10 @@ pub record Shows (placement : Placement) (orders : Orders) (w : WorkerState) (p 
   pub rest : w.rest ≡ rest_of placement.role p
   pub pending : w.pending ≡ pending_rows placement.role p
   pub taken : w.taken ≡ length p.constants
-  pub emitted : w.emitted ≡ emitted_count p.fates
+  pub emitted : w.emitted ≡ emitted_count p.outcomes
   pub batches : w.batches ≡ length p.taken
   pub within : length p.constants ≤ length (fed placement.role p.taken)
-  pub produced : length p.fates ≤ length (produced_rows placement.role p)
+  pub produced : length p.outcomes ≤ length (produced_rows placement.role p)
   pub refused : w.refused ≡ refused_in placement.op (taken_of placement.role p)
   pub kept : w.kept ≡ kept_of placement.role.task.kind placement.role.task (taken_of placement.role p)
   pub hand : w.hand ≡ p.hand
