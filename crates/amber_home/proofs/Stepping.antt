@@ -4,7 +4,7 @@ use Rattle.std.proofs.lemmas.Bool.Decides.{eqb_tells}
 use Rattle.std.proofs.lemmas.List.{get_or-drop, get_or-set_same, get_or-take, get_or_default, length-set, length-take-le, set-append_left, set-append_right, take-append-drop}
 use Rattle.std.specs.List.{list_any}
 use Rattle.amber_worker.specs.Stands.{HasTurned, Keeps}
-use Rattle.amber_worker.specs.WorkerState.{WorkerState, answer_of}
+use Rattle.amber_worker.specs.WorkerState.{WorkerState, next_turn}
 use Rattle.amber_worker.specs.declared.turn.Turn.{Turn}
 use Rattle.amber_home.specs.Leg.{given_of, taker_of}
 use Rattle.amber_home.specs.Standing.{HaveFinished, IsCrew, StayAtWork, no_worker_state, worker_state_at, steps_by}
@@ -22,10 +22,10 @@ module _ (crew : List WorkerState) (worker : ℕ) (now d e : WorkerState) (insid
   now-at = get_or-set_same crew worker now e inside
 
   pub moved-at : (done : Turn) → IsCrew crew → HaveFinished worker crew → (worker_state_at crew worker).finished ≡ false
-      → done ≡ answer_of (get_or crew worker d) → HasTurned done (get_or crew worker d) now → steps_by (set crew worker now) ≡ steps_by crew + 1
+      → done ≡ next_turn (get_or crew worker d) → HasTurned done (get_or crew worker d) now → steps_by (set crew worker now) ≡ steps_by crew + 1
   moved-at done work first not-yet is turned =
       sum-more crew worker now inside (moves crew worker now done work inside first not-yet
-      (is ∙ ap answer_of (read-at crew worker d inside)) (subst (λ w. HasTurned done w now) (read-at crew worker d inside) turned))
+      (is ∙ ap next_turn (read-at crew worker d inside)) (subst (λ w. HasTurned done w now) (read-at crew worker d inside) turned))
 
   pub none-stays : Keeps (get_or crew worker d) now → All (λ one. one.waiting ≡ []) (get_or (set crew worker now) worker e).outs → StayAtWork crew (set crew worker now)
   none-stays keeps none = stay-turned crew worker now inside (kept-at keeps) (subst (λ w. All (λ one. one.waiting ≡ []) w.outs) now-at none)

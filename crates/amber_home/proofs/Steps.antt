@@ -15,7 +15,7 @@ use Rattle.amber_worker.specs.Incoming.{has_some, have_all_ended}
 use Rattle.amber_worker.specs.Outgoing.{Outgoing}
 use Rattle.amber_worker.specs.Links.{waiting_for, without_batches}
 use Rattle.amber_worker.specs.Stands.{HasTurned, Keeps, first_orders, placement_of, stream_to}
-use Rattle.amber_worker.specs.WorkerState.{WorkerState, answer_of, has_ready, steps_in}
+use Rattle.amber_worker.specs.WorkerState.{WorkerState, next_turn, has_ready, steps_in}
 use Rattle.amber_worker.specs.declared.turn.Turn.{Turn}
 use Rattle.amber_worker.specs.declared.turn.Turn.TheVariants as turn
 use Rattle.amber_worker.proofs.Idle.{has_marked-chunks_of, never_idle}
@@ -70,7 +70,7 @@ waits-none receiver (one ∷ outs) h = by (nat_eq one.to receiver) (waits-none r
 
 -- a worker whose senders have all finished is not idle
 pub busy : (query : Query) (crew : List WorkerState) (worker : ℕ) → AreAtWork query crew → worker < length crew → HaveFinished worker crew
-    → answer_of (worker_state_at crew worker) ≡ turn.Idle → ⊥
+    → next_turn (worker_state_at crew worker) ≡ turn.Idle → ⊥
 unfolding placement_of role_of
 busy query crew worker work inside finished idle =
     let here : worker < crew_of query.flow = rw (← work.standing.all) inside in
@@ -99,7 +99,7 @@ ended-finished false false false false false h = cc
 
 -- an unfinished worker whose senders have all finished makes a step
 pub moves : (crew : List WorkerState) (worker : ℕ) (now : WorkerState) (done : Turn) → IsCrew crew → worker < length crew → HaveFinished worker crew
-    → (worker_state_at crew worker).finished ≡ false → done ≡ answer_of (worker_state_at crew worker) → HasTurned done (worker_state_at crew worker) now
+    → (worker_state_at crew worker).finished ≡ false → done ≡ next_turn (worker_state_at crew worker) → HasTurned done (worker_state_at crew worker) now
     → steps_in now ≡ steps_in (worker_state_at crew worker) + 1
 moves crew worker now turn.Moved work inside finished not-yet is turned = turned
 moves crew worker now turn.Idle work inside finished not-yet is turned = absurd (busy work.0 crew worker work.1 inside finished (sym is))

@@ -12,7 +12,7 @@ use Rattle.amber_meaning.specs.Task.{Task, is_builder}
 use Rattle.amber_link.specs.Incoming.{Incoming, has_some, have_all_ended, have_builders_ended, is_ready, may_come}
 use Rattle.amber_worker.specs.Links.{waiting_from}
 use Rattle.amber_worker.specs.Stands.{Placement, ReceiveAll, Shows}
-use Rattle.amber_worker.specs.WorkerState.{WorkerState, answer_of, has_ready}
+use Rattle.amber_worker.specs.WorkerState.{WorkerState, next_turn, has_ready}
 use Rattle.amber_worker.specs.declared.turn.Turn.TheVariants as turn
 
 -- one of these batches is a last one
@@ -117,7 +117,7 @@ idle_parts false false false false false h = (refl, refl)
 -- a worker of whose senders each last batch was taken or waits is never idle
 pub never_idle : (placement : Placement) (orders : Orders) (w : WorkerState) (p : Position) (sent : ℕ → List Batch) → Shows placement orders w p sent
     → ((sender : ℕ) → list_any (λ one. eqb one sender) placement.role.senders ≡ true → has_marked (taken_from p.taken sender ++ waiting_from sender w.ins) ≡ true)
-    → answer_of w ≡ turn.Idle → ⊥
+    → next_turn w ≡ turn.Idle → ⊥
 never_idle placement orders w p sent shows marked idle =
     let parts = idle_parts w.finished (has_some w.pending) (has_some w.rest) (has_ready w.ins) (have_all_ended w.ins) idle in
     let built = built_so placement.role.task p.taken placement.role.senders w.ins shows.ins shows.sides

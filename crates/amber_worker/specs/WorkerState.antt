@@ -56,8 +56,8 @@ has_ready ins = list_any (may_come (have_builders_ended ins)) ins
 
 -- the turn that a worker makes: it moves where a row is pending, where a row is left, where a batch may be taken, and where nothing
 -- more can come
-abbrev pub answer_of : WorkerState → Turn
-answer_of w =
+abbrev pub next_turn : WorkerState → Turn
+next_turn w =
     if w.finished then turn.Ended
     else if has_some w.pending then turn.Moved
     else if has_some w.rest then turn.Moved

@@ -7,7 +7,7 @@ ghost use Rattle.amber_meaning.specs.Position.{origin};
 ghost use Rattle.amber_meaning.specs.Plan.{role_of};
 ghost use Rattle.amber_link.specs.Incoming.{has_some, have_all_ended};
 ghost use Rattle.amber_worker.specs.Links.{waiting_for, with_batches, without_batches};
-ghost use Rattle.amber_worker.specs.WorkerState.{answer_of, has_ready, steps_in};
+ghost use Rattle.amber_worker.specs.WorkerState.{next_turn, has_ready, steps_in};
 ghost use Rattle.amber_worker.specs.Steps.{IsCalm, IsShown, TakesBatch, TakesRow, all_done, row_emitted_from};
 ghost use Rattle.amber_worker.specs.Made.{IsFresh};
 ghost use Rattle.amber_worker.specs.Stands.{AreAlone, HasShare, HasTurned, IsGivenOf, IsViewOf, Keeps, Stands, first_orders, is_scan, placement_of};
@@ -287,7 +287,7 @@ impl Worker {
     pub fn turn(&mut self) -> Result<Turn, AllocError>
         requires { steps_in self.old < 2 ^ 40 }
         ensures keeps { Keeps self.old self.new }
-        ensures answer { IfOk result (λ turn. turn ≡ answer_of self.old) }
+        ensures answer { IfOk result (λ turn. turn ≡ next_turn self.old) }
         ensures moved { IfOk result (λ turn. HasTurned turn self.old self.new) }
         ensures err { OnErr result (self.new ≡ self.old) }
     {
