@@ -19,5 +19,5 @@ unfoldable pub groups_of : List ℕ → List Agg → List (List Value) → List 
 groups_of keys aggs rows = entries_of (λ key. map (running_of (rows_with keys rows key)) aggs) (first_keys keys rows)
 
 -- a state that was fed these rows, in this order
-abbrev pub Stands : Group → List (List Value) → Type 0
-Stands state rows = (state.fed ≡ length rows) × (state.groups ≡ groups_of state.keys state.aggs rows)
+abbrev pub IsFedWith : Group → List (List Value) → Type 0
+IsFedWith state rows = (state.fed ≡ length rows) × (state.groups ≡ groups_of state.keys state.aggs rows)

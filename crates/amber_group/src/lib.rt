@@ -5,7 +5,7 @@
 //! sum is exact however its parts come: 128 bits hold the sum of fewer than 2^40 numbers of 64 bits, and only the
 //! final sum is tested. A group whose final sum 64 bits do not hold has no row; its key is told apart.
 //!
-//! The rows themselves are not kept. So the contracts say what a state stands for: `Stands` ties it to a list of
+//! The rows themselves are not kept. So the contracts say what a state stands for: `IsFedWith` ties it to a list of
 //! rows. A new state stands for no row, each row that is fed makes it stand for one row more, and what it gives is
 //! what the list functions of `amber_rows` make of the rows for which it stands. Where memory runs out, the state
 //! is as before.

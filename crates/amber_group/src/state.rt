@@ -1,7 +1,7 @@
 ghost use Rattle.std.specs.Prelude.{◌≡◌, ◌+◌, ◌^◌, ◌<◌, ◌++◌, ◌∷◌, [], List, IfOk, OnErr, OnOk, length};
 ghost use Rattle.amber_rows.specs.Operators.{first_keys, grouped, refused_keys};
 ghost use Rattle.amber_rows.specs.declared.value.Value.{Value as Cell};
-ghost use Rattle.amber_group.specs.Group.{Stands};
+ghost use Rattle.amber_group.specs.Group.{IsFedWith};
 
 use crate::finish::{Grouped, finish};
 use crate::totals::{Totals, take_in};
@@ -12,7 +12,7 @@ use std::alloc::{AllocError, Global};
 use std::marker::Model;
 
 /// What a group keeps: the columns of its key, its aggregates, how many rows it was fed, and what it needs of
-/// these. `Stands` says which rows a state stands for.
+/// these. `IsFedWith` says which rows a state stands for.
 #[derive(Debug, Drop)]
 pub struct GroupState {
     alloc: Global,
@@ -41,7 +41,7 @@ impl GroupState {
     pub fn new(alloc: Global, keys: Cols, aggs: Aggs) -> Self
         ensures keys { result.keys ≡ keys }
         ensures aggs { result.aggs ≡ aggs }
-        ensures rows { Stands result [] }
+        ensures rows { IsFedWith result [] }
     {
         GroupState {
             alloc,
@@ -56,7 +56,7 @@ impl GroupState {
     /// Takes in a row. A column that it does not have adds nothing to an aggregate, nor does a text to a sum.
     pub fn feed(&mut self, row: &Row) -> Result<(), AllocError>
         requires { self.old.fed < 2 ^ 40 }
-        ensures ok { OnOk result ((rows : List (List Cell)) → Stands self.old rows → Stands self.new (rows ++ row.now ∷ [])) }
+        ensures ok { OnOk result ((rows : List (List Cell)) → IsFedWith self.old rows → IsFedWith self.new (rows ++ row.now ∷ [])) }
         ensures fed { OnOk result (self.new.fed ≡ self.old.fed + 1) }
         ensures same_keys { self.new.keys ≡ self.old.keys }
         ensures same_aggs { self.new.aggs ≡ self.old.aggs }
@@ -79,8 +79,8 @@ impl GroupState {
     /// bits do not hold, or with an aggregate of a column that none of its rows has, stands in `refused` instead.
     /// Keys stand in the order in which they came first.
     pub fn finish(&self) -> Result<Grouped, AllocError>
-        ensures rows { IfOk result (λ groups. (rows : List (List Cell)) → Stands self.now rows → groups.rows ≡ grouped self.now.keys self.now.aggs rows) }
-        ensures refused { IfOk result (λ groups. (rows : List (List Cell)) → Stands self.now rows → groups.refused ≡ refused_keys self.now.keys self.now.aggs rows) }
+        ensures rows { IfOk result (λ groups. (rows : List (List Cell)) → IsFedWith self.now rows → groups.rows ≡ grouped self.now.keys self.now.aggs rows) }
+        ensures refused { IfOk result (λ groups. (rows : List (List Cell)) → IsFedWith self.now rows → groups.refused ≡ refused_keys self.now.keys self.now.aggs rows) }
     {
         finish(self.alloc, &self.groups)
     }
@@ -94,7 +94,7 @@ impl GroupState {
 
     /// How many groups there are.
     pub fn groups(&self) -> u64
-        ensures { (rows : List (List Cell)) → Stands self.now rows → result ≡ length (first_keys self.now.keys rows) }
+        ensures { (rows : List (List Cell)) → IsFedWith self.now rows → result ≡ length (first_keys self.now.keys rows) }
     {
         self.groups.len() as u64
     }

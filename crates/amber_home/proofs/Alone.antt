@@ -23,14 +23,14 @@ use Rattle.amber_meaning.proofs.Operators.{numbered-here}
 use Rattle.amber_scan.specs.Shares as shares
 use Rattle.amber_scan.specs.declared.share.Scanned.{Scanned}
 use Rattle.amber_worker.specs.Fields.{arrival_of}
-use Rattle.amber_worker.specs.Stands as stands
-use Rattle.amber_worker.specs.Stands.{AreAlone}
-use Rattle.amber_worker.specs.Stands.{HasShare, Stands, first_orders, placement_of}
+use Rattle.amber_worker.specs.AtPosition as at_position
+use Rattle.amber_worker.specs.AtPosition.{AreAlone}
+use Rattle.amber_worker.specs.AtPosition.{HasShare, IsAtPosition, first_orders, placement_of}
 use Rattle.amber_worker.specs.WorkerState.{WorkerState}
 use Rattle.amber_meaning.specs.ScanFiles.{is_headed, records_at}
 use Rattle.amber_meaning.specs.Position.{origin}
 use Rattle.amber_home.specs.declared.error.HomeErr.{HomeErr}
-use Rattle.amber_home.specs.Start.{HoldsRecords, NamesOperator, StandsAt, kind_at, schema_at}
+use Rattle.amber_home.specs.Start.{HoldsRecords, NamesOperator, IsAtStart, kind_at, schema_at}
 
 -- ---- numbers
 
@@ -96,7 +96,7 @@ workers-alone flow k alone h =
 
 -- ---- kinds
 
-pub scan-same : (kind : What) → stands.is_scan kind ≡ plain.is_scan kind
+pub scan-same : (kind : What) → at_position.is_scan kind ≡ plain.is_scan kind
 scan-same (what.Scan file) = refl
 scan-same (what.Filter input cond) = refl
 scan-same (what.Project input columns) = refl
@@ -137,7 +137,7 @@ share-same records = shared-same 1 0 1 records
 -- ---- a worker that was made for an operator
 
 abbrev Stood : List Operator → List Records → ℕ → ℕ → WorkerState → Type 0
-Stood flow records size k w = Stands (placement_of flow records size k) (first_orders flow k) w origin origin (λ _. [])
+Stood flow records size k w = IsAtPosition (placement_of flow records size k) (first_orders flow k) w origin origin (λ _. [])
 
 role-share : (flow : List Operator) (records : List Records) (k : ℕ) → AreAlone flow → k < length flow
     → (plan.role_of flow records k).share ≡ plan.share_of (plain.list_at records (k + 1)) 1 0
@@ -153,7 +153,7 @@ role-share flow records k alone h =
 pub stands-scan : (flow : List Operator) (k size : ℕ) (o : Operator) (file : List ℕ) (share : List Scanned) (w : WorkerState) → AreAlone flow → k < length flow → o ≡ get_or flow k o
     → HoldsRecords (records_at o.what o.schema file) share
     → ((records : List Records) → HasShare (Some share) (plan.role_of flow records k) → Stood flow records size k w)
-    → StandsAt flow k size (records_at (kind_at flow k) (schema_at flow k) file) w
+    → IsAtStart flow k size (records_at (kind_at flow k) (schema_at flow k) file) w
 stands-scan flow k size o file share w alone h is holds made records own =
     made records
     (ap (map arrival_of) holds ∙ share-same (records_at o.what o.schema file)
@@ -163,7 +163,7 @@ stands-scan flow k size o file share w alone h is holds made records own =
 -- of another operator
 pub stands-other : (flow : List Operator) (k size : ℕ) (file : List ℕ) (w : WorkerState)
     → ((records : List Records) → HasShare None (plan.role_of flow records k) → Stood flow records size k w)
-    → StandsAt flow k size (records_at (kind_at flow k) (schema_at flow k) file) w
+    → IsAtStart flow k size (records_at (kind_at flow k) (schema_at flow k) file) w
 stands-other flow k size file w made records own = made records tt
 
 -- ---- headers

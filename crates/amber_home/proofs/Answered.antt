@@ -20,7 +20,7 @@ use Rattle.amber_meaning.specs.Position.{Position, Taken, fed, arrivals_of, shar
 use Rattle.amber_meaning.specs.State.{position_at}
 use Rattle.amber_meaning.specs.Task.{Arrival, Task}
 use Rattle.amber_meaning.specs.Views.{answer_in, by_number, insert_numbered, op_refuses, refusal_in, refused_in, rows_in, sink_rows, taken_by, taken_of, worker_refuses}
-use Rattle.amber_worker.specs.Stands.{AreAlone, kept_of, placement_of}
+use Rattle.amber_worker.specs.AtPosition.{AreAlone, kept_of, placement_of}
 use Rattle.amber_worker.specs.WorkerState.{WorkerState}
 use Rattle.amber_worker.proofs.Shares.{by_number-share}
 use Rattle.amber_home.specs.Answers.{IsGatheredFrom, ShowAll, refused_at, rows_before}

@@ -18,13 +18,13 @@ use Rattle.amber_meaning.proofs.Operators.{records-here, wrong_header-here, wron
 use Rattle.amber_worker.specs.Incoming.{Incoming}
 use Rattle.amber_worker.specs.Outgoing.{Outgoing}
 use Rattle.amber_worker.specs.Links.{waiting_from}
-use Rattle.amber_worker.specs.Stands.{AreAlone, Stands, first_orders, placement_of}
+use Rattle.amber_worker.specs.AtPosition.{AreAlone, IsAtPosition, first_orders, placement_of}
 use Rattle.amber_worker.specs.WorkerState.{WorkerState}
 use Rattle.amber_home.specs.declared.error.HomeErr.{HomeErr}
 use Rattle.amber_home.specs.declared.error.HomeErr.TheVariants as home_err
 use Rattle.amber_home.specs.HomeState.{NamesScan}
-use Rattle.amber_home.specs.Start.{AreEmpty, NamesOperator, StandsAt, kind_at, schema_at}
-use Rattle.amber_home.specs.Standing.{Standing, no_worker_state, sent_by, worker_state_at}
+use Rattle.amber_home.specs.Start.{AreEmpty, NamesOperator, IsAtStart, kind_at, schema_at}
+use Rattle.amber_home.specs.AtWork.{AreAtPositions, no_worker_state, sent_by, worker_state_at}
 use Rattle.amber_home.proofs.Alone.{crew-alone, kind-here, schema-here}
 
 abbrev pub Records : Type 0
@@ -33,7 +33,7 @@ Records = List (List (Result (List Value) RowFault))
 -- the first so many workers stand at the start
 abbrev pub HaveBegun : List Operator → Records → ℕ → List WorkerState → ℕ → Type 0
 HaveBegun flow records size crew count = (worker : ℕ) → worker < count
-    → Stands (placement_of flow records size worker) (first_orders flow worker) (worker_state_at crew worker) origin origin (λ _. [])
+    → IsAtPosition (placement_of flow records size worker) (first_orders flow worker) (worker_state_at crew worker) origin origin (λ _. [])
 
 -- an operator that is not there
 pub d : Operator
@@ -90,13 +90,13 @@ empty-more crew longer w is before here k =
 
 pub begun-more : (flow : List Operator) (files : List (List ℕ)) (size count : ℕ) (crew longer : List WorkerState) (w : WorkerState) (file : List ℕ) → longer ≡ crew ++ w ∷ []
     → length crew ≡ count → count < length flow → file ≡ next_file (files_left files (take count flow))
-    → HaveBegun flow (records_of files flow) size crew count → StandsAt flow count size (records_at (kind_at flow count) (schema_at flow count) file) w
+    → HaveBegun flow (records_of files flow) size crew count → IsAtStart flow count size (records_at (kind_at flow count) (schema_at flow count) file) w
     → HaveBegun flow (records_of files flow) size longer (count + 1)
 begun-more flow files size count crew longer w file is long inside file-is before stands worker below =
-    subst (λ (xs : List WorkerState). Stands (placement_of flow (records_of files flow) size worker) (first_orders flow worker) (worker_state_at xs worker) origin origin (λ _. [])) (sym is)
-    (at-push crew w (λ k v. k < count + 1 → Stands (placement_of flow (records_of files flow) size k) (first_orders flow k) v origin origin (λ _. []))
+    subst (λ (xs : List WorkerState). IsAtPosition (placement_of flow (records_of files flow) size worker) (first_orders flow worker) (worker_state_at xs worker) origin origin (λ _. [])) (sym is)
+    (at-push crew w (λ k v. k < count + 1 → IsAtPosition (placement_of flow (records_of files flow) size k) (first_orders flow k) v origin origin (λ _. []))
     (λ k less _. before k (rw (← long) less))
-    (λ _. subst (λ n. Stands (placement_of flow (records_of files flow) size n) (first_orders flow n) w origin origin (λ _. [])) (sym long) (stands (records_of files flow) own))
+    (λ _. subst (λ n. IsAtPosition (placement_of flow (records_of files flow) size n) (first_orders flow n) w origin origin (λ _. [])) (sym long) (stands (records_of files flow) own))
     (λ k more less. absurd (omega arith)) worker below)
   where
     own : list_at (records_of files flow) (count + 1) ≡ records_at (kind_at flow count) (schema_at flow count) file
@@ -122,11 +122,11 @@ none-sent crew sender receiver empty = none-waits sender (worker_state_at crew r
 
 pub all-begun : (flow : List Operator) (files : List (List ℕ)) (size most : ℕ) (crew : List WorkerState) → AreAlone flow → length crew ≡ length flow
     → ((k : ℕ) → AreEmpty (worker_state_at crew k)) → HaveBegun flow (records_of files flow) size crew (length flow)
-    → Standing (query_over flow files size most) crew (λ _. origin)
+    → AreAtPositions (query_over flow files size most) crew (λ _. origin)
 all-begun flow files size most crew alone long empty begun = record {
   all = long ∙ sym (crew-alone flow alone);
   each = λ worker below.
-      subst (λ sent. Stands (placement_of flow (records_of files flow) size worker) (first_orders flow worker) (worker_state_at crew worker) origin origin sent)
+      subst (λ sent. IsAtPosition (placement_of flow (records_of files flow) size worker) (first_orders flow worker) (worker_state_at crew worker) origin origin sent)
       (λ i receiver. sym (none-sent crew worker receiver empty) i)
       (begun worker (rw (← crew-alone flow alone) below));
 }

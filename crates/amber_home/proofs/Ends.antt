@@ -17,14 +17,14 @@ use Rattle.amber_meaning.proofs.Fronts.{legal_logs_grow}
 use Rattle.amber_meaning.proofs.OneState.{legal_logs_have_one_state}
 use Rattle.amber_meaning.proofs.Senders.{flows_send_forward}
 use Rattle.amber_worker.specs.Links.{waiting_for, waiting_from}
-use Rattle.amber_worker.specs.Stands.{first_orders, placement_of}
+use Rattle.amber_worker.specs.AtPosition.{first_orders, placement_of}
 use Rattle.amber_worker.specs.WorkerState.{WorkerState}
 use Rattle.amber_worker.proofs.Settling.{sent-made, steps-shown}
 use Rattle.amber_home.specs.HomeState.{end_item}
 use Rattle.amber_home.specs.Finish.{IsClosed}
 use Rattle.amber_home.specs.Leg.{IsDone}
 use Rattle.amber_home.specs.Parts.{parts_from, reached}
-use Rattle.amber_home.specs.Standing.{AreAtWork, Standing, sent_by, worker_state_at, steps_by}
+use Rattle.amber_home.specs.AtWork.{AreAtWork, AreAtPositions, sent_by, worker_state_at, steps_by}
 use Rattle.amber_home.proofs.Links.{receives}
 use Rattle.amber_home.proofs.PartFacts.{are-parts, entries-at, part-above}
 use Rattle.amber_home.proofs.Reached.{all-finished, hand-stays, length-listed, listed-at, not-finished, start-orders, start-position, start-uncounted, steps-listed}
@@ -38,64 +38,64 @@ unfolding AreItems Reaches
 empty-legal query batch = record { text = record { batch = batch; items = tt }; batch = refl; after = start_of query.flow; reached = refl }
 
 -- what each worker took of each sender are the first batches that the sender has made for it
-offered : (query : Query) (crew : List WorkerState) (positions : ℕ → Position) → Standing query crew positions → AreOffered query (reached query positions).positions
+offered : (query : Query) (crew : List WorkerState) (positions : ℕ → Position) → AreAtPositions query crew positions → AreOffered query (reached query positions).positions
 unfolding AreOffered batches_for stream_of placement_of role_of
-offered query crew positions standing receiver inside sender known =
+offered query crew positions at_positions receiver inside sender known =
     let member = receives query.flow sender receiver inside known in
-    let stands = standing.each sender member.1 in
+    let stands = at_positions.each sender member.1 in
     let made = sent-made (placement_of query.flow query.records query.size sender) (first_orders query.flow sender) (worker_state_at crew sender) origin (positions sender) (sent_by crew positions sender) receiver stands member.0 in (
       waiting_from sender (worker_state_at crew receiver).ins ++ waiting_for receiver (worker_state_at crew sender).outs,
       rw (listed-at positions (crew_of query.flow) receiver inside, listed-at positions (crew_of query.flow) sender member.1)
           (sym (append_assoc (taken_from (positions receiver).taken sender) (waiting_from sender (worker_state_at crew receiver).ins) (waiting_for receiver (worker_state_at crew sender).outs)) ∙ made),
     )
 
-leads-at : (query : Query) (crew : List WorkerState) (positions : ℕ → Position) → Standing query crew positions → (worker : ℕ) → worker < crew_of query.flow
+leads-at : (query : Query) (crew : List WorkerState) (positions : ℕ → Position) → AreAtPositions query crew positions → (worker : ℕ) → worker < crew_of query.flow
     → Leads (role_in query worker) (first_orders query.flow worker) origin (worker_state_at crew worker).journal (positions worker)
 unfolding placement_of
-leads-at query crew positions standing worker inside = (standing.each worker inside).leads
+leads-at query crew positions at_positions worker inside = (at_positions.each worker inside).leads
 
 entries-here : (crew : List WorkerState) (worker : ℕ) → entries_of (parts_from 0 crew) worker ≡ (worker_state_at crew worker).journal
 entries-here crew worker = ap (entries_of (parts_from 0 crew)) (sym (zero-add worker)) ∙ entries-at 0 crew worker
 
-worked : (query : Query) (crew : List WorkerState) (positions : ℕ → Position) → Standing query crew positions
+worked : (query : Query) (crew : List WorkerState) (positions : ℕ → Position) → AreAtPositions query crew positions
     → IsWorked query (begun_to_end (start_of query.flow)) (parts_from 0 crew) (reached query positions)
-worked query crew positions standing = record {
+worked query crew positions at_positions = record {
   same_arms = refl;
   crew = length-listed positions (crew_of query.flow);
-  known = λ worker known. let below = (part-above 0 crew worker known).1 in let all = standing.all in omega arith;
+  known = λ worker known. let below = (part-above 0 crew worker known).1 in let all = at_positions.all in omega arith;
   moved = λ worker inside.
       rw (start-orders query.flow worker, start-position query.flow worker, entries-here crew worker, listed-at positions (crew_of query.flow) worker inside)
-      (leads-at query crew positions standing worker inside);
-  offered = offered query crew positions standing;
+      (leads-at query crew positions at_positions worker inside);
+  offered = offered query crew positions at_positions;
 }
 
-settled : (query : Query) (crew : List WorkerState) (positions : ℕ → Position) → Standing query crew positions → IsSettled query (reached query positions)
-settled query crew positions standing = record {
+settled : (query : Query) (crew : List WorkerState) (positions : ℕ → Position) → AreAtPositions query crew positions → IsSettled query (reached query positions)
+settled query crew positions at_positions = record {
   hands = λ worker inside.
       ap (λ p. p.hand) (listed-at positions (crew_of query.flow) worker inside)
       ∙ hand-stays (role_in query worker) (first_orders query.flow worker) origin (positions worker) (worker_state_at crew worker).journal
-      (standing.each worker inside).shows.plain.uncounted refl (leads-at query crew positions standing worker inside);
+      (at_positions.each worker inside).shows.plain.uncounted refl (leads-at query crew positions at_positions worker inside);
   counts = λ op counting is. absurd (none-some counting (sym (start-uncounted query.flow op) ∙ is));
 }
 
 -- the steps of the state are those of the workers
-steps-reached : (query : Query) (crew : List WorkerState) (positions : ℕ → Position) → Standing query crew positions → steps_in (reached query positions) ≡ steps_by crew
+steps-reached : (query : Query) (crew : List WorkerState) (positions : ℕ → Position) → AreAtPositions query crew positions → steps_in (reached query positions) ≡ steps_by crew
 unfolding steps_in
-steps-reached query crew positions standing =
-    steps-listed crew positions (crew_of query.flow) (let all = standing.all in omega arith)
-    (λ k below. steps-shown (placement_of query.flow query.records query.size k) (first_orders query.flow k) (worker_state_at crew k) (positions k) (sent_by crew positions k) (standing.each k below).shows)
-    ∙ ap steps_by (take_all (crew_of query.flow) crew (let all = standing.all in omega arith))
+steps-reached query crew positions at_positions =
+    steps-listed crew positions (crew_of query.flow) (let all = at_positions.all in omega arith)
+    (λ k below. steps-shown (placement_of query.flow query.records query.size k) (first_orders query.flow k) (worker_state_at crew k) (positions k) (sent_by crew positions k) (at_positions.each k below).shows)
+    ∙ ap steps_by (take_all (crew_of query.flow) crew (let all = at_positions.all in omega arith))
 
-closed-as : (query : Query) (crew : List WorkerState) (positions : ℕ → Position) → Standing query crew positions → (closed : Close) → IsDone closed query.most crew
+closed-as : (query : Query) (crew : List WorkerState) (positions : ℕ → Position) → AreAtPositions query crew positions → (closed : Close) → IsDone closed query.most crew
     → IsClosed query (reached query positions) closed
-closed-as query crew positions standing close.Cut done = (
-  all-finished positions (crew_of query.flow) (λ k below. sym (standing.each k below).shows.finished ∙ done.0 k (rw standing.all below)),
-  rw (steps-reached query crew positions standing) done.1,
+closed-as query crew positions at_positions close.Cut done = (
+  all-finished positions (crew_of query.flow) (λ k below. sym (at_positions.each k below).shows.finished ∙ done.0 k (rw at_positions.all below)),
+  rw (steps-reached query crew positions at_positions) done.1,
 )
-closed-as query crew positions standing close.Long done =
-    let inside : done.0 < crew_of query.flow = rw (← standing.all) done.1 in (
-      not-finished positions (crew_of query.flow) done.0 inside (sym (standing.each done.0 inside).shows.finished ∙ done.2),
-      steps-reached query crew positions standing ∙ done.3,
+closed-as query crew positions at_positions close.Long done =
+    let inside : done.0 < crew_of query.flow = rw (← at_positions.all) done.1 in (
+      not-finished positions (crew_of query.flow) done.0 inside (sym (at_positions.each done.0 inside).shows.finished ∙ done.2),
+      steps-reached query crew positions at_positions ∙ done.3,
     )
 
 closes : (query : Query) (state : State) (closed : Close) → IsSettled query state → IsClosed query state closed → ClosesEnd query state closed
@@ -116,13 +116,13 @@ pub has-ended : (query : Query) (crew : List WorkerState) (closed : Close) → I
     → IsDone closed query.most crew → HasEnded query crew work.positions closed
 unfolding empty-legal
 has-ended query crew closed batch work few done =
-    let is = closed-as query crew work.positions work.standing closed done in
+    let is = closed-as query crew work.positions work.at_positions closed done in
     let text : AreParts 0 (parts_from 0 crew) = are-parts 0 crew (rw zero-add few)
-    (λ i below. (work.standing.each i (rw (← work.standing.all) below)).text) in
+    (λ i below. (work.at_positions.each i (rw (← work.at_positions.all) below)).text) in
     let grown = legal_logs_grow query query.size [] (end_item (parts_from 0 crew) closed) (reached query work.positions) (empty-legal query batch) refl text (
       reached query work.positions,
-      worked query crew work.positions work.standing,
-      closes query (reached query work.positions) closed (settled query crew work.positions work.standing) is,
+      worked query crew work.positions work.at_positions,
+      closes query (reached query work.positions) closed (settled query crew work.positions work.at_positions) is,
       refl,
     ) in
     record {

@@ -11,11 +11,11 @@ use Rattle.amber_rows.specs.declared.value.Value.{Value}
 use Rattle.amber_meaning.specs.declared.answer.Refusal.{Refusal}
 use Rattle.amber_meaning.specs.Legal.{Query}
 use Rattle.amber_meaning.specs.Position.{Position}
-use Rattle.amber_worker.specs.Stands.{IsGivenOf, Shows, first_orders}
+use Rattle.amber_worker.specs.AtPosition.{IsGivenOf, Shows, first_orders}
 use Rattle.amber_worker.specs.WorkerState.{WorkerState}
 use Rattle.amber_worker.specs.declared.given.Given.{Given}
 use Rattle.amber_home.specs.Answers.{HaveGiven, IsGatheredFrom, ShowAll, placement_at, refused_at, rows_before}
-use Rattle.amber_home.specs.Standing.{no_worker_state}
+use Rattle.amber_home.specs.AtWork.{no_worker_state}
 use Rattle.amber_home.proofs.Alone.{schema-here}
 
 pub given-none : (refused : List Refusal) (rows : List (List Value)) → refused ≡ [] → rows ≡ [] → HaveGiven [] refused rows

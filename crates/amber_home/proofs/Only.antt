@@ -3,7 +3,7 @@ use Rattle.std.proofs.Common.{◌≡◌, refl, ap, ◌∙◌, ℕ, ◌<◌, List
 use Rattle.std.proofs.lemmas.List.{get_or-set_same, get_or-set_other, length-set}
 use Rattle.amber_worker.specs.WorkerState.{WorkerState, steps_in}
 use Rattle.amber_home.specs.Leg.{given_of, taker_of}
-use Rattle.amber_home.specs.Standing.{MovesOnly, no_worker_state, worker_state_at, steps_by}
+use Rattle.amber_home.specs.AtWork.{MovesOnly, no_worker_state, worker_state_at, steps_by}
 use Rattle.amber_home.proofs.Steps.{sum-member}
 use Rattle.amber_home.proofs.Turns.{at-each}
 

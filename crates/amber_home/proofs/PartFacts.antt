@@ -13,7 +13,7 @@ use Rattle.amber_meaning.specs.Legal.{entries_of}
 use Rattle.amber_worker.specs.Incoming.{has_some}
 use Rattle.amber_worker.specs.WorkerState.{WorkerState}
 use Rattle.amber_home.specs.Parts.{part_of, parts_from, without_journal}
-use Rattle.amber_home.specs.Standing.{worker_state_at}
+use Rattle.amber_home.specs.AtWork.{worker_state_at}
 
 -- ---- who has a part
 

@@ -19,10 +19,10 @@ use Rattle.amber_meaning.specs.State.{arms_at, begun_to_end, disarmed, first_con
 use Rattle.amber_meaning.specs.Task.{Role}
 use Rattle.amber_meaning.proofs.Lists.{list_all-at, list_all-below}
 use Rattle.amber_meaning.proofs.OneState.{position-before, position-get_or, position-last}
-use Rattle.amber_worker.specs.Stands.{first_orders}
+use Rattle.amber_worker.specs.AtPosition.{first_orders}
 use Rattle.amber_worker.specs.WorkerState.{WorkerState}
 use Rattle.amber_worker.specs.WorkerState as worker_state
-use Rattle.amber_home.specs.Standing.{no_worker_state, worker_state_at, steps_by}
+use Rattle.amber_home.specs.AtWork.{no_worker_state, worker_state_at, steps_by}
 
 -- ---- positions by number
 

@@ -3,11 +3,11 @@ use Rattle.std.proofs.Common.{◌≡◌, sym, ap, subst, ◌∙◌, ℕ, ◌+◌
 use Rattle.std.proofs.lemmas.Bool.Decides.{eqb_tells}
 use Rattle.std.proofs.lemmas.List.{get_or-drop, get_or-set_same, get_or-take, get_or_default, length-set, length-take-le, set-append_left, set-append_right, take-append-drop}
 use Rattle.std.specs.List.{list_any}
-use Rattle.amber_worker.specs.Stands.{HasTurned, Keeps}
+use Rattle.amber_worker.specs.AtPosition.{HasTurned, Keeps}
 use Rattle.amber_worker.specs.WorkerState.{WorkerState, next_turn}
 use Rattle.amber_worker.specs.declared.turn.Turn.{Turn}
 use Rattle.amber_home.specs.Leg.{given_of, taker_of}
-use Rattle.amber_home.specs.Standing.{HaveFinished, IsCrew, StayAtWork, no_worker_state, worker_state_at, steps_by}
+use Rattle.amber_home.specs.AtWork.{HaveFinished, IsCrew, StayAtWork, no_worker_state, worker_state_at, steps_by}
 use Rattle.amber_home.proofs.Steps.{AreLinked, moves, stay-passed, stay-turned, sum-more}
 
 -- a worker that is there, whatever stands for one that is not

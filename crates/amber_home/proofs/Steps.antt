@@ -14,23 +14,23 @@ use Rattle.amber_meaning.proofs.Senders.{flows_send_forward}
 use Rattle.amber_worker.specs.Incoming.{has_some, have_all_ended}
 use Rattle.amber_worker.specs.Outgoing.{Outgoing}
 use Rattle.amber_worker.specs.Links.{waiting_for, without_batches}
-use Rattle.amber_worker.specs.Stands.{HasTurned, Keeps, first_orders, placement_of, stream_to}
+use Rattle.amber_worker.specs.AtPosition.{HasTurned, Keeps, first_orders, placement_of, stream_to}
 use Rattle.amber_worker.specs.WorkerState.{WorkerState, next_turn, has_ready, steps_in}
 use Rattle.amber_worker.specs.declared.turn.Turn.{Turn}
 use Rattle.amber_worker.specs.declared.turn.Turn.TheVariants as turn
 use Rattle.amber_worker.proofs.Idle.{has_marked-chunks_of, never_idle}
 use Rattle.amber_worker.proofs.Settling.{receives-from, sends-to, sent-made}
 use Rattle.amber_home.specs.Leg.{given_of, taker_of}
-use Rattle.amber_home.specs.Standing.{AreAtWork, AreMoved, HaveFinished, IsCrew, StayAtWork, Standing, no_worker_state, sent_by, worker_state_at, steps_by}
+use Rattle.amber_home.specs.AtWork.{AreAtWork, AreMoved, HaveFinished, IsCrew, StayAtWork, AreAtPositions, no_worker_state, sent_by, worker_state_at, steps_by}
 use Rattle.amber_home.proofs.Links.{is_in, receives, sends}
-use Rattle.amber_home.proofs.Turns.{Standing-moved, Standing-turned, at-each}
+use Rattle.amber_home.proofs.Turns.{AreAtPositions-moved, AreAtPositions-turned, at-each}
 
 -- ---- links
 
-number-shown : (query : Query) (crew : List WorkerState) (positions : ℕ → Position) (worker : ℕ) → Standing query crew positions → worker < crew_of query.flow
+number-shown : (query : Query) (crew : List WorkerState) (positions : ℕ → Position) (worker : ℕ) → AreAtPositions query crew positions → worker < crew_of query.flow
     → (worker_state_at crew worker).number ≡ worker
 unfolding placement_of
-number-shown query crew positions worker standing h = (standing.each worker h).shows.number
+number-shown query crew positions worker at_positions h = (at_positions.each worker h).shows.number
 
 -- what is known of a worker and one to which it sends
 pub record AreLinked (crew : List WorkerState) (from to : ℕ) : Type 0 where
@@ -40,22 +40,22 @@ pub record AreLinked (crew : List WorkerState) (from to : ℕ) : Type 0 where
   pub to_number : (worker_state_at crew to).number ≡ to
   pub receives : list_any (λ one. nat_eq one.from from) (worker_state_at crew to).ins ≡ true
 
-pub linked : (query : Query) (crew : List WorkerState) (positions : ℕ → Position) (from to : ℕ) → IsFlow query.flow → Standing query crew positions → from < length crew
+pub linked : (query : Query) (crew : List WorkerState) (positions : ℕ → Position) (from to : ℕ) → IsFlow query.flow → AreAtPositions query crew positions → from < length crew
     → list_any (λ one. nat_eq one.to to) (worker_state_at crew from).outs ≡ true → AreLinked crew from to
 unfolding placement_of role_of
-linked query crew positions from to flow standing inside known =
-    let here : from < crew_of query.flow = rw (← standing.all) inside in
+linked query crew positions from to flow at_positions inside known =
+    let here : from < crew_of query.flow = rw (← at_positions.all) inside in
     let receiver : is_in (receivers_of query.flow from) to ≡ true =
     sym (sends-to (placement_of query.flow query.records query.size from) (first_orders query.flow from) (worker_state_at crew from) (positions from) (sent_by crew positions from) to
-    (standing.each from here).shows) ∙ known in
+    (at_positions.each from here).shows) ∙ known in
     let sender = sends query.flow from to here receiver in
     record {
       before = flows_send_forward query.flow flow to from sender.0;
-      there = rw standing.all sender.1;
-      from_number = number-shown query crew positions from standing here;
-      to_number = number-shown query crew positions to standing sender.1;
+      there = rw at_positions.all sender.1;
+      from_number = number-shown query crew positions from at_positions here;
+      to_number = number-shown query crew positions to at_positions sender.1;
       receives = receives-from (placement_of query.flow query.records query.size to) (first_orders query.flow to) (worker_state_at crew to) (positions to) (sent_by crew positions to) from
-          (standing.each to sender.1).shows ∙ sender.0;
+          (at_positions.each to sender.1).shows ∙ sender.0;
     }
 
 -- ---- who has something to do
@@ -73,12 +73,12 @@ pub busy : (query : Query) (crew : List WorkerState) (worker : ℕ) → AreAtWor
     → next_turn (worker_state_at crew worker) ≡ turn.Idle → ⊥
 unfolding placement_of role_of
 busy query crew worker work inside finished idle =
-    let here : worker < crew_of query.flow = rw (← work.standing.all) inside in
-    let stands = work.standing.each worker here in
+    let here : worker < crew_of query.flow = rw (← work.at_positions.all) inside in
+    let stands = work.at_positions.each worker here in
     never_idle (placement_of query.flow query.records query.size worker) (first_orders query.flow worker) (worker_state_at crew worker) (work.positions worker) (sent_by crew work.positions worker) stands.shows
     (λ sender member.
     let known = receives query.flow sender worker here member in
-    let sends = work.standing.each sender known.1 in
+    let sends = work.at_positions.each sender known.1 in
     let done : (work.positions sender).finished ≡ true =
     sym sends.shows.finished ∙ finished sender (flows_send_forward query.flow work.flow worker sender member) in
     let made = sent-made (placement_of query.flow query.records query.size sender) (first_orders query.flow sender) (worker_state_at crew sender) origin (work.positions sender) (sent_by crew work.positions sender) worker sends known.0 in
@@ -155,11 +155,11 @@ pub stay-turned : (crew : List WorkerState) (worker : ℕ) (now : WorkerState) �
     → All (λ one. one.waiting ≡ []) now.outs → StayAtWork crew (set crew worker now)
 unfolding StayAtWork
 stay-turned crew worker now inside keeps none query work =
-    let later = Standing-turned query crew work.positions worker now work.standing (rw (← work.standing.all) inside) keeps in
+    let later = AreAtPositions-turned query crew work.positions worker now work.at_positions (rw (← work.at_positions.all) inside) keeps in
     record {
       flow = work.flow;
       positions = later.0;
-      standing = later.1;
+      at_positions = later.1;
       moved = moved-set crew worker now inside (λ k ne. work.moved k) none;
     }
 
@@ -189,13 +189,13 @@ stay-passed crew worker to now known inside keeps few waits = (links known.0 kno
 
     links : (query : Query) → AreAtWork query crew → AreLinked (set crew worker now) worker to
     links query work =
-        let later = Standing-turned query crew work.positions worker now work.standing (rw (← work.standing.all) inside) keeps in
+        let later = AreAtPositions-turned query crew work.positions worker now work.at_positions (rw (← work.at_positions.all) inside) keeps in
         linked query (set crew worker now) later.0 worker to work.flow later.1 (rw length-set inside) (rw now-here waits)
 
     at : (query : Query) → AreAtWork query crew
         → AreAtWork query (set (set (set crew worker now) worker (given_of (worker_state_at (set crew worker now) worker) (worker_state_at (set crew worker now) to))) to (taker_of (worker_state_at (set crew worker now) worker) (worker_state_at (set crew worker now) to)))
     at query work =
-        let later = Standing-turned query crew work.positions worker now work.standing (rw (← work.standing.all) inside) keeps in
+        let later = AreAtPositions-turned query crew work.positions worker now work.at_positions (rw (← work.at_positions.all) inside) keeps in
         let link = links query work in
         let ne : worker ≢ to = let before = link.before in omega arith in
         let here : worker < crew_of query.flow = rw (← later.1.all) (rw length-set inside) in
@@ -203,7 +203,7 @@ stay-passed crew worker to now known inside keeps few waits = (links known.0 kno
         record {
           flow = work.flow;
           positions = later.0;
-          standing = Standing-moved query (set crew worker now) later.0 worker to (given_of (worker_state_at (set crew worker now) worker) (worker_state_at (set crew worker now) to)) (taker_of (worker_state_at (set crew worker now) worker) (worker_state_at (set crew worker now) to))
+          at_positions = AreAtPositions-moved query (set crew worker now) later.0 worker to (given_of (worker_state_at (set crew worker now) worker) (worker_state_at (set crew worker now) to)) (taker_of (worker_state_at (set crew worker now) worker) (worker_state_at (set crew worker now) to))
               later.1 here there ne link.receives
               (rw link.to_number refl)
               (rw (link.from_number, link.to_number) refl);

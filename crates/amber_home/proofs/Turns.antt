@@ -9,10 +9,10 @@ use Rattle.amber_rows.specs.declared.batch.Batch.{Batch}
 use Rattle.amber_meaning.specs.Legal.{Query}
 use Rattle.amber_meaning.specs.Position.{Position, origin}
 use Rattle.amber_worker.specs.Links.{waiting_for, with_batches, without_batches}
-use Rattle.amber_worker.specs.Stands.{Keeps, SameBatches, Stands, first_orders, placement_of}
+use Rattle.amber_worker.specs.AtPosition.{Keeps, SameBatches, IsAtPosition, first_orders, placement_of}
 use Rattle.amber_worker.specs.WorkerState.{WorkerState}
-use Rattle.amber_worker.proofs.Settling.{Stands-moved, Stands-received, sent_more, waiting_from-with_batches, waiting_from-others}
-use Rattle.amber_home.specs.Standing.{Standing, no_worker_state, sent_by, worker_state_at}
+use Rattle.amber_worker.proofs.Settling.{IsAtPosition-moved, IsAtPosition-received, sent_more, waiting_from-with_batches, waiting_from-others}
+use Rattle.amber_home.specs.AtWork.{AreAtPositions, no_worker_state, sent_by, worker_state_at}
 
 -- ---- positions
 
@@ -45,27 +45,27 @@ module _ (crew : List WorkerState) (positions : ℕ → Position) (worker : ℕ)
       (λ other ne. rw (ne_eqb other worker ne, worker_state-there other ne) refl)
 
 -- a worker that kept standing may take the place of what it was
-pub Standing-turned : (query : Query) (crew : List WorkerState) (positions : ℕ → Position) (worker : ℕ) (now : WorkerState)
-    → Standing query crew positions → worker < crew_of query.flow → Keeps (worker_state_at crew worker) now
-    → (later : ℕ → Position) × Standing query (set crew worker now) later
+pub AreAtPositions-turned : (query : Query) (crew : List WorkerState) (positions : ℕ → Position) (worker : ℕ) (now : WorkerState)
+    → AreAtPositions query crew positions → worker < crew_of query.flow → Keeps (worker_state_at crew worker) now
+    → (later : ℕ → Position) × AreAtPositions query (set crew worker now) later
 unfolding Keeps
-Standing-turned query crew positions worker now standing here keeps =
-    let moved = keeps (placement_of query.flow query.records query.size worker) (first_orders query.flow worker) origin (positions worker) (sent_by crew positions worker) (standing.each worker here) in
-    let inside : worker < length crew = rw standing.all here in
+AreAtPositions-turned query crew positions worker now at_positions here keeps =
+    let moved = keeps (placement_of query.flow query.records query.size worker) (first_orders query.flow worker) origin (positions worker) (sent_by crew positions worker) (at_positions.each worker here) in
+    let inside : worker < length crew = rw at_positions.all here in
     let q = moved.0 in
     let sent : (sender : ℕ) → sent_by crew positions sender ≡ sent_by (set crew worker now) (placed positions worker q) sender =
     λ sender i receiver. sym (sent-same crew positions worker now q inside moved.2 sender receiver) i in (
       placed positions worker q,
       record {
-        all = length-set crew worker now ∙ standing.all;
-        each = at-each (λ k. k < crew_of query.flow → Stands (placement_of query.flow query.records query.size k) (first_orders query.flow k)
+        all = length-set crew worker now ∙ at_positions.all;
+        each = at-each (λ k. k < crew_of query.flow → IsAtPosition (placement_of query.flow query.records query.size k) (first_orders query.flow k)
             (worker_state_at (set crew worker now) k) origin (placed positions worker q k) (sent_by (set crew worker now) (placed positions worker q) k)) worker
-            (λ h. subst (λ s. Stands (placement_of query.flow query.records query.size worker) (first_orders query.flow worker)
+            (λ h. subst (λ s. IsAtPosition (placement_of query.flow query.records query.size worker) (first_orders query.flow worker)
             (worker_state_at (set crew worker now) worker) origin (placed positions worker q worker) s) (sent worker)
             (rw (worker_state-here crew positions worker now q inside, same-place worker) moved.1))
-            (λ k ne h. subst (λ s. Stands (placement_of query.flow query.records query.size k) (first_orders query.flow k)
+            (λ k ne h. subst (λ s. IsAtPosition (placement_of query.flow query.records query.size k) (first_orders query.flow k)
             (worker_state_at (set crew worker now) k) origin (placed positions worker q k) s) (sent k)
-            (rw (worker_state-there crew positions worker now q inside k ne, ne_eqb k worker ne) (standing.each k h)));
+            (rw (worker_state-there crew positions worker now q inside k ne, ne_eqb k worker ne) (at_positions.each k h)));
       },
     )
 
@@ -113,38 +113,38 @@ module _ (crew : List WorkerState) (positions : ℕ → Position) (from to : ℕ
       (λ receiver ne. rw (ins-elsewhere receiver ne) refl)
 
 -- a worker's batches may be moved to one of its receivers
-pub Standing-moved : (query : Query) (crew : List WorkerState) (positions : ℕ → Position) (from to : ℕ) (given taker : WorkerState)
-    → Standing query crew positions → from < crew_of query.flow → to < crew_of query.flow → from ≢ to
+pub AreAtPositions-moved : (query : Query) (crew : List WorkerState) (positions : ℕ → Position) (from to : ℕ) (given taker : WorkerState)
+    → AreAtPositions query crew positions → from < crew_of query.flow → to < crew_of query.flow → from ≢ to
     → list_any (λ one. nat_eq one.from from) (worker_state_at crew to).ins ≡ true
     → given ≡ record (worker_state_at crew from) { outs = without_batches to (worker_state_at crew from).outs }
     → taker ≡ record (worker_state_at crew to) { ins = with_batches from (waiting_for to (worker_state_at crew from).outs) (worker_state_at crew to).ins }
-    → Standing query (set (set crew from given) to taker) positions
-Standing-moved query crew positions from to given taker standing from-in to-in apart known given-is taker-is =
-    let from-inside : from < length crew = rw standing.all from-in in
-    let to-inside : to < length crew = rw standing.all to-in in
+    → AreAtPositions query (set (set crew from given) to taker) positions
+AreAtPositions-moved query crew positions from to given taker at_positions from-in to-in apart known given-is taker-is =
+    let from-inside : from < length crew = rw at_positions.all from-in in
+    let to-inside : to < length crew = rw at_positions.all to-in in
     let batches = waiting_for to (worker_state_at crew from).outs in
     let given-ins : given.ins ≡ (worker_state_at crew from).ins = ap (λ w. w.ins) given-is in
     let taker-ins : taker.ins ≡ with_batches from batches (worker_state_at crew to).ins = ap (λ w. w.ins) taker-is in
-    let Each : ℕ → Type 0 = λ k. k < crew_of query.flow → Stands (placement_of query.flow query.records query.size k) (first_orders query.flow k)
+    let Each : ℕ → Type 0 = λ k. k < crew_of query.flow → IsAtPosition (placement_of query.flow query.records query.size k) (first_orders query.flow k)
     (worker_state_at (set (set crew from given) to taker) k) origin (positions k) (sent_by (set (set crew from given) to taker) positions k) in
     let others : (k : ℕ) → k ≢ from → sent_by crew positions k ≡ sent_by (set (set crew from given) to taker) positions k =
     λ k ne i receiver. sym (sent-others crew positions from to batches given taker from-inside to-inside apart given-ins taker-ins known k ne receiver) i in
     let more : sent_more (sent_by crew positions from) to batches ≡ sent_by (set (set crew from given) to taker) positions from =
     λ i receiver. sym (sent-given crew positions from to batches given taker from-inside to-inside apart given-ins taker-ins known receiver) i in
     record {
-      all = length-set (set crew from given) to taker ∙ length-set crew from given ∙ standing.all;
+      all = length-set (set crew from given) to taker ∙ length-set crew from given ∙ at_positions.all;
       each = at-each Each from
-          (λ h. subst (λ s. Stands (placement_of query.flow query.records query.size from) (first_orders query.flow from)
+          (λ h. subst (λ s. IsAtPosition (placement_of query.flow query.records query.size from) (first_orders query.flow from)
           (worker_state_at (set (set crew from given) to taker) from) origin (positions from) s) more
           (rw (giver-here crew from to given taker from-inside to-inside apart, given-is)
-          (Stands-moved (placement_of query.flow query.records query.size from) (first_orders query.flow from) (worker_state_at crew from) origin (positions from) (sent_by crew positions from) to (standing.each from h))))
+          (IsAtPosition-moved (placement_of query.flow query.records query.size from) (first_orders query.flow from) (worker_state_at crew from) origin (positions from) (sent_by crew positions from) to (at_positions.each from h))))
           (λ k not-from. at-each (λ k. k ≢ from → Each k) to
-          (λ not-giver h. subst (λ s. Stands (placement_of query.flow query.records query.size to) (first_orders query.flow to)
+          (λ not-giver h. subst (λ s. IsAtPosition (placement_of query.flow query.records query.size to) (first_orders query.flow to)
           (worker_state_at (set (set crew from given) to taker) to) origin (positions to) s) (others to not-giver)
           (rw (taker-here crew from to given taker from-inside to-inside apart, taker-is)
-          (Stands-received (placement_of query.flow query.records query.size to) (first_orders query.flow to) (worker_state_at crew to) origin (positions to) (sent_by crew positions to) from batches (standing.each to h))))
-          (λ other not-to not-giver h. subst (λ s. Stands (placement_of query.flow query.records query.size other) (first_orders query.flow other)
+          (IsAtPosition-received (placement_of query.flow query.records query.size to) (first_orders query.flow to) (worker_state_at crew to) origin (positions to) (sent_by crew positions to) from batches (at_positions.each to h))))
+          (λ other not-to not-giver h. subst (λ s. IsAtPosition (placement_of query.flow query.records query.size other) (first_orders query.flow other)
           (worker_state_at (set (set crew from given) to taker) other) origin (positions other) s) (others other not-giver)
-          (rw (other-here crew from to given taker from-inside to-inside apart other not-giver not-to) (standing.each other h)))
+          (rw (other-here crew from to given taker from-inside to-inside apart other not-giver not-to) (at_positions.each other h)))
           k not-from);
     }

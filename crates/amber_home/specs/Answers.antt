@@ -13,9 +13,9 @@ use Rattle.amber_meaning.specs.Legal.{Query}
 use Rattle.amber_meaning.specs.Plain.{refused_groups}
 use Rattle.amber_meaning.specs.Position.{Position}
 use Rattle.amber_meaning.specs.Views.{refused_in, taken_of, worker_refuses}
-use Rattle.amber_worker.specs.Stands.{Placement, Shows, first_orders, kept_of, placement_of}
+use Rattle.amber_worker.specs.AtPosition.{Placement, Shows, first_orders, kept_of, placement_of}
 use Rattle.amber_worker.specs.WorkerState.{WorkerState}
-use Rattle.amber_home.specs.Standing.{worker_state_at}
+use Rattle.amber_home.specs.AtWork.{worker_state_at}
 
 -- the place of a query's worker
 abbrev pub placement_at : Query → ℕ → Placement

@@ -4,7 +4,7 @@ use Rattle.amber_log.specs.declared.leg.Close.{Close}
 use Rattle.amber_log.specs.declared.leg.Close.TheVariants as close
 use Rattle.amber_worker.specs.Links.{waiting_for, with_batches, without_batches}
 use Rattle.amber_worker.specs.WorkerState.{WorkerState, steps_in}
-use Rattle.amber_home.specs.Standing.{HaveFinished, worker_state_at, steps_by}
+use Rattle.amber_home.specs.AtWork.{HaveFinished, worker_state_at, steps_by}
 
 -- a worker whose batches for another one were moved, and that other one
 abbrev pub given_of : WorkerState → WorkerState → WorkerState

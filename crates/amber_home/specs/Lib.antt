@@ -4,5 +4,5 @@ pub mod Finish
 pub mod Kept
 pub mod Leg
 pub mod Parts
-pub mod Standing
+pub mod AtWork
 pub mod Start

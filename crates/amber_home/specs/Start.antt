@@ -12,10 +12,10 @@ use Rattle.amber_scan.specs.declared.share.Scanned.{Scanned}
 use Rattle.amber_meaning.specs.ScanFiles.{is_headed}
 use Rattle.amber_meaning.specs.Plain.{list_at}
 use Rattle.amber_meaning.specs.Position.{origin}
-use Rattle.amber_worker.specs.Stands.{AreAlone, Stands, first_orders, placement_of}
+use Rattle.amber_worker.specs.AtPosition.{AreAlone, IsAtPosition, first_orders, placement_of}
 use Rattle.amber_worker.specs.WorkerState.{WorkerState}
 use Rattle.amber_meaning.specs.Legal.{Query}
-use Rattle.amber_home.specs.Standing.{AreMoved, Standing}
+use Rattle.amber_home.specs.AtWork.{AreMoved, AreAtPositions}
 use Rattle.amber_home.specs.declared.error.HomeErr.{HomeErr}
 use Rattle.amber_home.specs.declared.error.HomeErr.TheVariants as home_err
 
@@ -45,13 +45,13 @@ abbrev pub AreEmpty : WorkerState → Type 0
 AreEmpty w = All (λ one. one.waiting ≡ []) w.ins × All (λ one. one.waiting ≡ []) w.outs
 
 -- a worker stands at the start, where these are the records of its operator
-abbrev pub StandsAt : List Operator → ℕ → ℕ → List (Result (List Value) RowFault) → WorkerState → Type 0
-StandsAt flow worker size own w = (records : List (List (Result (List Value) RowFault))) → list_at records (worker + 1) ≡ own
-    → Stands (placement_of flow records size worker) (first_orders flow worker) w origin origin (λ _. [])
+abbrev pub IsAtStart : List Operator → ℕ → ℕ → List (Result (List Value) RowFault) → WorkerState → Type 0
+IsAtStart flow worker size own w = (records : List (List (Result (List Value) RowFault))) → list_at records (worker + 1) ≡ own
+    → IsAtPosition (placement_of flow records size worker) (first_orders flow worker) w origin origin (λ _. [])
 
 -- the workers of a run that has not begun: each stands at the start, and no batch waits
 pub record HasNotBegun (query : Query) (crew : List WorkerState) : Type 0 where
   pub flow : IsFlow query.flow
   pub alone : AreAlone query.flow
-  pub standing : Standing query crew (λ _. origin)
+  pub at_positions : AreAtPositions query crew (λ _. origin)
   pub moved : AreMoved crew

@@ -6,9 +6,9 @@ ghost use Rattle.amber_meaning.specs.ScanFiles.{records_at};
 ghost use Rattle.amber_meaning.specs.Legal.{query_over};
 ghost use Rattle.amber_meaning.specs.Plain.{is_scan, list_at};
 ghost use Rattle.amber_meaning.specs.Position.{origin};
-ghost use Rattle.amber_worker.specs.Stands.{AreAlone, Stands, first_orders, placement_of};
+ghost use Rattle.amber_worker.specs.AtPosition.{AreAlone, IsAtPosition, first_orders, placement_of};
 ghost use Rattle.amber_home.specs.HomeState.{BeginsOrNames};
-ghost use Rattle.amber_home.specs.Start.{AreEmpty, HasHeader, HasNotBegun, HoldsRecords, StandsAt, kind_at, schema_at};
+ghost use Rattle.amber_home.specs.Start.{AreEmpty, HasHeader, HasNotBegun, HoldsRecords, IsAtStart, kind_at, schema_at};
 
 use crate::error::HomeErr;
 use amber_meaning::file_behind;
@@ -49,7 +49,7 @@ fn start_worker(
     requires alone { AreAlone flow.now }
     ensures header { HasHeader result (kind_at flow.now before) (schema_at flow.now before) file.now (before + 1) }
     ensures empty { IfOk result AreEmpty }
-    ensures stands { IfOk result (StandsAt flow.now before batch (records_at (kind_at flow.now before) (schema_at flow.now before) file.now)) }
+    ensures stands { IfOk result (IsAtStart flow.now before batch (records_at (kind_at flow.now before) (schema_at flow.now before) file.now)) }
 {
     let operator = &flow.get()[before];
     let number = before as u32;

@@ -3,7 +3,7 @@ ghost use Rattle.std.specs.Prelude.{◌≡◌, ◌+◌, ◌<◌, ◌≤◌, ◌^
 ghost use Rattle.std.specs.List.{list_any};
 ghost use Rattle.amber_worker.specs.WorkerState.{steps_in};
 ghost use Rattle.amber_home.specs.Leg.{IsDone, given_of, taker_of};
-ghost use Rattle.amber_home.specs.Standing.{HaveFinished, IsCrew, MovesOnly, StayAtWork, worker_state_at, steps_by};
+ghost use Rattle.amber_home.specs.AtWork.{HaveFinished, IsCrew, MovesOnly, StayAtWork, worker_state_at, steps_by};
 
 use amber_log::Close;
 use amber_worker::{Worker, settle_workers};

@@ -2,7 +2,7 @@
 ghost use Rattle.std.specs.Prelude.{◌≡◌, ◌<◌, ◌++◌, ◌∷◌, [], IfOk, List, OnOk};
 ghost use Rattle.amber_rows.specs.Operators.{grouped, refused_keys};
 ghost use Rattle.amber_rows.specs.declared.value.Value.{Value as Cell};
-ghost use Rattle.amber_group.specs.Group.{Stands};
+ghost use Rattle.amber_group.specs.Group.{IsFedWith};
 
 use amber_group::{GroupState, Grouped};
 use amber_rows::{Aggs, Cols, Row};
@@ -10,7 +10,7 @@ use std::alloc::{AllocError, Global};
 
 // Feeds a group a row. More rows than it counts are as want of memory.
 fn add_row(state: &mut GroupState, row: &Row) -> Result<(), AllocError>
-    ensures ok { OnOk result ((rows : List (List Cell)) → Stands state.old rows → Stands state.new (rows ++ row.now ∷ [])) }
+    ensures ok { OnOk result ((rows : List (List Cell)) → IsFedWith state.old rows → IsFedWith state.new (rows ++ row.now ∷ [])) }
     ensures keys { state.new.keys ≡ state.old.keys }
     ensures aggs { state.new.aggs ≡ state.old.aggs }
 {
@@ -29,7 +29,7 @@ fn fed_with(
 ) -> Result<GroupState, AllocError>
     ensures keys { IfOk result (λ state. state.keys ≡ keys.now) }
     ensures aggs { IfOk result (λ state. state.aggs ≡ aggs.now) }
-    ensures rows { IfOk result (λ state. Stands state rows.items) }
+    ensures rows { IfOk result (λ state. IsFedWith state rows.items) }
 {
     let keys = Cols::new(Vec::from_slice(alloc, keys.get())?);
     let aggs = Aggs::new(Vec::from_slice(alloc, aggs.get())?);

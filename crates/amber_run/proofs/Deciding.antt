@@ -7,7 +7,7 @@ use Rattle.amber_meaning.specs.Total.{step_total}
 use Rattle.amber_run.specs.Answering.{BreaksOff, IsUntouched}
 use Rattle.amber_course.specs.Course.{course_of}
 use Rattle.amber_run.specs.Outcome.{Answers, Breaks, Counts, IsOpen, IsRunStatus, IsSinkStatus, IsWithin, Runs, Succeeds, Worded}
-use Rattle.amber_run.specs.Standing.{Leaves}
+use Rattle.amber_run.specs.UnderWay.{Leaves}
 use Rattle.amber_course.specs.Steps.{Tells}
 use Rattle.amber_course.specs.Stop.{status_of}
 use Rattle.amber_run.specs.Task.{Task, most_steps}

@@ -13,7 +13,7 @@ use Rattle.amber_course.specs.Ready.{IsAskedBy, WritesNothing}
 use Rattle.amber_course.specs.Course.{IsLoaded, IsReached, course_of, job_of, limited, then_on}
 use Rattle.amber_run.specs.Outcome.{AsksNoRun, Breaks, Counts, Ended, IsCause, Runs, Stops, Succeeds, Worded}
 use Rattle.amber_course.specs.Told.{Refuses}
-use Rattle.amber_run.specs.Standing.{IsBare, IsLeft, Leaves}
+use Rattle.amber_run.specs.UnderWay.{IsBare, IsLeft, Leaves}
 use Rattle.amber_course.specs.Steps.{AreRead, Follows, Names, Tells}
 use Rattle.amber_course.specs.Stop.{IsToldAs, line_of, status_of}
 use Rattle.amber_run.specs.Task.{Task, query_at}

@@ -21,7 +21,7 @@ use Rattle.amber_laws.proofs.Counted.{schedules_take_one_total}
 use Rattle.amber_laws.proofs.Schedules.{ends_reply_the_answer}
 use Rattle.amber_debug.specs.Session.{Session, command_of, is_long_item}
 use Rattle.amber_run.specs.Outcome.{Counts}
-use Rattle.amber_run.specs.Standing.{Did, Halts, HasAnswer, IsBare, IsDone, IsLeft, Leaves, Opens, Stands}
+use Rattle.amber_run.specs.UnderWay.{Did, Halts, HasAnswer, IsBare, IsDone, IsLeft, Leaves, Opens, IsUnderWay}
 use Rattle.amber_run.specs.Task.{IsSession, Task, end_alone, ends_long, most_steps, query_at}
 use Rattle.amber_course.specs.declared.stop.Stop.{Stop}
 use Rattle.amber_course.specs.declared.stop.Stop.TheVariants as stop
@@ -63,7 +63,7 @@ is-long close.Long h = refl
 
 -- ---- the answer
 
-pub has-answer : (t : Task) (log : Log) (files : Option Named) (written : Option (List ℕ)) → IsFlow t.flow → t.commands ≡ end_alone → Stands t [] log files written → HasAnswer t log
+pub has-answer : (t : Task) (log : Log) (files : Option Named) (written : Option (List ℕ)) → IsFlow t.flow → t.commands ≡ end_alone → IsUnderWay t [] log files written → HasAnswer t log
 has-answer t log files written flow alone h unaltered done last is =
     let commands = rw is at (h.commands ∙ alone) in
     by-last last is (last-end done last [] commands)
@@ -152,7 +152,7 @@ command-stop stop.NoMemory t files written flow alone h = inr h
 command-stop other t files written flow alone h = absurd h
 
 -- all was done
-pub all-done : (t : Task) (log : Log) (files : Option Named) (written : Option (List ℕ)) → IsFlow t.flow → t.commands ≡ end_alone → Stands t [] log files written → IsDone t files written
+pub all-done : (t : Task) (log : Log) (files : Option Named) (written : Option (List ℕ)) → IsFlow t.flow → t.commands ≡ end_alone → IsUnderWay t [] log files written → IsDone t files written
 all-done t log files written flow alone h = (log, h, has-answer t log files written flow alone h)
 
 -- the session of a run that begins
@@ -167,6 +167,6 @@ opens-counts other t log files written n h = refl
 
 -- the one command of a run that begins
 pub run-command : (r : Result (Unit {0}) Stop) (t : Task) (d new : Session) (threads : ℕ) (log : Log) (mid files : Option Named) (written got : Option (List ℕ))
-    → d ≡ record { flow = t.flow; files = t.inputs; most = most_steps; threads = threads; log = log; spent = false } → Stands t end_alone log mid written
-    → ((left : List Command) → IsSession t d → Stands t (command.End ∷ left) d.log mid written → Did r t left new files got) → Did r t [] new files got
+    → d ≡ record { flow = t.flow; files = t.inputs; most = most_steps; threads = threads; log = log; spent = false } → IsUnderWay t end_alone log mid written
+    → ((left : List Command) → IsSession t d → IsUnderWay t (command.End ∷ left) d.log mid written → Did r t left new files got) → Did r t [] new files got
 run-command r t d new threads log mid files written got e h did = did [] (session-begun t d threads log e) (rw e h)

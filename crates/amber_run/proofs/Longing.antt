@@ -10,7 +10,7 @@ use Rattle.amber_meaning.specs.Plain.{row_total}
 use Rattle.amber_run.specs.Answering.{BreaksOff, Fulfils, IsUntouched}
 use Rattle.amber_course.specs.Course.{course_of, limited, most_rows}
 use Rattle.amber_run.specs.Outcome.{Answers, AsksFor, Breaks, IsLongWhere, IsPrintStatus, Runs, RunsLong, Succeeds, TellsLong}
-use Rattle.amber_run.specs.Standing.{IsDone, IsLeft}
+use Rattle.amber_run.specs.UnderWay.{IsDone, IsLeft}
 use Rattle.amber_course.specs.Stop.{status_of}
 use Rattle.amber_run.specs.Task.{task_of}
 use Rattle.amber_run.specs.Writing.{CountsWrites}

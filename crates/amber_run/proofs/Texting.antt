@@ -9,7 +9,7 @@ use Rattle.amber_meaning.specs.declared.answer.Answer.{Answer}
 use Rattle.amber_run.specs.Answering.{IsAnswer, Works, text_of}
 use Rattle.amber_course.specs.Course.{most_rows}
 use Rattle.amber_run.specs.Outcome.{Counts}
-use Rattle.amber_run.specs.Standing.{Worked}
+use Rattle.amber_run.specs.UnderWay.{Worked}
 use Rattle.amber_course.specs.Steps.{Judges, Sent}
 use Rattle.amber_run.specs.Task.{task_of}
 use Rattle.amber_run.specs.Writing.{CountsWrites}

@@ -24,7 +24,7 @@ use Rattle.amber_meaning.proofs.Fronts.{transcripts_grow}
 use Rattle.amber_debug.specs.Session.{Does, Grew, Session, command_of, is_long_item, one_more, query_in}
 use Rattle.amber_debug.specs.declared.done.DebugErr.TheVariants as debug_err
 use Rattle.amber_debug.specs.declared.done.Done.{Done}
-use Rattle.amber_run.specs.Standing.{ClosesAs, Halts, IsBare, IsLeft, Opens, Stands}
+use Rattle.amber_run.specs.UnderWay.{ClosesAs, Halts, IsBare, IsLeft, Opens, IsUnderWay}
 use Rattle.amber_course.specs.Steps.{Sent}
 use Rattle.amber_run.specs.Task.{IsSession, Task, ends_long, query_at}
 use Rattle.amber_run.specs.Writing.{Made, Wrote}
@@ -56,7 +56,7 @@ unfolding AreItems Reaches
 legal-start t batch h = record { text = record { batch = h; items = tt }; batch = refl; after = start_of t.flow; reached = refl }
 
 pub stands-start : (t : Task) (batch : ℕ) (files : Option Named) (written : Option (List ℕ)) → IsBatch batch → batch ≡ t.batch
-    → files ≡ with_file t.told t.name (head_text batch) → Appends t.before written [] → Stands t t.commands (record { batch = batch; items = [] }) files written
+    → files ≡ with_file t.told t.name (head_text batch) → Appends t.before written [] → IsUnderWay t t.commands (record { batch = batch; items = [] }) files written
 unfolding log_text transcript_of replies
 stands-start t batch files written h is place sent = record {
   batch = is;
@@ -129,7 +129,7 @@ exit-head other t log batch head mid files written h text made new sent = absurd
 
 -- its head was written
 pub stands-head : (t : Task) (batch : ℕ) (head : List ℕ) (mid files : Option Named) (written : Option (List ℕ)) → IsBatch batch → batch ≡ t.batch → head ≡ head_text batch
-    → mid ≡ with_file t.told t.name [] → files ≡ with_more mid t.name head → Appends t.before written [] → Stands t t.commands (record { batch = batch; items = [] }) files written
+    → mid ≡ with_file t.told t.name [] → files ≡ with_more mid t.name head → Appends t.before written [] → IsUnderWay t t.commands (record { batch = batch; items = [] }) files written
 stands-head t batch head mid files written h is text made new sent =
     stands-start t batch files written h is
     (new ∙ ap (λ m. with_more m t.name head) made ∙ with_more-with_file t.told t.name [] head ∙ ap (λ b. with_file t.told t.name b) text) sent
@@ -137,7 +137,7 @@ stands-head t batch head mid files written h is text made new sent =
 -- ---- a command
 
 -- the log is as it was, and perhaps a torn item behind it
-left-log : (t : Task) (s : Stop) (left : List Command) (log : Log) (bytes : List ℕ) (mid files : Option Named) (written : Option (List ℕ)) → Stands t left log mid written
+left-log : (t : Task) (s : Stop) (left : List Command) (log : Log) (bytes : List ℕ) (mid files : Option Named) (written : Option (List ℕ)) → IsUnderWay t left log mid written
     → files ≡ with_file t.told t.name bytes → IsReadAs bytes log → ClosesAs s false → IsLeft t s [] files written
 unfolding replies
 left-log t s left log bytes mid files written h place read closed = record {
@@ -162,7 +162,7 @@ left-log t s left log bytes mid files written h place read closed = record {
 
 -- the log has an item more, and a part of its reply was put
 left-item : (t : Task) (s : Stop) (left : List Command) (command : Command) (log : Log) (one : Item) (part rest : List ℕ) (mid files : Option Named) (written got : Option (List ℕ))
-    → Stands t (command ∷ left) log mid written → command_of one ≡ command → IsLegal (query_at t log.batch) (one_more log one)
+    → IsUnderWay t (command ∷ left) log mid written → command_of one ≡ command → IsLegal (query_at t log.batch) (one_more log one)
     → files ≡ with_file t.told t.name (log_text (one_more log one)) → part ++ rest ≡ reply_of (query_at t log.batch) (state_after (query_at t log.batch) log.items) one
     → (s ≢ stop.OutFault → part ≡ []) → Appends written got part → ClosesAs s (is_long_item one) → IsLeft t s [] files got
 unfolding replies
@@ -197,12 +197,12 @@ item-place t log one mid files piece place text new =
     ∙ ap (λ b. with_file t.told t.name (log_text log ++ b)) text ∙ ap (λ b. with_file t.told t.name b) (sym (log_text-push log one))
 
 -- there was no item, for want of memory
-pub exit-memory : (t : Task) (left : List Command) (log : Log) (files : Option Named) (written : Option (List ℕ)) → Stands t left log files written → IsLeft t stop.NoMemory [] files written
+pub exit-memory : (t : Task) (left : List Command) (log : Log) (files : Option Named) (written : Option (List ℕ)) → IsUnderWay t left log files written → IsLeft t stop.NoMemory [] files written
 exit-memory t left log files written h = left-log t stop.NoMemory left log (log_text log) files files written h h.place (reads-whole log h.legal.text) tt
 
 -- the item was not written
 pub exit-write : (s : Stop) (t : Task) (left : List Command) (command : Command) (log : Log) (one : Item) (piece : List ℕ) (mid files : Option Named) (written : Option (List ℕ))
-    → Stands t (command ∷ left) log mid written → command_of one ≡ command → IsLegal (query_at t log.batch) (one_more log one) → piece ≡ item_text one
+    → IsUnderWay t (command ∷ left) log mid written → command_of one ≡ command → IsLegal (query_at t log.batch) (one_more log one) → piece ≡ item_text one
     → Wrote {A = Unit {0}} (Err s) mid files t.name piece → Halts t s files written
 exit-write stop.LogFault t left command log one piece mid files written h is legal text (part, rest, split, new) =
     let place : files ≡ with_file t.told t.name (log_text log ++ part) =
@@ -220,7 +220,7 @@ exit-write other t left command log one piece mid files written h is legal text 
 
 -- the reply was not put
 pub exit-send : (s : Stop) (t : Task) (left : List Command) (command : Command) (log : Log) (one : Item) (piece reply : List ℕ) (mid files : Option Named) (written got : Option (List ℕ)) (a b : ℕ)
-    → Stands t (command ∷ left) log mid written → command_of one ≡ command → IsLegal (query_at t log.batch) (one_more log one) → piece ≡ item_text one
+    → IsUnderWay t (command ∷ left) log mid written → command_of one ≡ command → IsLegal (query_at t log.batch) (one_more log one) → piece ≡ item_text one
     → is_long_item one ≡ false → files ≡ with_more mid t.name piece → reply ≡ reply_of (query_at t log.batch) (state_after (query_at t log.batch) log.items) one
     → Sent {A = Unit {0}} (Err s) written got a b reply → Halts t s files got
 exit-send stop.OutFault t left command log one piece reply mid files written got a b h is legal text short new answer sent =
@@ -233,7 +233,7 @@ exit-send other t left command log one piece reply mid files written got a b h i
 
 -- the steps were as many as may be
 pub exit-long : (t : Task) (left : List Command) (command : Command) (log : Log) (one : Item) (piece : List ℕ) (mid files : Option Named) (written : Option (List ℕ))
-    → Stands t (command ∷ left) log mid written → command_of one ≡ command → IsLegal (query_at t log.batch) (one_more log one) → piece ≡ item_text one
+    → IsUnderWay t (command ∷ left) log mid written → command_of one ≡ command → IsLegal (query_at t log.batch) (one_more log one) → piece ≡ item_text one
     → is_long_item one ≡ true → files ≡ with_more mid t.name piece → IsLeft t stop.Long [] files written
 exit-long t left command log one piece mid files written h is legal text long new =
     left-item t stop.Long left command log one [] (reply_of (query_at t log.batch) (state_after (query_at t log.batch) log.items) one) mid files written written h is legal
@@ -241,9 +241,9 @@ exit-long t left command log one piece mid files written h is legal text long ne
 
 -- the command was done
 pub stands-next : (t : Task) (left : List Command) (command : Command) (log : Log) (one : Item) (piece reply : List ℕ) (mid files : Option Named) (written got : Option (List ℕ))
-    → Stands t (command ∷ left) log mid written → command_of one ≡ command → IsLegal (query_at t log.batch) (one_more log one) → piece ≡ item_text one
+    → IsUnderWay t (command ∷ left) log mid written → command_of one ≡ command → IsLegal (query_at t log.batch) (one_more log one) → piece ≡ item_text one
     → is_long_item one ≡ false → files ≡ with_more mid t.name piece → reply ≡ reply_of (query_at t log.batch) (state_after (query_at t log.batch) log.items) one
-    → Appends written got reply → Stands t left (one_more log one) files got
+    → Appends written got reply → IsUnderWay t left (one_more log one) files got
 stands-next t left command log one piece reply mid files written got h is legal text short new answer put =
     let query = query_at t log.batch in
     record {
@@ -275,7 +275,7 @@ fits-end flow done e = rw e refl
 
 -- a command was done, and its item was not written
 pub done-write : (s : Stop) (t : Task) (left : List Command) (old new : Session) (command : Command) (told : Done) (piece : List ℕ) (mid files : Option Named) (written : Option (List ℕ))
-    → IsSession t old → Stands t (command ∷ left) old.log mid written → Does (Ok told) old new command → IsLegal (query_in new) new.log → piece ≡ told.item
+    → IsSession t old → IsUnderWay t (command ∷ left) old.log mid written → Does (Ok told) old new command → IsLegal (query_in new) new.log → piece ≡ told.item
     → Wrote {A = Unit {0}} (Err s) mid files t.name piece → Halts t s files written
 done-write s t left old new command told piece mid files written session h does legal is wrote =
     exit-write s t left command old.log does.0 piece mid files written h does.1.command (session-grown t old new command does.0 session does.1 legal) (is ∙ does.3) wrote
@@ -287,7 +287,7 @@ reply-is t old new command told reply session does is =
 
 -- its reply was not put
 pub done-send : (s : Stop) (t : Task) (left : List Command) (old new : Session) (command : Command) (told : Done) (piece reply : List ℕ) (mid files : Option Named) (written got : Option (List ℕ)) (a b : ℕ)
-    → IsSession t old → Stands t (command ∷ left) old.log mid written → Does (Ok told) old new command → IsLegal (query_in new) new.log → piece ≡ told.item → reply ≡ told.reply
+    → IsSession t old → IsUnderWay t (command ∷ left) old.log mid written → Does (Ok told) old new command → IsLegal (query_in new) new.log → piece ≡ told.item → reply ≡ told.reply
     → files ≡ with_more mid t.name piece → Sent {A = Unit {0}} (Err s) written got a b reply → Halts t s files got
 done-send s t left old new command told piece reply mid files written got a b session h does legal is answer wrote sent =
     exit-send s t left command old.log does.0 piece reply mid files written got a b h does.1.command (session-grown t old new command does.0 session does.1 legal) (is ∙ does.3) does.2 wrote
@@ -295,8 +295,8 @@ done-send s t left old new command told piece reply mid files written got a b se
 
 -- all was written and put
 pub done-next : (t : Task) (left : List Command) (old new : Session) (command : Command) (told : Done) (piece reply : List ℕ) (mid files : Option Named) (written got : Option (List ℕ))
-    → IsSession t old → Stands t (command ∷ left) old.log mid written → Does (Ok told) old new command → IsLegal (query_in new) new.log → piece ≡ told.item → reply ≡ told.reply
-    → files ≡ with_more mid t.name piece → Appends written got reply → Stands t left new.log files got
+    → IsSession t old → IsUnderWay t (command ∷ left) old.log mid written → Does (Ok told) old new command → IsLegal (query_in new) new.log → piece ≡ told.item → reply ≡ told.reply
+    → files ≡ with_more mid t.name piece → Appends written got reply → IsUnderWay t left new.log files got
 done-next t left old new command told piece reply mid files written got session h does legal is answer wrote sent =
     rw does.1.log
     (stands-next t left command old.log does.0 piece reply mid files written got h does.1.command (session-grown t old new command does.0 session does.1 legal) (is ∙ does.3) does.2 wrote
@@ -304,14 +304,14 @@ done-next t left old new command told piece reply mid files written got session 
 
 -- a leg was too long, and was not written
 pub long-write : (s : Stop) (t : Task) (left : List Command) (old new : Session) (command : Command) (text piece : List ℕ) (mid files : Option Named) (written : Option (List ℕ))
-    → IsSession t old → Stands t (command ∷ left) old.log mid written → Does (Err (debug_err.Long text)) old new command → IsLegal (query_in new) new.log → piece ≡ text
+    → IsSession t old → IsUnderWay t (command ∷ left) old.log mid written → Does (Err (debug_err.Long text)) old new command → IsLegal (query_in new) new.log → piece ≡ text
     → Wrote {A = Unit {0}} (Err s) mid files t.name piece → Halts t s files written
 long-write s t left old new command text piece mid files written session h does legal is wrote =
     exit-write s t left command old.log does.0 piece mid files written h does.1.command (session-grown t old new command does.0 session does.1 legal) (is ∙ does.3) wrote
 
 -- it was written
 pub long-next : (t : Task) (left : List Command) (old new : Session) (command : Command) (text piece : List ℕ) (mid files : Option Named) (written : Option (List ℕ))
-    → IsSession t old → Stands t (command ∷ left) old.log mid written → Does (Err (debug_err.Long text)) old new command → IsLegal (query_in new) new.log → piece ≡ text
+    → IsSession t old → IsUnderWay t (command ∷ left) old.log mid written → Does (Err (debug_err.Long text)) old new command → IsLegal (query_in new) new.log → piece ≡ text
     → files ≡ with_more mid t.name piece → IsLeft t stop.Long [] files written
 long-next t left old new command text piece mid files written session h does legal is wrote =
     exit-long t left command old.log does.0 piece mid files written h does.1.command (session-grown t old new command does.0 session does.1 legal) (is ∙ does.3) does.2 wrote

@@ -8,7 +8,7 @@ use Rattle.amber_meaning.specs.Plain.{answer_of, row_total}
 use Rattle.amber_meaning.specs.Texts.{answer_text}
 use Rattle.amber_meaning.specs.declared.answer.Answer.{Answer}
 use Rattle.amber_course.specs.Course.{limited, most_rows}
-use Rattle.amber_run.specs.Standing.{IsDone, Leaves}
+use Rattle.amber_run.specs.UnderWay.{IsDone, Leaves}
 use Rattle.amber_run.specs.Task.{task_of}
 use Rattle.amber_course.specs.declared.job.Job.{Job}
 use Rattle.amber_course.specs.declared.job.Job.TheVariants as job

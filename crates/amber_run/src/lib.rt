@@ -1,7 +1,7 @@
 //! The top call: `amber` does what its words say, over a folder of files and a sink for the output.
 //!
 //! The crate `amber_course` has the first refusal in the order of work, or the job to do. The definitions in `specs/` say what
-//! comes of the job: `Standing` how far a run has come and what it leaves that ended early, and `Outcome` what each status
+//! comes of the job: `UnderWay` how far a run has come and what it leaves that ended early, and `Outcome` what each status
 //! says and leaves.
 #![tactic(auto)]
 

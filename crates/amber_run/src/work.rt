@@ -3,10 +3,10 @@ ghost use Rattle.std.specs.Io.KnownBytes.{Appends};
 ghost use Rattle.amber_io.specs.Folder.{IsThere};
 ghost use Rattle.amber_rows.specs.FlowRules.{IsFlow};
 ghost use Rattle.amber_log.specs.Grammar.{IsBatch, ends_over};
-ghost use Rattle.amber_worker.specs.Stands.{AreAlone};
+ghost use Rattle.amber_worker.specs.AtPosition.{AreAlone};
 ghost use Rattle.amber_course.specs.Ready.{AreInputs};
 ghost use Rattle.amber_run.specs.Outcome.{Counts};
-ghost use Rattle.amber_run.specs.Standing.{Did, Opens, Stands, Worked};
+ghost use Rattle.amber_run.specs.UnderWay.{Did, Opens, IsUnderWay, Worked};
 ghost use Rattle.amber_run.specs.Task.{IsSession, Task, most_steps, task_of};
 ghost use Rattle.amber_course.specs.Words.{AreSizes};
 ghost use Rattle.amber_run.specs.Writing.{CountsWrites, Made, Wrote};
@@ -101,7 +101,7 @@ fn do_command<F: Folder, O: Sink>(
     requires there { IsThere (F.files folder.old) name.now }
     requires open { ends_over false debugger.old.log.items ≡ false }
     ensures did { (t : Task) (left : List Command) → t.name ≡ name.now → IsSession t debugger.old
-        → Stands t (command.now ∷ left) debugger.old.log (F.files folder.old) (O.written out.old)
+        → IsUnderWay t (command.now ∷ left) debugger.old.log (F.files folder.old) (O.written out.old)
         → Did result t left debugger.new (F.files folder.new) (O.written out.new) }
     ensures writes { CountsWrites result (F.write_faults folder.old) (F.write_faults folder.new) }
     ensures puts { Counts result (O.faults out.old) (O.faults out.new) }

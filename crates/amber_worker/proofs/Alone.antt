@@ -13,7 +13,7 @@ use Rattle.amber_rows.specs.declared.value.Value.{Value}
 use Rattle.amber_rows.specs.declared.flow.What.{What}
 use Rattle.amber_rows.specs.declared.flow.What.TheVariants as what
 use Rattle.amber_rows.specs.declared.flow.Operator.{Operator}
-use Rattle.amber_worker.specs.Stands.{AreAlone}
+use Rattle.amber_worker.specs.AtPosition.{AreAlone}
 use Rattle.amber_worker.proofs.Readers.{count-there, input-earlier, join-apart, reader-is, there}
 
 -- ---- numbers

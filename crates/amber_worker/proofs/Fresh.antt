@@ -30,7 +30,7 @@ use Rattle.amber_link.specs.Incoming.{Incoming}
 use Rattle.amber_link.specs.Outgoing.{Outgoing}
 use Rattle.amber_worker.specs.Fields.{AreFew, IsInOrder, rest_in}
 use Rattle.amber_worker.specs.Made.{IsOperatorStateOf, IsFresh, IsReceiver, fresh_inbox, fresh_inboxes, fresh_outbox, handing_operator, is_join}
-use Rattle.amber_worker.specs.Stands.{AreAlone, DoesKind, HasShare, HasTaken, Placement, ReceiveAll, Receives, SendAll, Sends, Shows, Stands, first_orders, is_scan, kept_of, placement_of}
+use Rattle.amber_worker.specs.AtPosition.{AreAlone, DoesKind, HasShare, HasTaken, Placement, ReceiveAll, Receives, SendAll, Sends, Shows, IsAtPosition, first_orders, is_scan, kept_of, placement_of}
 use Rattle.amber_worker.specs.WorkerState.{WorkerState}
 use Rattle.amber_worker.specs.declared.operator_state.OperatorState.{OperatorState}
 use Rattle.amber_worker.specs.declared.operator_state.OperatorState.TheVariants as operator_state
@@ -358,7 +358,7 @@ pub fresh-stands : (flow : List Operator) (records : List (List (Result (List Va
     → IsFlow flow → AreAlone flow → worker < crew_of flow → 0 < size
     → is_some share ≡ is_scan (what_at flow (op_of flow worker))
     → HasShare share (role_of flow records worker) → IsFresh flow worker size share w
-    → Stands (placement_of flow records size worker) (first_orders flow worker) w origin origin (λ _. [])
+    → IsAtPosition (placement_of flow records size worker) (first_orders flow worker) w origin origin (λ _. [])
 unfolding Leads AreEntries
 fresh-stands flow records size worker share w is alone below some shared has fresh =
     let there : worker < length flow = omega (arith, crew-alone flow alone) in

@@ -11,7 +11,7 @@ use Rattle.amber_meaning.specs.Rules.{Orders}
 use Rattle.amber_meaning.specs.Task.{Task, is_builder}
 use Rattle.amber_link.specs.Incoming.{Incoming, has_some, have_all_ended, have_builders_ended, is_ready, may_come}
 use Rattle.amber_worker.specs.Links.{waiting_from}
-use Rattle.amber_worker.specs.Stands.{Placement, ReceiveAll, Shows}
+use Rattle.amber_worker.specs.AtPosition.{Placement, ReceiveAll, Shows}
 use Rattle.amber_worker.specs.WorkerState.{WorkerState, next_turn, has_ready}
 use Rattle.amber_worker.specs.declared.turn.Turn.TheVariants as turn
 

@@ -12,7 +12,7 @@ use Rattle.amber_meaning.specs.Rules.{Leads, MayGo, Moves, Orders, pass_by, prod
 use Rattle.amber_meaning.specs.Task.{Role}
 use Rattle.amber_meaning.proofs.Lists.{list_all-every}
 use Rattle.amber_worker.specs.Fields.{rows_moved}
-use Rattle.amber_worker.specs.Stands.{ArePlain}
+use Rattle.amber_worker.specs.AtPosition.{ArePlain}
 use Rattle.amber_worker.specs.Steps.{gone_on, with_go}
 
 -- ---- one entry more

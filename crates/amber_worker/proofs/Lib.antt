@@ -14,7 +14,7 @@ pub mod Readers
 pub mod Settling
 pub mod Shares
 pub mod Seen
-pub mod Standing
+pub mod KeptPosition
 pub mod States
 pub mod Takes
 pub mod Turns

@@ -20,7 +20,7 @@ use Rattle.amber_meaning.specs.Views.{refusal_in, refused_in, rows_in, taken_of}
 use Rattle.amber_link.specs.Incoming.{Incoming, have_all_ended}
 use Rattle.amber_link.specs.Outgoing.{Outgoing, with_end, with_row}
 use Rattle.amber_worker.specs.Fields.{rows_moved}
-use Rattle.amber_worker.specs.Stands.{DoesKind, HasTaken, Keeps, Placement, ReceiveAll, SendAll, Sends, Shows, kept_of, stream_to}
+use Rattle.amber_worker.specs.AtPosition.{DoesKind, HasTaken, Keeps, Placement, ReceiveAll, SendAll, Sends, Shows, kept_of, stream_to}
 use Rattle.amber_worker.specs.WorkerState.{WorkerState}
 use Rattle.amber_worker.specs.Steps.{Becomes, Closes, all_done, columns_at_hand, gives, gives_if, keeps, keeps_if, row_emitted, row_taken}
 use Rattle.amber_worker.specs.declared.operator_state.OperatorState.{OperatorState}

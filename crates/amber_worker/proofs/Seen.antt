@@ -11,7 +11,7 @@ use Rattle.amber_meaning.specs.declared.view.Extra.{Extra}
 use Rattle.amber_meaning.specs.declared.view.Extra.TheVariants as extra
 use Rattle.amber_meaning.specs.declared.view.Stand.TheVariants as stand
 use Rattle.amber_meaning.specs.declared.view.WorkerView.{WorkerView}
-use Rattle.amber_worker.specs.Stands.{DoesKind, HasTaken, IsViewOf, kept_of}
+use Rattle.amber_worker.specs.AtPosition.{DoesKind, HasTaken, IsViewOf, kept_of}
 use Rattle.amber_worker.specs.WorkerState.{WorkerState}
 use Rattle.amber_worker.specs.Steps.{IsExtra, IsShown}
 use Rattle.amber_worker.specs.declared.operator_state.OperatorState.{OperatorState}

@@ -15,7 +15,7 @@ use Rattle.amber_meaning.specs.Task.{Task, is_builder}
 use Rattle.amber_link.specs.Incoming.{Incoming}
 use Rattle.amber_link.specs.Outgoing.{Outgoing}
 use Rattle.amber_worker.specs.Links.{waiting_for, waiting_from, with_batches, without_batches}
-use Rattle.amber_worker.specs.Stands.{Placement, ReceiveAll, SendAll, Sends, Shows, Stands, stream_to}
+use Rattle.amber_worker.specs.AtPosition.{Placement, ReceiveAll, SendAll, Sends, Shows, IsAtPosition, stream_to}
 use Rattle.amber_worker.specs.WorkerState.{WorkerState, steps_in}
 
 -- the steps of a worker are those of its position
@@ -59,16 +59,16 @@ Shows-relinked placement orders w p sent later ins outs journal shows received s
 -- ---- the journal
 
 -- a worker whose journal was handed out stands where it stood, with nothing done since
-pub Stands-without_journal : (placement : Placement) (orders : Orders) (w : WorkerState) (start p : Position) (sent : ℕ → List Batch)
-    → Stands placement orders w start p sent → Stands placement orders (record w { journal = [] }) p p sent
+pub IsAtPosition-without_journal : (placement : Placement) (orders : Orders) (w : WorkerState) (start p : Position) (sent : ℕ → List Batch)
+    → IsAtPosition placement orders w start p sent → IsAtPosition placement orders (record w { journal = [] }) p p sent
 unfolding Leads AreEntries
-Stands-without_journal placement orders w start p sent stands = record { leads = refl; text = tt; shows = Shows-relinked placement orders w p sent sent w.ins w.outs [] stands.shows stands.shows.ins stands.shows.sides stands.shows.outs }
+IsAtPosition-without_journal placement orders w start p sent stands = record { leads = refl; text = tt; shows = Shows-relinked placement orders w p sent sent w.ins w.outs [] stands.shows stands.shows.ins stands.shows.sides stands.shows.outs }
 
 -- ---- receivers
 
 -- what was sent to a receiver and what waits for it are the batches that were made for it
 pub sent-made : (placement : Placement) (orders : Orders) (w : WorkerState) (start p : Position) (sent : ℕ → List Batch) (receiver : ℕ)
-    → Stands placement orders w start p sent → list_any (λ one. eqb one receiver) placement.receivers ≡ true
+    → IsAtPosition placement orders w start p sent → list_any (λ one. eqb one receiver) placement.receivers ≡ true
     → sent receiver ++ waiting_for receiver w.outs ≡ chunks_of placement.size (stream_to placement receiver (emitted_rows placement.role p)) p.finished
 unfolding SendAll
 sent-made placement orders w start p sent receiver stands member = by placement.receivers w.outs stands.shows.outs member
@@ -140,11 +140,11 @@ one-moved placement rows ended sent receiver first batches one sends made = by (
     }
 
 -- the batches for a receiver were moved to it
-pub Stands-moved : (placement : Placement) (orders : Orders) (w : WorkerState) (start p : Position) (sent : ℕ → List Batch) (receiver : ℕ)
-    → Stands placement orders w start p sent
-    → Stands placement orders (record w { outs = without_batches receiver w.outs }) start p (sent_more sent receiver (waiting_for receiver w.outs))
+pub IsAtPosition-moved : (placement : Placement) (orders : Orders) (w : WorkerState) (start p : Position) (sent : ℕ → List Batch) (receiver : ℕ)
+    → IsAtPosition placement orders w start p sent
+    → IsAtPosition placement orders (record w { outs = without_batches receiver w.outs }) start p (sent_more sent receiver (waiting_for receiver w.outs))
 unfolding SendAll
-Stands-moved placement orders w start p sent receiver stands = record {
+IsAtPosition-moved placement orders w start p sent receiver stands = record {
   leads = stands.leads;
   text = stands.text;
   shows = Shows-relinked placement orders w p sent (sent_more sent receiver (waiting_for receiver w.outs)) w.ins (without_batches receiver w.outs) w.journal
@@ -214,10 +214,10 @@ sides-with task sender batches (one ∷ ins) sides = by (eqb one.from sender) (s
     by false rest = All-cons (λ (one : Incoming). one.builds ≡ is_builder task one.from) one (with_batches sender batches ins) own rest
 
 -- more batches of a sender have come
-pub Stands-received : (placement : Placement) (orders : Orders) (w : WorkerState) (start p : Position) (sent : ℕ → List Batch) (sender : ℕ) (batches : List Batch)
-    → Stands placement orders w start p sent → Stands placement orders (record w { ins = with_batches sender batches w.ins }) start p sent
+pub IsAtPosition-received : (placement : Placement) (orders : Orders) (w : WorkerState) (start p : Position) (sent : ℕ → List Batch) (sender : ℕ) (batches : List Batch)
+    → IsAtPosition placement orders w start p sent → IsAtPosition placement orders (record w { ins = with_batches sender batches w.ins }) start p sent
 unfolding ReceiveAll
-Stands-received placement orders w start p sent sender batches stands = record {
+IsAtPosition-received placement orders w start p sent sender batches stands = record {
   leads = stands.leads;
   text = stands.text;
   shows = Shows-relinked placement orders w p sent sent (with_batches sender batches w.ins) w.outs w.journal

@@ -9,13 +9,13 @@ use Rattle.amber_rows.specs.declared.value.Value.{Value}
 use Rattle.amber_rows.specs.declared.batch.Batch.{Batch}
 use Rattle.amber_rows.specs.declared.flow.What.{What}
 use Rattle.amber_rows.specs.declared.flow.What.TheVariants as what
-use Rattle.amber_group.specs.Group.{Group, Stands as GroupStands}
+use Rattle.amber_group.specs.Group.{Group, IsFedWith}
 use Rattle.amber_join.specs.Join.{Join}
 use Rattle.amber_meaning.specs.Task.{Arrival, Role, Task, built_of, closing_rows, is_builder, suiting}
 use Rattle.amber_meaning.specs.Views.{rows_in}
 use Rattle.amber_link.specs.Incoming.{Incoming, IsTaken, have_builders_ended, without_first}
 use Rattle.amber_worker.specs.Fields.{IsInOrder}
-use Rattle.amber_worker.specs.Stands.{DoesKind, HasTaken}
+use Rattle.amber_worker.specs.AtPosition.{DoesKind, HasTaken}
 use Rattle.amber_worker.specs.Steps.{Becomes, Closes, GivesGroups, MayTakeRow, built_with, turned_to}
 use Rattle.amber_worker.specs.declared.operator_state.OperatorState.{OperatorState}
 use Rattle.amber_worker.specs.declared.operator_state.OperatorState.TheVariants as operator_state
@@ -98,7 +98,7 @@ has-more (operator_state.Filter cond) now task arrivals one becomes has = subst 
 has-more (operator_state.Project from) now task arrivals one becomes has = subst (λ d. HasTaken d task (arrivals ++ one ∷ [])) (sym becomes) tt
 has-more (operator_state.Join state) now task arrivals one becomes has = subst (λ d. HasTaken d task (arrivals ++ one ∷ [])) (sym becomes) (built-more task arrivals one state has)
 has-more (operator_state.Group state) now task arrivals one becomes has =
-    let P : List (List Value) → Type 0 = λ rows. GroupStands becomes.0 rows in
+    let P : List (List Value) → Type 0 = λ rows. IsFedWith becomes.0 rows in
     subst (λ d. HasTaken d task (arrivals ++ one ∷ [])) (sym becomes.1) (subst P (sym (rows-more task arrivals one)) (becomes.2.stands (rows_in task arrivals) has))
 has-more operator_state.Sink now task arrivals one becomes has = subst (λ d. HasTaken d task (arrivals ++ one ∷ [])) (sym becomes) tt
 
@@ -127,7 +127,7 @@ has-turned operator_state.Sink builds task arrivals has = has
 -- ---- the end
 
 group-closes : (state : Group) (input : ℕ) (keys : List ℕ) (aggs : List _) (task : Task) (arrivals : List Arrival) (over : Bool) (last : List (List Value))
-    → state.keys ≡ keys → state.aggs ≡ aggs → GroupStands state (rows_in task arrivals) → GivesGroups state over last
+    → state.keys ≡ keys → state.aggs ≡ aggs → IsFedWith state (rows_in task arrivals) → GivesGroups state over last
     → last ≡ (if over then closing_rows (what.Group input keys aggs) (filter_map (suiting task) arrivals) else [])
 group-closes state input keys aggs task arrivals true last is_keys is_aggs has closes = closes (rows_in task arrivals) has ∙ rw (is_keys, is_aggs) refl
 group-closes state input keys aggs task arrivals false last is_keys is_aggs has closes = closes

@@ -19,7 +19,7 @@ use Rattle.amber_meaning.specs.Views.{taken_of}
 use Rattle.amber_link.specs.Incoming.{Incoming, IsTaken, have_all_ended, have_builders_ended, without_first}
 use Rattle.amber_worker.specs.Fields.{row_from}
 use Rattle.amber_worker.specs.Links.{waiting_from}
-use Rattle.amber_worker.specs.Stands.{DoesKind, Keeps, Placement, ReceiveAll, Receives, Shows}
+use Rattle.amber_worker.specs.AtPosition.{DoesKind, Keeps, Placement, ReceiveAll, Receives, Shows}
 use Rattle.amber_worker.specs.WorkerState.{WorkerState}
 use Rattle.amber_worker.specs.Steps.{Closes, batch_taken}
 use Rattle.amber_worker.specs.declared.operator_state.OperatorState.{OperatorState}

@@ -2,11 +2,11 @@
 use Rattle.std.proofs.Common.{◌≡◌, List, [], ◌∷◌, Bool, true, false, MatchBool, refl, sym, ap, ◌∙◌, subst}
 use Rattle.std.proofs.lemmas.Bool.{false≢true}
 use Rattle.amber_link.specs.Incoming.{has_some, have_all_ended}
-use Rattle.amber_worker.specs.Stands.{Keeps}
+use Rattle.amber_worker.specs.AtPosition.{Keeps}
 use Rattle.amber_worker.specs.WorkerState.{WorkerState}
 use Rattle.amber_worker.specs.Steps.{IsCalm, TakesBatch, TakesRow, all_done, row_emitted_from}
 use Rattle.amber_worker.proofs.Moves.{IsWorking, Keeps-all_done, Keeps-row_emitted, Keeps-row_taken}
-use Rattle.amber_worker.proofs.Standing.{Keeps-refl}
+use Rattle.amber_worker.proofs.KeptPosition.{Keeps-refl}
 use Rattle.amber_worker.proofs.Takes.{Keeps-batch_taken}
 
 -- nothing has happened

@@ -3,6 +3,6 @@ pub use Rattle.amber_link.specs.Outgoing
 pub mod Fields
 pub mod Links
 pub mod Made
-pub mod Stands
+pub mod AtPosition
 pub mod WorkerState
 pub mod Steps

@@ -5,7 +5,7 @@ use Rattle.amber_rows.specs.FlowRules.{columns_at}
 use Rattle.amber_rows.specs.declared.flow.Operator.{Operator}
 use Rattle.amber_rows.specs.declared.flow.What.{What}
 use Rattle.amber_rows.specs.declared.flow.What.TheVariants as what
-use Rattle.amber_group.specs.Group.{Stands}
+use Rattle.amber_group.specs.Group.{IsFedWith}
 use Rattle.amber_meaning.specs.Plan.{built_columns}
 use Rattle.amber_scan.specs.declared.share.Scanned.{Scanned}
 use Rattle.amber_link.specs.Incoming.{Incoming}
@@ -22,7 +22,7 @@ IsOperatorStateOf (operator_state.Filter cond) (what.Filter input own) = cond �
 IsOperatorStateOf (operator_state.Project from) (what.Project input columns) = from ≡ columns
 IsOperatorStateOf (operator_state.Join state) (what.Join build probe build_keys probe_keys) =
     state ≡ record { build_keys = build_keys; probe_keys = probe_keys; rows = []; sealed = false }
-IsOperatorStateOf (operator_state.Group state) (what.Group input keys aggs) = (state.keys ≡ keys) × (state.aggs ≡ aggs) × Stands state []
+IsOperatorStateOf (operator_state.Group state) (what.Group input keys aggs) = (state.keys ≡ keys) × (state.aggs ≡ aggs) × IsFedWith state []
 IsOperatorStateOf operator_state.Sink (what.Sink input) = Unit {0}
 IsOperatorStateOf _ _ = ⊥
 

@@ -5,7 +5,7 @@ use Rattle.amber_rows.specs.Operators.{first_keys, grouped, matches_of, picked, 
 use Rattle.amber_rows.specs.declared.value.Value.{Value}
 use Rattle.amber_rows.specs.declared.column.Column.{Column}
 use Rattle.amber_rows.specs.declared.batch.Batch.{Batch}
-use Rattle.amber_group.specs.Group.{Group, Stands as GroupStands}
+use Rattle.amber_group.specs.Group.{Group, IsFedWith}
 use Rattle.amber_join.specs.Join.{Join}
 use Rattle.amber_log.specs.declared.entry.Entry.{Entry}
 use Rattle.amber_log.specs.declared.entry.Entry.TheVariants as entry
@@ -65,7 +65,7 @@ pub record Feeds (found : Option (List Value)) (old new : Group) : Type 0 where
   pub keys : new.keys ≡ old.keys
   pub aggs : new.aggs ≡ old.aggs
   pub fed : new.fed ≤ old.fed + 1
-  pub stands : (rows : List (List Value)) → GroupStands old rows → GroupStands new (rows ++ option_to_list found)
+  pub stands : (rows : List (List Value)) → IsFedWith old rows → IsFedWith new (rows ++ option_to_list found)
 
 -- what a worker keeps of the rows that it took becomes this with another row
 abbrev pub Becomes : OperatorState → Bool → Option (List Value) → OperatorState → Type 0
@@ -78,7 +78,7 @@ Becomes operator_state.Sink builds found new = new ≡ operator_state.Sink
 
 -- the rows of the groups, once nothing more can come
 abbrev pub GivesGroups : Group → Bool → List (List Value) → Type 0
-GivesGroups state true rows = (fed : List (List Value)) → GroupStands state fed → rows ≡ grouped state.keys state.aggs fed
+GivesGroups state true rows = (fed : List (List Value)) → IsFedWith state fed → rows ≡ grouped state.keys state.aggs fed
 GivesGroups state false rows = rows ≡ []
 
 -- the rows that a worker gives at the end, once nothing more can come
@@ -325,7 +325,7 @@ IsExtra operator_state.Scan refused kept shown = shown ≡ extra.Scan refused
 IsExtra (operator_state.Filter cond) refused kept shown = shown ≡ extra.Nothing
 IsExtra (operator_state.Project from) refused kept shown = shown ≡ extra.Nothing
 IsExtra (operator_state.Join state) refused kept shown = shown ≡ extra.Join (length (first_keys state.build_keys state.rows)) (length state.rows)
-IsExtra (operator_state.Group state) refused kept shown = (rows : List (List Value)) → GroupStands state rows → shown ≡ extra.Group (length (first_keys state.keys rows))
+IsExtra (operator_state.Group state) refused kept shown = (rows : List (List Value)) → IsFedWith state rows → shown ≡ extra.Group (length (first_keys state.keys rows))
 IsExtra operator_state.Sink refused kept shown = shown ≡ extra.Sink kept
 
 -- what a worker shows
@@ -344,5 +344,5 @@ IsRefused operator_state.Scan keys = keys ≡ []
 IsRefused (operator_state.Filter cond) keys = keys ≡ []
 IsRefused (operator_state.Project from) keys = keys ≡ []
 IsRefused (operator_state.Join state) keys = keys ≡ []
-IsRefused (operator_state.Group state) keys = (rows : List (List Value)) → GroupStands state rows → keys ≡ refused_keys state.keys state.aggs rows
+IsRefused (operator_state.Group state) keys = (rows : List (List Value)) → IsFedWith state rows → keys ≡ refused_keys state.keys state.aggs rows
 IsRefused operator_state.Sink keys = keys ≡ []

@@ -7,8 +7,8 @@
 //! A worker of a join takes all batches of its build side before the first of its probe side. One of a group makes the
 //! rows of its groups pending in the very step that takes the last row, or an empty last batch.
 //!
-//! What a worker keeps is seen as a `Station`, lists, numbers and flags. Wherever it stands after a call, its journal
-//! leads there by the rules of a run: `specs/Stands.antt` says what it is for a worker to stand at a position.
+//! What a worker keeps is seen as a `WorkerState`, lists, numbers and flags. Wherever it stands after a call, its journal
+//! leads there by the rules of a run: `specs/AtPosition.antt` says what it is for a worker to stand at a position.
 #![tactic(auto)]
 
 pub mod operator_state;

@@ -10,7 +10,7 @@ ghost use Rattle.amber_worker.specs.Links.{waiting_for, with_batches, without_ba
 ghost use Rattle.amber_worker.specs.WorkerState.{next_turn, has_ready, steps_in};
 ghost use Rattle.amber_worker.specs.Steps.{IsCalm, IsShown, TakesBatch, TakesRow, all_done, row_emitted_from};
 ghost use Rattle.amber_worker.specs.Made.{IsFresh};
-ghost use Rattle.amber_worker.specs.Stands.{AreAlone, HasShare, HasTurned, IsGivenOf, IsViewOf, Keeps, Stands, first_orders, is_scan, placement_of};
+ghost use Rattle.amber_worker.specs.AtPosition.{AreAlone, HasShare, HasTurned, IsGivenOf, IsViewOf, Keeps, IsAtPosition, first_orders, is_scan, placement_of};
 
 use crate::operator_state::OperatorState;
 use crate::given::{Given, add_keys, refused_keys};
@@ -34,7 +34,7 @@ use std::collections::VecDeque;
 use std::marker::Model;
 use std::mem;
 
-/// A worker at rest or in a leg, seen as a `Station`.
+/// A worker at rest or in a leg, seen as a `WorkerState`.
 #[derive(Debug, Drop)]
 pub struct Worker {
     alloc: Global,
@@ -108,7 +108,7 @@ impl Worker {
         // For now every operator has one worker.
         requires alone { AreAlone flow.now }
         ensures stands { (records : List (List (Result (List Cell) Fault))) → HasShare share (role_of flow.now records worker)
-            → IfOk result (λ made. Stands (placement_of flow.now records batch worker) (first_orders flow.now worker) made origin origin (λ _. [])) }
+            → IfOk result (λ made. IsAtPosition (placement_of flow.now records batch worker) (first_orders flow.now worker) made origin origin (λ _. [])) }
         ensures empty { IfOk result (λ made. All (λ one. one.waiting ≡ []) made.ins × All (λ one. one.waiting ≡ []) made.outs) }
     {
         let _operators = flow.get();

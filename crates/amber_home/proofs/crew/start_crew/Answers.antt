@@ -45,7 +45,7 @@ returns-clause-start c most =
     let count : c.workers.before ≡ length c.args.flow.now = omega arith in record {
       flow = c.get-count.ensures.flow;
       alone = c.requires.alone;
-      standing = all-begun c.args.flow.now c.args.files.now c.args.batch most c.workers.crew.items c.requires.alone (c.workers.invariant.made ∙ count) c.workers.invariant.empty
+      at_positions = all-begun c.args.flow.now c.args.files.now c.args.batch most c.workers.crew.items c.requires.alone (c.workers.invariant.made ∙ count) c.workers.invariant.empty
           (subst (HaveBegun c.args.flow.now (records_of c.args.files.now c.args.flow.now) c.args.batch c.workers.crew.items) count c.workers.invariant.stands);
       moved = λ worker. (c.workers.invariant.empty worker).1;
     }

@@ -1,6 +1,6 @@
 -- Each turn is a step, and the workers stay at work.
 use Rattle.std.proofs.Common.{arith, add-zero, sym}
-use Rattle.amber_home.specs.Standing.{steps_by}
+use Rattle.amber_home.specs.AtWork.{steps_by}
 use Rattle.amber_home.proofs.Only.{only-refl, only-trans}
 use Rattle.amber_home.proofs.Steps.{sum-member}
 use Rattle.amber_home.proofs.Stepping.{crew-stays, stay-refl, stay-trans}

@@ -1,6 +1,6 @@
 -- The workers are at work, each turn was a step of this one, and the senders have finished.
 use Rattle.std.proofs.Common.{◌≡◌, ◌+◌}
-use Rattle.amber_home.specs.Standing.{HaveFinished, MovesOnly, StayAtWork, steps_by}
+use Rattle.amber_home.specs.AtWork.{HaveFinished, MovesOnly, StayAtWork, steps_by}
 use Rattle.amber_home.proofs.leg.drive.Given as goal
 
 abbrev pub invariant-steps : goal.invariant-steps

@@ -1,7 +1,7 @@
 -- The workers so far have finished, and the others have not begun.
 use Rattle.std.proofs.Common.{◌≡◌, ℕ, ◌+◌, ◌≤◌}
 use Rattle.amber_worker.specs.WorkerState.{steps_in}
-use Rattle.amber_home.specs.Standing.{HaveFinished, StayAtWork, worker_state_at, steps_by}
+use Rattle.amber_home.specs.AtWork.{HaveFinished, StayAtWork, worker_state_at, steps_by}
 use Rattle.amber_home.proofs.leg.run_crew.Given as goal
 
 abbrev pub invariant-workers : goal.invariant-workers

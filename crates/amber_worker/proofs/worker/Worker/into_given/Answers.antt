@@ -3,7 +3,7 @@ use Rattle.amber_rows.specs.Order.{sort_rows}
 use Rattle.amber_meaning.specs.declared.answer.Refusal.TheVariants as refusal
 use Rattle.amber_worker.specs.WorkerState.{WorkerState}
 use Rattle.amber_worker.specs.Steps.{IsRefused}
-use Rattle.amber_worker.proofs.Standing.{given-is}
+use Rattle.amber_worker.proofs.KeptPosition.{given-is}
 use Rattle.amber_worker.proofs.worker.Worker.into_given.Goals as goal
 
 pub returns : goal.returns

@@ -1,5 +1,5 @@
 use Rattle.std.proofs.Common.{sym, ◌∙◌}
-use Rattle.amber_worker.proofs.Standing.{Keeps-refl}
+use Rattle.amber_worker.proofs.KeptPosition.{Keeps-refl}
 use Rattle.amber_worker.proofs.Turns.{keeps-done, keeps-emitted, keeps-same, keeps-taken_batch, keeps-taken_row, not-taken}
 use Rattle.amber_worker.proofs.worker.Worker.turn.Goals as goal
 

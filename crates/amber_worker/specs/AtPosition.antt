@@ -11,7 +11,7 @@ use Rattle.amber_rows.specs.declared.flow.What.{What}
 use Rattle.amber_rows.specs.declared.flow.What.TheVariants as what
 use Rattle.amber_rows.specs.declared.flow.Operator.{Operator}
 use Rattle.amber_log.specs.Grammar.{AreEntries}
-use Rattle.amber_group.specs.Group.{Stands as GroupStands}
+use Rattle.amber_group.specs.Group.{IsFedWith}
 use Rattle.amber_meaning.specs.Plan.{role_of}
 use Rattle.amber_meaning.specs.Position.{Position, Taken, emitted_count, emitted_rows, fed, has_last, pending_rows, produced_rows, rest_of, taken_from}
 use Rattle.amber_meaning.specs.Rules.{Leads, Orders}
@@ -98,7 +98,7 @@ HasTaken operator_state.Scan task arrivals = Unit {0}
 HasTaken (operator_state.Filter cond) task arrivals = Unit {0}
 HasTaken (operator_state.Project from) task arrivals = Unit {0}
 HasTaken (operator_state.Join state) task arrivals = state.rows ≡ built_of task arrivals
-HasTaken (operator_state.Group state) task arrivals = GroupStands state (rows_in task arrivals)
+HasTaken (operator_state.Group state) task arrivals = IsFedWith state (rows_in task arrivals)
 HasTaken operator_state.Sink task arrivals = Unit {0}
 
 -- the rows that a worker keeps for the answer, of those that it took
@@ -179,7 +179,7 @@ pub record Shows (placement : Placement) (orders : Orders) (w : WorkerState) (p 
   pub outs : SendAll placement placement.receivers (emitted_rows placement.role p) p.finished sent w.outs
 
 -- a worker stands at a position: it shows it, and its journal leads there from where it stood when the journal was empty
-pub record Stands (placement : Placement) (orders : Orders) (w : WorkerState) (start p : Position) (sent : ℕ → List Batch) : Type 0 where
+pub record IsAtPosition (placement : Placement) (orders : Orders) (w : WorkerState) (start p : Position) (sent : ℕ → List Batch) : Type 0 where
   pub leads : Leads placement.role orders start w.journal p
   pub text : AreEntries false w.journal
   pub shows : Shows placement orders w p sent
@@ -190,8 +190,8 @@ SameBatches old p new q = (sender : ℕ) → taken_from q.taken sender ++ waitin
 
 -- wherever a worker stood, it stands at a position again, with the same batches of each sender and the same sent
 unfoldable pub Keeps : WorkerState → WorkerState → Type 0
-Keeps old new = (placement : Placement) (orders : Orders) (start p : Position) (sent : ℕ → List Batch) → Stands placement orders old start p sent
-    → (q : Position) × Stands placement orders new start q sent × SameBatches old p new q
+Keeps old new = (placement : Placement) (orders : Orders) (start p : Position) (sent : ℕ → List Batch) → IsAtPosition placement orders old start p sent
+    → (q : Position) × IsAtPosition placement orders new start q sent × SameBatches old p new q
 
 -- what a turn has done: one step more, or nothing
 abbrev pub HasTurned : Turn → WorkerState → WorkerState → Type 0

@@ -7,7 +7,7 @@ use Rattle.amber_rows.specs.declared.flow.What.TheVariants as what
 use Rattle.amber_meaning.specs.Task.{Arrival, Role, Task}
 use Rattle.amber_meaning.specs.Views.{keys_refused, rows_in, taken_of}
 use Rattle.amber_meaning.specs.declared.answer.Refusal.TheVariants as refusal
-use Rattle.amber_worker.specs.Stands.{DoesKind, HasTaken, IsGivenOf, Keeps}
+use Rattle.amber_worker.specs.AtPosition.{DoesKind, HasTaken, IsGivenOf, Keeps}
 use Rattle.amber_worker.specs.WorkerState.{WorkerState}
 use Rattle.amber_worker.specs.Steps.{IsRefused}
 use Rattle.amber_worker.specs.declared.operator_state.OperatorState.{OperatorState}

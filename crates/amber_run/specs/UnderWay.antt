@@ -22,7 +22,7 @@ use Rattle.amber_course.specs.declared.stop.Stop.TheVariants as stop
 
 -- the log's file holds the text of a legal log, all other files are as before, and the sink got the log's transcript; `left` are
 -- the commands that are still to be done
-pub record Stands (t : Task) (left : List Command) (log : Log) (files : Option Named) (written : Option (List ℕ)) : Type 0 where
+pub record IsUnderWay (t : Task) (left : List Command) (log : Log) (files : Option Named) (written : Option (List ℕ)) : Type 0 where
   pub batch : log.batch ≡ t.batch
   pub legal : IsLegal (query_at t log.batch) log
   pub commands : map command_of log.items ++ left ≡ t.commands
@@ -38,7 +38,7 @@ HasAnswer t log =
 
 -- a run that has done all
 abbrev pub IsDone : Task → Option Named → Option (List ℕ) → Type 0
-IsDone t files written = (log : Log) × Stands t [] log files written × HasAnswer t log
+IsDone t files written = (log : Log) × IsUnderWay t [] log files written × HasAnswer t log
 
 -- ---- a run that ended early
 
@@ -90,7 +90,7 @@ Leaves t other line files written = ⊥
 
 -- the log was made
 abbrev pub Opens : {A : Type 0} → Result A Stop → Task → Log → Option Named → Option (List ℕ) → Type 0
-Opens (Ok x) t log files written = Stands t t.commands log files written
+Opens (Ok x) t log files written = IsUnderWay t t.commands log files written
 Opens (Err stop.LogFault) t log files written = IsBare t [] files written ⊎ IsLeft t stop.LogFault [] files written
 Opens (Err stop.NoMemory) t log files written = IsBare t [] files written
 Opens (Err other) t log files written = ⊥
@@ -105,7 +105,7 @@ Halts t other files written = ⊥
 
 -- a command was done
 abbrev pub Did : {A : Type 0} → Result A Stop → Task → List Command → Session → Option Named → Option (List ℕ) → Type 0
-Did (Ok x) t left d files written = Stands t left d.log files written
+Did (Ok x) t left d files written = IsUnderWay t left d.log files written
 Did (Err s) t left d files written = Halts t s files written
 
 -- the run was done

@@ -6,7 +6,7 @@ use Rattle.amber_rows.specs.declared.batch.Batch.{Batch}
 use Rattle.amber_meaning.specs.Legal.{Query}
 use Rattle.amber_meaning.specs.Position.{Position, origin, taken_from}
 use Rattle.amber_worker.specs.Links.{waiting_from}
-use Rattle.amber_worker.specs.Stands.{Stands, first_orders, placement_of}
+use Rattle.amber_worker.specs.AtPosition.{IsAtPosition, first_orders, placement_of}
 use Rattle.amber_worker.specs.WorkerState.{WorkerState, steps_in}
 use Rattle.amber_worker.specs.declared.operator_state.OperatorState.TheVariants as operator_state
 
@@ -45,10 +45,10 @@ abbrev pub sent_by : List WorkerState → (ℕ → Position) → ℕ → ℕ →
 sent_by crew positions sender receiver = taken_from (positions receiver).taken sender ++ waiting_from sender (worker_state_at crew receiver).ins
 
 -- each worker stands at its position, with a journal that leads there from the start
-pub record Standing (query : Query) (crew : List WorkerState) (positions : ℕ → Position) : Type 0 where
+pub record AreAtPositions (query : Query) (crew : List WorkerState) (positions : ℕ → Position) : Type 0 where
   pub all : length crew ≡ crew_of query.flow
   pub each : (worker : ℕ) → worker < crew_of query.flow
-      → Stands (placement_of query.flow query.records query.size worker) (first_orders query.flow worker) (worker_state_at crew worker) origin (positions worker) (sent_by crew positions worker)
+      → IsAtPosition (placement_of query.flow query.records query.size worker) (first_orders query.flow worker) (worker_state_at crew worker) origin (positions worker) (sent_by crew positions worker)
 
 -- no batch waits to be moved into an inbox
 abbrev pub AreMoved : List WorkerState → Type 0
@@ -58,7 +58,7 @@ AreMoved crew = (worker : ℕ) → All (λ one. one.waiting ≡ []) (worker_stat
 pub record AreAtWork (query : Query) (crew : List WorkerState) : Type 0 where
   pub flow : IsFlow query.flow
   pub positions : ℕ → Position
-  pub standing : Standing query crew positions
+  pub at_positions : AreAtPositions query crew positions
   pub moved : AreMoved crew
 
 -- the workers of some workflow are at work
