@@ -8,8 +8,8 @@ use Rattle.amber_io.specs.Folder.{Gives, Lacks, Named, Told}
 use Rattle.amber_rows.specs.declared.flow.Operator.{Operator}
 use Rattle.amber_course.specs.Course.{IsScanFile, IsScanned, load_of, sized, then_on, workflow_in}
 use Rattle.amber_course.specs.Steps.{Follows, IsBounded, IsMissing, Judges, Names, Stopped, Tells}
-use Rattle.amber_course.specs.declared.stop.Stop.{Stop}
-use Rattle.amber_course.specs.declared.stop.Stop.TheVariants as stop
+use Rattle.amber_course.specs.declared.failure.Failure.{Failure}
+use Rattle.amber_course.specs.declared.failure.Failure.TheVariants as failure
 
 -- ---- facts over told files
 
@@ -40,18 +40,18 @@ tells-both (Some files) P Q R h p q = h files p q
 
 -- ---- stops
 
-pub stopped-map : (s : Stop) (a b : ℕ) (M N T U : Type 0) → (M → N) → (T → U) → Stopped s a b M T → Stopped s a b N U
-stopped-map stop.Usage a b M N T U m t h = h
-stopped-map stop.LogFault a b M N T U m t h = h
-stopped-map stop.OutFault a b M N T U m t h = h
-stopped-map (stop.ReadFault name) a b M N T U m t h = elim h [ inl p ↦ inl (p.0, t p.1) | inr r ↦ inr r ]
-stopped-map stop.NoMemory a b M N T U m t h = tt
+pub stopped-map : (s : Failure) (a b : ℕ) (M N T U : Type 0) → (M → N) → (T → U) → Stopped s a b M T → Stopped s a b N U
+stopped-map failure.Usage a b M N T U m t h = h
+stopped-map failure.LogFault a b M N T U m t h = h
+stopped-map failure.OutFault a b M N T U m t h = h
+stopped-map (failure.ReadFault name) a b M N T U m t h = elim h [ inl p ↦ inl (p.0, t p.1) | inr r ↦ inr r ]
+stopped-map failure.NoMemory a b M N T U m t h = tt
 stopped-map other a b M N T U m t h = (h.0, m h.1)
 
 -- ---- steps
 
 -- two ways to say what is meant
-pub follows-same : {A : Type 0} (r : Result A Stop) (told : Option Named) (f g : Named → Result A Stop) (a b : ℕ)
+pub follows-same : {A : Type 0} (r : Result A Failure) (told : Option Named) (f g : Named → Result A Failure) (a b : ℕ)
     → ((files : Named) → f files ≡ g files) → Follows r told f a b → Follows r told g a b
 follows-same (Ok x) told f g a b same h = (h.0, told-map told (λ files. f files ≡ Ok x) (λ files. g files ≡ Ok x) (λ files e. sym (same files) ∙ e) h.1)
 follows-same (Err s) told f g a b same h =
@@ -60,16 +60,16 @@ follows-same (Err s) told f g a b same h =
     (tells-map told (λ files. f files ≡ Err s) (λ files. g files ≡ Err s) (λ files e. sym (same files) ∙ e))
     h
 
-pub then-err : {A B : Type 0} (r : Result A Stop) (s : Stop) (next : A → Result B Stop) → r ≡ Err s → then_on r next ≡ Err s
+pub then-err : {A B : Type 0} (r : Result A Failure) (s : Failure) (next : A → Result B Failure) → r ≡ Err s → then_on r next ≡ Err s
 then-err r s next e = rw e
 
-pub then-ok : {A B : Type 0} (r : Result A Stop) (x : A) (next : A → Result B Stop) (y : Result B Stop) → r ≡ Ok x → next x ≡ y → then_on r next ≡ y
+pub then-ok : {A B : Type 0} (r : Result A Failure) (x : A) (next : A → Result B Failure) (y : Result B Failure) → r ≡ Ok x → next x ≡ y → then_on r next ≡ y
 then-ok r x next y e h = rw e h
 
 -- a step stopped, so the whole did
-pub follows-stop : {A B : Type 0} (s : Stop) (told : Option Named) (f : Named → Result A Stop) (g : Named → A → Result B Stop) (a b : ℕ)
+pub follows-failure : {A B : Type 0} (s : Failure) (told : Option Named) (f : Named → Result A Failure) (g : Named → A → Result B Failure) (a b : ℕ)
     → Follows {A = A} (Err s) told f a b → Follows {A = B} (Err s) told (λ files. then_on (f files) (g files)) a b
-follows-stop s told f g a b h =
+follows-failure s told f g a b h =
     stopped-map s a b (Told told (λ files. f files ≡ Err s)) (Told told (λ files. then_on (f files) (g files) ≡ Err s)) (Tells told (λ files. f files ≡ Err s))
     (Tells told (λ files. then_on (f files) (g files) ≡ Err s))
     (told-map told (λ files. f files ≡ Err s) (λ files. then_on (f files) (g files) ≡ Err s) (λ files e. then-err (f files) s (g files) e))
@@ -77,7 +77,7 @@ follows-stop s told f g a b h =
     h
 
 -- a step went on
-pub follows-on : {A B : Type 0} (r : Result B Stop) (x : A) (told : Option Named) (f : Named → Result A Stop) (g : Named → A → Result B Stop) (a b c : ℕ)
+pub follows-on : {A B : Type 0} (r : Result B Failure) (x : A) (told : Option Named) (f : Named → Result A Failure) (g : Named → A → Result B Failure) (a b c : ℕ)
     → Follows (Ok x) told f a b → Follows r told (λ files. g files x) b c → Follows r told (λ files. then_on (f files) (g files)) a c
 follows-on (Ok y) x told f g a b c p q = (
   q.0 ∙ p.0,
@@ -94,13 +94,13 @@ follows-on (Err s) x told f g a b c p q =
     (subst (λ n. Stopped s n c (Told told (λ files. g files x ≡ Err s)) (Tells told (λ files. g files x ≡ Err s))) p.0 q)
 
 -- a step that reads nothing
-pub follows-judged : {A : Type 0} (r meant : Result A Stop) (told : Option Named) (a : ℕ) → Judges r meant → Follows r told (λ files. meant) a a
+pub follows-judged : {A : Type 0} (r meant : Result A Failure) (told : Option Named) (a : ℕ) → Judges r meant → Follows r told (λ files. meant) a a
 follows-judged (Ok x) meant told a h = (refl, told-all told (λ files. meant ≡ Ok x) (λ files. h))
-follows-judged (Err stop.Usage) meant told a h = h
-follows-judged (Err (stop.ReadFault name)) meant told a h = absurd h
-follows-judged (Err stop.LogFault) meant told a h = h
-follows-judged (Err stop.OutFault) meant told a h = h
-follows-judged (Err stop.NoMemory) meant told a h = tt
+follows-judged (Err failure.Usage) meant told a h = h
+follows-judged (Err (failure.ReadFault name)) meant told a h = absurd h
+follows-judged (Err failure.LogFault) meant told a h = h
+follows-judged (Err failure.OutFault) meant told a h = h
+follows-judged (Err failure.NoMemory) meant told a h = tt
 follows-judged (Err other) meant told a h = (refl, told-all told (λ files. meant ≡ Err other) (λ files. h))
 
 -- ---- loads
@@ -123,7 +123,7 @@ sized-ok most name bytes whole e short =
     let all = whole-file most whole bytes e short in
     rw (is-within (length whole) most all.0, all.1) refl
 
-sized-large : (most : ℕ) (name bytes whole : List ℕ) → bytes ≡ take (most + 1) whole → most < length bytes → sized most name (Some whole) ≡ Err (stop.TooLarge name)
+sized-large : (most : ℕ) (name bytes whole : List ℕ) → bytes ≡ take (most + 1) whole → most < length bytes → sized most name (Some whole) ≡ Err (failure.TooLarge name)
 sized-large most name bytes whole e large =
     let size = ap length e ∙ length-take (most + 1) whole in
     let past : most < length whole = omega (arith, size, large) in
@@ -136,63 +136,63 @@ load-ok None most name bytes h short = tt
 load-ok (Some files) most name bytes h short = rw h.1 (sized-ok most name bytes h.0 h.2 short)
 
 load-large : (told : Option Named) (most : ℕ) (name bytes file : List ℕ) → file ≡ name → Gives told name (most + 1) bytes → most < length bytes
-    → Told told (λ files. load_of most name files ≡ Err (stop.TooLarge file))
+    → Told told (λ files. load_of most name files ≡ Err (failure.TooLarge file))
 unfolding load_of
 load-large None most name bytes file e h large = tt
 load-large (Some files) most name bytes file e h large = rw (h.1, e) (sized-large most name bytes h.0 h.2 large)
 
 -- the first bytes of a file came
-pub load-bounded : (r : Result (List ℕ) Stop) (told : Option Named) (most : ℕ) (name bytes : List ℕ) (a b : ℕ) → b ≡ a → Gives told name (most + 1) bytes
+pub load-bounded : (r : Result (List ℕ) Failure) (told : Option Named) (most : ℕ) (name bytes : List ℕ) (a b : ℕ) → b ≡ a → Gives told name (most + 1) bytes
     → IsBounded r name most bytes → Follows r told (load_of most name) a b
 load-bounded (Ok whole) told most name bytes a b same h r =
     (same, load-ok told most name whole (rw (← r.0) at h) (rw (← r.0) at r.1))
-load-bounded (Err (stop.TooLarge file)) told most name bytes a b same h r = (same, load-large told most name bytes file r.0 h r.1)
-load-bounded (Err stop.NoMemory) told most name bytes a b same h r = tt
+load-bounded (Err (failure.TooLarge file)) told most name bytes a b same h r = (same, load-large told most name bytes file r.0 h r.1)
+load-bounded (Err failure.NoMemory) told most name bytes a b same h r = tt
 load-bounded (Err other) told most name bytes a b same h r = absurd r.0
 
-pub bounded-few : (r : Result (List ℕ) Stop) (name : List ℕ) (most : ℕ) (bytes : List ℕ) → IsBounded r name most bytes → IfOk r (λ whole. length whole ≤ most)
+pub bounded-few : (r : Result (List ℕ) Failure) (name : List ℕ) (most : ℕ) (bytes : List ℕ) → IsBounded r name most bytes → IfOk r (λ whole. length whole ≤ most)
 bounded-few (Ok whole) name most bytes r = rw (← r.0) at r.1
 bounded-few (Err s) name most bytes r = tt
 
-pub bounded-named : (r : Result (List ℕ) Stop) (name : List ℕ) (most : ℕ) (bytes : List ℕ) → IsBounded r name most bytes → IfErr r (λ s. Names s (λ file. file ≡ name))
+pub bounded-named : (r : Result (List ℕ) Failure) (name : List ℕ) (most : ℕ) (bytes : List ℕ) → IsBounded r name most bytes → IfErr r (λ s. Names s (λ file. file ≡ name))
 bounded-named (Ok whole) name most bytes r = tt
-bounded-named (Err (stop.ReadFault file)) name most bytes r = absurd r.0
+bounded-named (Err (failure.ReadFault file)) name most bytes r = absurd r.0
 bounded-named (Err other) name most bytes r = tt
 
-lacks-tells : (told : Option Named) (most : ℕ) (name : List ℕ) → Lacks told name → Tells told (λ files. load_of most name files ≡ Err (stop.ReadFault name))
+lacks-tells : (told : Option Named) (most : ℕ) (name : List ℕ) → Lacks told name → Tells told (λ files. load_of most name files ≡ Err (failure.ReadFault name))
 unfolding load_of
 lacks-tells None most name h = h
 lacks-tells (Some files) most name h = rw h refl
 
 -- a load failed
-pub load-err : (s : Stop) (told : Option Named) (most : ℕ) (name : List ℕ) (a b : ℕ) → IsMissing s name → Lacks told name ⊎ Rose a b → (Lacks told name → b ≡ a)
+pub load-err : (s : Failure) (told : Option Named) (most : ℕ) (name : List ℕ) (a b : ℕ) → IsMissing s name → Lacks told name ⊎ Rose a b → (Lacks told name → b ≡ a)
     → Follows {A = List ℕ} (Err s) told (load_of most name) a b
-load-err (stop.ReadFault file) told most name a b m h same =
+load-err (failure.ReadFault file) told most name a b m h same =
     elim h [
       | inl lacks ↦ inl (same lacks, rw m (lacks-tells told most name lacks))
       | inr rose ↦ inr rose
     ]
-load-err stop.NoMemory told most name a b m h same = tt
+load-err failure.NoMemory told most name a b m h same = tt
 load-err other told most name a b m h same = absurd m
 
 -- ---- names
 
-pub missing-named : (s : Stop) (name : List ℕ) → IsMissing s name → Names s (λ file. file ≡ name)
-missing-named (stop.ReadFault file) name h = h
+pub missing-named : (s : Failure) (name : List ℕ) → IsMissing s name → Names s (λ file. file ≡ name)
+missing-named (failure.ReadFault file) name h = h
 missing-named other name h = tt
 
 -- a step that reads nothing names nothing
-pub judged-named : {A : Type 0} (r meant : Result A Stop) (P : List ℕ → Type 0) → Judges r meant → IfErr r (λ s. Names s P)
+pub judged-named : {A : Type 0} (r meant : Result A Failure) (P : List ℕ → Type 0) → Judges r meant → IfErr r (λ s. Names s P)
 judged-named (Ok x) meant P h = tt
-judged-named (Err (stop.ReadFault file)) meant P h = absurd h
+judged-named (Err (failure.ReadFault file)) meant P h = absurd h
 judged-named (Err other) meant P h = tt
 
-pub names-map : (s : Stop) (P Q : List ℕ → Type 0) → ((file : List ℕ) → P file → Q file) → Names s P → Names s Q
-names-map (stop.ReadFault file) P Q f h = f file h
+pub names-map : (s : Failure) (P Q : List ℕ → Type 0) → ((file : List ℕ) → P file → Q file) → Names s P → Names s Q
+names-map (failure.ReadFault file) P Q f h = f file h
 names-map other P Q f h = tt
 
 -- the workflow was read, so one of its scans is named
-pub scan-named : (s : Stop) (told : Option Named) (name : List ℕ) (flow : List Operator) → Told told (λ files. workflow_in name files ≡ Ok flow)
+pub scan-named : (s : Failure) (told : Option Named) (name : List ℕ) (flow : List Operator) → Told told (λ files. workflow_in name files ≡ Ok flow)
     → Told told (λ files. Names s (IsScanFile flow files)) → Told told (λ files. Names s (IsScanned name files))
 scan-named s told name flow reads h =
     told-both told (λ files. workflow_in name files ≡ Ok flow) (λ files. Names s (IsScanFile flow files)) (λ files. Names s (IsScanned name files))

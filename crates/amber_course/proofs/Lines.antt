@@ -37,10 +37,10 @@ pub begins-all : (old new : Option (List ℕ)) (x : List ℕ) → Appends old ne
 begins-all old new x p = (x, [], append-nil x, p)
 
 -- a put was refused, so the line stops
-pub lined-stop : (e : IoErr) (old new : Option (List ℕ)) (a b : ℕ) (x y : List ℕ)
+pub lined-failure : (e : IoErr) (old new : Option (List ℕ)) (a b : ℕ) (x y : List ℕ)
     → Lined {A = Unit {0}} (Err e) old new a b x → Lined {A = Unit {0}} (Err e) old new a b (x ++ y)
-lined-stop io_err.NoMemory old new a b x y h = (h.0, begins-more old new x y h.1)
-lined-stop io_err.Failed old new a b x y h = (h.0, h.1, begins-more old new x y h.2)
+lined-failure io_err.NoMemory old new a b x y h = (h.0, begins-more old new x y h.1)
+lined-failure io_err.Failed old new a b x y h = (h.0, h.1, begins-more old new x y h.2)
 
 -- a piece was put, so the line goes on
 pub lined-on : (r : Result (Unit {0}) IoErr) (u : Unit {0}) (old mid new : Option (List ℕ)) (a b c : ℕ) (x y : List ℕ)

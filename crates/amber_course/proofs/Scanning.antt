@@ -13,26 +13,26 @@ use Rattle.amber_meaning.specs.Plain.{is_scan, scan_count, wrong_header}
 use Rattle.amber_course.specs.Ready.{AreInputs}
 use Rattle.amber_course.specs.Course.{IsScanFile, file_before, headed, most_scanned, scan_before, scan_file, scans_from, scans_of, then_on}
 use Rattle.amber_course.specs.Steps.{Follows, Judges, Names, Tells}
-use Rattle.amber_course.specs.declared.stop.Reason.TheVariants as reason
-use Rattle.amber_course.specs.declared.stop.Stop.{Stop}
-use Rattle.amber_course.specs.declared.stop.Stop.TheVariants as stop
+use Rattle.amber_course.specs.declared.failure.Reason.TheVariants as reason
+use Rattle.amber_course.specs.declared.failure.Failure.{Failure}
+use Rattle.amber_course.specs.declared.failure.Failure.TheVariants as failure
 use Rattle.amber_course.proofs.Following.{names-map, stopped-map, tells-both, told-both, told-map}
 
 -- files that were loaded, before those of later scans
-abbrev pub after_files : List (List ℕ) → Result (List (List ℕ)) Stop → Result (List (List ℕ)) Stop
+abbrev pub after_files : List (List ℕ) → Result (List (List ℕ)) Failure → Result (List (List ℕ)) Failure
 after_files done (Ok later) = Ok (done ++ later)
 after_files done (Err s) = Err s
 
-pub after-none : (r : Result (List (List ℕ)) Stop) → r ≡ after_files [] r
+pub after-none : (r : Result (List (List ℕ)) Failure) → r ≡ after_files [] r
 after-none (Ok later) = refl
 after-none (Err s) = refl
 
-after-one : (done : List (List ℕ)) (bytes : List ℕ) (r : Result (List (List ℕ)) Stop) → after_files done (file_before bytes r) ≡ after_files (done ++ bytes ∷ []) r
+after-one : (done : List (List ℕ)) (bytes : List ℕ) (r : Result (List (List ℕ)) Failure) → after_files done (file_before bytes r) ≡ after_files (done ++ bytes ∷ []) r
 after-one done bytes (Ok later) = ap (λ files. Ok files) (sym (append_assoc done (bytes ∷ []) later))
 after-one done bytes (Err s) = refl
 
 -- the files that are left to load, behind those that were
-abbrev pub scans_at : List Operator → ℕ → ℕ → Named → Result (List (List ℕ)) Stop
+abbrev pub scans_at : List Operator → ℕ → ℕ → Named → Result (List (List ℕ)) Failure
 scans_at ops i left files = scans_from (i + 1) left (drop i ops) files
 
 drop-here : (ops : List Operator) (i : ℕ) (o : Operator) → i < length ops → o ≡ get_or ops i o → drop i ops ≡ o ∷ drop (i + 1) ops
@@ -44,7 +44,7 @@ step-at : (ops : List Operator) (i left : ℕ) (o : Operator) (files : Named) �
 unfolding scans_from
 step-at ops i left o files h is = rw (drop-here ops i o h is) refl
 
-scan-is : (op left : ℕ) (w : What) (name : List ℕ) (columns : List Column) (files : Named) (later : ℕ → Result (List (List ℕ)) Stop) → w ≡ what.Scan name
+scan-is : (op left : ℕ) (w : What) (name : List ℕ) (columns : List Column) (files : Named) (later : ℕ → Result (List (List ℕ)) Failure) → w ≡ what.Scan name
     → scan_before op left w columns files later ≡ then_on (scan_file op left name columns files) (λ bytes. file_before bytes (later (left - length bytes)))
 scan-is op left w name columns files later e = rw e refl
 
@@ -97,7 +97,7 @@ front-right ops i left done files walked =
     rw whole refl
 
 -- the file of a scan that was not loaded
-pub scan-names : (s : Stop) (ops : List Operator) (i left : ℕ) (o : Operator) (file : List ℕ) (done : List (List ℕ)) (told : Option Named)
+pub scan-names : (s : Failure) (ops : List Operator) (i left : ℕ) (o : Operator) (file : List ℕ) (done : List (List ℕ)) (told : Option Named)
     → i < length ops → o ≡ get_or ops i o → o.what ≡ what.Scan file → Told told (IsWalked ops i left done) → Names s (λ name. name ≡ file)
     → Told told (λ files. Names s (IsScanFile ops files))
 scan-names s ops i left o file done told h is w walked named =
@@ -111,17 +111,17 @@ scan-names s ops i left o file done told h is w walked named =
       right = front-right ops i left done files one;
     }) named) walked
 
-scan-stops : (ops : List Operator) (i left : ℕ) (o : Operator) (name : List ℕ) (done : List (List ℕ)) (whole : Result (List (List ℕ)) Stop) (s : Stop) (files : Named)
+scan-stops : (ops : List Operator) (i left : ℕ) (o : Operator) (name : List ℕ) (done : List (List ℕ)) (whole : Result (List (List ℕ)) Failure) (s : Failure) (files : Named)
     → i < length ops → o ≡ get_or ops i o → o.what ≡ what.Scan name → scan_file (i + 1) left name o.schema files ≡ Err s
     → whole ≡ after_files done (scans_at ops i left files) → whole ≡ Err s
 scan-stops ops i left o name done whole s files h is w load sofar =
     sofar ∙ rw (step-at ops i left o files h is, scan-is (i + 1) left o.what name o.schema files (λ rest. scans_at ops (i + 1) rest files) w, load) refl
 
 -- a scan whose file was not loaded
-pub scan-stop : (ops : List Operator) (i left : ℕ) (o : Operator) (name : List ℕ) (done : List (List ℕ)) (whole : Named → Result (List (List ℕ)) Stop) (s : Stop) (told : Option Named) (a b : ℕ)
+pub scan-failure : (ops : List Operator) (i left : ℕ) (o : Operator) (name : List ℕ) (done : List (List ℕ)) (whole : Named → Result (List (List ℕ)) Failure) (s : Failure) (told : Option Named) (a b : ℕ)
     → i < length ops → o ≡ get_or ops i o → o.what ≡ what.Scan name → Told told (λ files. whole files ≡ after_files done (scans_at ops i left files))
     → Follows {A = List ℕ} (Err s) told (scan_file (i + 1) left name o.schema) a b → Follows {A = List (List ℕ)} (Err s) told whole a b
-scan-stop ops i left o name done whole s told a b h is w sofar =
+scan-failure ops i left o name done whole s told a b h is w sofar =
     stopped-map s a b (Told told (λ files. scan_file (i + 1) left name o.schema files ≡ Err s)) (Told told (λ files. whole files ≡ Err s))
     (Tells told (λ files. scan_file (i + 1) left name o.schema files ≡ Err s)) (Tells told (λ files. whole files ≡ Err s))
     (told-both told (λ files. whole files ≡ after_files done (scans_at ops i left files)) (λ files. scan_file (i + 1) left name o.schema files ≡ Err s)
@@ -129,7 +129,7 @@ scan-stop ops i left o name done whole s told a b h is w sofar =
     (tells-both told (λ files. whole files ≡ after_files done (scans_at ops i left files)) (λ files. scan_file (i + 1) left name o.schema files ≡ Err s)
     (λ files. whole files ≡ Err s) (λ files sofar load. scan-stops ops i left o name done (whole files) s files h is w load sofar) sofar)
 
-scan-skips : (op left : ℕ) (w : What) (columns : List Column) (files : Named) (later : ℕ → Result (List (List ℕ)) Stop) → is_scan w ≡ false
+scan-skips : (op left : ℕ) (w : What) (columns : List Column) (files : Named) (later : ℕ → Result (List (List ℕ)) Failure) → is_scan w ≡ false
     → scan_before op left w columns files later ≡ later left
 scan-skips op left (what.Scan name) columns files later h = cc
 scan-skips op left other columns files later h = refl
@@ -147,7 +147,7 @@ scan-skip ops i left o done told h is w =
     told-map told (IsWalked ops i left done) (IsWalked ops (i + 1) left done) (λ files sofar. walk-skip ops i left o done files h is w sofar)
 
 -- past the last operator
-pub scan-end : (ops : List Operator) (i left : ℕ) (done : List (List ℕ)) (whole : Named → Result (List (List ℕ)) Stop) (told : Option Named) → length ops ≤ i
+pub scan-end : (ops : List Operator) (i left : ℕ) (done : List (List ℕ)) (whole : Named → Result (List (List ℕ)) Failure) (told : Option Named) → length ops ≤ i
     → Told told (λ files. whole files ≡ after_files done (scans_at ops i left files)) → Told told (λ files. whole files ≡ Ok done)
 unfolding scans_from
 scan-end ops i left done whole None h sofar = tt
@@ -218,18 +218,18 @@ inputs-end ops i done h sofar =
 
 -- ---- headers
 
-headed-cases : {A : Type 0} (right : Bool) (x y : A) (s : Stop) → cond right (Ok x) (Err s) ≡ Ok y → (right ≡ true) × (y ≡ x)
+headed-cases : {A : Type 0} (right : Bool) (x y : A) (s : Failure) → cond right (Ok x) (Err s) ≡ Ok y → (right ≡ true) × (y ≡ x)
 headed-cases true x y s e = (refl, cc)
 headed-cases false x y s e = cc
 
-pub headed-few : (r : Result (List ℕ) Stop) (op most : ℕ) (columns : List Column) (bytes : List ℕ) → Judges r (headed op columns bytes) → length bytes ≤ most
+pub headed-few : (r : Result (List ℕ) Failure) (op most : ℕ) (columns : List Column) (bytes : List ℕ) → Judges r (headed op columns bytes) → length bytes ≤ most
     → IfOk r (λ file. length file ≤ most)
-headed-few (Ok file) op most columns bytes h few = rw (headed-cases (has_header columns bytes) bytes file (stop.BadFlow op reason.Header) h).1 few
+headed-few (Ok file) op most columns bytes h few = rw (headed-cases (has_header columns bytes) bytes file (failure.BadFlow op reason.Header) h).1 few
 headed-few (Err s) op most columns bytes h few = tt
 
-pub headed-right : (r : Result (List ℕ) Stop) (op : ℕ) (columns : List Column) (bytes : List ℕ) → Judges r (headed op columns bytes)
+pub headed-right : (r : Result (List ℕ) Failure) (op : ℕ) (columns : List Column) (bytes : List ℕ) → Judges r (headed op columns bytes)
     → IfOk r (λ file. has_header columns file ≡ true)
 headed-right (Ok file) op columns bytes h =
-    let one = headed-cases (has_header columns bytes) bytes file (stop.BadFlow op reason.Header) h in
+    let one = headed-cases (has_header columns bytes) bytes file (failure.BadFlow op reason.Header) h in
     rw one.1 one.0
 headed-right (Err s) op columns bytes h = tt

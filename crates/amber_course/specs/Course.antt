@@ -17,12 +17,12 @@ use Rattle.amber_course.specs.declared.job.Job.TheVariants as job
 use Rattle.amber_course.specs.declared.words.RunWords.{RunWords}
 use Rattle.amber_course.specs.declared.words.Words.{Words}
 use Rattle.amber_course.specs.declared.words.Words.TheVariants as form
-use Rattle.amber_course.specs.declared.stop.Reason.TheVariants as reason
-use Rattle.amber_course.specs.declared.stop.Stop.{Stop}
-use Rattle.amber_course.specs.declared.stop.Stop.TheVariants as stop
+use Rattle.amber_course.specs.declared.failure.Reason.TheVariants as reason
+use Rattle.amber_course.specs.declared.failure.Failure.{Failure}
+use Rattle.amber_course.specs.declared.failure.Failure.TheVariants as failure
 
 -- one step after another; a refusal is the last
-abbrev pub then_on : {A B : Type 0} → Result A Stop → (A → Result B Stop) → Result B Stop
+abbrev pub then_on : {A B : Type 0} → Result A Failure → (A → Result B Failure) → Result B Failure
 then_on (Ok x) next = next x
 then_on (Err s) next = Err s
 
@@ -43,25 +43,25 @@ most_rows = 2 ^ 40
 -- ---- files
 
 -- a file has to be there, and may have so many bytes
-abbrev pub sized : ℕ → List ℕ → Option (List ℕ) → Result (List ℕ) Stop
-sized most name None = Err (stop.ReadFault name)
-sized most name (Some bytes) = if nat_le (length bytes) most then Ok bytes else Err (stop.TooLarge name)
+abbrev pub sized : ℕ → List ℕ → Option (List ℕ) → Result (List ℕ) Failure
+sized most name None = Err (failure.ReadFault name)
+sized most name (Some bytes) = if nat_le (length bytes) most then Ok bytes else Err (failure.TooLarge name)
 
 -- a file of this name
-unfoldable pub load_of : ℕ → List ℕ → Named → Result (List ℕ) Stop
+unfoldable pub load_of : ℕ → List ℕ → Named → Result (List ℕ) Failure
 load_of most name files = sized most name (finmap.get files name)
 
 -- the workflow that was read, or the first reason against it
-abbrev pub flow_read : Result (List Operator) Fault → Result (List Operator) Stop
+abbrev pub flow_read : Result (List Operator) Fault → Result (List Operator) Failure
 flow_read (Ok flow) = Ok flow
-flow_read (Err fault) = Err (stop.BadFlow fault.op (reason.Flow fault.why))
+flow_read (Err fault) = Err (failure.BadFlow fault.op (reason.Flow fault.why))
 
 -- the workflow in the file of this name
-unfoldable pub workflow_in : List ℕ → Named → Result (List Operator) Stop
+unfoldable pub workflow_in : List ℕ → Named → Result (List Operator) Failure
 workflow_in name files = then_on (load_of most_text name files) (λ bytes. flow_read (workflow_of bytes))
 
 -- the script in the file of this name
-unfoldable pub script_in : List ℕ → Named → Result (Unit {0}) Stop
+unfoldable pub script_in : List ℕ → Named → Result (Unit {0}) Failure
 script_in name files = then_on (load_of most_text name files) (λ bytes. script_read (first_said bytes))
 
 -- ---- the log
@@ -77,52 +77,52 @@ log_scan op log [] = None
 log_scan op log (operator ∷ more) = if reads log operator.what then Some op else log_scan (op + 1) log more
 
 -- the log has to be none of the scans' files
-abbrev pub apart_from : List Operator → Option ℕ → Result (List Operator) Stop
+abbrev pub apart_from : List Operator → Option ℕ → Result (List Operator) Failure
 apart_from flow None = Ok flow
-apart_from flow (Some op) = Err (stop.BadFlow op reason.LogName)
+apart_from flow (Some op) = Err (failure.BadFlow op reason.LogName)
 
 -- the workflow of a run, whose scans do not read the log
-unfoldable pub run_flow : List ℕ → List ℕ → Named → Result (List Operator) Stop
+unfoldable pub run_flow : List ℕ → List ℕ → Named → Result (List Operator) Failure
 run_flow workflow log files = then_on (workflow_in workflow files) (λ flow. apart_from flow (log_scan 1 log flow))
 
 -- ---- scans
 
 -- a scan's file has to begin with the names of its columns
-abbrev pub headed : ℕ → List Column → List ℕ → Result (List ℕ) Stop
-headed op columns bytes = if has_header columns bytes then Ok bytes else Err (stop.BadFlow op reason.Header)
+abbrev pub headed : ℕ → List Column → List ℕ → Result (List ℕ) Failure
+headed op columns bytes = if has_header columns bytes then Ok bytes else Err (failure.BadFlow op reason.Header)
 
 -- the file of a scan, where all scans from it on may have so many bytes together
-unfoldable pub scan_file : ℕ → ℕ → List ℕ → List Column → Named → Result (List ℕ) Stop
+unfoldable pub scan_file : ℕ → ℕ → List ℕ → List Column → Named → Result (List ℕ) Failure
 scan_file op left name columns files = then_on (load_of left name files) (headed op columns)
 
 -- a file before those of later scans
-abbrev pub file_before : List ℕ → Result (List (List ℕ)) Stop → Result (List (List ℕ)) Stop
+abbrev pub file_before : List ℕ → Result (List (List ℕ)) Failure → Result (List (List ℕ)) Failure
 file_before bytes (Ok others) = Ok (bytes ∷ others)
 file_before bytes (Err s) = Err s
 
 -- the file of an operator, where it is a scan, before those of later scans, which may have the bytes that it leaves
-abbrev pub scan_before : ℕ → ℕ → What → List Column → Named → (ℕ → Result (List (List ℕ)) Stop) → Result (List (List ℕ)) Stop
+abbrev pub scan_before : ℕ → ℕ → What → List Column → Named → (ℕ → Result (List (List ℕ)) Failure) → Result (List (List ℕ)) Failure
 scan_before op left (what.Scan name) columns files later = then_on (scan_file op left name columns files) (λ bytes. file_before bytes (later (left - length bytes)))
 scan_before op left other columns files later = later left
 
 -- the files of the scans among the operators from this number on
-unfoldable pub scans_from : ℕ → ℕ → List Operator → Named → Result (List (List ℕ)) Stop
+unfoldable pub scans_from : ℕ → ℕ → List Operator → Named → Result (List (List ℕ)) Failure
 scans_from op left [] files = Ok []
 scans_from op left (operator ∷ more) files = scan_before op left operator.what operator.schema files (λ rest. scans_from (op + 1) rest more files)
 
 -- the files of a workflow's scans
-unfoldable pub scans_of : List Operator → Named → Result (List (List ℕ)) Stop
+unfoldable pub scans_of : List Operator → Named → Result (List (List ℕ)) Failure
 scans_of flow files = scans_from 1 most_scanned flow files
 
 -- ---- the order of work
 
-abbrev pub words_read : Option Words → Result Words Stop
-words_read None = Err stop.Usage
+abbrev pub words_read : Option Words → Result Words Failure
+words_read None = Err failure.Usage
 words_read (Some words) = Ok words
 
 -- the job that words ask for: the workflow is loaded and read; for a run its scans' files are compared with the log, and the script is
 -- loaded and read; each scan's file is loaded and its header compared
-unfoldable pub job_of : Words → Named → Result Job Stop
+unfoldable pub job_of : Words → Named → Result Job Failure
 job_of (form.Plain workflow) files =
     then_on (workflow_in workflow files) (λ flow. then_on (scans_of flow files) (λ inputs. Ok (job.Plain flow inputs)))
 job_of (form.Run words) files =
@@ -130,12 +130,12 @@ job_of (form.Run words) files =
     (λ flow. then_on (script_in words.script files) (λ read. then_on (scans_of flow files) (λ inputs. Ok (job.Run flow inputs words.log words.threads words.batch))))
 
 -- the operators of a query that is printed at once give no more rows than they may
-abbrev pub limited : Job → Result Job Stop
-limited (job.Plain flow inputs) = if nat_le (row_total flow inputs) most_rows then Ok (job.Plain flow inputs) else Err stop.Long
+abbrev pub limited : Job → Result Job Failure
+limited (job.Plain flow inputs) = if nat_le (row_total flow inputs) most_rows then Ok (job.Plain flow inputs) else Err failure.Long
 limited (job.Run flow inputs log threads batch) = Ok (job.Run flow inputs log threads batch)
 
 -- the words are read; the files are loaded and read; for `plain` the rows of all operators are counted
-unfoldable pub course_of : List (List ℕ) → Named → Result Job Stop
+unfoldable pub course_of : List (List ℕ) → Named → Result Job Failure
 course_of words files = then_on (words_read (words_of words)) (λ read. then_on (job_of read files) limited)
 
 -- ---- the files that the order of work loads

@@ -1,8 +1,8 @@
 pub mod Course
+pub mod Failure
 pub mod Ready
 pub mod Script
 pub mod Status
 pub mod Steps
-pub mod Stop
 pub mod Told
 pub mod Words

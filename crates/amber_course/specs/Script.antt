@@ -3,8 +3,8 @@ use Rattle.std.specs.Prelude.{ℕ, ◌+◌, ◌==◌, ◌||◌, not, List, [], �
 use Rattle.std.specs.List.{position, slice_split}
 use Rattle.std.specs.Str.Lines.{strip_carriage_return}
 use Rattle.amber_course.specs.declared.script.ScriptWhy.TheVariants as why
-use Rattle.amber_course.specs.declared.stop.Stop.{Stop}
-use Rattle.amber_course.specs.declared.stop.Stop.TheVariants as stop
+use Rattle.amber_course.specs.declared.failure.Failure.{Failure}
+use Rattle.amber_course.specs.declared.failure.Failure.TheVariants as failure
 
 -- a space or a tab
 abbrev pub is_blank : ℕ → Bool
@@ -20,6 +20,6 @@ unfoldable pub first_said : List ℕ → Option ℕ
 first_said bytes = position (λ line. says (strip_carriage_return line)) (slice_split (λ b. b == 10) bytes)
 
 -- the script was read; lines are numbered from 1
-abbrev pub script_read : Option ℕ → Result (Unit {0}) Stop
+abbrev pub script_read : Option ℕ → Result (Unit {0}) Failure
 script_read None = Ok tt
-script_read (Some place) = Err (stop.BadScript (place + 1) why.Word)
+script_read (Some place) = Err (failure.BadScript (place + 1) why.Word)

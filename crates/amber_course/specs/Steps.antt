@@ -7,51 +7,51 @@ use Rattle.amber_io.specs.Sink.{Begins}
 use Rattle.amber_io.specs.declared.error.IoErr.{IoErr}
 use Rattle.amber_io.specs.declared.error.IoErr.TheVariants as io_err
 use Rattle.amber_course.specs.declared.words.Words.{Words}
-use Rattle.amber_course.specs.declared.stop.Stop.{Stop}
-use Rattle.amber_course.specs.declared.stop.Stop.TheVariants as stop
+use Rattle.amber_course.specs.declared.failure.Failure.{Failure}
+use Rattle.amber_course.specs.declared.failure.Failure.TheVariants as failure
 
 -- the files are told, and the fact holds of them
 abbrev pub Tells : Option Named → (Named → Type 0) → Type 0
 Tells None P = ⊥
 Tells (Some files) P = P files
 
--- a stop behind the words and before the output, from a count of failed loads to another: `meant` says that over told files it
+-- a failure behind the words and before the output, from a count of failed loads to another: `meant` says that over told files it
 -- is to come, and `told` also that the files are told. A file could not be read only where that is meant, or the count rose
-abbrev pub Stopped : Stop → ℕ → ℕ → Type 0 → Type 0 → Type 0
-Stopped stop.Usage old new meant told = ⊥
-Stopped stop.LogFault old new meant told = ⊥
-Stopped stop.OutFault old new meant told = ⊥
-Stopped (stop.ReadFault name) old new meant told = ((new ≡ old) × told) ⊎ Rose old new
-Stopped stop.NoMemory old new meant told = ⊤
+abbrev pub Stopped : Failure → ℕ → ℕ → Type 0 → Type 0 → Type 0
+Stopped failure.Usage old new meant told = ⊥
+Stopped failure.LogFault old new meant told = ⊥
+Stopped failure.OutFault old new meant told = ⊥
+Stopped (failure.ReadFault name) old new meant told = ((new ≡ old) × told) ⊎ Rose old new
+Stopped failure.NoMemory old new meant told = ⊤
 Stopped other old new meant told = (new ≡ old) × meant
 
 -- a step that reads answers as `meant` says over told files
-abbrev pub Follows : {A : Type 0} → Result A Stop → Option Named → (Named → Result A Stop) → ℕ → ℕ → Type 0
+abbrev pub Follows : {A : Type 0} → Result A Failure → Option Named → (Named → Result A Failure) → ℕ → ℕ → Type 0
 Follows (Ok x) told meant old new = (new ≡ old) × Told told (λ files. meant files ≡ Ok x)
 Follows (Err s) told meant old new = Stopped s old new (Told told (λ files. meant files ≡ Err s)) (Tells told (λ files. meant files ≡ Err s))
 
 -- a step that reads nothing answers what is meant, but for want of memory
-abbrev pub Judges : {A : Type 0} → Result A Stop → Result A Stop → Type 0
+abbrev pub Judges : {A : Type 0} → Result A Failure → Result A Failure → Type 0
 Judges (Ok x) meant = meant ≡ Ok x
-Judges (Err stop.Usage) meant = ⊥
-Judges (Err (stop.ReadFault name)) meant = ⊥
-Judges (Err stop.LogFault) meant = ⊥
-Judges (Err stop.OutFault) meant = ⊥
-Judges (Err stop.NoMemory) meant = ⊤
+Judges (Err failure.Usage) meant = ⊥
+Judges (Err (failure.ReadFault name)) meant = ⊥
+Judges (Err failure.LogFault) meant = ⊥
+Judges (Err failure.OutFault) meant = ⊥
+Judges (Err failure.NoMemory) meant = ⊤
 Judges (Err other) meant = meant ≡ Err other
 
 -- the words were read: they ask for this, or they are refused
-abbrev pub AreRead : Result Words Stop → Option Words → Type 0
+abbrev pub AreRead : Result Words Failure → Option Words → Type 0
 AreRead (Ok words) meant = meant ≡ Some words
-AreRead (Err stop.Usage) meant = meant ≡ None
-AreRead (Err stop.NoMemory) meant = IsSome meant
+AreRead (Err failure.Usage) meant = meant ≡ None
+AreRead (Err failure.NoMemory) meant = IsSome meant
 AreRead (Err other) meant = ⊥
 
 -- the output was put: the whole of it, or a front part where the count of failed puts rose
-abbrev pub Sent : {A : Type 0} → Result A Stop → Option (List ℕ) → Option (List ℕ) → ℕ → ℕ → List ℕ → Type 0
+abbrev pub Sent : {A : Type 0} → Result A Failure → Option (List ℕ) → Option (List ℕ) → ℕ → ℕ → List ℕ → Type 0
 Sent (Ok x) before got old new text = (new ≡ old) × Appends before got text
-Sent (Err stop.OutFault) before got old new text = (old ≤ new) × Rose old new × Begins before got text
-Sent (Err stop.NoMemory) before got old new text = (new ≡ old) × Keeps before got
+Sent (Err failure.OutFault) before got old new text = (old ≤ new) × Rose old new × Begins before got text
+Sent (Err failure.NoMemory) before got old new text = (new ≡ old) × Keeps before got
 Sent (Err other) before got old new text = ⊥
 
 -- a line was put piece by piece: the whole of it, or a front part where a put was refused
@@ -60,24 +60,24 @@ Lined (Ok x) before got old new line = (new ≡ old) × Appends before got line
 Lined (Err io_err.NoMemory) before got old new line = (new ≡ old) × Begins before got line
 Lined (Err io_err.Failed) before got old new line = (old ≤ new) × Rose old new × Begins before got line
 
--- where a stop tells that a file could not be read, its name is one of these
-abbrev pub Names : Stop → (List ℕ → Type 0) → Type 0
-Names (stop.ReadFault name) IsName = IsName name
+-- where a failure tells that a file could not be read, its name is one of these
+abbrev pub Names : Failure → (List ℕ → Type 0) → Type 0
+Names (failure.ReadFault name) IsName = IsName name
 Names other IsName = ⊤
 
 -- a file of this name could not be read, or there was no memory for the name
-abbrev pub IsMissing : Stop → List ℕ → Type 0
-IsMissing (stop.ReadFault name) file = name ≡ file
-IsMissing stop.NoMemory file = ⊤
+abbrev pub IsMissing : Failure → List ℕ → Type 0
+IsMissing (failure.ReadFault name) file = name ≡ file
+IsMissing failure.NoMemory file = ⊤
 IsMissing other file = ⊥
 
 -- a file of this name is too large, or there was no memory for the name
-abbrev pub IsOversized : Stop → List ℕ → Type 0
-IsOversized (stop.TooLarge name) file = name ≡ file
-IsOversized stop.NoMemory file = ⊤
+abbrev pub IsOversized : Failure → List ℕ → Type 0
+IsOversized (failure.TooLarge name) file = name ≡ file
+IsOversized failure.NoMemory file = ⊤
 IsOversized other file = ⊥
 
 -- a file's first bytes are no more than may be, or there are more
-abbrev pub IsBounded : Result (List ℕ) Stop → List ℕ → ℕ → List ℕ → Type 0
+abbrev pub IsBounded : Result (List ℕ) Failure → List ℕ → ℕ → List ℕ → Type 0
 IsBounded (Ok whole) file most bytes = (whole ≡ bytes) × (length bytes ≤ most)
 IsBounded (Err s) file most bytes = IsOversized s file × (most < length bytes)

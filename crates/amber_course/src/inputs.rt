@@ -4,7 +4,7 @@ ghost use Rattle.amber_flow.specs.Workflow.{workflow_of};
 ghost use Rattle.amber_course.specs.Course.{flow_read, load_of, workflow_in};
 ghost use Rattle.amber_course.specs.Steps.{Follows, IsBounded, IsMissing, IsOversized, Judges, Names};
 
-use crate::stop::{Reason, Stop};
+use crate::failure::{Reason, Failure};
 use amber_flow::{FlowErr, read_flow};
 use amber_io::{Folder, IoErr};
 use amber_rows::{Bytes, Flow, Text};
@@ -13,32 +13,32 @@ use std::alloc::Global;
 // How many bytes a workflow or a script may have.
 pub(crate) const MOST_TEXT: u64 = 1 << 20;
 
-// The stop for a file that could not be read.
-fn unread(alloc: Global, name: &str) -> Stop
+// The failure for a file that could not be read.
+fn unread(alloc: Global, name: &str) -> Failure
     ensures { IsMissing result name.now }
 {
     match String::from_str(alloc, name) {
-        Ok(name) => Stop::ReadFault {
+        Ok(name) => Failure::ReadFault {
             name: Text::new(name),
         },
-        Err(_) => Stop::NoMemory,
+        Err(_) => Failure::NoMemory,
     }
 }
 
-// The stop for a file that is too large.
-fn oversized(alloc: Global, name: &str) -> Stop
+// The failure for a file that is too large.
+fn oversized(alloc: Global, name: &str) -> Failure
     ensures { IsOversized result name.now }
 {
     match String::from_str(alloc, name) {
-        Ok(name) => Stop::TooLarge {
+        Ok(name) => Failure::TooLarge {
             name: Text::new(name),
         },
-        Err(_) => Stop::NoMemory,
+        Err(_) => Failure::NoMemory,
     }
 }
 
 // The first bytes of a file, where they are no more than it may have.
-fn bounded(alloc: Global, name: &str, most: u64, bytes: Vec<u8>) -> Result<Bytes, Stop>
+fn bounded(alloc: Global, name: &str, most: u64, bytes: Vec<u8>) -> Result<Bytes, Failure>
     ensures { IsBounded result name.now most bytes.items }
 {
     if bytes.len() as u64 > most {
@@ -53,41 +53,41 @@ pub(crate) fn load<F: Folder>(
     name: &str,
     most: u64,
     folder: &mut F,
-) -> Result<Bytes, Stop>
+) -> Result<Bytes, Failure>
     requires { most < 2 ^ 63 }
     ensures course { Follows result (F.files folder.old) (load_of most name.now) (F.load_faults folder.old) (F.load_faults folder.new) }
     ensures few { IfOk result (λ bytes. length bytes ≤ most) }
-    ensures named { IfErr result (λ stop. Names stop (λ file. file ≡ name.now)) }
+    ensures named { IfErr result (λ failure. Names failure (λ file. file ≡ name.now)) }
     ensures same { F.files folder.new ≡ F.files folder.old }
     ensures writes { F.write_faults folder.new ≡ F.write_faults folder.old }
 {
     match folder.load(alloc, name, most + 1) {
         Ok(bytes) => bounded(alloc, name, most, bytes),
         Err(IoErr::Failed) => Err(unread(alloc, name)),
-        Err(IoErr::NoMemory) => Err(Stop::NoMemory),
+        Err(IoErr::NoMemory) => Err(Failure::NoMemory),
     }
 }
 
 // The workflow that the bytes of a file are.
-fn read(alloc: Global, bytes: &Bytes) -> Result<Flow, Stop>
+fn read(alloc: Global, bytes: &Bytes) -> Result<Flow, Failure>
     ensures flow { Judges result (flow_read (workflow_of bytes.now)) }
     ensures alone { IfOk result (λ flow. AreAlone flow) }
 {
     match read_flow(alloc, bytes.get()) {
         Ok(flow) => Ok(flow),
-        Err(FlowErr::Bad { op, why }) => Err(Stop::BadFlow {
+        Err(FlowErr::Bad { op, why }) => Err(Failure::BadFlow {
             op,
             why: Reason::Flow(why),
         }),
-        Err(FlowErr::NoMemory) => Err(Stop::NoMemory),
+        Err(FlowErr::NoMemory) => Err(Failure::NoMemory),
     }
 }
 
 /// The workflow in a file.
-pub(crate) fn load_flow<F: Folder>(alloc: Global, name: &str, folder: &mut F) -> Result<Flow, Stop>
+pub(crate) fn load_flow<F: Folder>(alloc: Global, name: &str, folder: &mut F) -> Result<Flow, Failure>
     ensures course { Follows result (F.files folder.old) (workflow_in name.now) (F.load_faults folder.old) (F.load_faults folder.new) }
     ensures alone { IfOk result (λ flow. AreAlone flow) }
-    ensures named { IfErr result (λ stop. Names stop (λ file. file ≡ name.now)) }
+    ensures named { IfErr result (λ failure. Names failure (λ file. file ≡ name.now)) }
     ensures same { F.files folder.new ≡ F.files folder.old }
     ensures writes { F.write_faults folder.new ≡ F.write_faults folder.old }
 {

@@ -13,7 +13,7 @@ pub mod refusal;
 mod scans;
 pub mod script;
 pub mod status;
-pub mod stop;
+pub mod failure;
 pub mod words;
 
 pub use job::Job;
@@ -22,5 +22,5 @@ pub use refusal::{put_output, refuse};
 pub use script::ScriptWhy;
 pub use status::Status;
 pub use std::alloc::AllocError as NoMemory;
-pub use stop::{Reason, Stop};
+pub use failure::{Reason, Failure};
 pub use words::{RunWords, Words, read_words};

@@ -4,7 +4,7 @@ ghost use Rattle.amber_course.specs.Course.{apart_from, log_scan, reads, run_flo
 ghost use Rattle.amber_course.specs.Steps.{Follows, Judges, Names};
 
 use crate::inputs::load_flow;
-use crate::stop::{Reason, Stop};
+use crate::failure::{Reason, Failure};
 use amber_io::Folder;
 use amber_rows::{Flow, What};
 use std::alloc::Global;
@@ -33,12 +33,12 @@ fn log_scan(flow: &Flow, log: &str) -> Option<u32>
 }
 
 // A workflow, where none of its scans reads the log.
-fn apart_from(flow: Flow, log: &str) -> Result<Flow, Stop>
+fn apart_from(flow: Flow, log: &str) -> Result<Flow, Failure>
     ensures flow { Judges result (apart_from flow (log_scan 1 log.now flow)) }
     ensures same { IfOk result (λ kept. kept ≡ flow) }
 {
     match log_scan(&flow, log) {
-        Some(op) => Err(Stop::BadFlow {
+        Some(op) => Err(Failure::BadFlow {
             op,
             why: Reason::LogName,
         }),
@@ -52,10 +52,10 @@ pub(crate) fn load_run_flow<F: Folder>(
     workflow: &str,
     log: &str,
     folder: &mut F,
-) -> Result<Flow, Stop>
+) -> Result<Flow, Failure>
     ensures course { Follows result (F.files folder.old) (run_flow workflow.now log.now) (F.load_faults folder.old) (F.load_faults folder.new) }
     ensures alone { IfOk result (λ flow. AreAlone flow) }
-    ensures named { IfErr result (λ stop. Names stop (λ file. file ≡ workflow.now)) }
+    ensures named { IfErr result (λ failure. Names failure (λ file. file ≡ workflow.now)) }
     ensures same { F.files folder.new ≡ F.files folder.old }
     ensures writes { F.write_faults folder.new ≡ F.write_faults folder.old }
 {

@@ -2,10 +2,10 @@ ghost use Rattle.std.specs.Prelude.{◌≡◌, ◌++◌, IsOk, codes};
 ghost use Rattle.std.specs.Fmt.{decimal};
 ghost use Rattle.amber_course.specs.Told.{Refuses};
 ghost use Rattle.amber_course.specs.Steps.{Lined, Sent};
-ghost use Rattle.amber_course.specs.Stop.{IsToldAs, line_of};
+ghost use Rattle.amber_course.specs.Failure.{IsToldAs, line_of};
 
 use crate::status::Status;
-use crate::stop::Stop;
+use crate::failure::Failure;
 use amber_io::{IoErr, Sink};
 use itoa::Buffer;
 
@@ -41,51 +41,51 @@ fn put_file_line<O: Sink>(out: &mut O, words: &[u8], name: &str) -> Result<(), I
     Ok(())
 }
 
-// The line of a stop; a sink that failed gets none.
-fn put_line<O: Sink>(out: &mut O, stop: &Stop) -> Result<(), IoErr>
+// The line of a failure; a sink that failed gets none.
+fn put_line<O: Sink>(out: &mut O, failure: &Failure) -> Result<(), IoErr>
     ensures lined { Lined result (O.written out.old) (O.written out.new)
-        (O.faults out.old) (O.faults out.new) (line_of stop.now) }
-    ensures none { stop.now ≡ Stop.OutFault → IsOk result }
+        (O.faults out.old) (O.faults out.new) (line_of failure.now) }
+    ensures none { failure.now ≡ Failure.OutFault → IsOk result }
 {
-    match stop {
-        Stop::Usage => put_piece(out, b"error 1 usage\n"),
-        Stop::BadFlow { op, why } => {
+    match failure {
+        Failure::Usage => put_piece(out, b"error 1 usage\n"),
+        Failure::BadFlow { op, why } => {
             put_reason_line(out, b"error 2 flow ", u64::from(*op), why.word())
         }
-        Stop::BadScript { line, why } => put_reason_line(
+        Failure::BadScript { line, why } => put_reason_line(
             out,
             b"error 3 script ",
             *line,
             why.word(),
         ),
-        Stop::ReadFault { name } => put_file_line(out, b"error 4 read ", name.get()),
-        Stop::LogFault => put_piece(out, b"error 5 log write\n"),
-        Stop::OutFault => Ok(()),
-        Stop::Long => put_piece(out, b"error 8 long\n"),
-        Stop::TooLarge { name } => put_file_line(out, b"error 9 large ", name.get()),
-        Stop::NoMemory => put_piece(out, b"error 10 memory\n"),
+        Failure::ReadFault { name } => put_file_line(out, b"error 4 read ", name.get()),
+        Failure::LogFault => put_piece(out, b"error 5 log write\n"),
+        Failure::OutFault => Ok(()),
+        Failure::Long => put_piece(out, b"error 8 long\n"),
+        Failure::TooLarge { name } => put_file_line(out, b"error 9 large ", name.get()),
+        Failure::NoMemory => put_piece(out, b"error 10 memory\n"),
     }
 }
 
-/// Prints the line of a stop and answers the status. A put that fails leaves the status as it is.
-pub fn refuse<O: Sink>(out: &mut O, stop: &Stop) -> Status
-    ensures refuses { Refuses result stop.now (O.written out.old) (O.written out.new)
+/// Prints the line of a failure and answers the status. A put that fails leaves the status as it is.
+pub fn refuse<O: Sink>(out: &mut O, failure: &Failure) -> Status
+    ensures refuses { Refuses result failure.now (O.written out.old) (O.written out.new)
         (O.faults out.old) (O.faults out.new) }
-    ensures told { IsToldAs stop.now result }
+    ensures told { IsToldAs failure.now result }
 {
-    match put_line(out, stop) {
-        Ok(()) | Err(IoErr::Failed) => stop.status(),
+    match put_line(out, failure) {
+        Ok(()) | Err(IoErr::Failed) => failure.status(),
         Err(IoErr::NoMemory) => Status::NoMemory,
     }
 }
 
 /// Puts the whole output in one call.
-pub fn put_output<O: Sink>(out: &mut O, text: &[u8]) -> Result<(), Stop>
+pub fn put_output<O: Sink>(out: &mut O, text: &[u8]) -> Result<(), Failure>
     ensures { Sent result (O.written out.old) (O.written out.new) (O.faults out.old) (O.faults out.new) text.now }
 {
     match out.put(text) {
         Ok(()) => Ok(()),
-        Err(IoErr::Failed) => Err(Stop::OutFault),
-        Err(IoErr::NoMemory) => Err(Stop::NoMemory),
+        Err(IoErr::Failed) => Err(Failure::OutFault),
+        Err(IoErr::NoMemory) => Err(Failure::NoMemory),
     }
 }

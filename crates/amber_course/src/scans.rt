@@ -7,7 +7,7 @@ ghost use Rattle.amber_course.specs.Course.{IsScanFile, headed, scan_file, scans
 ghost use Rattle.amber_course.specs.Steps.{Follows, Judges, Names};
 
 use crate::inputs::load;
-use crate::stop::{Reason, Stop};
+use crate::failure::{Reason, Failure};
 use amber_io::Folder;
 use amber_rows::{Bytes, Files, Flow, Schema, What, has_header};
 use std::alloc::Global;
@@ -16,12 +16,12 @@ use std::alloc::Global;
 const MOST_SCANNED: u64 = 1 << 25;
 
 // A scan's file, where it begins with the names of the scan's columns.
-fn with_header(alloc: Global, op: u32, columns: &Schema, bytes: Bytes) -> Result<Bytes, Stop>
+fn with_header(alloc: Global, op: u32, columns: &Schema, bytes: Bytes) -> Result<Bytes, Failure>
     ensures { Judges result (headed op columns.now bytes) }
 {
     let right = has_header(alloc, columns, bytes.get())?;
     if !right {
-        return Err(Stop::BadFlow {
+        return Err(Failure::BadFlow {
             op,
             why: Reason::Header,
         });
@@ -37,12 +37,12 @@ fn load_scan<F: Folder>(
     name: &str,
     columns: &Schema,
     folder: &mut F,
-) -> Result<Bytes, Stop>
+) -> Result<Bytes, Failure>
     requires { most < 2 ^ 63 }
     ensures course { Follows result (F.files folder.old) (scan_file op most name.now columns.now) (F.load_faults folder.old) (F.load_faults folder.new) }
     ensures few { IfOk result (λ bytes. length bytes ≤ most) }
     ensures headed { IfOk result (λ bytes. has_header columns.now bytes ≡ true) }
-    ensures named { IfErr result (λ stop. Names stop (λ file. file ≡ name.now)) }
+    ensures named { IfErr result (λ failure. Names failure (λ file. file ≡ name.now)) }
     ensures same { F.files folder.new ≡ F.files folder.old }
     ensures writes { F.write_faults folder.new ≡ F.write_faults folder.old }
 {
@@ -55,12 +55,12 @@ pub(crate) fn load_scans<F: Folder>(
     alloc: Global,
     flow: &Flow,
     folder: &mut F,
-) -> Result<Files, Stop>
+) -> Result<Files, Failure>
     ensures course { Follows result (F.files folder.old) (scans_of flow.now) (F.load_faults folder.old) (F.load_faults folder.new) }
     ensures inputs { IfOk result (λ files. AreInputs flow.now files) }
     ensures flow { IsFlow flow.now }
     ensures named { Told (F.files folder.old)
-        (λ files. IfErr result (λ stop. Names stop (IsScanFile flow.now files))) }
+        (λ files. IfErr result (λ failure. Names failure (IsScanFile flow.now files))) }
     ensures same { F.files folder.new ≡ F.files folder.old }
     ensures writes { F.write_faults folder.new ≡ F.write_faults folder.old }
 {

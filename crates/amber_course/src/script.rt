@@ -3,10 +3,10 @@ ghost use Rattle.std.specs.Str.Lines.{strip_carriage_return};
 ghost use Rattle.amber_course.specs.Course.{script_in};
 ghost use Rattle.amber_course.specs.Script.{first_said, is_blank, says, script_read};
 ghost use Rattle.amber_course.specs.Steps.{Follows, Judges, Names};
-ghost use Rattle.amber_course.specs.Stop.{script_word};
+ghost use Rattle.amber_course.specs.Failure.{script_word};
 
 use crate::inputs::{MOST_TEXT, load};
-use crate::stop::Stop;
+use crate::failure::Failure;
 use amber_io::Folder;
 use std::alloc::Global;
 
@@ -67,13 +67,13 @@ fn first_said(bytes: &[u8]) -> Option<usize>
 }
 
 // Reads a script.
-fn read_script(bytes: &[u8]) -> Result<(), Stop>
+fn read_script(bytes: &[u8]) -> Result<(), Failure>
     requires { length bytes.now ≤ 2 ^ 20 }
     ensures { Judges result (script_read (first_said bytes.now)) }
 {
     match first_said(bytes) {
         None => Ok(()),
-        Some(place) => Err(Stop::BadScript {
+        Some(place) => Err(Failure::BadScript {
             line: place as u64 + 1,
             why: ScriptWhy::Word,
         }),
@@ -81,9 +81,9 @@ fn read_script(bytes: &[u8]) -> Result<(), Stop>
 }
 
 /// Reads the script in a file.
-pub(crate) fn load_script<F: Folder>(alloc: Global, name: &str, folder: &mut F) -> Result<(), Stop>
+pub(crate) fn load_script<F: Folder>(alloc: Global, name: &str, folder: &mut F) -> Result<(), Failure>
     ensures course { Follows result (F.files folder.old) (script_in name.now) (F.load_faults folder.old) (F.load_faults folder.new) }
-    ensures named { IfErr result (λ stop. Names stop (λ file. file ≡ name.now)) }
+    ensures named { IfErr result (λ failure. Names failure (λ file. file ≡ name.now)) }
     ensures same { F.files folder.new ≡ F.files folder.old }
     ensures writes { F.write_faults folder.new ≡ F.write_faults folder.old }
 {

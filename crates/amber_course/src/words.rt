@@ -2,7 +2,7 @@ ghost use Rattle.std.specs.Prelude.{◌≡◌, ◌<◌, ◌≤◌, map, string_b
 ghost use Rattle.amber_course.specs.Steps.{AreRead};
 ghost use Rattle.amber_course.specs.Words.{AreSound, number_of, number_where, run_words, words_of};
 
-use crate::stop::Stop;
+use crate::failure::Failure;
 use amber_rows::Text;
 use itoa::Buffer;
 use std::alloc::{AllocError, Global};
@@ -64,7 +64,7 @@ fn copied(alloc: Global, word: &str) -> Result<Text, AllocError>
 }
 
 // The words behind `plain`.
-fn read_plain(alloc: Global, workflow: &str) -> Result<Words, Stop>
+fn read_plain(alloc: Global, workflow: &str) -> Result<Words, Failure>
     ensures read { AreRead result (Some (Words.Plain workflow.now)) }
     ensures sound { IfOk result AreSound }
 {
@@ -80,18 +80,18 @@ fn read_run(
     log: &str,
     threads: &str,
     batch: &str,
-) -> Result<Words, Stop>
+) -> Result<Words, Failure>
     ensures read { AreRead result (run_words workflow.now script.now log.now (number_of 64 threads.now) (number_of 65536 batch.now)) }
     ensures sound { IfOk result AreSound }
 {
     let Some(threads) = read_number(threads, MOST_THREADS) else {
-        return Err(Stop::Usage);
+        return Err(Failure::Usage);
     };
     let Some(batch) = read_number(batch, MOST_BATCH) else {
-        return Err(Stop::Usage);
+        return Err(Failure::Usage);
     };
     if log == workflow || log == script {
-        return Err(Stop::Usage);
+        return Err(Failure::Usage);
     }
     Ok(Words::Run(RunWords {
         workflow: copied(alloc, workflow)?,
@@ -104,7 +104,7 @@ fn read_run(
 
 // Reads the words after the program's name.
 #[tactic(auto, unfolding(crate::specs::Words::words_of))]
-pub fn read_words(alloc: Global, words: &[String]) -> Result<Words, Stop>
+pub fn read_words(alloc: Global, words: &[String]) -> Result<Words, Failure>
     ensures read { AreRead result (words_of (map string_bytes words.now)) }
     ensures sound { IfOk result AreSound }
 {
@@ -118,6 +118,6 @@ pub fn read_words(alloc: Global, words: &[String]) -> Result<Words, Stop>
             threads.as_str(),
             batch.as_str(),
         ),
-        _ => Err(Stop::Usage),
+        _ => Err(Failure::Usage),
     }
 }

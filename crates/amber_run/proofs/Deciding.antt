@@ -9,7 +9,7 @@ use Rattle.amber_course.specs.Course.{course_of}
 use Rattle.amber_run.specs.Outcome.{Answers, Breaks, Counts, IsOpen, IsRunStatus, IsSinkStatus, IsWithin, Runs, Succeeds, Worded}
 use Rattle.amber_run.specs.UnderWay.{Leaves}
 use Rattle.amber_course.specs.Steps.{Tells}
-use Rattle.amber_course.specs.Stop.{status_of}
+use Rattle.amber_course.specs.Failure.{status_of}
 use Rattle.amber_run.specs.Task.{Task, most_steps}
 use Rattle.amber_course.specs.Words.{words_of}
 use Rattle.amber_run.specs.Writing.{CountsWrites}
@@ -17,8 +17,8 @@ use Rattle.amber_course.specs.declared.job.Job.{Job}
 use Rattle.amber_course.specs.declared.job.Job.TheVariants as job
 use Rattle.amber_course.specs.declared.status.Status.{Status}
 use Rattle.amber_course.specs.declared.status.Status.TheVariants as status
-use Rattle.amber_course.specs.declared.stop.Stop.{Stop}
-use Rattle.amber_course.specs.declared.stop.Stop.TheVariants as stop
+use Rattle.amber_course.specs.declared.failure.Failure.{Failure}
+use Rattle.amber_course.specs.declared.failure.Failure.TheVariants as failure
 use Rattle.amber_run.proofs.Ending.{course-none, told-tells}
 use Rattle.amber_course.proofs.Following.{tells-map, told-all, told-map}
 
@@ -32,32 +32,32 @@ open-ok : (j : Job) → IsOpen j status.Ok
 open-ok (job.Plain flow files) = tt
 open-ok (job.Run flow files log threads batch) = tt
 
-run-status : (t : Task) (s : Stop) (line : List ℕ) (now : Option Named) (got : Option (List ℕ)) (result : Status) → Leaves t s line now got → result ≡ status_of s → IsRunStatus result
-run-status t stop.LogFault line now got result h e = rw e tt
-run-status t stop.OutFault line now got result h e = rw e tt
-run-status t stop.Long line now got result h e = rw e tt
-run-status t stop.NoMemory line now got result h e = rw e tt
+run-status : (t : Task) (s : Failure) (line : List ℕ) (now : Option Named) (got : Option (List ℕ)) (result : Status) → Leaves t s line now got → result ≡ status_of s → IsRunStatus result
+run-status t failure.LogFault line now got result h e = rw e tt
+run-status t failure.OutFault line now got result h e = rw e tt
+run-status t failure.Long line now got result h e = rw e tt
+run-status t failure.NoMemory line now got result h e = rw e tt
 run-status t other line now got result h e = absurd h
 
 -- the status of a job that was broken off
-open-broken : (j : Job) (s : Stop) (line : List ℕ) (told now : Option Named) (before got : Option (List ℕ)) (result : Status) → BreaksOff j s line told now before got
+open-broken : (j : Job) (s : Failure) (line : List ℕ) (told now : Option Named) (before got : Option (List ℕ)) (result : Status) → BreaksOff j s line told now before got
     → result ≡ status_of s → IsOpen j result
-open-broken (job.Plain flow files) stop.OutFault line told now before got result h e = rw e tt
+open-broken (job.Plain flow files) failure.OutFault line told now before got result h e = rw e tt
 open-broken (job.Plain flow files) other line told now before got result h e = absurd h
 open-broken (job.Run flow files log threads batch) s line told now before got result h e = run-status _ s line now got result h e
 
-answers-none : (r : Result Job Stop) (result : Status) (a b : ℕ) → result ≡ status.NoMemory → Answers r result a b
+answers-none : (r : Result Job Failure) (result : Status) (a b : ℕ) → result ≡ status.NoMemory → Answers r result a b
 answers-none (Ok j) result a b e = inl (open-none j result e)
 answers-none (Err s) result a b e = inr (inl e)
 
-answers-rose : (r : Result Job Stop) (result : Status) (a b : ℕ) → Rose a b → result ≡ status.ReadFault → Answers r result a b
+answers-rose : (r : Result Job Failure) (result : Status) (a b : ℕ) → Rose a b → result ≡ status.ReadFault → Answers r result a b
 answers-rose (Ok job) result a b rose e = inr (e, rose)
 answers-rose (Err s) result a b rose e = inr (inr (e, rose))
 
-answers-stop : (r : Result Job Stop) (s : Stop) (result : Status) (a b : ℕ) → r ≡ Err s → result ≡ status_of s → Answers r result a b
-answers-stop r s result a b e is = rw e (inl is)
+answers-failure : (r : Result Job Failure) (s : Failure) (result : Status) (a b : ℕ) → r ≡ Err s → result ≡ status_of s → Answers r result a b
+answers-failure r s result a b e is = rw e (inl is)
 
-answers-open : (r : Result Job Stop) (j : Job) (result : Status) (a b : ℕ) → r ≡ Ok j → IsOpen j result → Answers r result a b
+answers-open : (r : Result Job Failure) (j : Job) (result : Status) (a b : ℕ) → r ≡ Ok j → IsOpen j result → Answers r result a b
 answers-open r j result a b e is = rw e (inl is)
 
 pub answers-ok : (words : List (List ℕ)) (told now : Option Named) (before got : Option (List ℕ)) (a b : ℕ) → Told told (λ files. Succeeds words files told now before got)
@@ -66,46 +66,46 @@ answers-ok words told now before got a b =
     told-map told (λ files. Succeeds words files told now before got) (λ files. Answers (course_of words files) status.Ok a b)
     (λ files p. answers-open (course_of words files) p.0 status.Ok a b p.1 (open-ok p.0))
 
-answers-broken : (words : List (List ℕ)) (s : Stop) (told now : Option Named) (before got : Option (List ℕ)) (a b : ℕ) (result : Status) → Breaks words s [] told now before got
+answers-broken : (words : List (List ℕ)) (s : Failure) (told now : Option Named) (before got : Option (List ℕ)) (a b : ℕ) (result : Status) → Breaks words s [] told now before got
     → result ≡ status_of s → Told told (λ files. Answers (course_of words files) result a b)
 answers-broken words s told now before got a b result h is =
     told-map told (λ files. (one : Job) × (course_of words files ≡ Ok one) × BreaksOff one s [] told now before got) (λ files. Answers (course_of words files) result a b)
     (λ files p. answers-open (course_of words files) p.0 result a b p.1 (open-broken p.0 s [] told now before got result p.2 is)) h
 
-answers-course : (words : List (List ℕ)) (s : Stop) (told : Option Named) (a b : ℕ) (result : Status) → Told told (λ files. course_of words files ≡ Err s) → result ≡ status_of s
+answers-course : (words : List (List ℕ)) (s : Failure) (told : Option Named) (a b : ℕ) (result : Status) → Told told (λ files. course_of words files ≡ Err s) → result ≡ status_of s
     → Told told (λ files. Answers (course_of words files) result a b)
 answers-course words s told a b result h is =
-    told-map told (λ files. course_of words files ≡ Err s) (λ files. Answers (course_of words files) result a b) (λ files p. answers-stop (course_of words files) s result a b p is) h
+    told-map told (λ files. course_of words files ≡ Err s) (λ files. Answers (course_of words files) result a b) (λ files p. answers-failure (course_of words files) s result a b p is) h
 
 answers-long : (words : List (List ℕ)) (told now : Option Named) (before mid : Option (List ℕ)) (a b : ℕ) (result : Status)
-    → (Told told (λ files. course_of words files ≡ Err stop.Long) × IsUntouched [] told now before mid) ⊎ Breaks words stop.Long [] told now before mid
+    → (Told told (λ files. course_of words files ≡ Err failure.Long) × IsUntouched [] told now before mid) ⊎ Breaks words failure.Long [] told now before mid
     → result ≡ status.Long → Told told (λ files. Answers (course_of words files) result a b)
-answers-long words told now before mid a b result (inl few) is = answers-course words stop.Long told a b result few.0 is
-answers-long words told now before mid a b result (inr breaks) is = answers-broken words stop.Long told now before mid a b result breaks is
+answers-long words told now before mid a b result (inl few) is = answers-course words failure.Long told a b result few.0 is
+answers-long words told now before mid a b result (inr breaks) is = answers-broken words failure.Long told now before mid a b result breaks is
 
-pub answers : (s : Stop) (words : List (List ℕ)) (told now : Option Named) (before mid : Option (List ℕ)) (a b : ℕ) (result : Status)
+pub answers : (s : Failure) (words : List (List ℕ)) (told now : Option Named) (before mid : Option (List ℕ)) (a b : ℕ) (result : Status)
     → Runs {A = Unit {0}} (Err s) words told now before mid a b → (result ≡ status_of s) ⊎ (result ≡ status.NoMemory)
     → Told told (λ files. Answers (course_of words files) result a b)
 answers s words told now before mid a b result r (inr none) =
     told-all told (λ files. Answers (course_of words files) result a b) (λ files. answers-none (course_of words files) result a b none)
-answers stop.Usage words told now before mid a b result r (inl is) =
+answers failure.Usage words told now before mid a b result r (inl is) =
     told-all told (λ files. Answers (course_of words files) result a b)
-    (λ files. answers-stop (course_of words files) stop.Usage result a b (course-none words files r.1) is)
-answers (stop.ReadFault name) words told now before mid a b result r (inl is) =
+    (λ files. answers-failure (course_of words files) failure.Usage result a b (course-none words files r.1) is)
+answers (failure.ReadFault name) words told now before mid a b result r (inl is) =
     elim r.0 [
-      | inl lacks ↦ answers-course words (stop.ReadFault name) told a b result (told-tells told (λ files. course_of words files ≡ Err (stop.ReadFault name)) lacks.1) is
+      | inl lacks ↦ answers-course words (failure.ReadFault name) told a b result (told-tells told (λ files. course_of words files ≡ Err (failure.ReadFault name)) lacks.1) is
       | inr rose ↦ told-all told (λ files. Answers (course_of words files) result a b) (λ files. answers-rose (course_of words files) result a b rose is)
     ]
-answers stop.LogFault words told now before mid a b result r (inl is) = answers-broken words stop.LogFault told now before mid a b result r.1 is
-answers stop.OutFault words told now before mid a b result r (inl is) = answers-broken words stop.OutFault told now before mid a b result r.1 is
-answers stop.Long words told now before mid a b result r (inl is) = answers-long words told now before mid a b result r.1 is
-answers stop.NoMemory words told now before mid a b result r (inl is) =
+answers failure.LogFault words told now before mid a b result r (inl is) = answers-broken words failure.LogFault told now before mid a b result r.1 is
+answers failure.OutFault words told now before mid a b result r (inl is) = answers-broken words failure.OutFault told now before mid a b result r.1 is
+answers failure.Long words told now before mid a b result r (inl is) = answers-long words told now before mid a b result r.1 is
+answers failure.NoMemory words told now before mid a b result r (inl is) =
     told-all told (λ files. Answers (course_of words files) result a b) (λ files. answers-none (course_of words files) result a b is)
 answers other words told now before mid a b result r (inl is) = answers-course words other told a b result r.0.1 is
 
 -- ---- where the course has a job
 
-not-both : (r : Result Job Stop) (s : Stop) → IsOk r → r ≡ Err s → ⊥
+not-both : (r : Result Job Failure) (s : Failure) → IsOk r → r ≡ Err s → ⊥
 not-both (Ok job) s ok e = cc
 not-both (Err t) s ok e = cc
 
@@ -113,74 +113,74 @@ later-rose : (c d e : ℕ) → Rose c d → d ≤ e → Rose c e
 later-rose c d e rose le = omega (arith, rose, le)
 
 -- the query of a run has too many steps
-abbrev IsOver : Result Job Stop → Type 0
+abbrev IsOver : Result Job Failure → Type 0
 IsOver (Ok (job.Plain flow files)) = ⊥
 IsOver (Ok (job.Run flow files log threads batch)) = most_steps < step_total (query_over flow files batch most_steps)
 IsOver (Err s) = ⊥
 
 -- memory ran out, the log or the sink failed, or the steps were too many
-abbrev pub IsLate : Result Job Stop → Status → ℕ → ℕ → ℕ → ℕ → Type 0
+abbrev pub IsLate : Result Job Failure → Status → ℕ → ℕ → ℕ → ℕ → Type 0
 IsLate r result w x c e = (result ≡ status.NoMemory) ⊎ ((result ≡ status.LogFault) × Rose w x) ⊎ ((result ≡ status.OutFault) × Rose c e) ⊎ ((result ≡ status.Long) × IsOver r)
 
-over-of : (r : Result Job Stop) (j : Job) (line : List ℕ) (told now : Option Named) (before got : Option (List ℕ)) → r ≡ Ok j → BreaksOff j stop.Long line told now before got → IsOver r
+over-of : (r : Result Job Failure) (j : Job) (line : List ℕ) (told now : Option Named) (before got : Option (List ℕ)) → r ≡ Ok j → BreaksOff j failure.Long line told now before got → IsOver r
 over-of r (job.Plain flow files) line told now before got e h = absurd h
 over-of r (job.Run flow files log threads batch) line told now before got e h = rw e h.1
 
 late-long : (words : List (List ℕ)) (told now : Option Named) (before mid : Option (List ℕ)) (a b w x c e : ℕ) (result : Status)
-    → (Told told (λ files. course_of words files ≡ Err stop.Long) × IsUntouched [] told now before mid) ⊎ Breaks words stop.Long [] told now before mid
+    → (Told told (λ files. course_of words files ≡ Err failure.Long) × IsUntouched [] told now before mid) ⊎ Breaks words failure.Long [] told now before mid
     → result ≡ status.Long → Told told (λ files. IsOk (course_of words files) → ¬ (Rose a b) → IsLate (course_of words files) result w x c e)
 late-long words told now before mid a b w x c e result (inl few) is =
-    told-map told (λ files. course_of words files ≡ Err stop.Long) (λ files. IsOk (course_of words files) → ¬ (Rose a b) → IsLate (course_of words files) result w x c e)
-    (λ files p ok quiet. absurd (not-both (course_of words files) stop.Long ok p)) few.0
+    told-map told (λ files. course_of words files ≡ Err failure.Long) (λ files. IsOk (course_of words files) → ¬ (Rose a b) → IsLate (course_of words files) result w x c e)
+    (λ files p ok quiet. absurd (not-both (course_of words files) failure.Long ok p)) few.0
 late-long words told now before mid a b w x c e result (inr breaks) is =
-    told-map told (λ files. (one : Job) × (course_of words files ≡ Ok one) × BreaksOff one stop.Long [] told now before mid)
+    told-map told (λ files. (one : Job) × (course_of words files ≡ Ok one) × BreaksOff one failure.Long [] told now before mid)
     (λ files. IsOk (course_of words files) → ¬ (Rose a b) → IsLate (course_of words files) result w x c e)
     (λ files p ok quiet. inr (inr (inr (is, over-of (course_of words files) p.0 [] told now before mid p.1 p.2)))) breaks
 
-pub lates : (s : Stop) (words : List (List ℕ)) (told now : Option Named) (before mid : Option (List ℕ)) (a b w x c d e : ℕ) (result : Status)
+pub lates : (s : Failure) (words : List (List ℕ)) (told now : Option Named) (before mid : Option (List ℕ)) (a b w x c d e : ℕ) (result : Status)
     → Runs {A = Unit {0}} (Err s) words told now before mid a b → CountsWrites {A = Unit {0}} (Err s) w x → Counts {A = Unit {0}} (Err s) c d → d ≤ e
     → (result ≡ status_of s) ⊎ (result ≡ status.NoMemory) → Told told (λ files. IsOk (course_of words files) → ¬ (Rose a b) → IsLate (course_of words files) result w x c e)
 lates s words told now before mid a b w x c d e result r m n le (inr none) =
     told-all told (λ files. IsOk (course_of words files) → ¬ (Rose a b) → IsLate (course_of words files) result w x c e) (λ files ok quiet. inl none)
-lates stop.Usage words told now before mid a b w x c d e result r m n le (inl is) =
+lates failure.Usage words told now before mid a b w x c d e result r m n le (inl is) =
     told-all told (λ files. IsOk (course_of words files) → ¬ (Rose a b) → IsLate (course_of words files) result w x c e)
-    (λ files ok quiet. absurd (not-both (course_of words files) stop.Usage ok (course-none words files r.1)))
-lates (stop.ReadFault name) words told now before mid a b w x c d e result r m n le (inl is) =
+    (λ files ok quiet. absurd (not-both (course_of words files) failure.Usage ok (course-none words files r.1)))
+lates (failure.ReadFault name) words told now before mid a b w x c d e result r m n le (inl is) =
     elim r.0 [
-      | inl lacks ↦ told-map told (λ files. course_of words files ≡ Err (stop.ReadFault name)) (λ files. IsOk (course_of words files) → ¬ (Rose a b) → IsLate (course_of words files) result w x c e)
-          (λ files p ok quiet. absurd (not-both (course_of words files) (stop.ReadFault name) ok p))
-          (told-tells told (λ files. course_of words files ≡ Err (stop.ReadFault name)) lacks.1)
+      | inl lacks ↦ told-map told (λ files. course_of words files ≡ Err (failure.ReadFault name)) (λ files. IsOk (course_of words files) → ¬ (Rose a b) → IsLate (course_of words files) result w x c e)
+          (λ files p ok quiet. absurd (not-both (course_of words files) (failure.ReadFault name) ok p))
+          (told-tells told (λ files. course_of words files ≡ Err (failure.ReadFault name)) lacks.1)
       | inr rose ↦ told-all told (λ files. IsOk (course_of words files) → ¬ (Rose a b) → IsLate (course_of words files) result w x c e) (λ files ok quiet. absurd (quiet rose))
     ]
-lates stop.LogFault words told now before mid a b w x c d e result r m n le (inl is) =
+lates failure.LogFault words told now before mid a b w x c d e result r m n le (inl is) =
     told-all told (λ files. IsOk (course_of words files) → ¬ (Rose a b) → IsLate (course_of words files) result w x c e) (λ files ok quiet. inr (inl (is, m.1)))
-lates stop.OutFault words told now before mid a b w x c d e result r m n le (inl is) =
+lates failure.OutFault words told now before mid a b w x c d e result r m n le (inl is) =
     told-all told (λ files. IsOk (course_of words files) → ¬ (Rose a b) → IsLate (course_of words files) result w x c e) (λ files ok quiet. inr (inr (inl (is, later-rose c d e n.1 le))))
-lates stop.Long words told now before mid a b w x c d e result r m n le (inl is) = late-long words told now before mid a b w x c e result r.1 is
-lates stop.NoMemory words told now before mid a b w x c d e result r m n le (inl is) =
+lates failure.Long words told now before mid a b w x c d e result r m n le (inl is) = late-long words told now before mid a b w x c e result r.1 is
+lates failure.NoMemory words told now before mid a b w x c d e result r m n le (inl is) =
     told-all told (λ files. IsOk (course_of words files) → ¬ (Rose a b) → IsLate (course_of words files) result w x c e) (λ files ok quiet. inl is)
 lates other words told now before mid a b w x c d e result r m n le (inl is) =
     told-map told (λ files. course_of words files ≡ Err other) (λ files. IsOk (course_of words files) → ¬ (Rose a b) → IsLate (course_of words files) result w x c e)
     (λ files p ok quiet. absurd (not-both (course_of words files) other ok p)) r.0.1
 
-within-ok : (r : Result Job Stop) → IsWithin r → IsOk r
+within-ok : (r : Result Job Failure) → IsWithin r → IsOk r
 within-ok (Ok j) h = refl
 within-ok (Err s) h = absurd h
 
-within-over : (r : Result Job Stop) → IsWithin r → IsOver r → ⊥
+within-over : (r : Result Job Failure) → IsWithin r → IsOver r → ⊥
 within-over (Ok (job.Plain flow files)) h over = over
 within-over (Ok (job.Run flow files log threads batch)) h over = omega (arith, h, over)
 within-over (Err s) h over = over
 
 -- with no count risen, and steps within the limit, only memory can be wanting
-late-none : (r : Result Job Stop) (result : Status) (w x c e : ℕ) → IsLate r result w x c e → IsWithin r → ¬ (Rose w x) → ¬ (Rose c e) → (result ≡ status.Ok) ⊎ (result ≡ status.NoMemory)
+late-none : (r : Result Job Failure) (result : Status) (w x c e : ℕ) → IsLate r result w x c e → IsWithin r → ¬ (Rose w x) → ¬ (Rose c e) → (result ≡ status.Ok) ⊎ (result ≡ status.NoMemory)
 late-none r result w x c e (inl none) within kept quiet = inr none
 late-none r result w x c e (inr (inl log)) within kept quiet = absurd (kept log.1)
 late-none r result w x c e (inr (inr (inl out))) within kept quiet = absurd (quiet out.1)
 late-none r result w x c e (inr (inr (inr long))) within kept quiet = absurd (within-over r within long.1)
 
 -- a status where only the sink has failed
-late-sink : (r : Result Job Stop) (result : Status) (w x c e : ℕ) → (IsOk r → IsLate r result w x c e) → ¬ (Rose w x) → IsSinkStatus r result
+late-sink : (r : Result Job Failure) (result : Status) (w x c e : ℕ) → (IsOk r → IsLate r result w x c e) → ¬ (Rose w x) → IsSinkStatus r result
 late-sink (Err s) result w x c e late kept = tt
 late-sink (Ok (job.Plain flow files)) result w x c e late kept =
     elim (late refl) [
@@ -211,67 +211,67 @@ puts-grow words told a b w x c e result =
 
 -- ---- the status over any files
 
-pub usage-is : (s : Stop) (words : List (List ℕ)) (told now : Option Named) (before mid : Option (List ℕ)) (a b : ℕ) (result : Status)
+pub usage-is : (s : Failure) (words : List (List ℕ)) (told now : Option Named) (before mid : Option (List ℕ)) (a b : ℕ) (result : Status)
     → Runs {A = Unit {0}} (Err s) words told now before mid a b → (result ≡ status_of s) ⊎ (result ≡ status.NoMemory) → result ≡ status.Usage → words_of words ≡ None
 usage-is s words told now before mid a b result r (inr none) e = cc
-usage-is stop.Usage words told now before mid a b result r (inl is) e = r.1
+usage-is failure.Usage words told now before mid a b result r (inl is) e = r.1
 usage-is other words told now before mid a b result r (inl is) e = cc
 
 no-word : (words : List (List ℕ)) → IsSome (words_of words) → words_of words ≡ None → ⊥
 no-word words h e = let none = rw e at h in cc
 
-pub words-bad : (s : Stop) (words : List (List ℕ)) (result : Status) → Worded {A = Unit {0}} (Err s) words → (result ≡ status_of s) ⊎ (result ≡ status.NoMemory)
+pub words-bad : (s : Failure) (words : List (List ℕ)) (result : Status) → Worded {A = Unit {0}} (Err s) words → (result ≡ status_of s) ⊎ (result ≡ status.NoMemory)
     → words_of words ≡ None → (result ≡ status.Usage) ⊎ (result ≡ status.NoMemory)
 words-bad s words result h (inr none) e = inr none
-words-bad stop.Usage words result h (inl is) e = inl is
-words-bad stop.NoMemory words result h (inl is) e = inr is
+words-bad failure.Usage words result h (inl is) e = inl is
+words-bad failure.NoMemory words result h (inl is) e = inr is
 words-bad other words result h (inl is) e = absurd (no-word words h e)
 
 pub words-ok : (words : List (List ℕ)) (P : Type 0) → IsSome (words_of words) → words_of words ≡ None → P
 words-ok words P h e = absurd (no-word words h e)
 
-pub read-is : (s : Stop) (words : List (List ℕ)) (told now : Option Named) (before mid : Option (List ℕ)) (a b : ℕ) (result : Status)
+pub read-is : (s : Failure) (words : List (List ℕ)) (told now : Option Named) (before mid : Option (List ℕ)) (a b : ℕ) (result : Status)
     → Runs {A = Unit {0}} (Err s) words told now before mid a b → (result ≡ status_of s) ⊎ (result ≡ status.NoMemory) → result ≡ status.ReadFault
-    → Rose a b ⊎ Tells told (λ files. (name : List ℕ) × (course_of words files ≡ Err (stop.ReadFault name)))
+    → Rose a b ⊎ Tells told (λ files. (name : List ℕ) × (course_of words files ≡ Err (failure.ReadFault name)))
 read-is s words told now before mid a b result r (inr none) e = cc
-read-is (stop.ReadFault name) words told now before mid a b result r (inl is) e =
+read-is (failure.ReadFault name) words told now before mid a b result r (inl is) e =
     elim r.0 [
-      | inl lacks ↦ inr (tells-map told (λ files. course_of words files ≡ Err (stop.ReadFault name)) (λ files. (name : List ℕ) × (course_of words files ≡ Err (stop.ReadFault name)))
+      | inl lacks ↦ inr (tells-map told (λ files. course_of words files ≡ Err (failure.ReadFault name)) (λ files. (name : List ℕ) × (course_of words files ≡ Err (failure.ReadFault name)))
           (λ files p. (name, p)) lacks.1)
       | inr rose ↦ inl rose
     ]
 read-is other words told now before mid a b result r (inl is) e = cc
 
-pub loads-grow : (s : Stop) (words : List (List ℕ)) (told now : Option Named) (before mid : Option (List ℕ)) (a b : ℕ) (result : Status)
+pub loads-grow : (s : Failure) (words : List (List ℕ)) (told now : Option Named) (before mid : Option (List ℕ)) (a b : ℕ) (result : Status)
     → Runs {A = Unit {0}} (Err s) words told now before mid a b → (result ≡ status_of s) ⊎ (result ≡ status.NoMemory) → a < b → (result ≡ status.ReadFault) ⊎ (result ≡ status.NoMemory)
 loads-grow s words told now before mid a b result r (inr none) h = inr none
-loads-grow stop.Usage words told now before mid a b result r (inl is) h = absurd (omega (arith, r.0, h))
-loads-grow stop.LogFault words told now before mid a b result r (inl is) h = absurd (omega (arith, r.0, h))
-loads-grow stop.OutFault words told now before mid a b result r (inl is) h = absurd (omega (arith, r.0, h))
-loads-grow stop.Long words told now before mid a b result r (inl is) h = absurd (omega (arith, r.0, h))
-loads-grow (stop.ReadFault name) words told now before mid a b result r (inl is) h = inl is
-loads-grow stop.NoMemory words told now before mid a b result r (inl is) h = inr is
+loads-grow failure.Usage words told now before mid a b result r (inl is) h = absurd (omega (arith, r.0, h))
+loads-grow failure.LogFault words told now before mid a b result r (inl is) h = absurd (omega (arith, r.0, h))
+loads-grow failure.OutFault words told now before mid a b result r (inl is) h = absurd (omega (arith, r.0, h))
+loads-grow failure.Long words told now before mid a b result r (inl is) h = absurd (omega (arith, r.0, h))
+loads-grow (failure.ReadFault name) words told now before mid a b result r (inl is) h = inl is
+loads-grow failure.NoMemory words told now before mid a b result r (inl is) h = inr is
 loads-grow other words told now before mid a b result r (inl is) h = absurd (omega (arith, r.0.0, h))
 
-pub out-rose : (s : Stop) (c d e : ℕ) (result : Status) → Counts {A = Unit {0}} (Err s) c d → d ≤ e → (result ≡ status_of s) ⊎ (result ≡ status.NoMemory)
+pub out-rose : (s : Failure) (c d e : ℕ) (result : Status) → Counts {A = Unit {0}} (Err s) c d → d ≤ e → (result ≡ status_of s) ⊎ (result ≡ status.NoMemory)
     → result ≡ status.OutFault → Rose c e
 out-rose s c d e result n le (inr none) is-out = cc
-out-rose stop.OutFault c d e result n le (inl is) is-out = later-rose c d e n.1 le
+out-rose failure.OutFault c d e result n le (inl is) is-out = later-rose c d e n.1 le
 out-rose other c d e result n le (inl is) is-out = cc
 
-pub log-rose : (s : Stop) (w x : ℕ) (result : Status) → CountsWrites {A = Unit {0}} (Err s) w x → (result ≡ status_of s) ⊎ (result ≡ status.NoMemory) → result ≡ status.LogFault → Rose w x
+pub log-rose : (s : Failure) (w x : ℕ) (result : Status) → CountsWrites {A = Unit {0}} (Err s) w x → (result ≡ status_of s) ⊎ (result ≡ status.NoMemory) → result ≡ status.LogFault → Rose w x
 log-rose s w x result n (inr none) is-log = cc
-log-rose stop.LogFault w x result n (inl is) is-log = n.1
+log-rose failure.LogFault w x result n (inl is) is-log = n.1
 log-rose other w x result n (inl is) is-log = cc
 
-pub writes-grow : (s : Stop) (w x : ℕ) (result : Status) → CountsWrites {A = Unit {0}} (Err s) w x → (result ≡ status_of s) ⊎ (result ≡ status.NoMemory) → w < x
+pub writes-grow : (s : Failure) (w x : ℕ) (result : Status) → CountsWrites {A = Unit {0}} (Err s) w x → (result ≡ status_of s) ⊎ (result ≡ status.NoMemory) → w < x
     → (result ≡ status.LogFault) ⊎ (result ≡ status.NoMemory)
 writes-grow s w x result n (inr none) h = inr none
-writes-grow stop.LogFault w x result n (inl is) h = inl is
+writes-grow failure.LogFault w x result n (inl is) h = inl is
 writes-grow other w x result n (inl is) h = absurd (omega (arith, n, h))
 
 -- a status other than of a log that failed
-pub log-unasked : (s : Stop) (result : Status) → s ≢ stop.LogFault → (result ≡ status_of s) ⊎ (result ≡ status.NoMemory) → result ≢ status.LogFault
+pub log-unasked : (s : Failure) (result : Status) → s ≢ failure.LogFault → (result ≡ status_of s) ⊎ (result ≡ status.NoMemory) → result ≢ status.LogFault
 log-unasked s result other (inr none) e = cc
-log-unasked stop.LogFault result other (inl is) e = other refl
+log-unasked failure.LogFault result other (inl is) e = other refl
 log-unasked others result other (inl is) e = cc

@@ -15,7 +15,7 @@ use Rattle.amber_run.specs.Outcome.{AsksNoRun, Breaks, Counts, Ended, IsCause, R
 use Rattle.amber_course.specs.Told.{Refuses}
 use Rattle.amber_run.specs.UnderWay.{IsBare, IsLeft, Leaves}
 use Rattle.amber_course.specs.Steps.{AreRead, Follows, Names, Tells}
-use Rattle.amber_course.specs.Stop.{IsToldAs, line_of, status_of}
+use Rattle.amber_course.specs.Failure.{IsToldAs, line_of, status_of}
 use Rattle.amber_run.specs.Task.{Task, query_at}
 use Rattle.amber_course.specs.Words.{words_of}
 use Rattle.amber_run.specs.Writing.{CountsWrites}
@@ -25,8 +25,8 @@ use Rattle.amber_course.specs.declared.words.Words.{Words}
 use Rattle.amber_course.specs.declared.words.Words.TheVariants as form
 use Rattle.amber_course.specs.declared.status.Status.{Status}
 use Rattle.amber_course.specs.declared.status.Status.TheVariants as status
-use Rattle.amber_course.specs.declared.stop.Stop.{Stop}
-use Rattle.amber_course.specs.declared.stop.Stop.TheVariants as stop
+use Rattle.amber_course.specs.declared.failure.Failure.{Failure}
+use Rattle.amber_course.specs.declared.failure.Failure.TheVariants as failure
 use Rattle.amber_course.proofs.Lines.{appends-on, appends-same}
 use Rattle.amber_course.proofs.Following.{names-map, stopped-map, tells-map, then-err, then-ok, told-all, told-map}
 
@@ -36,133 +36,133 @@ course-read : (words : List (List ℕ)) (read : Words) (files : Named) → words
 unfolding course_of
 course-read words read files e = rw e refl
 
-pub course-none : (words : List (List ℕ)) (files : Named) → words_of words ≡ None → course_of words files ≡ Err stop.Usage
+pub course-none : (words : List (List ℕ)) (files : Named) → words_of words ≡ None → course_of words files ≡ Err failure.Usage
 unfolding course_of
 course-none words files e = rw e refl
 
 -- a job was prepared, and this is said of it
-pub course-job : (words : List (List ℕ)) (read : Words) (files : Named) (job : Job) (said : Result Job Stop) → words_of words ≡ Some read → job_of read files ≡ Ok job → limited job ≡ said
+pub course-job : (words : List (List ℕ)) (read : Words) (files : Named) (job : Job) (said : Result Job Failure) → words_of words ≡ Some read → job_of read files ≡ Ok job → limited job ≡ said
     → course_of words files ≡ said
 course-job words read files job said e j l = course-read words read files e ∙ then-ok (job_of read files) job limited said j l
 
 -- no job was prepared
-course-stop : (words : List (List ℕ)) (read : Words) (files : Named) (s : Stop) → words_of words ≡ Some read → job_of read files ≡ Err s → course_of words files ≡ Err s
-course-stop words read files s e j = course-read words read files e ∙ then-err (job_of read files) s limited j
+course-failure : (words : List (List ℕ)) (read : Words) (files : Named) (s : Failure) → words_of words ≡ Some read → job_of read files ≡ Err s → course_of words files ≡ Err s
+course-failure words read files s e j = course-read words read files e ∙ then-err (job_of read files) s limited j
 
 -- the words were refused
-pub run-words : (s : Stop) (words : List (List ℕ)) (told : Option Named) (got : Option (List ℕ)) (loads : ℕ) → AreRead (Err s) (words_of words)
+pub run-words : (s : Failure) (words : List (List ℕ)) (told : Option Named) (got : Option (List ℕ)) (loads : ℕ) → AreRead (Err s) (words_of words)
     → Runs {A = Unit {0}} (Err s) words told told got got loads loads
-run-words stop.Usage words told got loads e = (refl, e, (refl, appends-same got))
-run-words stop.NoMemory words told got loads e = inl (refl, appends-same got)
+run-words failure.Usage words told got loads e = (refl, e, (refl, appends-same got))
+run-words failure.NoMemory words told got loads e = inl (refl, appends-same got)
 run-words other words told got loads e = absurd e
 
-cause-of : (words : List (List ℕ)) (read : Words) (told : Option Named) (s : Stop) (a b : ℕ) → words_of words ≡ Some read
+cause-of : (words : List (List ℕ)) (read : Words) (told : Option Named) (s : Failure) (a b : ℕ) → words_of words ≡ Some read
     → Follows {A = Job} (Err s) told (job_of read) a b → IsCause words told s a b
 cause-of words read told s a b e h =
     stopped-map s a b (Told told (λ files. job_of read files ≡ Err s)) (Told told (λ files. course_of words files ≡ Err s))
     (Tells told (λ files. job_of read files ≡ Err s)) (Tells told (λ files. course_of words files ≡ Err s))
-    (told-map told (λ files. job_of read files ≡ Err s) (λ files. course_of words files ≡ Err s) (λ files j. course-stop words read files s e j))
-    (tells-map told (λ files. job_of read files ≡ Err s) (λ files. course_of words files ≡ Err s) (λ files j. course-stop words read files s e j))
+    (told-map told (λ files. job_of read files ≡ Err s) (λ files. course_of words files ≡ Err s) (λ files j. course-failure words read files s e j))
+    (tells-map told (λ files. job_of read files ≡ Err s) (λ files. course_of words files ≡ Err s) (λ files j. course-failure words read files s e j))
     h
 
 -- there was no job
-pub run-stop : (words : List (List ℕ)) (read : Words) (told : Option Named) (got : Option (List ℕ)) (s : Stop) (a b : ℕ) → words_of words ≡ Some read
+pub run-failure : (words : List (List ℕ)) (read : Words) (told : Option Named) (got : Option (List ℕ)) (s : Failure) (a b : ℕ) → words_of words ≡ Some read
     → Follows {A = Job} (Err s) told (job_of read) a b → Runs {A = Unit {0}} (Err s) words told told got got a b
-run-stop words read told got stop.Usage a b e h = absurd h
-run-stop words read told got stop.LogFault a b e h = absurd h
-run-stop words read told got stop.OutFault a b e h = absurd h
-run-stop words read told got stop.Long a b e h =
-    let cause = cause-of words read told stop.Long a b e h in
+run-failure words read told got failure.Usage a b e h = absurd h
+run-failure words read told got failure.LogFault a b e h = absurd h
+run-failure words read told got failure.OutFault a b e h = absurd h
+run-failure words read told got failure.Long a b e h =
+    let cause = cause-of words read told failure.Long a b e h in
     (cause.0, inl (cause.1, (refl, appends-same got)))
-run-stop words read told got stop.NoMemory a b e h = inl (refl, appends-same got)
-run-stop words read told got other a b e h = (cause-of words read told other a b e h, (refl, appends-same got))
+run-failure words read told got failure.NoMemory a b e h = inl (refl, appends-same got)
+run-failure words read told got other a b e h = (cause-of words read told other a b e h, (refl, appends-same got))
 
-broken : (words : List (List ℕ)) (read : Words) (told now : Option Named) (job : Job) (s : Stop) (before got : Option (List ℕ)) (a b : ℕ) → words_of words ≡ Some read
+broken : (words : List (List ℕ)) (read : Words) (told now : Option Named) (job : Job) (s : Failure) (before got : Option (List ℕ)) (a b : ℕ) → words_of words ≡ Some read
     → Follows (Ok job) told (job_of read) a b → limited job ≡ Ok job → BreaksOff job s [] told now before got → Breaks words s [] told now before got
 broken words read told now job s before got a b e h l breaks =
     told-map told (λ files. job_of read files ≡ Ok job) (λ files. (one : Job) × (course_of words files ≡ Ok one) × BreaksOff one s [] told now before got)
     (λ files j. (job, course-job words read files job (Ok job) e j l, breaks)) h.1
 
 -- the job was done, or not
-pub run-works : (r : Result (Unit {0}) Stop) (words : List (List ℕ)) (read : Words) (told now : Option Named) (job : Job) (before got : Option (List ℕ)) (a b : ℕ) → words_of words ≡ Some read
+pub run-works : (r : Result (Unit {0}) Failure) (words : List (List ℕ)) (read : Words) (told now : Option Named) (job : Job) (before got : Option (List ℕ)) (a b : ℕ) → words_of words ≡ Some read
     → Follows (Ok job) told (job_of read) a b → Works r job told now before got → Runs r words told now before got a b
 run-works (Ok u) words read told now job before got a b e h done = (
   h.0,
   told-map told (λ files. job_of read files ≡ Ok job) (λ files. Succeeds words files told now before got) (λ files j. (job, course-job words read files job (Ok job) e j done.0, done.1)) h.1,
 )
-run-works (Err stop.LogFault) words read told now job before got a b e h done = (h.0, broken words read told now job stop.LogFault before got a b e h done.0 done.1)
-run-works (Err stop.OutFault) words read told now job before got a b e h done = (h.0, broken words read told now job stop.OutFault before got a b e h done.0 done.1)
-run-works (Err stop.Long) words read told now job before got a b e h (inl done) = (
+run-works (Err failure.LogFault) words read told now job before got a b e h done = (h.0, broken words read told now job failure.LogFault before got a b e h done.0 done.1)
+run-works (Err failure.OutFault) words read told now job before got a b e h done = (h.0, broken words read told now job failure.OutFault before got a b e h done.0 done.1)
+run-works (Err failure.Long) words read told now job before got a b e h (inl done) = (
   h.0,
   inl (
-    told-map told (λ files. job_of read files ≡ Ok job) (λ files. course_of words files ≡ Err stop.Long) (λ files j. course-job words read files job (Err stop.Long) e j done.0) h.1,
+    told-map told (λ files. job_of read files ≡ Ok job) (λ files. course_of words files ≡ Err failure.Long) (λ files j. course-job words read files job (Err failure.Long) e j done.0) h.1,
     done.1,
   ),
 )
-run-works (Err stop.Long) words read told now job before got a b e h (inr done) = (h.0, inr (broken words read told now job stop.Long before got a b e h done.0 done.1))
-run-works (Err stop.NoMemory) words read told now job before got a b e h (inl done) = inl done
-run-works (Err stop.NoMemory) words read told now job before got a b e h (inr done) = inr (h.0, broken words read told now job stop.NoMemory before got a b e h done.0 done.1)
+run-works (Err failure.Long) words read told now job before got a b e h (inr done) = (h.0, inr (broken words read told now job failure.Long before got a b e h done.0 done.1))
+run-works (Err failure.NoMemory) words read told now job before got a b e h (inl done) = inl done
+run-works (Err failure.NoMemory) words read told now job before got a b e h (inr done) = inr (h.0, broken words read told now job failure.NoMemory before got a b e h done.0 done.1)
 run-works (Err other) words read told now job before got a b e h done = absurd done
 
-pub words-counts : (s : Stop) (words : List (List ℕ)) (n : ℕ) → AreRead (Err s) (words_of words) → Counts {A = Unit {0}} (Err s) n n
-words-counts stop.OutFault words n h = absurd h
+pub words-counts : (s : Failure) (words : List (List ℕ)) (n : ℕ) → AreRead (Err s) (words_of words) → Counts {A = Unit {0}} (Err s) n n
+words-counts failure.OutFault words n h = absurd h
 words-counts other words n h = refl
 
-pub words-writes : (s : Stop) (words : List (List ℕ)) (n : ℕ) → AreRead (Err s) (words_of words) → CountsWrites {A = Unit {0}} (Err s) n n
-words-writes stop.LogFault words n h = absurd h
+pub words-writes : (s : Failure) (words : List (List ℕ)) (n : ℕ) → AreRead (Err s) (words_of words) → CountsWrites {A = Unit {0}} (Err s) n n
+words-writes failure.LogFault words n h = absurd h
 words-writes other words n h = refl
 
-pub stop-counts : (s : Stop) (told : Option Named) (meant : Named → Result Job Stop) (a b n : ℕ) → Follows {A = Job} (Err s) told meant a b → Counts {A = Unit {0}} (Err s) n n
-stop-counts stop.OutFault told meant a b n h = absurd h
-stop-counts other told meant a b n h = refl
+pub failure-counts : (s : Failure) (told : Option Named) (meant : Named → Result Job Failure) (a b n : ℕ) → Follows {A = Job} (Err s) told meant a b → Counts {A = Unit {0}} (Err s) n n
+failure-counts failure.OutFault told meant a b n h = absurd h
+failure-counts other told meant a b n h = refl
 
-pub stop-writes : (s : Stop) (told : Option Named) (meant : Named → Result Job Stop) (a b n m : ℕ) → Follows {A = Job} (Err s) told meant a b → m ≡ n → CountsWrites {A = Unit {0}} (Err s) n m
-stop-writes stop.LogFault told meant a b n m h e = absurd h
-stop-writes other told meant a b n m h e = e
+pub failure-writes : (s : Failure) (told : Option Named) (meant : Named → Result Job Failure) (a b n m : ℕ) → Follows {A = Job} (Err s) told meant a b → m ≡ n → CountsWrites {A = Unit {0}} (Err s) n m
+failure-writes failure.LogFault told meant a b n m h e = absurd h
+failure-writes other told meant a b n m h e = e
 
-pub reached-stop : (s : Stop) (words : List (List ℕ)) (read : Words) (told : Option Named) → words_of words ≡ Some read
+pub reached-failure : (s : Failure) (words : List (List ℕ)) (read : Words) (told : Option Named) → words_of words ≡ Some read
     → Told told (λ files. Names s (IsLoaded read files)) → Told told (λ files. Names s (IsReached words files))
-reached-stop s words read told e h =
+reached-failure s words read told e h =
     told-map told (λ files. Names s (IsLoaded read files)) (λ files. Names s (IsReached words files))
     (λ files one. names-map s (IsLoaded read files) (IsReached words files) (λ file is. (read, e, is)) one) h
 
 -- words that were refused name no file
-pub reached-words : (s : Stop) (words : List (List ℕ)) (told : Option Named) → AreRead (Err s) (words_of words) → Told told (λ files. Names s (IsReached words files))
-reached-words (stop.ReadFault file) words told h = absurd h
+pub reached-words : (s : Failure) (words : List (List ℕ)) (told : Option Named) → AreRead (Err s) (words_of words) → Told told (λ files. Names s (IsReached words files))
+reached-words (failure.ReadFault file) words told h = absurd h
 reached-words other words told h = told-all told (λ files. ⊤) (λ files. tt)
 
 -- a job that is done names no file
-pub reached-works : (r : Result (Unit {0}) Stop) (words : List (List ℕ)) (told now : Option Named) (job : Job) (before got : Option (List ℕ))
+pub reached-works : (r : Result (Unit {0}) Failure) (words : List (List ℕ)) (told now : Option Named) (job : Job) (before got : Option (List ℕ))
     → Works r job told now before got → Told told (λ files. IfErr r (λ s. Names s (IsReached words files)))
 reached-works (Ok u) words told now job before got h = told-all told (λ files. ⊤) (λ files. tt)
-reached-works (Err (stop.ReadFault file)) words told now job before got h = absurd h
+reached-works (Err (failure.ReadFault file)) words told now job before got h = absurd h
 reached-works (Err other) words told now job before got h = told-all told (λ files. ⊤) (λ files. tt)
 
 -- words that were refused, and no job, have nothing to do with the log
-pub words-unlogged : (s : Stop) (words : List (List ℕ)) → AreRead (Err s) (words_of words) → s ≢ stop.LogFault
-words-unlogged stop.LogFault words h e = h
-words-unlogged stop.Usage words h e = cc
-words-unlogged stop.NoMemory words h e = cc
+pub words-unlogged : (s : Failure) (words : List (List ℕ)) → AreRead (Err s) (words_of words) → s ≢ failure.LogFault
+words-unlogged failure.LogFault words h e = h
+words-unlogged failure.Usage words h e = cc
+words-unlogged failure.NoMemory words h e = cc
 words-unlogged other words h e = h
 
-pub stop-unlogged : (s : Stop) (told : Option Named) (meant : Named → Result Job Stop) (a b : ℕ) → Follows {A = Job} (Err s) told meant a b → s ≢ stop.LogFault
-stop-unlogged stop.LogFault told meant a b h e = h
-stop-unlogged other told meant a b h e = cc
+pub failure-unlogged : (s : Failure) (told : Option Named) (meant : Named → Result Job Failure) (a b : ℕ) → Follows {A = Job} (Err s) told meant a b → s ≢ failure.LogFault
+failure-unlogged failure.LogFault told meant a b h e = h
+failure-unlogged other told meant a b h e = cc
 
-pub worded-words : (s : Stop) (words : List (List ℕ)) → AreRead (Err s) (words_of words) → Worded {A = Unit {0}} (Err s) words
-worded-words stop.Usage words h = h
-worded-words stop.NoMemory words h = h
+pub worded-words : (s : Failure) (words : List (List ℕ)) → AreRead (Err s) (words_of words) → Worded {A = Unit {0}} (Err s) words
+worded-words failure.Usage words h = h
+worded-words failure.NoMemory words h = h
 worded-words other words h = absurd h
 
-pub worded-stop : (s : Stop) (words : List (List ℕ)) (read : Words) (told : Option Named) (meant : Named → Result Job Stop) (a b : ℕ) → words_of words ≡ Some read
+pub worded-failure : (s : Failure) (words : List (List ℕ)) (read : Words) (told : Option Named) (meant : Named → Result Job Failure) (a b : ℕ) → words_of words ≡ Some read
     → Follows (Err s) told meant a b → Worded {A = Unit {0}} (Err s) words
-worded-stop stop.Usage words read told meant a b e h = absurd h
-worded-stop other words read told meant a b e h = rw e refl
+worded-failure failure.Usage words read told meant a b e h = absurd h
+worded-failure other words read told meant a b e h = rw e refl
 
-pub worded-works : (r : Result (Unit {0}) Stop) (words : List (List ℕ)) (read : Words) (told now : Option Named) (job : Job) (before got : Option (List ℕ)) → words_of words ≡ Some read
+pub worded-works : (r : Result (Unit {0}) Failure) (words : List (List ℕ)) (read : Words) (told now : Option Named) (job : Job) (before got : Option (List ℕ)) → words_of words ≡ Some read
     → Works r job told now before got → Worded r words
 worded-works (Ok u) words read told now job before got e h = rw e refl
-worded-works (Err stop.Usage) words read told now job before got e h = absurd h
+worded-works (Err failure.Usage) words read told now job before got e h = absurd h
 worded-works (Err other) words read told now job before got e h = rw e refl
 
 -- words that ask for no run have a job that writes no file
@@ -186,7 +186,7 @@ untouched-on line told now before mid got p h = (h.0, appends-on before mid got 
 behind : (xs part line : List ℕ) → (xs ++ (part ++ [])) ++ line ≡ xs ++ (part ++ line)
 behind xs part line = append_assoc xs (part ++ []) line ∙ ap (λ p. xs ++ (p ++ line)) (append-nil part)
 
-left-on : (t : Task) (s : Stop) (line : List ℕ) (files : Option Named) (mid got : Option (List ℕ)) → Appends mid got line → IsLeft t s [] files mid → IsLeft t s line files got
+left-on : (t : Task) (s : Failure) (line : List ℕ) (files : Option Named) (mid got : Option (List ℕ)) → Appends mid got line → IsLeft t s [] files mid → IsLeft t s line files got
 left-on t s line files mid got p h = record {
   bytes = h.bytes;
   batch = h.batch;
@@ -211,13 +211,13 @@ left-on t s line files mid got p h = record {
 bare-on : (t : Task) (line : List ℕ) (files : Option Named) (mid got : Option (List ℕ)) → Appends mid got line → IsBare t [] files mid → IsBare t line files got
 bare-on t line files mid got p h = (h.0, appends-on t.before mid got [] line h.1 p)
 
-leaves-on : (t : Task) (s : Stop) (line : List ℕ) (files : Option Named) (mid got : Option (List ℕ)) → Appends mid got line → Leaves t s [] files mid → Leaves t s line files got
-leaves-on t stop.LogFault line files mid got p (inl h) = inl (bare-on t line files mid got p h)
-leaves-on t stop.LogFault line files mid got p (inr h) = inr (left-on t stop.LogFault line files mid got p h)
-leaves-on t stop.OutFault line files mid got p h = left-on t stop.OutFault line files mid got p h
-leaves-on t stop.Long line files mid got p h = (left-on t stop.Long line files mid got p h.0, h.1)
-leaves-on t stop.NoMemory line files mid got p (inl h) = inl (bare-on t line files mid got p h)
-leaves-on t stop.NoMemory line files mid got p (inr h) = inr (left-on t stop.NoMemory line files mid got p h)
+leaves-on : (t : Task) (s : Failure) (line : List ℕ) (files : Option Named) (mid got : Option (List ℕ)) → Appends mid got line → Leaves t s [] files mid → Leaves t s line files got
+leaves-on t failure.LogFault line files mid got p (inl h) = inl (bare-on t line files mid got p h)
+leaves-on t failure.LogFault line files mid got p (inr h) = inr (left-on t failure.LogFault line files mid got p h)
+leaves-on t failure.OutFault line files mid got p h = left-on t failure.OutFault line files mid got p h
+leaves-on t failure.Long line files mid got p h = (left-on t failure.Long line files mid got p h.0, h.1)
+leaves-on t failure.NoMemory line files mid got p (inl h) = inl (bare-on t line files mid got p h)
+leaves-on t failure.NoMemory line files mid got p (inr h) = inr (left-on t failure.NoMemory line files mid got p h)
 leaves-on t other line files mid got p h = absurd h
 
 begins-nil : (before mid got : Option (List ℕ)) (x line rest : List ℕ) → line ++ rest ≡ [] → Appends mid got line → Begins before mid x → Begins before got x
@@ -225,13 +225,13 @@ begins-nil before mid got x line rest e p h =
     let whole = appends-on before mid got h.0 line h.3 p in
     (h.0, h.1, h.2, rw (no-front line rest e, append-nil h.0) at whole)
 
-job-on : (j : Job) (s : Stop) (line rest : List ℕ) (told now : Option Named) (before mid got : Option (List ℕ)) → line ++ rest ≡ line_of s → Appends mid got line
+job-on : (j : Job) (s : Failure) (line rest : List ℕ) (told now : Option Named) (before mid got : Option (List ℕ)) → line ++ rest ≡ line_of s → Appends mid got line
     → BreaksOff j s [] told now before mid → BreaksOff j s line told now before got
-job-on (job.Plain flow files) stop.OutFault line rest told now before mid got e p h = (h.0, begins-nil before mid got _ line rest e p h.1)
+job-on (job.Plain flow files) failure.OutFault line rest told now before mid got e p h = (h.0, begins-nil before mid got _ line rest e p h.1)
 job-on (job.Plain flow files) other line rest told now before mid got e p h = absurd h
 job-on (job.Run flow files log threads batch) s line rest told now before mid got e p h = leaves-on _ s line now mid got p h
 
-breaks-on : (words : List (List ℕ)) (s : Stop) (line rest : List ℕ) (told now : Option Named) (before mid got : Option (List ℕ)) → line ++ rest ≡ line_of s → Appends mid got line
+breaks-on : (words : List (List ℕ)) (s : Failure) (line rest : List ℕ) (told now : Option Named) (before mid got : Option (List ℕ)) → line ++ rest ≡ line_of s → Appends mid got line
     → Breaks words s [] told now before mid → Breaks words s line told now before got
 breaks-on words s line rest told now before mid got e p h =
     told-map told (λ files. (one : Job) × (course_of words files ≡ Ok one) × BreaksOff one s [] told now before mid)
@@ -239,35 +239,35 @@ breaks-on words s line rest told now before mid got e p h =
     (λ files one. (one.0, one.1, job-on one.0 s line rest told now before mid got e p one.2)) h
 
 -- what was left, with the line
-stops-on : (s : Stop) (words : List (List ℕ)) (line rest : List ℕ) (told now : Option Named) (before mid got : Option (List ℕ)) (a b : ℕ) → line ++ rest ≡ line_of s → Appends mid got line
+stops-on : (s : Failure) (words : List (List ℕ)) (line rest : List ℕ) (told now : Option Named) (before mid got : Option (List ℕ)) (a b : ℕ) → line ++ rest ≡ line_of s → Appends mid got line
     → Stops words s [] told now before mid a b → Stops words s line told now before got a b
-stops-on stop.Usage words line rest told now before mid got a b e p h = (h.0, h.1, untouched-on line told now before mid got p h.2)
-stops-on stop.LogFault words line rest told now before mid got a b e p h = (h.0, breaks-on words stop.LogFault line rest told now before mid got e p h.1)
-stops-on stop.OutFault words line rest told now before mid got a b e p h = (h.0, breaks-on words stop.OutFault line rest told now before mid got e p h.1)
-stops-on stop.Long words line rest told now before mid got a b e p (same, inl h) = (same, inl (h.0, untouched-on line told now before mid got p h.1))
-stops-on stop.Long words line rest told now before mid got a b e p (same, inr h) = (same, inr (breaks-on words stop.Long line rest told now before mid got e p h))
-stops-on stop.NoMemory words line rest told now before mid got a b e p (inl h) = inl (untouched-on line told now before mid got p h)
-stops-on stop.NoMemory words line rest told now before mid got a b e p (inr h) = inr (h.0, breaks-on words stop.NoMemory line rest told now before mid got e p h.1)
+stops-on failure.Usage words line rest told now before mid got a b e p h = (h.0, h.1, untouched-on line told now before mid got p h.2)
+stops-on failure.LogFault words line rest told now before mid got a b e p h = (h.0, breaks-on words failure.LogFault line rest told now before mid got e p h.1)
+stops-on failure.OutFault words line rest told now before mid got a b e p h = (h.0, breaks-on words failure.OutFault line rest told now before mid got e p h.1)
+stops-on failure.Long words line rest told now before mid got a b e p (same, inl h) = (same, inl (h.0, untouched-on line told now before mid got p h.1))
+stops-on failure.Long words line rest told now before mid got a b e p (same, inr h) = (same, inr (breaks-on words failure.Long line rest told now before mid got e p h))
+stops-on failure.NoMemory words line rest told now before mid got a b e p (inl h) = inl (untouched-on line told now before mid got p h)
+stops-on failure.NoMemory words line rest told now before mid got a b e p (inr h) = inr (h.0, breaks-on words failure.NoMemory line rest told now before mid got e p h.1)
 stops-on other words line rest told now before mid got a b e p h = (h.0, untouched-on line told now before mid got p h.1)
 
 -- the status of a call that was refused
-pub refused-as : (result : Status) (s : Stop) (mid got : Option (List ℕ)) (d e : ℕ) → Refuses result s mid got d e → (result ≡ status_of s) ⊎ (result ≡ status.NoMemory)
+pub refused-as : (result : Status) (s : Failure) (mid got : Option (List ℕ)) (d e : ℕ) → Refuses result s mid got d e → (result ≡ status_of s) ⊎ (result ≡ status.NoMemory)
 refused-as result s mid got d e f = elim f.2 [ inl whole ↦ inl whole.2 | inr rest ↦ elim rest [ inl none ↦ inr none.1 | inr rose ↦ inl rose.1 ] ]
 
-pub not-ok : (result : Status) (s : Stop) → (result ≡ status_of s) ⊎ (result ≡ status.NoMemory) → result ≢ status.Ok
+pub not-ok : (result : Status) (s : Failure) → (result ≡ status_of s) ⊎ (result ≡ status.NoMemory) → result ≢ status.Ok
 not-ok result s (inr none) e = cc
-not-ok result stop.Usage (inl is) e = cc
+not-ok result failure.Usage (inl is) e = cc
 not-ok result other (inl is) e = cc
 
 unrisen : (c d e : ℕ) → d ≡ c → e ≡ c → c < 2 ^ 64 - 1 → Rose d e → ⊥
 unrisen c d e p q small rose = omega (arith, p, q, small, rose)
 
 -- where a put was refused, a count shows it
-line-whole : (s : Stop) (line rest : List ℕ) (c d e : ℕ) → Counts {A = Unit {0}} (Err s) c d → line ++ rest ≡ line_of s → Rose d e → e ≡ c → c < 2 ^ 64 - 1 → line ≡ line_of s
-line-whole stop.OutFault line rest c d e n split rose quiet small = no-front line rest split
+line-whole : (s : Failure) (line rest : List ℕ) (c d e : ℕ) → Counts {A = Unit {0}} (Err s) c d → line ++ rest ≡ line_of s → Rose d e → e ≡ c → c < 2 ^ 64 - 1 → line ≡ line_of s
+line-whole failure.OutFault line rest c d e n split rose quiet small = no-front line rest split
 line-whole other line rest c d e n split rose quiet small = absurd (unrisen c d e n quiet small rose)
 
-pub ended : (s : Stop) (words : List (List ℕ)) (told now : Option Named) (before mid got : Option (List ℕ)) (a b w x c d e : ℕ) (result : Status)
+pub ended : (s : Failure) (words : List (List ℕ)) (told now : Option Named) (before mid got : Option (List ℕ)) (a b w x c d e : ℕ) (result : Status)
     → Runs {A = Unit {0}} (Err s) words told now before mid a b → Counts {A = Unit {0}} (Err s) c d → Refuses result s mid got d e → IsToldAs s result
     → Told told (λ files. Names s (IsReached words files))
     → Ended words result (record { files = told; got = before; loads = a; writes = w; puts = c }) (record { files = now; got = got; loads = b; writes = x; puts = e })

@@ -23,8 +23,8 @@ use Rattle.amber_debug.specs.Session.{Session, command_of, is_long_item}
 use Rattle.amber_run.specs.Outcome.{Counts}
 use Rattle.amber_run.specs.UnderWay.{Did, Halts, HasAnswer, IsBare, IsDone, IsLeft, Leaves, Opens, IsUnderWay}
 use Rattle.amber_run.specs.Task.{IsSession, Task, end_alone, ends_long, most_steps, query_at}
-use Rattle.amber_course.specs.declared.stop.Stop.{Stop}
-use Rattle.amber_course.specs.declared.stop.Stop.TheVariants as stop
+use Rattle.amber_course.specs.declared.failure.Failure.{Failure}
+use Rattle.amber_course.specs.declared.failure.Failure.TheVariants as failure
 use Rattle.amber_course.proofs.Lines.{appends-same}
 use Rattle.amber_run.proofs.Working.{ends_long-push, last-is}
 
@@ -125,7 +125,7 @@ long-items t batch (one ∷ []) left flow legal size commands long =
 long-items t batch (one ∷ two ∷ more) left flow legal size commands long = cc
 
 pub too-long : (t : Task) (line : List ℕ) (files : Option Named) (written : Option (List ℕ)) → IsFlow t.flow → t.commands ≡ end_alone
-    → (h : IsLeft t stop.Long line files written) → most_steps < step_total (query_at t t.batch)
+    → (h : IsLeft t failure.Long line files written) → most_steps < step_total (query_at t t.batch)
 too-long t line files written flow alone h = long-items t h.batch (h.done ++ h.last) h.left flow h.legal h.size (h.commands ∙ alone) h.closed
 
 -- ---- the run
@@ -134,22 +134,22 @@ pub bare-none : (t : Task) → IsBare t [] t.told t.before
 bare-none t = (inl refl, appends-same t.before)
 
 -- it has not begun, for want of memory
-pub begin-stop : (s : Stop) (t : Task) → s ≡ stop.NoMemory → Leaves t s [] t.told t.before
-begin-stop s t e = rw e (inl (bare-none t))
+pub begin-failure : (s : Failure) (t : Task) → s ≡ failure.NoMemory → Leaves t s [] t.told t.before
+begin-failure s t e = rw e (inl (bare-none t))
 
 -- the log was not made
-pub opens-stop : (s : Stop) (t : Task) (log : Log) (files : Option Named) (written : Option (List ℕ)) → Opens {A = Unit {0}} (Err s) t log files written → Leaves t s [] files written
-opens-stop stop.LogFault t log files written h = h
-opens-stop stop.NoMemory t log files written h = inl h
-opens-stop other t log files written h = absurd h
+pub opens-failure : (s : Failure) (t : Task) (log : Log) (files : Option Named) (written : Option (List ℕ)) → Opens {A = Unit {0}} (Err s) t log files written → Leaves t s [] files written
+opens-failure failure.LogFault t log files written h = h
+opens-failure failure.NoMemory t log files written h = inl h
+opens-failure other t log files written h = absurd h
 
 -- a command was not done
-pub command-stop : (s : Stop) (t : Task) (files : Option Named) (written : Option (List ℕ)) → IsFlow t.flow → t.commands ≡ end_alone → Halts t s files written → Leaves t s [] files written
-command-stop stop.LogFault t files written flow alone h = inr h
-command-stop stop.OutFault t files written flow alone h = h
-command-stop stop.Long t files written flow alone h = (h, too-long t [] files written flow alone h)
-command-stop stop.NoMemory t files written flow alone h = inr h
-command-stop other t files written flow alone h = absurd h
+pub command-failure : (s : Failure) (t : Task) (files : Option Named) (written : Option (List ℕ)) → IsFlow t.flow → t.commands ≡ end_alone → Halts t s files written → Leaves t s [] files written
+command-failure failure.LogFault t files written flow alone h = inr h
+command-failure failure.OutFault t files written flow alone h = h
+command-failure failure.Long t files written flow alone h = (h, too-long t [] files written flow alone h)
+command-failure failure.NoMemory t files written flow alone h = inr h
+command-failure other t files written flow alone h = absurd h
 
 -- all was done
 pub all-done : (t : Task) (log : Log) (files : Option Named) (written : Option (List ℕ)) → IsFlow t.flow → t.commands ≡ end_alone → IsUnderWay t [] log files written → IsDone t files written
@@ -161,12 +161,12 @@ pub session-begun : (t : Task) (d : Session) (threads : ℕ) (log : Log) → d �
 session-begun t d threads log e = rw e (record { flow = refl; inputs = refl; most = refl })
 
 -- where the log was not made, the sink did not fail
-pub opens-counts : (s : Stop) (t : Task) (log : Log) (files : Option Named) (written : Option (List ℕ)) (n : ℕ) → Opens {A = Unit {0}} (Err s) t log files written → Counts {A = Unit {0}} (Err s) n n
-opens-counts stop.OutFault t log files written n h = absurd h
+pub opens-counts : (s : Failure) (t : Task) (log : Log) (files : Option Named) (written : Option (List ℕ)) (n : ℕ) → Opens {A = Unit {0}} (Err s) t log files written → Counts {A = Unit {0}} (Err s) n n
+opens-counts failure.OutFault t log files written n h = absurd h
 opens-counts other t log files written n h = refl
 
 -- the one command of a run that begins
-pub run-command : (r : Result (Unit {0}) Stop) (t : Task) (d new : Session) (threads : ℕ) (log : Log) (mid files : Option Named) (written got : Option (List ℕ))
+pub run-command : (r : Result (Unit {0}) Failure) (t : Task) (d new : Session) (threads : ℕ) (log : Log) (mid files : Option Named) (written got : Option (List ℕ))
     → d ≡ record { flow = t.flow; files = t.inputs; most = most_steps; threads = threads; log = log; spent = false } → IsUnderWay t end_alone log mid written
     → ((left : List Command) → IsSession t d → IsUnderWay t (command.End ∷ left) d.log mid written → Did r t left new files got) → Did r t [] new files got
 run-command r t d new threads log mid files written got e h did = did [] (session-begun t d threads log e) (rw e h)

@@ -11,15 +11,15 @@ use Rattle.amber_run.specs.Answering.{BreaksOff, Fulfils, IsUntouched}
 use Rattle.amber_course.specs.Course.{course_of, limited, most_rows}
 use Rattle.amber_run.specs.Outcome.{Answers, AsksFor, Breaks, IsLongWhere, IsPrintStatus, Runs, RunsLong, Succeeds, TellsLong}
 use Rattle.amber_run.specs.UnderWay.{IsDone, IsLeft}
-use Rattle.amber_course.specs.Stop.{status_of}
+use Rattle.amber_course.specs.Failure.{status_of}
 use Rattle.amber_run.specs.Task.{task_of}
 use Rattle.amber_run.specs.Writing.{CountsWrites}
 use Rattle.amber_course.specs.declared.job.Job.{Job}
 use Rattle.amber_course.specs.declared.job.Job.TheVariants as job
 use Rattle.amber_course.specs.declared.status.Status.{Status}
 use Rattle.amber_course.specs.declared.status.Status.TheVariants as status
-use Rattle.amber_course.specs.declared.stop.Stop.{Stop}
-use Rattle.amber_course.specs.declared.stop.Stop.TheVariants as stop
+use Rattle.amber_course.specs.declared.failure.Failure.{Failure}
+use Rattle.amber_course.specs.declared.failure.Failure.TheVariants as failure
 use Rattle.amber_run.proofs.Ending.{course-job, course-none, told-tells}
 use Rattle.amber_course.proofs.Following.{told-all, told-both, told-map}
 
@@ -55,12 +55,12 @@ long-print flow files result a b false is h quiet =
 
 -- a run that stopped, where its log is read
 left-long : (told now : Option Named) (before got : Option (List ℕ)) (flow : List Operator) (files : List (List ℕ)) (log : List ℕ) (batch : ℕ) (result : Status)
-    → IsLeft (task_of told before flow files log batch) stop.Long [] now got → result ≡ status.Long → RunsLong result told now log
+    → IsLeft (task_of told before flow files log batch) failure.Long [] now got → result ≡ status.Long → RunsLong result told now log
 left-long told now before got flow files log batch result h is =
     inr (record { batch = h.batch; items = h.done ++ h.last }, (h.bytes, h.place, h.read), ((λ e. h.closed), (λ long. is)))
 
 left-short : (told now : Option Named) (before got : Option (List ℕ)) (flow : List Operator) (files : List (List ℕ)) (log : List ℕ) (batch : ℕ) (result : Status)
-    → IsLeft (task_of told before flow files log batch) stop.OutFault [] now got → result ≡ status.OutFault → RunsLong result told now log
+    → IsLeft (task_of told before flow files log batch) failure.OutFault [] now got → result ≡ status.OutFault → RunsLong result told now log
 left-short told now before got flow files log batch result h is =
     inr (
       record { batch = h.batch; items = h.done ++ h.last },
@@ -78,14 +78,14 @@ done-short told now before got flow files log batch h =
     )
 
 broke-long : (one : Job) (told now : Option Named) (before got : Option (List ℕ)) (flow : List Operator) (files : List (List ℕ)) (log : List ℕ) (threads batch : ℕ) (result : Status)
-    → one ≡ job.Run flow files log threads batch → BreaksOff one stop.Long [] told now before got → result ≡ status.Long → RunsLong result told now log
+    → one ≡ job.Run flow files log threads batch → BreaksOff one failure.Long [] told now before got → result ≡ status.Long → RunsLong result told now log
 broke-long one told now before got flow files log threads batch result e h is =
-    left-long told now before got flow files log batch result (subst (λ j. BreaksOff j stop.Long [] told now before got) e h).0 is
+    left-long told now before got flow files log batch result (subst (λ j. BreaksOff j failure.Long [] told now before got) e h).0 is
 
 broke-short : (one : Job) (told now : Option Named) (before got : Option (List ℕ)) (flow : List Operator) (files : List (List ℕ)) (log : List ℕ) (threads batch : ℕ) (result : Status)
-    → one ≡ job.Run flow files log threads batch → BreaksOff one stop.OutFault [] told now before got → result ≡ status.OutFault → RunsLong result told now log
+    → one ≡ job.Run flow files log threads batch → BreaksOff one failure.OutFault [] told now before got → result ≡ status.OutFault → RunsLong result told now log
 broke-short one told now before got flow files log threads batch result e h is =
-    left-short told now before got flow files log batch result (subst (λ j. BreaksOff j stop.OutFault [] told now before got) e h) is
+    left-short told now before got flow files log batch result (subst (λ j. BreaksOff j failure.OutFault [] told now before got) e h) is
 
 did-short : (one : Job) (told now : Option Named) (before got : Option (List ℕ)) (flow : List Operator) (files : List (List ℕ)) (log : List ℕ) (threads batch : ℕ)
     → one ≡ job.Run flow files log threads batch → Fulfils one told now before got → RunsLong status.Ok told now log
@@ -94,11 +94,11 @@ did-short one told now before got flow files log threads batch e h =
 
 -- ---- runs
 
-one-job : (r : Result Job Stop) (j k : Job) → r ≡ Ok j → r ≡ Ok k → j ≡ k
-one-job r j k e f = let both : ◌≡◌ {A = Result Job Stop} (Ok j) (Ok k) = sym e ∙ f in cc
+one-job : (r : Result Job Failure) (j k : Job) → r ≡ Ok j → r ≡ Ok k → j ≡ k
+one-job r j k e f = let both : ◌≡◌ {A = Result Job Failure} (Ok j) (Ok k) = sym e ∙ f in cc
 
-no-job : (r : Result Job Stop) (s : Stop) (j : Job) → r ≡ Err s → r ≡ Ok j → ⊥
-no-job r s j e f = let both : ◌≡◌ {A = Result Job Stop} (Err s) (Ok j) = sym e ∙ f in cc
+no-job : (r : Result Job Failure) (s : Failure) (j : Job) → r ≡ Err s → r ≡ Ok j → ⊥
+no-job r s j e f = let both : ◌≡◌ {A = Result Job Failure} (Err s) (Ok j) = sym e ∙ f in cc
 
 -- what is to be said of a run, where the course has one and neither a load nor a write failed
 abbrev pub IsRunLong : List (List ℕ) → Option Named → Option Named → Status → ℕ → ℕ → ℕ → ℕ → Named → Type 0
@@ -106,50 +106,50 @@ IsRunLong words told now result a b w x files =
     (flow : List Operator) (inputs : List (List ℕ)) (log : List ℕ) (threads batch : ℕ) → course_of words files ≡ Ok (job.Run flow inputs log threads batch)
     → ¬ (Rose a b) → ¬ (Rose w x) → RunsLong result told now log
 
-run-cause : (s : Stop) (words : List (List ℕ)) (told now : Option Named) (a b w x : ℕ) (result : Status) → Told told (λ files. course_of words files ≡ Err s)
+run-cause : (s : Failure) (words : List (List ℕ)) (told now : Option Named) (a b w x : ℕ) (result : Status) → Told told (λ files. course_of words files ≡ Err s)
     → Told told (IsRunLong words told now result a b w x)
 run-cause s words told now a b w x result =
     told-map told (λ files. course_of words files ≡ Err s) (IsRunLong words told now result a b w x)
     (λ files p flow inputs log threads batch e read kept. absurd (no-job (course_of words files) s (job.Run flow inputs log threads batch) p e))
 
-run-out : (words : List (List ℕ)) (told now : Option Named) (before mid : Option (List ℕ)) (a b w x : ℕ) (result : Status) → Breaks words stop.OutFault [] told now before mid
+run-out : (words : List (List ℕ)) (told now : Option Named) (before mid : Option (List ℕ)) (a b w x : ℕ) (result : Status) → Breaks words failure.OutFault [] told now before mid
     → result ≡ status.OutFault → Told told (IsRunLong words told now result a b w x)
 run-out words told now before mid a b w x result h is =
-    told-map told (λ files. (one : Job) × (course_of words files ≡ Ok one) × BreaksOff one stop.OutFault [] told now before mid) (IsRunLong words told now result a b w x)
+    told-map told (λ files. (one : Job) × (course_of words files ≡ Ok one) × BreaksOff one failure.OutFault [] told now before mid) (IsRunLong words told now result a b w x)
     (λ files p flow inputs log threads batch e read kept. broke-short p.0 told now before mid flow inputs log threads batch result
     (one-job (course_of words files) p.0 (job.Run flow inputs log threads batch) p.1 e) p.2 is) h
 
-run-too-long : (words : List (List ℕ)) (told now : Option Named) (before mid : Option (List ℕ)) (a b w x : ℕ) (result : Status) → Breaks words stop.Long [] told now before mid
+run-too-long : (words : List (List ℕ)) (told now : Option Named) (before mid : Option (List ℕ)) (a b w x : ℕ) (result : Status) → Breaks words failure.Long [] told now before mid
     → result ≡ status.Long → Told told (IsRunLong words told now result a b w x)
 run-too-long words told now before mid a b w x result h is =
-    told-map told (λ files. (one : Job) × (course_of words files ≡ Ok one) × BreaksOff one stop.Long [] told now before mid) (IsRunLong words told now result a b w x)
+    told-map told (λ files. (one : Job) × (course_of words files ≡ Ok one) × BreaksOff one failure.Long [] told now before mid) (IsRunLong words told now result a b w x)
     (λ files p flow inputs log threads batch e read kept. broke-long p.0 told now before mid flow inputs log threads batch result
     (one-job (course_of words files) p.0 (job.Run flow inputs log threads batch) p.1 e) p.2 is) h
 
 run-long : (words : List (List ℕ)) (told now : Option Named) (before mid : Option (List ℕ)) (a b w x : ℕ) (result : Status)
-    → (Told told (λ files. course_of words files ≡ Err stop.Long) × IsUntouched [] told now before mid) ⊎ Breaks words stop.Long [] told now before mid
+    → (Told told (λ files. course_of words files ≡ Err failure.Long) × IsUntouched [] told now before mid) ⊎ Breaks words failure.Long [] told now before mid
     → result ≡ status.Long → Told told (IsRunLong words told now result a b w x)
-run-long words told now before mid a b w x result (inl few) is = run-cause stop.Long words told now a b w x result few.0
+run-long words told now before mid a b w x result (inl few) is = run-cause failure.Long words told now a b w x result few.0
 run-long words told now before mid a b w x result (inr breaks) is = run-too-long words told now before mid a b w x result breaks is
 
-run-stopped : (s : Stop) (words : List (List ℕ)) (told now : Option Named) (before mid : Option (List ℕ)) (a b w x : ℕ) (result : Status)
+run-stopped : (s : Failure) (words : List (List ℕ)) (told now : Option Named) (before mid : Option (List ℕ)) (a b w x : ℕ) (result : Status)
     → Runs {A = Unit {0}} (Err s) words told now before mid a b → CountsWrites {A = Unit {0}} (Err s) w x → (result ≡ status_of s) ⊎ (result ≡ status.NoMemory)
     → Told told (IsRunLong words told now result a b w x)
 run-stopped s words told now before mid a b w x result r m (inr none) =
     told-all told (IsRunLong words told now result a b w x) (λ files flow inputs log threads batch e read kept. inl none)
-run-stopped stop.Usage words told now before mid a b w x result r m (inl is) =
+run-stopped failure.Usage words told now before mid a b w x result r m (inl is) =
     told-all told (IsRunLong words told now result a b w x)
-    (λ files flow inputs log threads batch e read kept. absurd (no-job (course_of words files) stop.Usage (job.Run flow inputs log threads batch) (course-none words files r.1) e))
-run-stopped (stop.ReadFault name) words told now before mid a b w x result r m (inl is) =
+    (λ files flow inputs log threads batch e read kept. absurd (no-job (course_of words files) failure.Usage (job.Run flow inputs log threads batch) (course-none words files r.1) e))
+run-stopped (failure.ReadFault name) words told now before mid a b w x result r m (inl is) =
     elim r.0 [
-      | inl lacks ↦ run-cause (stop.ReadFault name) words told now a b w x result (told-tells told (λ files. course_of words files ≡ Err (stop.ReadFault name)) lacks.1)
+      | inl lacks ↦ run-cause (failure.ReadFault name) words told now a b w x result (told-tells told (λ files. course_of words files ≡ Err (failure.ReadFault name)) lacks.1)
       | inr rose ↦ told-all told (IsRunLong words told now result a b w x) (λ files flow inputs log threads batch e read kept. absurd (read rose))
     ]
-run-stopped stop.LogFault words told now before mid a b w x result r m (inl is) =
+run-stopped failure.LogFault words told now before mid a b w x result r m (inl is) =
     told-all told (IsRunLong words told now result a b w x) (λ files flow inputs log threads batch e read kept. absurd (kept m.1))
-run-stopped stop.OutFault words told now before mid a b w x result r m (inl is) = run-out words told now before mid a b w x result r.1 is
-run-stopped stop.Long words told now before mid a b w x result r m (inl is) = run-long words told now before mid a b w x result r.1 is
-run-stopped stop.NoMemory words told now before mid a b w x result r m (inl is) =
+run-stopped failure.OutFault words told now before mid a b w x result r m (inl is) = run-out words told now before mid a b w x result r.1 is
+run-stopped failure.Long words told now before mid a b w x result r m (inl is) = run-long words told now before mid a b w x result r.1 is
+run-stopped failure.NoMemory words told now before mid a b w x result r m (inl is) =
     told-all told (IsRunLong words told now result a b w x) (λ files flow inputs log threads batch e read kept. inl is)
 run-stopped other words told now before mid a b w x result r m (inl is) = run-cause other words told now a b w x result r.0.1
 
@@ -181,7 +181,7 @@ long-of words told now result a b w x =
     told-both told (λ files. Answers (course_of words files) result a b) (IsRunLong words told now result a b w x) (IsLongTold words told now result a b w x)
     (λ files h run one asks read kept. long-job words told now result a b w x files one h run asks read kept)
 
-pub long-stopped : (s : Stop) (words : List (List ℕ)) (told now : Option Named) (before mid : Option (List ℕ)) (a b w x : ℕ) (result : Status)
+pub long-stopped : (s : Failure) (words : List (List ℕ)) (told now : Option Named) (before mid : Option (List ℕ)) (a b w x : ℕ) (result : Status)
     → Runs {A = Unit {0}} (Err s) words told now before mid a b → CountsWrites {A = Unit {0}} (Err s) w x → (result ≡ status_of s) ⊎ (result ≡ status.NoMemory)
     → Told told (λ files. Answers (course_of words files) result a b) → Told told (IsLongTold words told now result a b w x)
 long-stopped s words told now before mid a b w x result r m tells h = long-of words told now result a b w x h (run-stopped s words told now before mid a b w x result r m tells)

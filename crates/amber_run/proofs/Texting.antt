@@ -14,8 +14,8 @@ use Rattle.amber_course.specs.Steps.{Judges, Sent}
 use Rattle.amber_run.specs.Task.{task_of}
 use Rattle.amber_run.specs.Writing.{CountsWrites}
 use Rattle.amber_course.specs.declared.job.Job.TheVariants as job
-use Rattle.amber_course.specs.declared.stop.Stop.{Stop}
-use Rattle.amber_course.specs.declared.stop.Stop.TheVariants as stop
+use Rattle.amber_course.specs.declared.failure.Failure.{Failure}
+use Rattle.amber_course.specs.declared.failure.Failure.TheVariants as failure
 use Rattle.amber_course.proofs.Lines.{appends-same, keeps-nil}
 
 -- ---- how many rows there are
@@ -32,74 +32,74 @@ pub text-of : (answer : Answer) (flow : List Operator) (files : List (List ℕ))
 text-of answer flow files text is e = rw (is-few (row_total flow files) most_rows is.0, e, is.1) refl
 
 -- there was none
-pub no-answer : (s : Stop) (flow : List Operator) (files : List (List ℕ)) → IsAnswer (Err s) flow files → Judges {A = List ℕ} (Err s) (text_of flow files)
-no-answer stop.Long flow files h = rw (is-long (row_total flow files) most_rows h) refl
-no-answer stop.NoMemory flow files h = tt
+pub no-answer : (s : Failure) (flow : List Operator) (files : List (List ℕ)) → IsAnswer (Err s) flow files → Judges {A = List ℕ} (Err s) (text_of flow files)
+no-answer failure.Long flow files h = rw (is-long (row_total flow files) most_rows h) refl
+no-answer failure.NoMemory flow files h = tt
 no-answer other flow files h = absurd h
 
 -- ---- the job
 
-cut-err : {A : Type 0} (few : Bool) (x : A) (s : Stop) → cond few (Ok x) (Err stop.Long) ≡ Err s → (few ≡ false) × (s ≡ stop.Long)
+cut-err : {A : Type 0} (few : Bool) (x : A) (s : Failure) → cond few (Ok x) (Err failure.Long) ≡ Err s → (few ≡ false) × (s ≡ failure.Long)
 cut-err true x s e = cc
 cut-err false x s e = (refl, cc)
 
-cut-ok : {A : Type 0} (few : Bool) (x y : A) → cond few (Ok x) (Err stop.Long) ≡ Ok y → (few ≡ true) × (y ≡ x)
+cut-ok : {A : Type 0} (few : Bool) (x y : A) → cond few (Ok x) (Err failure.Long) ≡ Ok y → (few ≡ true) × (y ≡ x)
 cut-ok true x y e = (refl, cc)
 cut-ok false x y e = cc
 
 -- there was no text
-pub works-stop : (s : Stop) (flow : List Operator) (files : List (List ℕ)) (told : Option Named) (got : Option (List ℕ)) → Judges {A = List ℕ} (Err s) (text_of flow files)
+pub works-failure : (s : Failure) (flow : List Operator) (files : List (List ℕ)) (told : Option Named) (got : Option (List ℕ)) → Judges {A = List ℕ} (Err s) (text_of flow files)
     → Works {A = Unit {0}} (Err s) (job.Plain flow files) told told got got
-works-stop stop.Usage flow files told got h = absurd h
-works-stop (stop.ReadFault name) flow files told got h = absurd h
-works-stop stop.LogFault flow files told got h = absurd h
-works-stop stop.OutFault flow files told got h = absurd h
-works-stop stop.NoMemory flow files told got h = inl (refl, appends-same got)
-works-stop stop.Long flow files told got h =
-    inl (rw (cut-err (nat_le (row_total flow files) most_rows) (answer_text flow (answer_of flow files)) stop.Long h).0 refl, (refl, appends-same got))
-works-stop other flow files told got h = absurd (let e = (cut-err (nat_le (row_total flow files) most_rows) (answer_text flow (answer_of flow files)) other h).1 in cc)
+works-failure failure.Usage flow files told got h = absurd h
+works-failure (failure.ReadFault name) flow files told got h = absurd h
+works-failure failure.LogFault flow files told got h = absurd h
+works-failure failure.OutFault flow files told got h = absurd h
+works-failure failure.NoMemory flow files told got h = inl (refl, appends-same got)
+works-failure failure.Long flow files told got h =
+    inl (rw (cut-err (nat_le (row_total flow files) most_rows) (answer_text flow (answer_of flow files)) failure.Long h).0 refl, (refl, appends-same got))
+works-failure other flow files told got h = absurd (let e = (cut-err (nat_le (row_total flow files) most_rows) (answer_text flow (answer_of flow files)) other h).1 in cc)
 
-pub judged-counts : (s : Stop) (meant : Result (List ℕ) Stop) (n : ℕ) → Judges {A = List ℕ} (Err s) meant → Counts {A = Unit {0}} (Err s) n n
-judged-counts stop.OutFault meant n h = absurd h
+pub judged-counts : (s : Failure) (meant : Result (List ℕ) Failure) (n : ℕ) → Judges {A = List ℕ} (Err s) meant → Counts {A = Unit {0}} (Err s) n n
+judged-counts failure.OutFault meant n h = absurd h
 judged-counts other meant n h = refl
 
-pub judged-unlogged : (s : Stop) (meant : Result (List ℕ) Stop) → Judges {A = List ℕ} (Err s) meant → s ≢ stop.LogFault
-judged-unlogged stop.LogFault meant h e = h
+pub judged-unlogged : (s : Failure) (meant : Result (List ℕ) Failure) → Judges {A = List ℕ} (Err s) meant → s ≢ failure.LogFault
+judged-unlogged failure.LogFault meant h e = h
 judged-unlogged other meant h e = cc
 
-pub judged-writes : (s : Stop) (meant : Result (List ℕ) Stop) (n : ℕ) → Judges {A = List ℕ} (Err s) meant → CountsWrites {A = Unit {0}} (Err s) n n
-judged-writes stop.LogFault meant n h = absurd h
+pub judged-writes : (s : Failure) (meant : Result (List ℕ) Failure) (n : ℕ) → Judges {A = List ℕ} (Err s) meant → CountsWrites {A = Unit {0}} (Err s) n n
+judged-writes failure.LogFault meant n h = absurd h
 judged-writes other meant n h = refl
 
 -- the text was put
-pub works-sent : (r : Result (Unit {0}) Stop) (flow : List Operator) (files : List (List ℕ)) (text : List ℕ) (told : Option Named) (before got : Option (List ℕ)) (a b : ℕ) → text_of flow files ≡ Ok text
+pub works-sent : (r : Result (Unit {0}) Failure) (flow : List Operator) (files : List (List ℕ)) (text : List ℕ) (told : Option Named) (before got : Option (List ℕ)) (a b : ℕ) → text_of flow files ≡ Ok text
     → Sent r before got a b text → Works r (job.Plain flow files) told told before got
 works-sent (Ok u) flow files text told before got a b e h =
     let few = cut-ok (nat_le (row_total flow files) most_rows) (answer_text flow (answer_of flow files)) text e in
     (rw few.0 refl, (refl, rw few.1 at h.1))
-works-sent (Err stop.OutFault) flow files text told before got a b e h =
+works-sent (Err failure.OutFault) flow files text told before got a b e h =
     let few = cut-ok (nat_le (row_total flow files) most_rows) (answer_text flow (answer_of flow files)) text e in
     (rw few.0 refl, (refl, rw few.1 at h.2))
-works-sent (Err stop.NoMemory) flow files text told before got a b e h = inl (refl, keeps-nil before got h.1)
+works-sent (Err failure.NoMemory) flow files text told before got a b e h = inl (refl, keeps-nil before got h.1)
 works-sent (Err other) flow files text told before got a b e h = absurd h
 
-pub sent-counts : (r : Result (Unit {0}) Stop) (text : List ℕ) (before got : Option (List ℕ)) (a b : ℕ) → Sent r before got a b text → Counts r a b
+pub sent-counts : (r : Result (Unit {0}) Failure) (text : List ℕ) (before got : Option (List ℕ)) (a b : ℕ) → Sent r before got a b text → Counts r a b
 sent-counts (Ok u) text before got a b h = h.0
-sent-counts (Err stop.OutFault) text before got a b h = (h.0, h.1)
-sent-counts (Err stop.NoMemory) text before got a b h = h.0
+sent-counts (Err failure.OutFault) text before got a b h = (h.0, h.1)
+sent-counts (Err failure.NoMemory) text before got a b h = h.0
 sent-counts (Err other) text before got a b h = absurd h
 
-pub sent-writes : (r : Result (Unit {0}) Stop) (text : List ℕ) (before got : Option (List ℕ)) (a b n : ℕ) → Sent r before got a b text → CountsWrites r n n
+pub sent-writes : (r : Result (Unit {0}) Failure) (text : List ℕ) (before got : Option (List ℕ)) (a b n : ℕ) → Sent r before got a b text → CountsWrites r n n
 sent-writes (Ok u) text before got a b n h = refl
-sent-writes (Err stop.LogFault) text before got a b n h = absurd h
+sent-writes (Err failure.LogFault) text before got a b n h = absurd h
 sent-writes (Err other) text before got a b n h = refl
 
 -- a run
-pub works-run : (r : Result (Unit {0}) Stop) (flow : List Operator) (files : List (List ℕ)) (log : List ℕ) (threads batch : ℕ) (told now : Option Named) (before got : Option (List ℕ))
+pub works-run : (r : Result (Unit {0}) Failure) (flow : List Operator) (files : List (List ℕ)) (log : List ℕ) (threads batch : ℕ) (told now : Option Named) (before got : Option (List ℕ))
     → Worked r (task_of told before flow files log batch) now got → Works r (job.Run flow files log threads batch) told now before got
 works-run (Ok u) flow files log threads batch told now before got h = (refl, h)
-works-run (Err stop.LogFault) flow files log threads batch told now before got h = (refl, h)
-works-run (Err stop.OutFault) flow files log threads batch told now before got h = (refl, h)
-works-run (Err stop.Long) flow files log threads batch told now before got h = inr (refl, h)
-works-run (Err stop.NoMemory) flow files log threads batch told now before got h = inr (refl, h)
+works-run (Err failure.LogFault) flow files log threads batch told now before got h = (refl, h)
+works-run (Err failure.OutFault) flow files log threads batch told now before got h = (refl, h)
+works-run (Err failure.Long) flow files log threads batch told now before got h = inr (refl, h)
+works-run (Err failure.NoMemory) flow files log threads batch told now before got h = inr (refl, h)
 works-run (Err other) flow files log threads batch told now before got h = absurd h

@@ -28,8 +28,8 @@ use Rattle.amber_run.specs.UnderWay.{ClosesAs, Halts, IsBare, IsLeft, Opens, IsU
 use Rattle.amber_course.specs.Steps.{Sent}
 use Rattle.amber_run.specs.Task.{IsSession, Task, ends_long, query_at}
 use Rattle.amber_run.specs.Writing.{Made, Wrote}
-use Rattle.amber_course.specs.declared.stop.Stop.{Stop}
-use Rattle.amber_course.specs.declared.stop.Stop.TheVariants as stop
+use Rattle.amber_course.specs.declared.failure.Failure.{Failure}
+use Rattle.amber_course.specs.declared.failure.Failure.TheVariants as failure
 use Rattle.amber_course.proofs.Lines.{appends-on, appends-same, keeps-nil}
 
 -- ---- lists
@@ -69,7 +69,7 @@ stands-start t batch files written h is place sent = record {
 
 -- a log of no item
 left-head : (t : Task) (bytes : List ℕ) (batch : ℕ) (files : Option Named) (written : Option (List ℕ)) → IsBatch batch → IsReadAs bytes (record { batch = batch; items = [] })
-    → files ≡ with_file t.told t.name bytes → Appends t.before written [] → IsLeft t stop.LogFault [] files written
+    → files ≡ with_file t.told t.name bytes → Appends t.before written [] → IsLeft t failure.LogFault [] files written
 unfolding transcript_of replies
 left-head t bytes batch files written h read place sent = record {
   bytes = bytes;
@@ -103,10 +103,10 @@ empty-batch : IsBatch 400
 empty-batch = (omega arith, omega arith)
 
 -- the log was not made
-pub exit-create : (s : Stop) (t : Task) (log : Log) (files : Option Named) (written : Option (List ℕ)) → Made {A = Unit {0}} (Err s) t.told files t.name → Appends t.before written []
+pub exit-create : (s : Failure) (t : Task) (log : Log) (files : Option Named) (written : Option (List ℕ)) → Made {A = Unit {0}} (Err s) t.told files t.name → Appends t.before written []
     → Opens {A = Unit {0}} (Err s) t log files written
-exit-create stop.LogFault t log files written h sent = inl (h, sent)
-exit-create stop.NoMemory t log files written h sent = (inl h, sent)
+exit-create failure.LogFault t log files written h sent = inl (h, sent)
+exit-create failure.NoMemory t log files written h sent = (inl h, sent)
 exit-create other t log files written h sent = absurd h
 
 -- there was no memory for its head
@@ -114,9 +114,9 @@ pub exit-bare : (t : Task) (files : Option Named) (written : Option (List ℕ)) 
 exit-bare t files written h sent = (inr (inr h), sent)
 
 -- its head was not written
-pub exit-head : (s : Stop) (t : Task) (log : Log) (batch : ℕ) (head : List ℕ) (mid files : Option Named) (written : Option (List ℕ)) → IsBatch batch → head ≡ head_text batch
+pub exit-head : (s : Failure) (t : Task) (log : Log) (batch : ℕ) (head : List ℕ) (mid files : Option Named) (written : Option (List ℕ)) → IsBatch batch → head ≡ head_text batch
     → mid ≡ with_file t.told t.name [] → Wrote {A = Unit {0}} (Err s) mid files t.name head → Appends t.before written [] → Opens {A = Unit {0}} (Err s) t log files written
-exit-head stop.LogFault t log batch head mid files written h text made (part, rest, split, new) sent =
+exit-head failure.LogFault t log batch head mid files written h text made (part, rest, split, new) sent =
     let place : files ≡ with_file t.told t.name part = new ∙ ap (λ m. with_more m t.name part) made ∙ with_more-with_file t.told t.name [] part in
     let front : take (length part) (head_text batch) ≡ part = take-front part rest (head_text batch) (split ∙ text) in
     let torn = rw front at (reads-torn_head batch (length part) h) in
@@ -124,7 +124,7 @@ exit-head stop.LogFault t log batch head mid files written h text made (part, re
       | inl read ↦ left-head t part 400 files written empty-batch read place sent
       | inr all ↦ left-head t part batch files written h (rw all (head-read batch h)) place sent
     ])
-exit-head stop.NoMemory t log batch head mid files written h text made new sent = (inr (inr (new ∙ made)), sent)
+exit-head failure.NoMemory t log batch head mid files written h text made new sent = (inr (inr (new ∙ made)), sent)
 exit-head other t log batch head mid files written h text made new sent = absurd new
 
 -- its head was written
@@ -137,7 +137,7 @@ stands-head t batch head mid files written h is text made new sent =
 -- ---- a command
 
 -- the log is as it was, and perhaps a torn item behind it
-left-log : (t : Task) (s : Stop) (left : List Command) (log : Log) (bytes : List ℕ) (mid files : Option Named) (written : Option (List ℕ)) → IsUnderWay t left log mid written
+left-log : (t : Task) (s : Failure) (left : List Command) (log : Log) (bytes : List ℕ) (mid files : Option Named) (written : Option (List ℕ)) → IsUnderWay t left log mid written
     → files ≡ with_file t.told t.name bytes → IsReadAs bytes log → ClosesAs s false → IsLeft t s [] files written
 unfolding replies
 left-log t s left log bytes mid files written h place read closed = record {
@@ -161,10 +161,10 @@ left-log t s left log bytes mid files written h place read closed = record {
 }
 
 -- the log has an item more, and a part of its reply was put
-left-item : (t : Task) (s : Stop) (left : List Command) (command : Command) (log : Log) (one : Item) (part rest : List ℕ) (mid files : Option Named) (written got : Option (List ℕ))
+left-item : (t : Task) (s : Failure) (left : List Command) (command : Command) (log : Log) (one : Item) (part rest : List ℕ) (mid files : Option Named) (written got : Option (List ℕ))
     → IsUnderWay t (command ∷ left) log mid written → command_of one ≡ command → IsLegal (query_at t log.batch) (one_more log one)
     → files ≡ with_file t.told t.name (log_text (one_more log one)) → part ++ rest ≡ reply_of (query_at t log.batch) (state_after (query_at t log.batch) log.items) one
-    → (s ≢ stop.OutFault → part ≡ []) → Appends written got part → ClosesAs s (is_long_item one) → IsLeft t s [] files got
+    → (s ≢ failure.OutFault → part ≡ []) → Appends written got part → ClosesAs s (is_long_item one) → IsLeft t s [] files got
 unfolding replies
 left-item t s left command log one part rest mid files written got h is legal place split whole put closed =
     let query = query_at t log.batch in
@@ -197,46 +197,46 @@ item-place t log one mid files piece place text new =
     ∙ ap (λ b. with_file t.told t.name (log_text log ++ b)) text ∙ ap (λ b. with_file t.told t.name b) (sym (log_text-push log one))
 
 -- there was no item, for want of memory
-pub exit-memory : (t : Task) (left : List Command) (log : Log) (files : Option Named) (written : Option (List ℕ)) → IsUnderWay t left log files written → IsLeft t stop.NoMemory [] files written
-exit-memory t left log files written h = left-log t stop.NoMemory left log (log_text log) files files written h h.place (reads-whole log h.legal.text) tt
+pub exit-memory : (t : Task) (left : List Command) (log : Log) (files : Option Named) (written : Option (List ℕ)) → IsUnderWay t left log files written → IsLeft t failure.NoMemory [] files written
+exit-memory t left log files written h = left-log t failure.NoMemory left log (log_text log) files files written h h.place (reads-whole log h.legal.text) tt
 
 -- the item was not written
-pub exit-write : (s : Stop) (t : Task) (left : List Command) (command : Command) (log : Log) (one : Item) (piece : List ℕ) (mid files : Option Named) (written : Option (List ℕ))
+pub exit-write : (s : Failure) (t : Task) (left : List Command) (command : Command) (log : Log) (one : Item) (piece : List ℕ) (mid files : Option Named) (written : Option (List ℕ))
     → IsUnderWay t (command ∷ left) log mid written → command_of one ≡ command → IsLegal (query_at t log.batch) (one_more log one) → piece ≡ item_text one
     → Wrote {A = Unit {0}} (Err s) mid files t.name piece → Halts t s files written
-exit-write stop.LogFault t left command log one piece mid files written h is legal text (part, rest, split, new) =
+exit-write failure.LogFault t left command log one piece mid files written h is legal text (part, rest, split, new) =
     let place : files ≡ with_file t.told t.name (log_text log ++ part) =
     new ∙ ap (λ m. with_more m t.name part) h.place ∙ with_more-with_file t.told t.name (log_text log) part in
     let front : take (length part) (item_text one) ≡ part = take-front part rest (item_text one) (split ∙ text) in
     let torn = rw front at (reads-torn log one (length part) h.legal.text (last-is false log.items one legal.text.items)) in
     elim torn [
-      | inl read ↦ left-log t stop.LogFault (command ∷ left) log (log_text log ++ part) mid files written h place read tt
-      | inr all ↦ left-item t stop.LogFault left command log one [] (reply_of (query_at t log.batch) (state_after (query_at t log.batch) log.items) one) mid files written written h is legal
+      | inl read ↦ left-log t failure.LogFault (command ∷ left) log (log_text log ++ part) mid files written h place read tt
+      | inr all ↦ left-item t failure.LogFault left command log one [] (reply_of (query_at t log.batch) (state_after (query_at t log.batch) log.items) one) mid files written written h is legal
           (item-place t log one mid files part h.place all new) refl (λ n. refl) (appends-same written) tt
     ]
-exit-write stop.NoMemory t left command log one piece mid files written h is legal text new =
-    left-log t stop.NoMemory (command ∷ left) log (log_text log) mid files written h (new ∙ h.place) (reads-whole log h.legal.text) tt
+exit-write failure.NoMemory t left command log one piece mid files written h is legal text new =
+    left-log t failure.NoMemory (command ∷ left) log (log_text log) mid files written h (new ∙ h.place) (reads-whole log h.legal.text) tt
 exit-write other t left command log one piece mid files written h is legal text new = absurd new
 
 -- the reply was not put
-pub exit-send : (s : Stop) (t : Task) (left : List Command) (command : Command) (log : Log) (one : Item) (piece reply : List ℕ) (mid files : Option Named) (written got : Option (List ℕ)) (a b : ℕ)
+pub exit-send : (s : Failure) (t : Task) (left : List Command) (command : Command) (log : Log) (one : Item) (piece reply : List ℕ) (mid files : Option Named) (written got : Option (List ℕ)) (a b : ℕ)
     → IsUnderWay t (command ∷ left) log mid written → command_of one ≡ command → IsLegal (query_at t log.batch) (one_more log one) → piece ≡ item_text one
     → is_long_item one ≡ false → files ≡ with_more mid t.name piece → reply ≡ reply_of (query_at t log.batch) (state_after (query_at t log.batch) log.items) one
     → Sent {A = Unit {0}} (Err s) written got a b reply → Halts t s files got
-exit-send stop.OutFault t left command log one piece reply mid files written got a b h is legal text short new answer sent =
-    left-item t stop.OutFault left command log one sent.2.0 sent.2.1 mid files written got h is legal (item-place t log one mid files piece h.place text new) (sent.2.2 ∙ answer)
+exit-send failure.OutFault t left command log one piece reply mid files written got a b h is legal text short new answer sent =
+    left-item t failure.OutFault left command log one sent.2.0 sent.2.1 mid files written got h is legal (item-place t log one mid files piece h.place text new) (sent.2.2 ∙ answer)
     (λ n. absurd (n refl)) sent.2.3 short
-exit-send stop.NoMemory t left command log one piece reply mid files written got a b h is legal text short new answer sent =
-    left-item t stop.NoMemory left command log one [] reply mid files written got h is legal (item-place t log one mid files piece h.place text new) answer
+exit-send failure.NoMemory t left command log one piece reply mid files written got a b h is legal text short new answer sent =
+    left-item t failure.NoMemory left command log one [] reply mid files written got h is legal (item-place t log one mid files piece h.place text new) answer
     (λ n. refl) (keeps-nil written got sent.1) tt
 exit-send other t left command log one piece reply mid files written got a b h is legal text short new answer sent = absurd sent
 
 -- the steps were as many as may be
 pub exit-long : (t : Task) (left : List Command) (command : Command) (log : Log) (one : Item) (piece : List ℕ) (mid files : Option Named) (written : Option (List ℕ))
     → IsUnderWay t (command ∷ left) log mid written → command_of one ≡ command → IsLegal (query_at t log.batch) (one_more log one) → piece ≡ item_text one
-    → is_long_item one ≡ true → files ≡ with_more mid t.name piece → IsLeft t stop.Long [] files written
+    → is_long_item one ≡ true → files ≡ with_more mid t.name piece → IsLeft t failure.Long [] files written
 exit-long t left command log one piece mid files written h is legal text long new =
-    left-item t stop.Long left command log one [] (reply_of (query_at t log.batch) (state_after (query_at t log.batch) log.items) one) mid files written written h is legal
+    left-item t failure.Long left command log one [] (reply_of (query_at t log.batch) (state_after (query_at t log.batch) log.items) one) mid files written written h is legal
     (item-place t log one mid files piece h.place text new) refl (λ n. refl) (appends-same written) long
 
 -- the command was done
@@ -274,7 +274,7 @@ unfolding fits_of
 fits-end flow done e = rw e refl
 
 -- a command was done, and its item was not written
-pub done-write : (s : Stop) (t : Task) (left : List Command) (old new : Session) (command : Command) (told : Done) (piece : List ℕ) (mid files : Option Named) (written : Option (List ℕ))
+pub done-write : (s : Failure) (t : Task) (left : List Command) (old new : Session) (command : Command) (told : Done) (piece : List ℕ) (mid files : Option Named) (written : Option (List ℕ))
     → IsSession t old → IsUnderWay t (command ∷ left) old.log mid written → Does (Ok told) old new command → IsLegal (query_in new) new.log → piece ≡ told.item
     → Wrote {A = Unit {0}} (Err s) mid files t.name piece → Halts t s files written
 done-write s t left old new command told piece mid files written session h does legal is wrote =
@@ -286,7 +286,7 @@ reply-is t old new command told reply session does is =
     is ∙ does.4 ∙ ap (λ query. reply_of query (state_after query old.log.items) does.0) (session-query t old session)
 
 -- its reply was not put
-pub done-send : (s : Stop) (t : Task) (left : List Command) (old new : Session) (command : Command) (told : Done) (piece reply : List ℕ) (mid files : Option Named) (written got : Option (List ℕ)) (a b : ℕ)
+pub done-send : (s : Failure) (t : Task) (left : List Command) (old new : Session) (command : Command) (told : Done) (piece reply : List ℕ) (mid files : Option Named) (written got : Option (List ℕ)) (a b : ℕ)
     → IsSession t old → IsUnderWay t (command ∷ left) old.log mid written → Does (Ok told) old new command → IsLegal (query_in new) new.log → piece ≡ told.item → reply ≡ told.reply
     → files ≡ with_more mid t.name piece → Sent {A = Unit {0}} (Err s) written got a b reply → Halts t s files got
 done-send s t left old new command told piece reply mid files written got a b session h does legal is answer wrote sent =
@@ -303,7 +303,7 @@ done-next t left old new command told piece reply mid files written got session 
     (reply-is t old new command told reply session does answer) sent)
 
 -- a leg was too long, and was not written
-pub long-write : (s : Stop) (t : Task) (left : List Command) (old new : Session) (command : Command) (text piece : List ℕ) (mid files : Option Named) (written : Option (List ℕ))
+pub long-write : (s : Failure) (t : Task) (left : List Command) (old new : Session) (command : Command) (text piece : List ℕ) (mid files : Option Named) (written : Option (List ℕ))
     → IsSession t old → IsUnderWay t (command ∷ left) old.log mid written → Does (Err (debug_err.Long text)) old new command → IsLegal (query_in new) new.log → piece ≡ text
     → Wrote {A = Unit {0}} (Err s) mid files t.name piece → Halts t s files written
 long-write s t left old new command text piece mid files written session h does legal is wrote =
@@ -312,6 +312,6 @@ long-write s t left old new command text piece mid files written session h does 
 -- it was written
 pub long-next : (t : Task) (left : List Command) (old new : Session) (command : Command) (text piece : List ℕ) (mid files : Option Named) (written : Option (List ℕ))
     → IsSession t old → IsUnderWay t (command ∷ left) old.log mid written → Does (Err (debug_err.Long text)) old new command → IsLegal (query_in new) new.log → piece ≡ text
-    → files ≡ with_more mid t.name piece → IsLeft t stop.Long [] files written
+    → files ≡ with_more mid t.name piece → IsLeft t failure.Long [] files written
 long-next t left old new command text piece mid files written session h does legal is wrote =
     exit-long t left command old.log does.0 piece mid files written h does.1.command (session-grown t old new command does.0 session does.1 legal) (is ∙ does.3) does.2 wrote

@@ -12,19 +12,19 @@ use Rattle.amber_run.specs.UnderWay.{IsDone, Leaves}
 use Rattle.amber_run.specs.Task.{task_of}
 use Rattle.amber_course.specs.declared.job.Job.{Job}
 use Rattle.amber_course.specs.declared.job.Job.TheVariants as job
-use Rattle.amber_course.specs.declared.stop.Stop.{Stop}
-use Rattle.amber_course.specs.declared.stop.Stop.TheVariants as stop
+use Rattle.amber_course.specs.declared.failure.Failure.{Failure}
+use Rattle.amber_course.specs.declared.failure.Failure.TheVariants as failure
 
 -- the sequential answer, or that there are too many rows
-abbrev pub IsAnswer : Result Answer Stop → List Operator → List (List ℕ) → Type 0
+abbrev pub IsAnswer : Result Answer Failure → List Operator → List (List ℕ) → Type 0
 IsAnswer (Ok answer) flow files = (row_total flow files ≤ most_rows) × (answer ≡ answer_of flow files)
-IsAnswer (Err stop.Long) flow files = most_rows < row_total flow files
-IsAnswer (Err stop.NoMemory) flow files = ⊤
+IsAnswer (Err failure.Long) flow files = most_rows < row_total flow files
+IsAnswer (Err failure.NoMemory) flow files = ⊤
 IsAnswer (Err other) flow files = ⊥
 
 -- the text of the sequential answer, where the rows of all operators are few enough
-abbrev pub text_of : List Operator → List (List ℕ) → Result (List ℕ) Stop
-text_of flow files = if nat_le (row_total flow files) most_rows then Ok (answer_text flow (answer_of flow files)) else Err stop.Long
+abbrev pub text_of : List Operator → List (List ℕ) → Result (List ℕ) Failure
+text_of flow files = if nat_le (row_total flow files) most_rows then Ok (answer_text flow (answer_of flow files)) else Err failure.Long
 
 -- ---- what a job leaves, from the files that are told and what the sink had before to what they are now
 
@@ -38,17 +38,17 @@ Fulfils (job.Plain flow files) told now before got = IsUntouched (answer_text fl
 Fulfils (job.Run flow files log threads batch) told now before got = IsDone (task_of told before flow files log batch) now got
 
 -- the job was broken off, and a line was put behind: for `plain` the sink failed, which got a front part of that text alone
-abbrev pub BreaksOff : Job → Stop → List ℕ → Option Named → Option Named → Option (List ℕ) → Option (List ℕ) → Type 0
-BreaksOff (job.Plain flow files) stop.OutFault line told now before got = (now ≡ told) × Begins before got (answer_text flow (answer_of flow files))
+abbrev pub BreaksOff : Job → Failure → List ℕ → Option Named → Option Named → Option (List ℕ) → Option (List ℕ) → Type 0
+BreaksOff (job.Plain flow files) failure.OutFault line told now before got = (now ≡ told) × Begins before got (answer_text flow (answer_of flow files))
 BreaksOff (job.Plain flow files) other line told now before got = ⊥
 BreaksOff (job.Run flow files log threads batch) s line told now before got = Leaves (task_of told before flow files log batch) s line now got
 
 -- a job was done, or broken off, or nothing was done: for want of memory, or since the query gives too many rows
-abbrev pub Works : {A : Type 0} → Result A Stop → Job → Option Named → Option Named → Option (List ℕ) → Option (List ℕ) → Type 0
+abbrev pub Works : {A : Type 0} → Result A Failure → Job → Option Named → Option Named → Option (List ℕ) → Option (List ℕ) → Type 0
 Works (Ok x) done told now before got = (limited done ≡ Ok done) × Fulfils done told now before got
-Works (Err stop.LogFault) done told now before got = (limited done ≡ Ok done) × BreaksOff done stop.LogFault [] told now before got
-Works (Err stop.OutFault) done told now before got = (limited done ≡ Ok done) × BreaksOff done stop.OutFault [] told now before got
-Works (Err stop.Long) done told now before got =
-    ((limited done ≡ Err stop.Long) × IsUntouched [] told now before got) ⊎ ((limited done ≡ Ok done) × BreaksOff done stop.Long [] told now before got)
-Works (Err stop.NoMemory) done told now before got = IsUntouched [] told now before got ⊎ ((limited done ≡ Ok done) × BreaksOff done stop.NoMemory [] told now before got)
+Works (Err failure.LogFault) done told now before got = (limited done ≡ Ok done) × BreaksOff done failure.LogFault [] told now before got
+Works (Err failure.OutFault) done told now before got = (limited done ≡ Ok done) × BreaksOff done failure.OutFault [] told now before got
+Works (Err failure.Long) done told now before got =
+    ((limited done ≡ Err failure.Long) × IsUntouched [] told now before got) ⊎ ((limited done ≡ Ok done) × BreaksOff done failure.Long [] told now before got)
+Works (Err failure.NoMemory) done told now before got = IsUntouched [] told now before got ⊎ ((limited done ≡ Ok done) × BreaksOff done failure.NoMemory [] told now before got)
 Works (Err other) done told now before got = ⊥

@@ -14,11 +14,11 @@ use Rattle.amber_course.specs.Words.{words_of}
 use Rattle.amber_course.specs.declared.job.Job.{Job}
 use Rattle.amber_course.specs.declared.job.Job.TheVariants as job
 use Rattle.amber_course.specs.Steps.{Names, Stopped, Tells}
-use Rattle.amber_course.specs.Stop.{IsToldAs, line_of, status_of}
+use Rattle.amber_course.specs.Failure.{IsToldAs, line_of, status_of}
 use Rattle.amber_course.specs.declared.status.Status.{Status}
 use Rattle.amber_course.specs.declared.status.Status.TheVariants as status
-use Rattle.amber_course.specs.declared.stop.Stop.{Stop}
-use Rattle.amber_course.specs.declared.stop.Stop.TheVariants as stop
+use Rattle.amber_course.specs.declared.failure.Failure.{Failure}
+use Rattle.amber_course.specs.declared.failure.Failure.TheVariants as failure
 use Rattle.amber_course.specs.declared.words.Words.{Words}
 use Rattle.amber_course.specs.declared.words.Words.TheVariants as form
 
@@ -46,18 +46,18 @@ IsOpen (job.Plain flow files) result = IsPrintStatus result
 IsOpen (job.Run flow files log threads batch) result = IsRunStatus result
 
 -- the course decides the status, but for want of memory and for reads that failed, which raise the count of failed loads
-abbrev pub Answers : Result Job Stop → Status → ℕ → ℕ → Type 0
+abbrev pub Answers : Result Job Failure → Status → ℕ → ℕ → Type 0
 Answers (Ok job) result old new = IsOpen job result ⊎ ((result ≡ status.ReadFault) × Rose old new)
 Answers (Err s) result old new = (result ≡ status_of s) ⊎ (result ≡ status.NoMemory) ⊎ ((result ≡ status.ReadFault) × Rose old new)
 
 -- the course has a job, which meets the limit on its steps
-abbrev pub IsWithin : Result Job Stop → Type 0
+abbrev pub IsWithin : Result Job Failure → Type 0
 IsWithin (Ok (job.Plain flow files)) = ⊤
 IsWithin (Ok (job.Run flow files log threads batch)) = step_total (query_over flow files batch most_steps) ≤ most_steps
 IsWithin (Err s) = ⊥
 
 -- the statuses where the course has a job and only the sink has failed
-abbrev pub IsSinkStatus : Result Job Stop → Status → Type 0
+abbrev pub IsSinkStatus : Result Job Failure → Status → Type 0
 IsSinkStatus (Ok (job.Plain flow files)) result = (result ≡ status.OutFault) ⊎ (result ≡ status.NoMemory)
 IsSinkStatus (Ok (job.Run flow files log threads batch)) result = (result ≡ status.OutFault) ⊎ (result ≡ status.Long) ⊎ (result ≡ status.NoMemory)
 IsSinkStatus (Err s) result = ⊤
@@ -99,21 +99,21 @@ abbrev pub Succeeds : List (List ℕ) → Named → Option Named → Option Name
 Succeeds words files told now before got = (job : Job) × (course_of words files ≡ Ok job) × Fulfils job told now before got
 
 -- the course has a job, and it was broken off
-abbrev pub Breaks : List (List ℕ) → Stop → List ℕ → Option Named → Option Named → Option (List ℕ) → Option (List ℕ) → Type 0
+abbrev pub Breaks : List (List ℕ) → Failure → List ℕ → Option Named → Option Named → Option (List ℕ) → Option (List ℕ) → Type 0
 Breaks words s line told now before got = Told told (λ files. (job : Job) × (course_of words files ≡ Ok job) × BreaksOff job s line told now before got)
 
--- a stop behind the words is that of the course, but for want of memory and for reads that failed
-abbrev pub IsCause : List (List ℕ) → Option Named → Stop → ℕ → ℕ → Type 0
+-- a failure behind the words is that of the course, but for want of memory and for reads that failed
+abbrev pub IsCause : List (List ℕ) → Option Named → Failure → ℕ → ℕ → Type 0
 IsCause words told s old new = Stopped s old new (Told told (λ files. course_of words files ≡ Err s)) (Tells told (λ files. course_of words files ≡ Err s))
 
--- what a call that stopped leaves, with this part of the stop's line. `old` and `new` count the failed loads
-abbrev pub Stops : List (List ℕ) → Stop → List ℕ → Option Named → Option Named → Option (List ℕ) → Option (List ℕ) → ℕ → ℕ → Type 0
-Stops words stop.Usage line told now before got old new = (new ≡ old) × (words_of words ≡ None) × IsUntouched line told now before got
-Stops words stop.LogFault line told now before got old new = (new ≡ old) × Breaks words stop.LogFault line told now before got
-Stops words stop.OutFault line told now before got old new = (new ≡ old) × Breaks words stop.OutFault line told now before got
-Stops words stop.Long line told now before got old new =
-    (new ≡ old) × ((Told told (λ files. course_of words files ≡ Err stop.Long) × IsUntouched line told now before got) ⊎ Breaks words stop.Long line told now before got)
-Stops words stop.NoMemory line told now before got old new = IsUntouched line told now before got ⊎ ((new ≡ old) × Breaks words stop.NoMemory line told now before got)
+-- what a call that stopped leaves, with this part of the failure's line. `old` and `new` count the failed loads
+abbrev pub Stops : List (List ℕ) → Failure → List ℕ → Option Named → Option Named → Option (List ℕ) → Option (List ℕ) → ℕ → ℕ → Type 0
+Stops words failure.Usage line told now before got old new = (new ≡ old) × (words_of words ≡ None) × IsUntouched line told now before got
+Stops words failure.LogFault line told now before got old new = (new ≡ old) × Breaks words failure.LogFault line told now before got
+Stops words failure.OutFault line told now before got old new = (new ≡ old) × Breaks words failure.OutFault line told now before got
+Stops words failure.Long line told now before got old new =
+    (new ≡ old) × ((Told told (λ files. course_of words files ≡ Err failure.Long) × IsUntouched line told now before got) ⊎ Breaks words failure.Long line told now before got)
+Stops words failure.NoMemory line told now before got old new = IsUntouched line told now before got ⊎ ((new ≡ old) × Breaks words failure.NoMemory line told now before got)
 Stops words other line told now before got old new = IsCause words told other old new × IsUntouched line told now before got
 
 -- what the folder and the sink show: the files, what was put, and how many loads, writes and puts failed
@@ -127,7 +127,7 @@ pub record World : Type 0 where
 -- why a call did not end with `Ok`, and what it left; a file in the line is one that the order of work reaches, and the line is whole
 -- unless the sink failed or memory ran out
 pub record Ended (words : List (List ℕ)) (result : Status) (old new : World) : Type 0 where
-  pub cause : Stop
+  pub cause : Failure
   pub answer : IsToldAs cause result
   -- what was put of the cause's line, and what was not
   pub line : List ℕ
@@ -140,18 +140,18 @@ pub record Ended (words : List (List ℕ)) (result : Status) (old new : World) :
 -- ---- the steps of a call
 
 -- a run before its error line
-abbrev pub Runs : {A : Type 0} → Result A Stop → List (List ℕ) → Option Named → Option Named → Option (List ℕ) → Option (List ℕ) → ℕ → ℕ → Type 0
+abbrev pub Runs : {A : Type 0} → Result A Failure → List (List ℕ) → Option Named → Option Named → Option (List ℕ) → Option (List ℕ) → ℕ → ℕ → Type 0
 Runs (Ok x) words told now before got old new = (new ≡ old) × Told told (λ files. Succeeds words files told now before got)
 Runs (Err s) words told now before got old new = Stops words s [] told now before got old new
 
 -- the count of failed puts stands, unless the sink failed
-abbrev pub Counts : {A : Type 0} → Result A Stop → ℕ → ℕ → Type 0
+abbrev pub Counts : {A : Type 0} → Result A Failure → ℕ → ℕ → Type 0
 Counts (Ok x) old new = new ≡ old
-Counts (Err stop.OutFault) old new = (old ≤ new) × Rose old new
+Counts (Err failure.OutFault) old new = (old ≤ new) × Rose old new
 Counts (Err other) old new = new ≡ old
 
 -- the words are refused where they ask for nothing, and only there
-abbrev pub Worded : {A : Type 0} → Result A Stop → List (List ℕ) → Type 0
+abbrev pub Worded : {A : Type 0} → Result A Failure → List (List ℕ) → Type 0
 Worded (Ok x) words = IsSome (words_of words)
-Worded (Err stop.Usage) words = words_of words ≡ None
+Worded (Err failure.Usage) words = words_of words ≡ None
 Worded (Err other) words = IsSome (words_of words)

@@ -15,8 +15,8 @@ use Rattle.amber_meaning.specs.Total.{step_total}
 use Rattle.amber_meaning.specs.Transcript.{replies, reply_of, transcript_of}
 use Rattle.amber_debug.specs.Session.{Session, command_of}
 use Rattle.amber_run.specs.Task.{Task, ends_long, most_steps, query_at}
-use Rattle.amber_course.specs.declared.stop.Stop.{Stop}
-use Rattle.amber_course.specs.declared.stop.Stop.TheVariants as stop
+use Rattle.amber_course.specs.declared.failure.Failure.{Failure}
+use Rattle.amber_course.specs.declared.failure.Failure.TheVariants as failure
 
 -- ---- between two commands
 
@@ -43,14 +43,14 @@ IsDone t files written = (log : Log) × IsUnderWay t [] log files written × Has
 -- ---- a run that ended early
 
 -- where the steps were as many as may be, that leg is the log's last item; where the sink failed, it was no such leg's reply
-abbrev pub ClosesAs : Stop → Bool → Type 0
-ClosesAs stop.Long long = long ≡ true
-ClosesAs stop.OutFault long = long ≡ false
+abbrev pub ClosesAs : Failure → Bool → Type 0
+ClosesAs failure.Long long = long ≡ true
+ClosesAs failure.OutFault long = long ≡ false
 ClosesAs other long = ⊤
 
 -- the log's file reads as a legal log, whose commands are the first of those to be done, and all other files are as before. The sink
 -- got the replies to all items, where that to the last may be wanting, or cut if the sink failed; then a line
-pub record IsLeft (t : Task) (s : Stop) (line : List ℕ) (files : Option Named) (written : Option (List ℕ)) : Type 0 where
+pub record IsLeft (t : Task) (s : Failure) (line : List ℕ) (files : Option Named) (written : Option (List ℕ)) : Type 0 where
   -- the file's bytes
   pub bytes : List ℕ
   -- the log that is read of them: its batch size, the items that were replied to, and perhaps one more
@@ -69,7 +69,7 @@ pub record IsLeft (t : Task) (s : Stop) (line : List ℕ) (files : Option Named)
   pub size : (batch ≡ t.batch) ⊎ (done ++ last ≡ [])
   pub commands : map command_of (done ++ last) ++ left ≡ t.commands
   pub split : part ++ rest ≡ replies (query_at t batch) (state_after (query_at t batch) done) last
-  pub whole : s ≢ stop.OutFault → part ≡ []
+  pub whole : s ≢ failure.OutFault → part ≡ []
   pub sent : Appends t.before written (transcript_of (query_at t batch) done ++ (part ++ line))
   pub closed : ClosesAs s (ends_long false (done ++ last))
 
@@ -78,37 +78,37 @@ abbrev pub IsBare : Task → List ℕ → Option Named → Option (List ℕ) →
 IsBare t line files written =
     ((files ≡ t.told) ⊎ (files ≡ without_file t.told t.name) ⊎ (files ≡ with_file t.told t.name [])) × Appends t.before written line
 
--- what each stop of a run that was begun leaves
-abbrev pub Leaves : Task → Stop → List ℕ → Option Named → Option (List ℕ) → Type 0
-Leaves t stop.LogFault line files written = IsBare t line files written ⊎ IsLeft t stop.LogFault line files written
-Leaves t stop.OutFault line files written = IsLeft t stop.OutFault line files written
-Leaves t stop.Long line files written = IsLeft t stop.Long line files written × (most_steps < step_total (query_at t t.batch))
-Leaves t stop.NoMemory line files written = IsBare t line files written ⊎ IsLeft t stop.NoMemory line files written
+-- what each failure of a run that was begun leaves
+abbrev pub Leaves : Task → Failure → List ℕ → Option Named → Option (List ℕ) → Type 0
+Leaves t failure.LogFault line files written = IsBare t line files written ⊎ IsLeft t failure.LogFault line files written
+Leaves t failure.OutFault line files written = IsLeft t failure.OutFault line files written
+Leaves t failure.Long line files written = IsLeft t failure.Long line files written × (most_steps < step_total (query_at t t.batch))
+Leaves t failure.NoMemory line files written = IsBare t line files written ⊎ IsLeft t failure.NoMemory line files written
 Leaves t other line files written = ⊥
 
 -- ---- the steps of a run
 
 -- the log was made
-abbrev pub Opens : {A : Type 0} → Result A Stop → Task → Log → Option Named → Option (List ℕ) → Type 0
+abbrev pub Opens : {A : Type 0} → Result A Failure → Task → Log → Option Named → Option (List ℕ) → Type 0
 Opens (Ok x) t log files written = IsUnderWay t t.commands log files written
-Opens (Err stop.LogFault) t log files written = IsBare t [] files written ⊎ IsLeft t stop.LogFault [] files written
-Opens (Err stop.NoMemory) t log files written = IsBare t [] files written
+Opens (Err failure.LogFault) t log files written = IsBare t [] files written ⊎ IsLeft t failure.LogFault [] files written
+Opens (Err failure.NoMemory) t log files written = IsBare t [] files written
 Opens (Err other) t log files written = ⊥
 
--- what a stop at a command leaves
-abbrev pub Halts : Task → Stop → Option Named → Option (List ℕ) → Type 0
-Halts t stop.LogFault files written = IsLeft t stop.LogFault [] files written
-Halts t stop.OutFault files written = IsLeft t stop.OutFault [] files written
-Halts t stop.Long files written = IsLeft t stop.Long [] files written
-Halts t stop.NoMemory files written = IsLeft t stop.NoMemory [] files written
+-- what a failure at a command leaves
+abbrev pub Halts : Task → Failure → Option Named → Option (List ℕ) → Type 0
+Halts t failure.LogFault files written = IsLeft t failure.LogFault [] files written
+Halts t failure.OutFault files written = IsLeft t failure.OutFault [] files written
+Halts t failure.Long files written = IsLeft t failure.Long [] files written
+Halts t failure.NoMemory files written = IsLeft t failure.NoMemory [] files written
 Halts t other files written = ⊥
 
 -- a command was done
-abbrev pub Did : {A : Type 0} → Result A Stop → Task → List Command → Session → Option Named → Option (List ℕ) → Type 0
+abbrev pub Did : {A : Type 0} → Result A Failure → Task → List Command → Session → Option Named → Option (List ℕ) → Type 0
 Did (Ok x) t left d files written = IsUnderWay t left d.log files written
 Did (Err s) t left d files written = Halts t s files written
 
 -- the run was done
-abbrev pub Worked : {A : Type 0} → Result A Stop → Task → Option Named → Option (List ℕ) → Type 0
+abbrev pub Worked : {A : Type 0} → Result A Failure → Task → Option Named → Option (List ℕ) → Type 0
 Worked (Ok x) t files written = IsDone t files written
 Worked (Err s) t files written = Leaves t s [] files written

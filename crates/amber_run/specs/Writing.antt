@@ -2,24 +2,24 @@
 use Rattle.std.specs.Prelude.{◌≡◌, ℕ, ◌≤◌, ◌⊎◌, List, [], Option, Result, Ok, Err}
 use Rattle.amber_io.specs.Counts.{Rose}
 use Rattle.amber_io.specs.Folder.{Named, Starts, with_file, with_more, without_file}
-use Rattle.amber_course.specs.declared.stop.Stop.{Stop}
-use Rattle.amber_course.specs.declared.stop.Stop.TheVariants as stop
+use Rattle.amber_course.specs.declared.failure.Failure.{Failure}
+use Rattle.amber_course.specs.declared.failure.Failure.TheVariants as failure
 
 -- an empty file was made
-abbrev pub Made : {A : Type 0} → Result A Stop → Option Named → Option Named → List ℕ → Type 0
+abbrev pub Made : {A : Type 0} → Result A Failure → Option Named → Option Named → List ℕ → Type 0
 Made (Ok x) old new name = new ≡ with_file old name []
-Made (Err stop.LogFault) old new name = (new ≡ old) ⊎ (new ≡ without_file old name) ⊎ (new ≡ with_file old name [])
-Made (Err stop.NoMemory) old new name = new ≡ old
+Made (Err failure.LogFault) old new name = (new ≡ old) ⊎ (new ≡ without_file old name) ⊎ (new ≡ with_file old name [])
+Made (Err failure.NoMemory) old new name = new ≡ old
 Made (Err other) old new name = ⊥
 
 -- a piece was written behind a file
-abbrev pub Wrote : {A : Type 0} → Result A Stop → Option Named → Option Named → List ℕ → List ℕ → Type 0
+abbrev pub Wrote : {A : Type 0} → Result A Failure → Option Named → Option Named → List ℕ → List ℕ → Type 0
 Wrote (Ok x) old new name piece = new ≡ with_more old name piece
-Wrote (Err stop.LogFault) old new name piece = Starts old new name piece
-Wrote (Err stop.NoMemory) old new name piece = new ≡ old
+Wrote (Err failure.LogFault) old new name piece = Starts old new name piece
+Wrote (Err failure.NoMemory) old new name piece = new ≡ old
 Wrote (Err other) old new name piece = ⊥
 
 -- the count of failed writes stands, unless the log could not be written
-abbrev pub CountsWrites : {A : Type 0} → Result A Stop → ℕ → ℕ → Type 0
-CountsWrites (Err stop.LogFault) old new = (old ≤ new) × Rose old new
+abbrev pub CountsWrites : {A : Type 0} → Result A Failure → ℕ → ℕ → Type 0
+CountsWrites (Err failure.LogFault) old new = (old ≤ new) × Rose old new
 CountsWrites other old new = new ≡ old

@@ -8,7 +8,7 @@ ghost use Rattle.amber_run.specs.Writing.{CountsWrites};
 
 use crate::printed::Printed;
 use crate::work::work;
-use amber_course::{Job, Stop, put_output};
+use amber_course::{Job, Failure, put_output};
 use amber_io::{Folder, Sink};
 use amber_meaning::{Answer, PlainErr};
 use amber_plain::plain;
@@ -20,7 +20,7 @@ use std::alloc::Global;
 const MOST_ROWS: u64 = 1 << 40;
 
 // The sequential answer, where the rows are few enough.
-fn query(alloc: Global, flow: &Flow, files: &Files) -> Result<Answer, Stop>
+fn query(alloc: Global, flow: &Flow, files: &Files) -> Result<Answer, Failure>
     requires { AreInputs flow.now files.now }
     ensures { IsAnswer result flow.now files.now }
 {
@@ -28,8 +28,8 @@ fn query(alloc: Global, flow: &Flow, files: &Files) -> Result<Answer, Stop>
         Ok(answer) => Ok(answer),
         // Each file begins with the names of its columns.
         Err(PlainErr::Header(_)) => unreachable!(),
-        Err(PlainErr::Long) => Err(Stop::Long),
-        Err(PlainErr::NoMemory) => Err(Stop::NoMemory),
+        Err(PlainErr::Long) => Err(Failure::Long),
+        Err(PlainErr::NoMemory) => Err(Failure::NoMemory),
     }
 }
 
@@ -39,7 +39,7 @@ fn answer_text(
     flow: &Flow,
     files: &Files,
     printed: &mut Printed,
-) -> Result<Bytes, Stop>
+) -> Result<Bytes, Failure>
     requires { AreInputs flow.now files.now }
     ensures { Judges result (text_of flow.now files.now) }
 {
@@ -56,11 +56,11 @@ fn print_answer<O: Sink>(
     files: &Files,
     out: &mut O,
     printed: &mut Printed,
-) -> Result<(), Stop>
+) -> Result<(), Failure>
     requires { AreInputs flow.now files.now }
     ensures works { (told : Option Named) → Works result (Job.Plain flow.now files.now) told told (O.written out.old) (O.written out.new) }
     ensures puts { Counts result (O.faults out.old) (O.faults out.new) }
-    ensures unlogged { IfErr result (λ stop. stop ≢ Stop.LogFault) }
+    ensures unlogged { IfErr result (λ failure. failure ≢ Failure.LogFault) }
     ensures still { (writes : ℕ) → CountsWrites result writes writes }
 {
     let text = answer_text(alloc, flow, files, printed)?;
@@ -75,7 +75,7 @@ pub(crate) fn do_job<F: Folder, O: Sink>(
     folder: &mut F,
     out: &mut O,
     printed: &mut Printed,
-) -> Result<(), Stop>
+) -> Result<(), Failure>
     requires { IsReady job }
     ensures works { Works result job (F.files folder.old) (F.files folder.new) (O.written out.old) (O.written out.new) }
     ensures writes { CountsWrites result (F.write_faults folder.old) (F.write_faults folder.new) }
@@ -83,7 +83,7 @@ pub(crate) fn do_job<F: Folder, O: Sink>(
     ensures loads { F.load_faults folder.new ≡ F.load_faults folder.old }
     ensures same { WritesNothing job → F.files folder.new ≡ F.files folder.old }
     ensures idle { WritesNothing job → F.write_faults folder.new ≡ F.write_faults folder.old }
-    ensures unlogged { WritesNothing job → IfErr result (λ stop. stop ≢ Stop.LogFault) }
+    ensures unlogged { WritesNothing job → IfErr result (λ failure. failure ≢ Failure.LogFault) }
 {
     match job {
         Job::Plain { flow, files } => print_answer(alloc, &flow, &files, out, printed),

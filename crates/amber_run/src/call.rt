@@ -9,7 +9,7 @@ ghost use Rattle.amber_run.specs.Writing.{CountsWrites};
 
 use crate::answer::do_job;
 use crate::printed::Printed;
-use amber_course::{Job, Status, Stop, prepare, read_words, refuse};
+use amber_course::{Job, Status, Failure, prepare, read_words, refuse};
 use amber_io::{Folder, Sink};
 use std::alloc::Global;
 
@@ -19,16 +19,16 @@ fn run<F: Folder, O: Sink>(
     folder: &mut F,
     out: &mut O,
     printed: &mut Printed,
-) -> Result<(), Stop>
+) -> Result<(), Failure>
     ensures ran { Runs result (map string_bytes words.now) (F.files folder.old) (F.files folder.new) (O.written out.old) (O.written out.new)
         (F.load_faults folder.old) (F.load_faults folder.new) }
-    ensures named { Told (F.files folder.old) (λ files. IfErr result (λ stop. Names stop (IsReached (map string_bytes words.now) files))) }
+    ensures named { Told (F.files folder.old) (λ files. IfErr result (λ failure. Names failure (IsReached (map string_bytes words.now) files))) }
     ensures puts { Counts result (O.faults out.old) (O.faults out.new) }
     ensures writes { CountsWrites result (F.write_faults folder.old) (F.write_faults folder.new) }
     ensures words { Worded result (map string_bytes words.now) }
     ensures same { AsksNoRun (words_of (map string_bytes words.now)) → F.files folder.new ≡ F.files folder.old }
     ensures unlogged { AsksNoRun (words_of (map string_bytes words.now))
-        → IfErr result (λ stop. stop ≢ Stop.LogFault) }
+        → IfErr result (λ failure. failure ≢ Failure.LogFault) }
     ensures idle { AsksNoRun (words_of (map string_bytes words.now)) → F.write_faults folder.new ≡ F.write_faults folder.old }
 {
     let words = read_words(alloc, words)?;
@@ -103,7 +103,7 @@ pub fn amber<F: Folder, O: Sink>(
     ensures usage { result ≡ Status.Usage → words_of (map string_bytes words.now) ≡ None }
     ensures bad_words { words_of (map string_bytes words.now) ≡ None → (result ≡ Status.Usage) ⊎ (result ≡ Status.NoMemory) }
     ensures read_fault { result ≡ Status.ReadFault → Rose (F.load_faults folder.old) (F.load_faults folder.new)
-        ⊎ Tells (F.files folder.old) (λ files. (name : List ℕ) × (course_of (map string_bytes words.now) files ≡ Err (Stop.ReadFault name))) }
+        ⊎ Tells (F.files folder.old) (λ files. (name : List ℕ) × (course_of (map string_bytes words.now) files ≡ Err (Failure.ReadFault name))) }
     ensures loads_grew { F.load_faults folder.old < F.load_faults folder.new → (result ≡ Status.ReadFault) ⊎ (result ≡ Status.NoMemory) }
     ensures log_fault { result ≡ Status.LogFault → Rose (F.write_faults folder.old) (F.write_faults folder.new) }
     ensures writes_grew { F.write_faults folder.old < F.write_faults folder.new → (result ≡ Status.LogFault) ⊎ (result ≡ Status.NoMemory) }
@@ -118,6 +118,6 @@ pub fn amber<F: Folder, O: Sink>(
 {
     match run(alloc, words, folder, out, printed) {
         Ok(()) => Status::Ok,
-        Err(stop) => refuse(out, &stop),
+        Err(failure) => refuse(out, &failure),
     }
 }

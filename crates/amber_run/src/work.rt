@@ -12,7 +12,7 @@ ghost use Rattle.amber_course.specs.Words.{AreSizes};
 ghost use Rattle.amber_run.specs.Writing.{CountsWrites, Made, Wrote};
 
 use crate::printed::Printed;
-use amber_course::{Stop, put_output};
+use amber_course::{Failure, put_output};
 use amber_debug::{DebugErr, Debugger, HomeErr};
 use amber_io::{Folder, IoErr, Sink};
 use amber_journal::write_head;
@@ -30,36 +30,36 @@ fn begin(
     files: Files,
     threads: u32,
     batch: u32,
-) -> Result<Debugger, Stop>
+) -> Result<Debugger, Failure>
     requires inputs { AreInputs flow files }
     requires sizes { AreSizes threads batch }
     requires alone { AreAlone flow }
     ensures begins { IfOk result (λ d. d ≡ record { flow = flow; files = files; most = most_steps; threads = threads; log = record { batch = batch; items = [] }; spent = false }) }
-    ensures memory { IfErr result (λ stop. stop ≡ Stop.NoMemory) }
+    ensures memory { IfErr result (λ failure. failure ≡ Failure.NoMemory) }
 {
     match Debugger::start(alloc, flow, files, batch, threads, MOST_STEPS) {
         Ok(debugger) => Ok(debugger),
         // Each file begins with the names of its columns.
         Err(HomeErr::Header(_)) => unreachable!(),
-        Err(HomeErr::NoMemory) => Err(Stop::NoMemory),
+        Err(HomeErr::NoMemory) => Err(Failure::NoMemory),
     }
 }
 
 // Makes the log's file, empty.
-fn create_log<F: Folder>(name: &str, folder: &mut F) -> Result<(), Stop>
+fn create_log<F: Folder>(name: &str, folder: &mut F) -> Result<(), Failure>
     ensures made { Made result (F.files folder.old) (F.files folder.new) name.now }
     ensures writes { CountsWrites result (F.write_faults folder.old) (F.write_faults folder.new) }
     ensures loads { F.load_faults folder.new ≡ F.load_faults folder.old }
 {
     match folder.create(name) {
         Ok(()) => Ok(()),
-        Err(IoErr::Failed) => Err(Stop::LogFault),
-        Err(IoErr::NoMemory) => Err(Stop::NoMemory),
+        Err(IoErr::Failed) => Err(Failure::LogFault),
+        Err(IoErr::NoMemory) => Err(Failure::NoMemory),
     }
 }
 
 // Writes a piece behind the log, in one call.
-fn append_piece<F: Folder>(name: &str, piece: &[u8], folder: &mut F) -> Result<(), Stop>
+fn append_piece<F: Folder>(name: &str, piece: &[u8], folder: &mut F) -> Result<(), Failure>
     requires { IsThere (F.files folder.old) name.now }
     ensures wrote { Wrote result (F.files folder.old) (F.files folder.new) name.now piece.now }
     ensures writes { CountsWrites result (F.write_faults folder.old) (F.write_faults folder.new) }
@@ -67,13 +67,13 @@ fn append_piece<F: Folder>(name: &str, piece: &[u8], folder: &mut F) -> Result<(
 {
     match folder.append(name, piece) {
         Ok(()) => Ok(()),
-        Err(IoErr::Failed) => Err(Stop::LogFault),
-        Err(IoErr::NoMemory) => Err(Stop::NoMemory),
+        Err(IoErr::Failed) => Err(Failure::LogFault),
+        Err(IoErr::NoMemory) => Err(Failure::NoMemory),
     }
 }
 
 // Makes the log, with its head.
-fn make_log<F: Folder>(alloc: Global, batch: u32, name: &str, folder: &mut F) -> Result<(), Stop>
+fn make_log<F: Folder>(alloc: Global, batch: u32, name: &str, folder: &mut F) -> Result<(), Failure>
     requires { IsBatch batch }
     ensures made { (t : Task) (written : Option (List ℕ)) → t.name ≡ name.now → batch ≡ t.batch → F.files folder.old ≡ t.told → Appends t.before written []
         → Opens result t (record { batch = batch; items = [] }) (F.files folder.new) written }
@@ -96,7 +96,7 @@ fn do_command<F: Folder, O: Sink>(
     folder: &mut F,
     out: &mut O,
     printed: &mut Printed,
-) -> Result<(), Stop>
+) -> Result<(), Failure>
     requires to_end { command.now ≡ Command.End }
     requires there { IsThere (F.files folder.old) name.now }
     requires open { ends_over false debugger.old.log.items ≡ false }
@@ -117,10 +117,10 @@ fn do_command<F: Folder, O: Sink>(
         // The leg is in the log before it is told that it was too long.
         Err(DebugErr::Long { item }) => {
             append_piece(name, item.get(), folder)?;
-            Err(Stop::Long)
+            Err(Failure::Long)
         }
-        Err(DebugErr::Spent) => Err(Stop::NoMemory),
-        Err(DebugErr::NoMemory) => Err(Stop::NoMemory),
+        Err(DebugErr::Spent) => Err(Failure::NoMemory),
+        Err(DebugErr::NoMemory) => Err(Failure::NoMemory),
     }
 }
 
@@ -135,7 +135,7 @@ pub(crate) fn work<F: Folder, O: Sink>(
     folder: &mut F,
     out: &mut O,
     printed: &mut Printed,
-) -> Result<(), Stop>
+) -> Result<(), Failure>
     requires inputs { AreInputs flow files }
     requires sizes { AreSizes threads batch }
     requires alone { AreAlone flow }

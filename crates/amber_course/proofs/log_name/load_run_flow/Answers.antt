@@ -1,14 +1,14 @@
 -- The workflow, and then its scans' files.
 use Rattle.std.proofs.Common.{◌≡◌, Err, rules}
 use Rattle.amber_course.specs.Course.{apart_from, log_scan, run_flow, workflow_in}
-use Rattle.amber_course.proofs.Following.{follows-judged, follows-on, follows-stop, judged-named}
+use Rattle.amber_course.proofs.Following.{follows-judged, follows-on, follows-failure, judged-named}
 use Rattle.amber_course.proofs.log_name.load_run_flow.Goals as goal
 
 pub returns-in_err-flow-clause-course : goal.returns-in_err-flow-clause-course
 unfolding run_flow
 returns-in_err-flow-clause-course g c =
     let e : c.from_residual.result ≡ Err c.in_err-flow.field-0.0 = search rules in
-    rw e (follows-stop c.in_err-flow.field-0.0 (g.F.Folder.files c.args.folder.now) (workflow_in c.args.workflow.now)
+    rw e (follows-failure c.in_err-flow.field-0.0 (g.F.Folder.files c.args.folder.now) (workflow_in c.args.workflow.now)
     (λ files flow. apart_from flow (log_scan 1 c.args.log.now flow))
     (g.F.Folder.load_faults c.args.folder.now) (g.F.Folder.load_faults c.load_flow.new.folder) c.in_err-flow.ensures.course)
 

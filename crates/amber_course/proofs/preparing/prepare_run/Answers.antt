@@ -4,7 +4,7 @@ use Rattle.amber_course.specs.Course.{IsLoaded, IsScanFile, job_of, run_flow, sc
 use Rattle.amber_course.specs.Steps.{Names}
 use Rattle.amber_course.specs.declared.job.Job.TheVariants as job
 use Rattle.amber_course.specs.declared.words.Words.TheVariants as form
-use Rattle.amber_course.proofs.Following.{follows-judged, follows-on, follows-stop, names-map, told-all, told-map, told-three}
+use Rattle.amber_course.proofs.Following.{follows-judged, follows-on, follows-failure, names-map, told-all, told-map, told-three}
 use Rattle.amber_course.proofs.preparing.prepare_run.Goals as goal
 
 pub returns-in_err-flow-clause-course : goal.returns-in_err-flow-clause-course
@@ -13,7 +13,7 @@ returns-in_err-flow-clause-course g c =
     let workflow : c.get.result.now ≡ c.args.words.workflow = search rules in
     let log : c.get-2.result.now ≡ c.args.words.log = search rules in
     let e : c.from_residual.result ≡ Err c.in_err-flow.field-0.0 = search rules in
-    rw e (follows-stop c.in_err-flow.field-0.0 (g.F.Folder.files c.args.folder.now) (run_flow c.args.words.workflow c.args.words.log)
+    rw e (follows-failure c.in_err-flow.field-0.0 (g.F.Folder.files c.args.folder.now) (run_flow c.args.words.workflow c.args.words.log)
     (λ files flow. then_on (script_in c.args.words.script files) (λ read. then_on (scans_of flow files) (λ inputs. Ok (job.Run flow inputs c.args.words.log c.args.words.threads c.args.words.batch))))
     (g.F.Folder.load_faults c.args.folder.now) (g.F.Folder.load_faults c.load_run_flow.new.folder) (rw (workflow, log) at c.in_err-flow.ensures.course))
 
@@ -27,7 +27,7 @@ returns-in_err-load_script-clause-course g c =
     rw e (follows-on (Err c.in_err-load_script.field-0.0) c.in_ok-flow.flow (g.F.Folder.files c.args.folder.now) (run_flow c.args.words.workflow c.args.words.log)
     (λ files flow. then_on (script_in c.args.words.script files) (λ read. then_on (scans_of flow files) (λ inputs. Ok (job.Run flow inputs c.args.words.log c.args.words.threads c.args.words.batch))))
     (g.F.Folder.load_faults c.args.folder.now) (g.F.Folder.load_faults c.load_run_flow.new.folder) (g.F.Folder.load_faults c.load_script.new.folder) (rw (workflow, log) at c.in_ok-flow.ensures.course)
-    (follows-stop c.in_err-load_script.field-0.0 (g.F.Folder.files c.args.folder.now) (script_in c.args.words.script)
+    (follows-failure c.in_err-load_script.field-0.0 (g.F.Folder.files c.args.folder.now) (script_in c.args.words.script)
     (λ files read. then_on (scans_of c.in_ok-flow.flow files) (λ inputs. Ok (job.Run c.in_ok-flow.flow inputs c.args.words.log c.args.words.threads c.args.words.batch)))
     (g.F.Folder.load_faults c.load_run_flow.new.folder) (g.F.Folder.load_faults c.load_script.new.folder) (rw (script, c.load_run_flow.ensures.same) at c.in_err-load_script.ensures.course)))
 
@@ -44,7 +44,7 @@ returns-in_err-files-clause-course g c =
     (follows-on (Err c.in_err-files.field-0.0) c.in_ok-load_script.field-0 (g.F.Folder.files c.args.folder.now) (script_in c.args.words.script)
     (λ files read. then_on (scans_of c.in_ok-flow.flow files) (λ inputs. Ok (job.Run c.in_ok-flow.flow inputs c.args.words.log c.args.words.threads c.args.words.batch)))
     (g.F.Folder.load_faults c.load_run_flow.new.folder) (g.F.Folder.load_faults c.load_script.new.folder) (g.F.Folder.load_faults c.load_scans.new.folder) (rw (script, c.load_run_flow.ensures.same) at c.in_ok-load_script.ensures.course)
-    (follows-stop c.in_err-files.field-0.0 (g.F.Folder.files c.args.folder.now) (scans_of c.in_ok-flow.flow) (λ files inputs. Ok (job.Run c.in_ok-flow.flow inputs c.args.words.log c.args.words.threads c.args.words.batch))
+    (follows-failure c.in_err-files.field-0.0 (g.F.Folder.files c.args.folder.now) (scans_of c.in_ok-flow.flow) (λ files inputs. Ok (job.Run c.in_ok-flow.flow inputs c.args.words.log c.args.words.threads c.args.words.batch))
     (g.F.Folder.load_faults c.load_script.new.folder) (g.F.Folder.load_faults c.load_scans.new.folder) (rw (c.load_script.ensures.same, c.load_run_flow.ensures.same) at c.in_err-files.ensures.course))))
 
 pub returns-clause-course : goal.returns-clause-course

@@ -1,4 +1,4 @@
--- One line for each stop.
+-- One line for each failure.
 use Rattle.amber_course.proofs.refusal.put_line.Goals as goal
 
 pub returns-in-ReadFault-clause-lined : goal.returns-in-ReadFault-clause-lined

@@ -1,7 +1,7 @@
 -- The load, and then the header.
 use Rattle.std.proofs.Common.{◌≡◌, Err, rules}
 use Rattle.amber_course.specs.Course.{headed, load_of, scan_file}
-use Rattle.amber_course.proofs.Following.{follows-judged, follows-on, follows-stop, judged-named, names-map}
+use Rattle.amber_course.proofs.Following.{follows-judged, follows-on, follows-failure, judged-named, names-map}
 use Rattle.amber_course.proofs.Scanning.{headed-few, headed-right}
 use Rattle.amber_course.proofs.scans.load_scan.Goals as goal
 
@@ -9,7 +9,7 @@ pub returns-in_err-bytes-clause-course : goal.returns-in_err-bytes-clause-course
 unfolding scan_file
 returns-in_err-bytes-clause-course g c =
     let e : c.from_residual.result ≡ Err c.in_err-bytes.field-0.0 = search rules in
-    rw e (follows-stop c.in_err-bytes.field-0.0 (g.F.Folder.files c.args.folder.now) (load_of c.args.most c.args.name.now) (λ files. headed c.args.op c.args.columns.now)
+    rw e (follows-failure c.in_err-bytes.field-0.0 (g.F.Folder.files c.args.folder.now) (load_of c.args.most c.args.name.now) (λ files. headed c.args.op c.args.columns.now)
     (g.F.Folder.load_faults c.args.folder.now) (g.F.Folder.load_faults c.load.new.folder) c.in_err-bytes.ensures.course)
 
 pub returns-clause-course : goal.returns-clause-course

@@ -3,7 +3,7 @@ use Rattle.std.proofs.Common.{◌≡◌, ◌<◌, ◌≤◌, length, get_or, [],
 use Rattle.amber_meaning.specs.Plain.{is_scan}
 use Rattle.amber_course.specs.Course.{most_scanned, scans_of}
 use Rattle.amber_course.proofs.Following.{told-all}
-use Rattle.amber_course.proofs.Scanning.{IsWalked, inputs-end, inputs-none, inputs-scan, inputs-skip, not-scan, scan-end, scan-names, scan-next, scan-skip, scan-stop, walk-none, walked-all}
+use Rattle.amber_course.proofs.Scanning.{IsWalked, inputs-end, inputs-none, inputs-scan, inputs-skip, not-scan, scan-end, scan-names, scan-next, scan-skip, scan-failure, walk-none, walked-all}
 use Rattle.amber_course.proofs.scans.load_scans.Goals as goal
 use Rattle.amber_course.proofs.scans.load_scans.Goals.{in-Scan+in_ok-bytes+in_ok-push, in_default}
 
@@ -61,7 +61,7 @@ returns-in_err-bytes-clause-course g c =
     let is : o ≡ get_or flow i o = rw c.get-operators.ensures.operators at c.index-operators-i.is in
     let e : c.from_residual.result ≡ Err c.in_err-bytes.field-0.0 = search rules in
     let load = rw (c.get.ensures, c.loop-i.invariant.same, c.loop-i.invariant.loads) at c.in_err-bytes.ensures.course in
-    rw e (scan-stop flow i c.loop-i.left o c.in-Scan.file c.loop-i.files.items (scans_of flow) c.in_err-bytes.field-0.0
+    rw e (scan-failure flow i c.loop-i.left o c.in-Scan.file c.loop-i.files.items (scans_of flow) c.in_err-bytes.field-0.0
     (g.F.Folder.files c.args.folder.now) (g.F.Folder.load_faults c.args.folder.now) (g.F.Folder.load_faults c.load_scan.new.folder)
     h is c.in-Scan.is (walked-all flow i c.loop-i.left c.loop-i.files.items (g.F.Folder.files c.args.folder.now) c.loop-i.invariant.course) load)
 

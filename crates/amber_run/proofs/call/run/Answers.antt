@@ -1,6 +1,6 @@
 -- The words, the job, and what was done of it.
 use Rattle.std.proofs.Common.{◌≡◌, map, string_bytes, Err, ◌∙◌, rules}
-use Rattle.amber_run.proofs.Ending.{plain-job, reached-stop, reached-words, reached-works, run-stop, run-words, run-works, stop-counts, stop-unlogged, stop-writes, words-counts, words-unlogged, words-writes, worded-stop, worded-words, worded-works}
+use Rattle.amber_run.proofs.Ending.{plain-job, reached-failure, reached-words, reached-works, run-failure, run-words, run-works, failure-counts, failure-unlogged, failure-writes, words-counts, words-unlogged, words-writes, worded-failure, worded-words, worded-works}
 use Rattle.amber_course.specs.Course.{job_of}
 use Rattle.amber_course.specs.Words.{words_of}
 use Rattle.amber_run.proofs.call.run.Goals as goal
@@ -38,34 +38,34 @@ returns-in_err-words-clause-unlogged g c =
 pub returns-in_err-job-clause-unlogged : goal.returns-in_err-job-clause-unlogged
 returns-in_err-job-clause-unlogged g c =
     let e : c.from_residual-in_err-job.result ≡ Err c.in_err-job.field-0.0 = search rules in
-    λ none. rw e (stop-unlogged c.in_err-job.field-0.0 (g.F.Folder.files c.args.folder.now) (job_of c.in_ok-words.words)
+    λ none. rw e (failure-unlogged c.in_err-job.field-0.0 (g.F.Folder.files c.args.folder.now) (job_of c.in_ok-words.words)
     (g.F.Folder.load_faults c.args.folder.now) (g.F.Folder.load_faults c.prepare.new.folder) c.in_err-job.ensures.course)
 
 pub returns-in_err-job-clause-ran : goal.returns-in_err-job-clause-ran
 returns-in_err-job-clause-ran g c =
     let e : c.from_residual-in_err-job.result ≡ Err c.in_err-job.field-0.0 = search rules in
-    rw e (rw c.in_err-job.ensures.same (run-stop (map string_bytes c.args.words.now) c.in_ok-words.words (g.F.Folder.files c.args.folder.now) (g.O.Sink.written c.args.out.now) c.in_err-job.field-0.0
+    rw e (rw c.in_err-job.ensures.same (run-failure (map string_bytes c.args.words.now) c.in_ok-words.words (g.F.Folder.files c.args.folder.now) (g.O.Sink.written c.args.out.now) c.in_err-job.field-0.0
     (g.F.Folder.load_faults c.args.folder.now) (g.F.Folder.load_faults c.prepare.new.folder) c.in_ok-words.ensures.read c.in_err-job.ensures.course))
 
 pub returns-in_err-job-clause-puts : goal.returns-in_err-job-clause-puts
 returns-in_err-job-clause-puts g c =
     let e : c.from_residual-in_err-job.result ≡ Err c.in_err-job.field-0.0 = search rules in
-    rw e (stop-counts c.in_err-job.field-0.0 (g.F.Folder.files c.args.folder.now) (job_of c.in_ok-words.words) (g.F.Folder.load_faults c.args.folder.now) (g.F.Folder.load_faults c.prepare.new.folder) (g.O.Sink.faults c.args.out.now) c.in_err-job.ensures.course)
+    rw e (failure-counts c.in_err-job.field-0.0 (g.F.Folder.files c.args.folder.now) (job_of c.in_ok-words.words) (g.F.Folder.load_faults c.args.folder.now) (g.F.Folder.load_faults c.prepare.new.folder) (g.O.Sink.faults c.args.out.now) c.in_err-job.ensures.course)
 
 pub returns-in_err-job-clause-writes : goal.returns-in_err-job-clause-writes
 returns-in_err-job-clause-writes g c =
     let e : c.from_residual-in_err-job.result ≡ Err c.in_err-job.field-0.0 = search rules in
-    rw e (stop-writes c.in_err-job.field-0.0 (g.F.Folder.files c.args.folder.now) (job_of c.in_ok-words.words) (g.F.Folder.load_faults c.args.folder.now) (g.F.Folder.load_faults c.prepare.new.folder) (g.F.Folder.write_faults c.args.folder.now) (g.F.Folder.write_faults c.prepare.new.folder) c.in_err-job.ensures.course c.in_err-job.ensures.writes)
+    rw e (failure-writes c.in_err-job.field-0.0 (g.F.Folder.files c.args.folder.now) (job_of c.in_ok-words.words) (g.F.Folder.load_faults c.args.folder.now) (g.F.Folder.load_faults c.prepare.new.folder) (g.F.Folder.write_faults c.args.folder.now) (g.F.Folder.write_faults c.prepare.new.folder) c.in_err-job.ensures.course c.in_err-job.ensures.writes)
 
 pub returns-in_err-job-clause-named : goal.returns-in_err-job-clause-named
 returns-in_err-job-clause-named g c =
     let e : c.from_residual-in_err-job.result ≡ Err c.in_err-job.field-0.0 = search rules in
-    rw e (reached-stop c.in_err-job.field-0.0 (map string_bytes c.args.words.now) c.in_ok-words.words (g.F.Folder.files c.args.folder.now) c.in_ok-words.ensures.read c.in_err-job.ensures.named)
+    rw e (reached-failure c.in_err-job.field-0.0 (map string_bytes c.args.words.now) c.in_ok-words.words (g.F.Folder.files c.args.folder.now) c.in_ok-words.ensures.read c.in_err-job.ensures.named)
 
 pub returns-in_err-job-clause-words : goal.returns-in_err-job-clause-words
 returns-in_err-job-clause-words g c =
     let e : c.from_residual-in_err-job.result ≡ Err c.in_err-job.field-0.0 = search rules in
-    rw e (worded-stop c.in_err-job.field-0.0 (map string_bytes c.args.words.now) c.in_ok-words.words (g.F.Folder.files c.args.folder.now) (job_of c.in_ok-words.words)
+    rw e (worded-failure c.in_err-job.field-0.0 (map string_bytes c.args.words.now) c.in_ok-words.words (g.F.Folder.files c.args.folder.now) (job_of c.in_ok-words.words)
     (g.F.Folder.load_faults c.args.folder.now) (g.F.Folder.load_faults c.prepare.new.folder) c.in_ok-words.ensures.read c.in_err-job.ensures.course)
 
 pub returns-clause-ran : goal.returns-clause-ran

@@ -1,6 +1,6 @@
 ghost use Rattle.std.specs.Prelude.{◌≡◌};
-ghost use Rattle.amber_course.specs.Stop.{reason_word, status_of};
-ghost use Rattle.amber_course.specs.declared.stop.Stop.TheVariants.{NoMemory};
+ghost use Rattle.amber_course.specs.Failure.{reason_word, status_of};
+ghost use Rattle.amber_course.specs.declared.failure.Failure.TheVariants.{NoMemory};
 
 use crate::script::ScriptWhy;
 use crate::status::Status;
@@ -21,7 +21,7 @@ pub enum Reason {
 
 /// Why a call ended early, with what its error line says.
 #[derive(Debug, Drop)]
-pub enum Stop {
+pub enum Failure {
     /// The words are no form of a call.
     Usage,
     /// The workflow was refused: the number of an operator, 0 for the whole, and the reason.
@@ -42,38 +42,38 @@ pub enum Stop {
     NoMemory,
 }
 
-impl Stop {
+impl Failure {
     /// The status with which the call ends.
     pub fn status(&self) -> Status
         ensures { result ≡ status_of self.now }
     {
         match self {
-            Stop::Usage => Status::Usage,
-            Stop::BadFlow { .. } => Status::BadFlow,
-            Stop::BadScript { .. } => Status::BadScript,
-            Stop::ReadFault { .. } => Status::ReadFault,
-            Stop::LogFault => Status::LogFault,
-            Stop::OutFault => Status::OutFault,
-            Stop::Long => Status::Long,
-            Stop::TooLarge { .. } => Status::TooLarge,
-            Stop::NoMemory => Status::NoMemory,
+            Failure::Usage => Status::Usage,
+            Failure::BadFlow { .. } => Status::BadFlow,
+            Failure::BadScript { .. } => Status::BadScript,
+            Failure::ReadFault { .. } => Status::ReadFault,
+            Failure::LogFault => Status::LogFault,
+            Failure::OutFault => Status::OutFault,
+            Failure::Long => Status::Long,
+            Failure::TooLarge { .. } => Status::TooLarge,
+            Failure::NoMemory => Status::NoMemory,
         }
     }
 }
 
-impl From<AllocError> for Stop {
-    ghost from_gives = { λ _ stop. stop ≡ NoMemory };
+impl From<AllocError> for Failure {
+    ghost from_gives = { λ _ failure. failure ≡ NoMemory };
 
-    fn from(_error: AllocError) -> Stop {
-        Stop::NoMemory
+    fn from(_error: AllocError) -> Failure {
+        Failure::NoMemory
     }
 }
 
-impl<T: Drop> From<AllocFailed<T>> for Stop {
-    ghost from_gives = { λ _ stop. stop ≡ NoMemory };
+impl<T: Drop> From<AllocFailed<T>> for Failure {
+    ghost from_gives = { λ _ failure. failure ≡ NoMemory };
 
-    fn from(_error: AllocFailed<T>) -> Stop {
-        Stop::NoMemory
+    fn from(_error: AllocFailed<T>) -> Failure {
+        Failure::NoMemory
     }
 }
 
