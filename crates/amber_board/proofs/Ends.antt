@@ -11,8 +11,8 @@ use Rattle.amber_board.specs.declared.view.Role.TheVariants.{Chief, Worker, Spen
 use Rattle.amber_board.specs.declared.view.Kept.{Kept}
 use Rattle.amber_board.specs.declared.view.Terms.{Terms}
 use Rattle.amber_board.specs.declared.view.View.{View}
-use Rattle.amber_board.specs.Ledger.{allotment, counted, total_below, seats_of, mine_of, times_kept, kept_of, flag, ConservedBy, Conserved, IsExact, IsSeen, IsWord, first_view, is_worker, number_of}
-use Rattle.amber_board.specs.Moves.{after_split, new_seat, joined, spent_view}
+use Rattle.amber_board.specs.Ledger.{allotment, counted, total_below, seats_of, mine_of, times_kept, kept_of, flag, ConservedBy, Conserved, IsExact, IsSeen, IsWord, first_view, is_worker, worker_number_of}
+use Rattle.amber_board.specs.Moves.{after_split, new_seat, after_join, spent_view}
 use Rattle.amber_board.proofs.Sums.{total_below-ext, total_below-zero, total_below-le, total_below-plus, total_below-flag, total_below-term, total_below-keyed, flag-below, flag-above, sum-below, sum_by-cons}
 use Rattle.amber_board.proofs.Views.{at_within, sum_at_set, sum_at, sum_zero}
 use Rattle.amber_board.proofs.Stays.{by_chief, seat_flag, mine_if, seats_same, itself, from_flag}
@@ -88,13 +88,13 @@ splits terms id v left right is room share s holds at =
     )
 
 -- the chief takes in a seat with an empty hand
-pub joins : (terms : Terms) (id : ℕ) (v : View) (other : ℕ) (u : View) (n : ℕ) → v.role ≡ Chief → u.role ≡ Worker n → u.hand ≡ 0 → Joins (Rule terms) id v other u (joined v u) spent_view
+pub joins : (terms : Terms) (id : ℕ) (v : View) (other : ℕ) (u : View) (n : ℕ) → v.role ≡ Chief → u.role ≡ Worker n → u.hand ≡ 0 → Joins (Rule terms) id v other u (after_join v u) spent_view
 joins terms id v other u n is worker empty s holds at apart there =
     let h = by_chief holds id v at is in
-    let c : View = joined v u in
+    let c : View = after_join v u in
     let views : List View = set s.views id c in
-    let name : number_of u.role ≡ n = ap number_of worker in
-    let taken : Kept = record { worker = number_of u.role; count = u.mine } in (
+    let name : worker_number_of u.role ≡ n = ap worker_number_of worker in
+    let taken : Kept = record { worker = worker_number_of u.role; count = u.mine } in (
       id,
       c,
       record {
@@ -269,7 +269,7 @@ pub mine_exact : (v : View) (n : ℕ) → v.role ≡ Worker n → n < 16 → IsW
 mine_exact v n is few terms words views k holds at =
     let h = holds.2 in
     let chief : View = holds.1 in
-    let name : number_of v.role ≡ n = ap number_of is in
+    let name : worker_number_of v.role ≡ n = ap worker_number_of is in
     let own = ap (seat_flag n) is ∙ itself n in
     let all = h.seats n in
     let top = flag-most n chief.made in

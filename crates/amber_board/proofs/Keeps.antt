@@ -9,11 +9,11 @@ use Rattle.amber_board.specs.declared.view.Role.{Role}
 use Rattle.amber_board.specs.declared.view.Role.TheVariants.{Chief, Worker, Spent}
 use Rattle.amber_board.specs.declared.view.Terms.{Terms}
 use Rattle.amber_board.specs.declared.view.View.{View}
-use Rattle.amber_board.specs.Ledger.{unassigned, allotment, counted, ConservedBy, Conserved, number_of}
-use Rattle.amber_board.specs.Moves.{drawn, granted, put_back_of, swept, watched, claimed, counted_one, given_back}
+use Rattle.amber_board.specs.Ledger.{free_units, allotment, counted, ConservedBy, Conserved, worker_number_of}
+use Rattle.amber_board.specs.Moves.{drawn, after_grant, put_back_of, swept, after_watch, after_claim, counted_one, given_back}
 use Rattle.amber_board.proofs.Sums.{total_below-zero, total_below-term}
 use Rattle.amber_board.proofs.Views.{at_within, sum_at, sum_only}
-use Rattle.amber_board.proofs.Stays.{Steps, SameChief, same_chief, stays, by_chief, apart, numbered, mine_if}
+use Rattle.amber_board.proofs.Stays.{Steps, SameChief, same_chief, stays, by_chief, apart, nth, mine_if}
 use Rattle.amber_board.proofs.WordSteps.{unassigned_steps, allotment_steps, load_steps, count_steps, mine_own}
 
 -- the rule, as the table states it
@@ -38,7 +38,7 @@ worker_stays {views = views} {place = place} {chief = chief} h id v v' n at is r
 
 -- a hand is a part of the target, beside what is unassigned and what one worker may claim
 within : {terms : Terms} {words : List ℕ} {views : List View} {place : ℕ} {chief : View} (h : ConservedBy terms words views place chief) (id : ℕ) (v : View) (w : ℕ) → w < 16 → get_elem? views id ≡ some v
-    → v.hand + unassigned words + allotment words w + counted words w ≤ 2 ^ 40
+    → v.hand + free_units words + allotment words w + counted words w ≤ 2 ^ 40
 within {words = words} {views = views} h id v w l at =
     let hand = sum_at (λ (u : View). u.hand) views id v at in
     let part = total_below-term 16 w (allotment words) l in
@@ -50,11 +50,11 @@ within {words = words} {views = views} h id v w l at =
 -- while there is no worker, only the chief has a hand
 idle : {terms : Terms} {words : List ℕ} {views : List View} {place : ℕ} {chief : View} (h : ConservedBy terms words views place chief) → chief.made ≡ 0 → (k : ℕ) (v : View) → get_elem? views k ≡ some v → k ≢ place → (r : Role) → v.role ≡ r → v.hand ≡ 0
 idle h none k v at n Chief is = absurd (n (h.only k v at is))
-idle h none k v at n (Worker w) is = let below = numbered h k v w at is in absurd (omega arith)
+idle h none k v at n (Worker w) is = let below = nth h k v w at is in absurd (omega arith)
 idle h none k v at n Spent is = h.spent k v at is
 
 -- while there is no worker, the chief's hand and the unassigned units are the target
-opened : {terms : Terms} {words : List ℕ} {views : List View} {place : ℕ} {chief : View} (h : ConservedBy terms words views place chief) → chief.made ≡ 0 → chief.hand + unassigned words ≡ chief.target
+opened : {terms : Terms} {words : List ℕ} {views : List View} {place : ℕ} {chief : View} (h : ConservedBy terms words views place chief) → chief.made ≡ 0 → chief.hand + free_units words ≡ chief.target
 opened {words = words} {views = views} {place = place} {chief = chief} h none =
     let allotments = total_below-zero 16 (allotment words) (λ w l. (h.unmade w (omega arith) l).0) in
     let counts = total_below-zero 16 (counted words) (λ w l. (h.unmade w (omega arith) l).1) in
@@ -68,8 +68,8 @@ module _ (terms : Terms) (slots id : ℕ) (me : Me (Unit {0}) View) (is : me.0.r
       (λ n after. (◌≡◌ {A = ℕ} 1 1) × (after.0 ≡ drawn me.0 n) × (after.1 ≡ me.1) × (me.0.hand + n ≤ 2 ^ 40) × (me.0.made ≡ 0 → me.0.hand + n ≡ me.0.target))
   draws s holds _ at _ =
       let h = by_chief holds id me.0 at is in
-      let v' : View = drawn me.0 (unassigned s.words) in
-      let bound : me.0.hand + unassigned s.words ≤ 2 ^ 40 = let all = within h id me.0 0 (omega arith) at in omega arith in (
+      let v' : View = drawn me.0 (free_units s.words) in
+      let bound : me.0.hand + free_units s.words ≤ 2 ^ 40 = let all = within h id me.0 0 (omega arith) at in omega arith in (
         v',
         keeps,
         tt,
@@ -81,7 +81,7 @@ module _ (terms : Terms) (slots id : ℕ) (me : Me (Unit {0}) View) (is : me.0.r
   puts_back k hand s holds _ at _ =
       let h = by_chief holds id me.0 at is in
       let v' : View = put_back_of me.0 in
-      let x : ℕ = unassigned s.words in
+      let x : ℕ = free_units s.words in
       let small : x + k ≡ (x + k) % 18446744073709551616 = let all = within h id me.0 0 (omega arith) at in omega arith in (
         v',
         keeps,
@@ -92,10 +92,10 @@ module _ (terms : Terms) (slots id : ℕ) (me : Me (Unit {0}) View) (is : me.0.r
       )
 
   pub grants : (worker k : ℕ) → worker < me.0.made → worker < 16 → k ≤ me.0.hand
-      → Allows (Rule terms) slots id me (2 + worker) (λ n. (n + k) % 2 ^ 64) (λ n after. ((w : ℕ) → 2 + worker ≡ 2 + w → after.0 ≡ granted me.0 w k) × (after.1 ≡ me.1))
+      → Allows (Rule terms) slots id me (2 + worker) (λ n. (n + k) % 2 ^ 64) (λ n after. ((w : ℕ) → 2 + worker ≡ 2 + w → after.0 ≡ after_grant me.0 w k) × (after.1 ≡ me.1))
   grants worker k made few has s holds _ at _ =
       let h = by_chief holds id me.0 at is in
-      let v' : View = granted me.0 worker k in
+      let v' : View = after_grant me.0 worker k in
       let x : ℕ = allotment s.words worker in
       let small : x + k ≡ (x + k) % 18446744073709551616 = let all = within h id me.0 worker few at in omega arith in (
         v',
@@ -103,7 +103,7 @@ module _ (terms : Terms) (slots id : ℕ) (me : Me (Unit {0}) View) (is : me.0.r
         tt,
         subst (λ (y : ℕ). Conserved terms (set s.words (2 + worker) y) (set s.views id v')) small
             (chief_stays h v' (record { role = is; target = refl; made = refl; kept = refl }) (allotment_steps s.words h.size me.0.made me.0 v' refl refl worker (x + k) made few (omega arith)) h.seen h.all_seen),
-        ((λ w e. let same : worker ≡ w = omega arith in ap (λ (j : ℕ). granted me.0 j k) same), refl),
+        ((λ w e. let same : worker ≡ w = omega arith in ap (λ (j : ℕ). after_grant me.0 j k) same), refl),
       )
 
   pub sweeps : (worker : ℕ) → worker < me.0.made → worker < 16
@@ -121,11 +121,11 @@ module _ (terms : Terms) (slots id : ℕ) (me : Me (Unit {0}) View) (is : me.0.r
       )
 
   pub watches : (worker : ℕ) → worker < 16
-      → Allows (Rule terms) slots id me (18 + worker) (λ n. n) (λ n after. ((w : ℕ) → 18 + worker ≡ 18 + w → after.0 ≡ watched me.0 w n) × (after.1 ≡ me.1) × (n ≤ 2 ^ 40))
+      → Allows (Rule terms) slots id me (18 + worker) (λ n. n) (λ n after. ((w : ℕ) → 18 + worker ≡ 18 + w → after.0 ≡ after_watch me.0 w n) × (after.1 ≡ me.1) × (n ≤ 2 ^ 40))
   watches worker few s holds _ at _ =
       let h = by_chief holds id me.0 at is in
       let x : ℕ = counted s.words worker in
-      let v' : View = watched me.0 worker x in
+      let v' : View = after_watch me.0 worker x in
       let bound : x ≤ 2 ^ 40 = let all = within h id me.0 worker few at in omega arith in
       let all_seen = h.all_seen in (
         v',
@@ -135,32 +135,32 @@ module _ (terms : Terms) (slots id : ℕ) (me : Me (Unit {0}) View) (is : me.0.r
             (λ w l. ⊎_elim (λ e. let here = get_or-set_same me.0.seen worker x 0 (omega arith) in let move = ap (λ (j : ℕ). get_or v'.seen j 0) e in let was = ap (counted s.words) e in omega arith)
             (λ n. let other = get_or-set_other me.0.seen worker w x 0 n in let below = h.seen w l in omega arith) (cases_eq w worker))
             (length-set me.0.seen worker x ∙ all_seen),
-        ((λ w e. let same : worker ≡ w = omega arith in ap (λ (j : ℕ). watched me.0 j x) same), refl, bound),
+        ((λ w e. let same : worker ≡ w = omega arith in ap (λ (j : ℕ). after_watch me.0 j x) same), refl, bound),
       )
 
 module _ (terms : Terms) (slots id : ℕ) (me : Me (Unit {0}) View) (number : ℕ) (is : me.0.role ≡ Worker number) (few : number < 16) where
-  pub claims : Allows (Rule terms) slots id me (2 + number) (λ _. 0) (λ n after. (2 + number ≡ 2 + number_of me.0.role) × (after.0 ≡ claimed me.0 (number_of me.0.role) n) × (after.1 ≡ me.1) × (me.0.hand + n ≤ 2 ^ 40))
+  pub claims : Allows (Rule terms) slots id me (2 + number) (λ _. 0) (λ n after. (2 + number ≡ 2 + worker_number_of me.0.role) × (after.0 ≡ after_claim me.0 (worker_number_of me.0.role) n) × (after.1 ≡ me.1) × (me.0.hand + n ≤ 2 ^ 40))
   claims s holds _ at _ =
       let h = holds.2 in
       let x : ℕ = allotment s.words number in
-      let v' : View = claimed me.0 (number_of me.0.role) x in
+      let v' : View = after_claim me.0 (worker_number_of me.0.role) x in
       let bound : me.0.hand + x ≤ 2 ^ 40 = let all = within h id me.0 number few at in omega arith in
-      let made = numbered h id me.0 number at is in (
+      let made = nth h id me.0 number at is in (
         v',
         keeps,
         tt,
         worker_stays h id me.0 v' number at is refl (allotment_steps s.words h.size holds.1.made me.0 v' refl refl number 0 made few (omega arith)),
-        (ap (λ (r : Role). 2 + number_of r) (sym is), refl, refl, bound),
+        (ap (λ (r : Role). 2 + worker_number_of r) (sym is), refl, refl, bound),
       )
 
-  pub counts : 0 < me.0.hand → Allows (Rule terms) slots id me (18 + number) (λ n. (n + 1) % 2 ^ 64) (λ n after. (18 + number ≡ 18 + number_of me.0.role) × (after.0 ≡ counted_one me.0 (number_of me.0.role)) × (after.1 ≡ me.1) × (me.0.mine + 1 ≤ 2 ^ 40))
+  pub counts : 0 < me.0.hand → Allows (Rule terms) slots id me (18 + number) (λ n. (n + 1) % 2 ^ 64) (λ n after. (18 + number ≡ 18 + worker_number_of me.0.role) × (after.0 ≡ counted_one me.0 (worker_number_of me.0.role)) × (after.1 ≡ me.1) × (me.0.mine + 1 ≤ 2 ^ 40))
   counts has s holds _ at _ =
       let h = holds.2 in
       let x : ℕ = counted s.words number in
-      let v' : View = counted_one me.0 (number_of me.0.role) in
+      let v' : View = counted_one me.0 (worker_number_of me.0.role) in
       let all = within h id me.0 number few at in
       let small : x + 1 ≡ (x + 1) % 18446744073709551616 = omega arith in
-      let made = numbered h id me.0 number at is in
+      let made = nth h id me.0 number at is in
       let own = sum_at (λ (u : View). mine_if number u.role u.mine) s.views id me.0 at in
       let same = ap (λ (r : Role). mine_if number r me.0.mine) is ∙ mine_own number me.0.mine in
       let mine = h.mine number few in
@@ -170,14 +170,14 @@ module _ (terms : Terms) (slots id : ℕ) (me : Me (Unit {0}) View) (number : �
         tt,
         subst (λ (y : ℕ). Conserved terms (set s.words (18 + number) y) (set s.views id v')) small
             (worker_stays h id me.0 v' number at is refl (count_steps s.words holds.1.made number 1 me.0 v' h.size is refl made few (omega arith) refl)),
-        (ap (λ (r : Role). 18 + number_of r) (sym is), refl, refl, bound),
+        (ap (λ (r : Role). 18 + worker_number_of r) (sym is), refl, refl, bound),
       )
 
-  pub gives_back : (k : ℕ) → me.0.hand ≡ k → Allows (Rule terms) slots id me 1 (λ n. (n + k) % 2 ^ 64) (λ n after. (◌≡◌ {A = ℕ} 1 1) × (after.0 ≡ given_back me.0 (number_of me.0.role)) × (after.1 ≡ me.1))
+  pub gives_back : (k : ℕ) → me.0.hand ≡ k → Allows (Rule terms) slots id me 1 (λ n. (n + k) % 2 ^ 64) (λ n after. (◌≡◌ {A = ℕ} 1 1) × (after.0 ≡ given_back me.0 (worker_number_of me.0.role)) × (after.1 ≡ me.1))
   gives_back k hand s holds _ at _ =
       let h = holds.2 in
-      let v' : View = given_back me.0 (number_of me.0.role) in
-      let x : ℕ = unassigned s.words in
+      let v' : View = given_back me.0 (worker_number_of me.0.role) in
+      let x : ℕ = free_units s.words in
       let small : x + k ≡ (x + k) % 18446744073709551616 = let all = within h id me.0 0 (omega arith) at in omega arith in (
         v',
         keeps,

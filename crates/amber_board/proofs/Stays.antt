@@ -8,7 +8,7 @@ use Rattle.amber_board.specs.declared.view.Role.{Role}
 use Rattle.amber_board.specs.declared.view.Role.TheVariants.{Chief, Worker, Spent}
 use Rattle.amber_board.specs.declared.view.Terms.{Terms}
 use Rattle.amber_board.specs.declared.view.View.{View}
-use Rattle.amber_board.specs.Ledger.{unassigned, allotment, counted, total_below, is_worker, seats_of, mine_of, times_kept, kept_of, flag, ConservedBy, Conserved}
+use Rattle.amber_board.specs.Ledger.{free_units, allotment, counted, total_below, is_worker, seats_of, mine_of, times_kept, kept_of, flag, ConservedBy, Conserved}
 use Rattle.amber_board.proofs.Sums.{flag-above}
 use Rattle.amber_board.proofs.Views.{sum_at_set, sum_at}
 
@@ -24,7 +24,7 @@ mine_if w r mine = cond (is_worker w r) mine 0
 pub record Steps (words words' : List ℕ) (made : ℕ) (v v' : View) : Type 0 where
   pub size : length words' ≡ length words
   pub target : get_or words' 0 0 ≡ get_or words 0 0
-  pub units : unassigned words' + total_below 16 (allotment words') + total_below 16 (counted words') + v'.hand ≡ unassigned words + total_below 16 (allotment words) + total_below 16 (counted words) + v.hand
+  pub units : free_units words' + total_below 16 (allotment words') + total_below 16 (counted words') + v'.hand ≡ free_units words + total_below 16 (allotment words) + total_below 16 (counted words) + v.hand
   pub unmade : (w : ℕ) → made ≤ w → w < 16 → (allotment words' w ≡ allotment words w) × (counted words' w ≡ counted words w)
   pub mine : (w : ℕ) → w < 16 → counted words' w + mine_if w v.role v.mine ≡ counted words w + mine_if w v'.role v'.mine
   pub more : (w : ℕ) → w < 16 → counted words w ≤ counted words' w
@@ -120,8 +120,8 @@ pub from_flag : (n m : ℕ) → 1 ≤ flag (ltb n m) → n < m
 from_flag n m h = ⊎_elim (λ l. l) (λ l. let none = flag-above n m l in absurd (omega arith)) (cases_lt n m)
 
 -- a worker with a seat is below `made`
-pub numbered : {terms : Terms} {words : List ℕ} {views : List View} {place : ℕ} {chief : View} (h : ConservedBy terms words views place chief) (id : ℕ) (v : View) (n : ℕ) → get_elem? views id ≡ some v → v.role ≡ Worker n → n < chief.made
-numbered {terms} {words} {views} {place} {chief} h id v n at is =
+pub nth : {terms : Terms} {words : List ℕ} {views : List View} {place : ℕ} {chief : View} (h : ConservedBy terms words views place chief) (id : ℕ) (v : View) (n : ℕ) → get_elem? views id ≡ some v → v.role ≡ Worker n → n < chief.made
+nth {terms} {words} {views} {place} {chief} h id v n at is =
     let one : seat_flag n v.role ≡ 1 = ap (seat_flag n) is ∙ itself n in
     let least = sum_at (λ (u : View). seat_flag n u.role) views id v at in
     let all = h.seats n in

@@ -4,7 +4,7 @@ use Rattle.std.proofs.lemmas.Bool.{cases_eq, ne_eqb}
 use Rattle.amber_board.specs.declared.view.Role.{Role}
 use Rattle.amber_board.specs.declared.view.Role.TheVariants.{Worker}
 use Rattle.amber_board.specs.declared.view.View.{View}
-use Rattle.amber_board.specs.Ledger.{unassigned, allotment, counted, total_below}
+use Rattle.amber_board.specs.Ledger.{free_units, allotment, counted, total_below}
 use Rattle.amber_board.proofs.Sums.{total_below-ext, total_below-change}
 use Rattle.amber_board.proofs.Stays.{Steps, mine_if}
 
@@ -12,7 +12,7 @@ use Rattle.amber_board.proofs.Stays.{Steps, mine_if}
 record Moves (words words' : List ℕ) (made hand hand' : ℕ) : Type 0 where
   pub size : length words' ≡ length words
   pub target : get_or words' 0 0 ≡ get_or words 0 0
-  pub units : unassigned words' + total_below 16 (allotment words') + hand' ≡ unassigned words + total_below 16 (allotment words) + hand
+  pub units : free_units words' + total_below 16 (allotment words') + hand' ≡ free_units words + total_below 16 (allotment words) + hand
   pub unmade : (w : ℕ) → made ≤ w → w < 16 → allotment words' w ≡ allotment words w
   pub counts : (w : ℕ) → w < 16 → counted words' w ≡ counted words w
 
@@ -31,7 +31,7 @@ moving words words' made v v' role mine m = record {
 
 module _ (words : List ℕ) (size : length words ≡ 34) (made hand : ℕ) where
   -- word 1 changes
-  unassigned_moves : (x hand' : ℕ) → x + hand' ≡ unassigned words + hand → Moves words (set words 1 x) made hand hand'
+  unassigned_moves : (x hand' : ℕ) → x + hand' ≡ free_units words + hand → Moves words (set words 1 x) made hand hand'
   unassigned_moves x hand' e = record {
     size = length-set words 1 x;
     target = get_or-set_other words 1 0 x 0 (λ q. omega arith);
@@ -74,7 +74,7 @@ module _ (words : List ℕ) (size : length words ≡ 34) (made hand : ℕ) where
         (λ n. get_or-set_other words i j (get_or words i 0) 0 n) (cases_eq j i)
 
 module _ (words : List ℕ) (size : length words ≡ 34) (made : ℕ) (v v' : View) (role : v'.role ≡ v.role) (mine : v'.mine ≡ v.mine) where
-  pub unassigned_steps : (x : ℕ) → x + v'.hand ≡ unassigned words + v.hand → Steps words (set words 1 x) made v v'
+  pub unassigned_steps : (x : ℕ) → x + v'.hand ≡ free_units words + v.hand → Steps words (set words 1 x) made v v'
   unassigned_steps x e = moving words (set words 1 x) made v v' role mine (unassigned_moves words size made v.hand x v'.hand e)
 
   pub allotment_steps : (w x : ℕ) → w < made → w < 16 → x + v'.hand ≡ allotment words w + v.hand → Steps words (set words (2 + w) x) made v v'

@@ -10,8 +10,8 @@ use Rattle.amber_board.specs.declared.view.Terms.{Terms}
 use Rattle.amber_board.specs.declared.view.View.{View}
 
 -- the units that are assigned to nobody
-abbrev pub unassigned : List ℕ → ℕ
-unassigned words = slice_index words 1
+abbrev pub free_units : List ℕ → ℕ
+free_units words = slice_index words 1
 
 -- the units that worker w may claim
 abbrev pub allotment : List ℕ → ℕ → ℕ
@@ -31,10 +31,10 @@ abbrev pub hands : List View → ℕ
 hands views = sum_by (λ v. v.hand) views
 
 -- the worker whose seat it is
-abbrev pub number_of : Role → ℕ
-number_of Chief = 0
-number_of (Worker n) = n
-number_of Spent = 0
+abbrev pub worker_number_of : Role → ℕ
+worker_number_of Chief = 0
+worker_number_of (Worker n) = n
+worker_number_of Spent = 0
 
 -- whether the seat is worker w's
 abbrev pub is_worker : ℕ → Role → Bool
@@ -66,7 +66,7 @@ flag false = 0
 -- the rule, where the chief's view stands at this place
 pub record ConservedBy (terms : Terms) (words : List ℕ) (views : List View) (place : ℕ) (chief : View) : Type 0 where
   -- no unit is made or lost
-  pub units : unassigned words + total_below 16 (allotment words) + total_below 16 (counted words) + hands views ≡ terms.target
+  pub units : free_units words + total_below 16 (allotment words) + total_below 16 (counted words) + hands views ≡ terms.target
   -- exactly one view is the chief's
   pub there : get_elem? views place ≡ some chief
   pub is_chief : chief.role ≡ Chief
@@ -93,7 +93,7 @@ Conserved terms words views = (place : ℕ) × (chief : View) × ConservedBy ter
 -- every unit is counted, and none is anywhere else
 pub record IsAllCounted (target : ℕ) (words : List ℕ) (views : List View) : Type 0 where
   pub counted_all : total_below 16 (counted words) ≡ target
-  pub none_unassigned : unassigned words ≡ 0
+  pub none_unassigned : free_units words ≡ 0
   pub none_allotted : total_below 16 (allotment words) ≡ 0
   pub none_in_hand : hands views ≡ 0
 
@@ -103,7 +103,7 @@ first_view terms = record { role = Chief; hand = 0; mine = 0; target = terms.tar
 
 -- in every state that meets the rule and has this view of a worker's seat, that worker's word is what the seat counted
 abbrev pub IsWord : View → Type 0
-IsWord v = (terms : Terms) (words : List ℕ) (views : List View) (k : ℕ) → Conserved terms words views → get_elem? views k ≡ some v → counted words (number_of v.role) ≡ v.mine
+IsWord v = (terms : Terms) (words : List ℕ) (views : List View) (k : ℕ) → Conserved terms words views → get_elem? views k ≡ some v → counted words (worker_number_of v.role) ≡ v.mine
 
 -- in every state that meets the rule and has this view of the chief, no worker counted less than the chief saw
 abbrev pub IsSeen : View → Type 0

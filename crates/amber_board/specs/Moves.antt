@@ -4,7 +4,7 @@ use Rattle.amber_board.specs.declared.view.Role.TheVariants.{Worker, Spent}
 use Rattle.amber_board.specs.declared.view.Step.{Step}
 use Rattle.amber_board.specs.declared.view.Step.TheVariants.{Split, Draw, Grant, PutBack, Sweep, Watch, Join, Claim, Count, GiveBack}
 use Rattle.amber_board.specs.declared.view.View.{View}
-use Rattle.amber_board.specs.Ledger.{number_of}
+use Rattle.amber_board.specs.Ledger.{worker_number_of}
 
 -- a step that leaves so many units in the hand
 abbrev pub stepped_to : View → ℕ → Step → View
@@ -15,8 +15,8 @@ abbrev pub drawn : View → ℕ → View
 drawn v n = stepped_to v (v.hand + n) Draw
 
 -- the chief allotted n units to worker w
-abbrev pub granted : View → ℕ → ℕ → View
-granted v w n = stepped_to v (v.hand - n) (Grant w n)
+abbrev pub after_grant : View → ℕ → ℕ → View
+after_grant v w n = stepped_to v (v.hand - n) (Grant w n)
 
 -- the chief made its hand unassigned
 abbrev pub put_back_of : View → View
@@ -27,12 +27,12 @@ abbrev pub swept : View → ℕ → ℕ → View
 swept v w n = stepped_to v (v.hand + n) (Sweep w)
 
 -- the chief saw that worker w had counted n
-abbrev pub watched : View → ℕ → ℕ → View
-watched v w n = record v { seen = slice_set v.seen w n; done = Watch w ∷ v.done }
+abbrev pub after_watch : View → ℕ → ℕ → View
+after_watch v w n = record v { seen = slice_set v.seen w n; done = Watch w ∷ v.done }
 
 -- worker w claimed n units
-abbrev pub claimed : View → ℕ → ℕ → View
-claimed v w n = stepped_to v (v.hand + n) (Claim w)
+abbrev pub after_claim : View → ℕ → ℕ → View
+after_claim v w n = stepped_to v (v.hand + n) (Claim w)
 
 -- worker w counted one unit of its hand
 abbrev pub counted_one : View → ℕ → View
@@ -51,8 +51,8 @@ abbrev pub new_seat : ℕ → ℕ → View
 new_seat w hand = record { role = Worker w; hand = hand; mine = 0; target = 0; made = 0; seen = []; kept = []; done = [] }
 
 -- the chief took in a worker's seat
-abbrev pub joined : View → View → View
-joined v other = record v { kept = record { worker = number_of other.role; count = other.mine } ∷ v.kept; done = Join (number_of other.role) ∷ v.done }
+abbrev pub after_join : View → View → View
+after_join v other = record v { kept = record { worker = worker_number_of other.role; count = other.mine } ∷ v.kept; done = Join (worker_number_of other.role) ∷ v.done }
 
 -- what is left of a seat that the chief took in
 abbrev pub spent_view : View

@@ -6,7 +6,7 @@ use Rattle.amber_board.specs.declared.types.WorkSeat.{WorkSeat}
 use Rattle.amber_board.specs.declared.view.Step.{Step}
 use Rattle.amber_board.specs.declared.view.Step.TheVariants.{Split, Draw}
 use Rattle.amber_board.specs.Moves.{new_seat}
-use Rattle.amber_board.specs.Seats.{target_of, workers_of, chief_view, work_view, IsChiefOf, IsSeatOf}
+use Rattle.amber_board.specs.Seats.{target_of, board_workers, chief_view, work_view, IsChiefOf, IsSeatOf}
 
 -- each seat is of the board, is worker k's at place k, counted nothing, and has in hand what k was given
 abbrev pub AreDealt : Board → List WorkSeat → (ℕ → ℕ) → Type 0
@@ -39,7 +39,7 @@ all_with worker target workers =
 -- a board that was just made, with its chief, who has nothing in hand, saw nothing and did nothing more, and its workers' seats
 pub record IsMade (board : Board) (c : ChiefSeat) (all_seats : List WorkSeat) (opening : Opening) : Type 0 where
   pub target : target_of board ≡ opening.target
-  pub workers : workers_of board ≡ opening.workers
+  pub workers : board_workers board ≡ opening.workers
   pub chief : IsChiefOf board c
   pub empty : (chief_view c).hand ≡ 0
   pub unseen : (chief_view c).seen ≡ replicate 16 0

@@ -4,15 +4,15 @@ use Rattle.amber_board.specs.declared.types.Board.{Board}
 use Rattle.amber_board.specs.declared.types.ChiefSeat.{ChiefSeat}
 use Rattle.amber_board.specs.declared.types.WorkSeat.{WorkSeat}
 use Rattle.amber_board.specs.declared.view.View.{View}
-use Rattle.amber_board.specs.Ledger.{number_of}
+use Rattle.amber_board.specs.Ledger.{worker_number_of}
 
 -- what all units of the board add up to
 abbrev pub target_of : Board → ℕ
 target_of board = board.table.shared.key.target
 
 -- how many workers the board has
-abbrev pub workers_of : Board → ℕ
-workers_of board = board.table.shared.key.workers
+abbrev pub board_workers : Board → ℕ
+board_workers board = board.table.shared.key.workers
 
 -- what the chief knows
 abbrev pub chief_view : ChiefSeat → View
@@ -24,15 +24,15 @@ work_view worker = worker.seat.me.0
 
 -- the number of the worker whose seat it is
 abbrev pub worker_of : WorkSeat → ℕ
-worker_of worker = number_of (work_view worker).role
+worker_of worker = worker_number_of (work_view worker).role
 
 -- the chief's seat is of this board
 pub record IsChiefOf (board : Board) (chief : ChiefSeat) : Type 0 where
   pub table : chief.seat.table_id ≡ board.table.shared.table_id
   pub target : (chief_view chief).target ≡ target_of board
-  pub workers : (chief_view chief).made ≡ workers_of board
+  pub workers : (chief_view chief).made ≡ board_workers board
 
 -- the worker's seat is of this board
 pub record IsSeatOf (board : Board) (worker : WorkSeat) : Type 0 where
   pub table : worker.seat.table_id ≡ board.table.shared.table_id
-  pub number : worker_of worker < workers_of board
+  pub number : worker_of worker < board_workers board

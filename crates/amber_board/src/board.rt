@@ -3,9 +3,9 @@ ghost use Rattle.std.specs.Prelude.{◌≡◌, ◌+◌, ◌^◌, ◌<◌, ◌≤
 ghost use Rattle.amber_board.specs.declared.TheConstants.{LARGEST_TARGET, MOST_WORKERS};
 ghost use Rattle.amber_board.specs.declared.view.Role.TheVariants.{Chief};
 ghost use Rattle.amber_board.specs.Ledger.{first_view};
-ghost use Rattle.amber_board.specs.Moves.{after_split, new_seat, joined};
+ghost use Rattle.amber_board.specs.Moves.{after_split, new_seat, after_join};
 ghost use Rattle.amber_board.specs.Opening.{AreDealt, IsMade, all_unassigned, all_with, splits_after};
-ghost use Rattle.amber_board.specs.Seats.{IsChiefOf, IsSeatOf, chief_view, work_view, target_of, workers_of};
+ghost use Rattle.amber_board.specs.Seats.{IsChiefOf, IsSeatOf, chief_view, work_view, target_of, board_workers};
 
 use crate::kinds::{TakeIn, WithHand, WithNothing};
 use crate::types::{Board, ChiefSeat, Totals, WorkSeat};
@@ -56,7 +56,7 @@ impl Board {
     fn open(alloc: Global, target: u64, workers: u32) -> Result<(Board, ChiefSeat), NoMemory>
         requires target { target ≤ LARGEST_TARGET }
         requires workers { workers ≤ MOST_WORKERS }
-        ensures { IfOk result (λ made. (target_of made.0 ≡ target) × (workers_of made.0 ≡ workers) × (made.1.seat.table_id ≡ made.0.table.shared.table_id) × (chief_view made.1 ≡ first_view made.0.table.shared.key)) }
+        ensures { IfOk result (λ made. (target_of made.0 ≡ target) × (board_workers made.0 ≡ workers) × (made.1.seat.table_id ≡ made.0.table.shared.table_id) × (chief_view made.1 ≡ first_view made.0.table.shared.key)) }
     {
         let mut words = [0u64; WORDS];
         words[0] = target;
@@ -82,7 +82,7 @@ impl Board {
         favoured: u32,
     ) -> Result<Vec<WorkSeat>, NoMemory>
         requires table { chief.old.seat.table_id ≡ self.now.table.shared.table_id }
-        requires workers { (workers ≡ workers_of self.now) × (workers ≤ MOST_WORKERS) }
+        requires workers { (workers ≡ board_workers self.now) × (workers ≤ MOST_WORKERS) }
         requires favoured { favoured < workers }
         requires none { (chief_view chief.old).made ≡ 0 }
         ensures table { chief.new.seat.table_id ≡ chief.old.seat.table_id }
@@ -102,7 +102,7 @@ impl Board {
     // The seat of the next worker, with what the chief has in hand or with nothing.
     fn next_seat(&self, chief: &mut ChiefSeat, with_hand: bool) -> WorkSeat
         requires table { chief.old.seat.table_id ≡ self.now.table.shared.table_id }
-        requires room { ((chief_view chief.old).made < workers_of self.now) × ((chief_view chief.old).made < MOST_WORKERS) }
+        requires room { ((chief_view chief.old).made < board_workers self.now) × ((chief_view chief.old).made < MOST_WORKERS) }
         ensures table { (chief.new.seat.table_id ≡ chief.old.seat.table_id) × (result.seat.table_id ≡ chief.old.seat.table_id) }
         ensures chief { chief_view chief.new ≡ after_split (chief_view chief.old) (if with_hand then 0 else (chief_view chief.old).hand) }
         ensures seat { work_view result ≡ new_seat (chief_view chief.old).made (if with_hand then (chief_view chief.old).hand else 0) }
@@ -116,7 +116,7 @@ impl Board {
 
     fn seat_with_nothing(&self, chief: &mut ChiefSeat) -> WorkSeat
         requires table { chief.old.seat.table_id ≡ self.now.table.shared.table_id }
-        requires room { ((chief_view chief.old).made < workers_of self.now) × ((chief_view chief.old).made < MOST_WORKERS) }
+        requires room { ((chief_view chief.old).made < board_workers self.now) × ((chief_view chief.old).made < MOST_WORKERS) }
         ensures table { (chief.new.seat.table_id ≡ chief.old.seat.table_id) × (result.seat.table_id ≡ chief.old.seat.table_id) }
         ensures chief { chief_view chief.new ≡ after_split (chief_view chief.old) (chief_view chief.old).hand }
         ensures seat { work_view result ≡ new_seat (chief_view chief.old).made 0 }
@@ -134,7 +134,7 @@ impl Board {
 
     fn seat_with_hand(&self, chief: &mut ChiefSeat) -> WorkSeat
         requires table { chief.old.seat.table_id ≡ self.now.table.shared.table_id }
-        requires room { ((chief_view chief.old).made < workers_of self.now) × ((chief_view chief.old).made < MOST_WORKERS) }
+        requires room { ((chief_view chief.old).made < board_workers self.now) × ((chief_view chief.old).made < MOST_WORKERS) }
         ensures table { (chief.new.seat.table_id ≡ chief.old.seat.table_id) × (result.seat.table_id ≡ chief.old.seat.table_id) }
         ensures chief { chief_view chief.new ≡ after_split (chief_view chief.old) 0 }
         ensures seat { work_view result ≡ new_seat (chief_view chief.old).made (chief_view chief.old).hand }
@@ -158,7 +158,7 @@ fn take_in(board: &Board, chief: &mut Seat<(), View>, worker: WorkSeat) -> u64
     requires chief { (chief.old.table_id ≡ board.now.table.shared.table_id) × (chief.old.me.0.role ≡ Chief) }
     requires worker { (worker.seat.table_id ≡ board.now.table.shared.table_id) × ((work_view worker).hand ≡ 0) }
     ensures chief { (chief.new.table_id ≡ chief.old.table_id) × (chief.new.id ≡ chief.old.id) }
-    ensures joined { chief.new.me.0 ≡ joined chief.old.me.0 (work_view worker) }
+    ensures joined { chief.new.me.0 ≡ after_join chief.old.me.0 (work_view worker) }
     ensures counted { (result ≡ (work_view worker).mine) × (result ≤ 2 ^ 40) }
 {
     let WorkSeat {
@@ -194,7 +194,7 @@ fn take_all(board: &Board, chief: &mut Seat<(), View>, seats: Vec<WorkSeat>) -> 
 pub fn close(board: Board, chief: ChiefSeat, seats: Vec<WorkSeat>) -> Totals
     requires chief { IsChiefOf board chief }
     requires seats { All (IsSeatOf board) seats.items }
-    requires all { vec_len seats ≡ workers_of board }
+    requires all { vec_len seats ≡ board_workers board }
     requires chief_empty { (chief_view chief).hand ≡ 0 }
     requires empty { All (λ seat. (work_view seat).hand ≡ 0) seats.items }
     ensures counted { result.counted ≡ sum_by (λ seat. (work_view seat).mine) seats.items }

@@ -1,8 +1,8 @@
 //! What the chief does.
 ghost use Rattle.std.specs.Prelude.{◌≡◌, ℕ, ◌^◌, ◌≤◌, ◌<◌, ◌↔◌, IsTrue, sum};
 ghost use Rattle.amber_board.specs.Ledger.{IsExact};
-ghost use Rattle.amber_board.specs.Moves.{drawn, granted, put_back_of, swept, watched};
-ghost use Rattle.amber_board.specs.Seats.{IsChiefOf, chief_view, workers_of};
+ghost use Rattle.amber_board.specs.Moves.{drawn, after_grant, put_back_of, swept, after_watch};
+ghost use Rattle.amber_board.specs.Seats.{IsChiefOf, chief_view, board_workers};
 
 use crate::kinds;
 use crate::types::{Board, ChiefSeat};
@@ -42,10 +42,10 @@ impl ChiefSeat {
     /// Moves `n` units of the hand to the allotment of `worker`.
     pub fn grant(&mut self, board: &Board, worker: u32, n: u64)
         requires own { IsChiefOf board.now self.old }
-        requires worker { worker < workers_of board.now }
+        requires worker { worker < board_workers board.now }
         requires has { n ≤ (chief_view self.old).hand }
         ensures own { IsChiefOf board.now self.new }
-        ensures granted { chief_view self.new ≡ granted (chief_view self.old) worker n }
+        ensures granted { chief_view self.new ≡ after_grant (chief_view self.old) worker n }
     {
         board
             .table
@@ -70,7 +70,7 @@ impl ChiefSeat {
     /// Moves what `worker` has not claimed of its allotment back into the hand.
     pub fn sweep(&mut self, board: &Board, worker: u32)
         requires own { IsChiefOf board.now self.old }
-        requires worker { worker < workers_of board.now }
+        requires worker { worker < board_workers board.now }
         ensures own { IsChiefOf board.now self.new }
         ensures swept { (n : ℕ) × (chief_view self.new ≡ swept (chief_view self.old) worker n) }
     {
@@ -84,9 +84,9 @@ impl ChiefSeat {
     /// How many units `worker` has counted, which the chief remembers.
     pub fn watch(&mut self, board: &Board, worker: u32) -> u64
         requires own { IsChiefOf board.now self.old }
-        requires worker { worker < workers_of board.now }
+        requires worker { worker < board_workers board.now }
         ensures own { IsChiefOf board.now self.new }
-        ensures watched { chief_view self.new ≡ watched (chief_view self.old) worker result }
+        ensures watched { chief_view self.new ≡ after_watch (chief_view self.old) worker result }
     {
         let counted = board
             .table

@@ -1,7 +1,7 @@
 //! The kinds of step: what each makes of the view of the seat that makes it.
 ghost use Rattle.std.specs.Prelude.{◌≡◌, ℕ, ◌+◌, ◌^◌, ◌≤◌};
-ghost use Rattle.amber_board.specs.Ledger.{number_of};
-ghost use Rattle.amber_board.specs.Moves.{drawn, granted, put_back_of, swept, watched, claimed, counted_one, given_back, after_split, new_seat, joined, spent_view};
+ghost use Rattle.amber_board.specs.Ledger.{worker_number_of};
+ghost use Rattle.amber_board.specs.Moves.{drawn, after_grant, put_back_of, swept, after_watch, after_claim, counted_one, given_back, after_split, new_seat, after_join, spent_view};
 
 use crate::view::View;
 use atomic_table::{Join, Play, Split};
@@ -36,7 +36,7 @@ impl Play<(), View> for Draw {
 pub(crate) struct Grant;
 
 impl Play<(), View> for Grant {
-    ghost then = { λ step me n after. ((w : ℕ) → step.word ≡ 2 + w → after.0 ≡ granted me.0 w step.first) × (after.1 ≡ me.1) };
+    ghost then = { λ step me n after. ((w : ℕ) → step.word ≡ 2 + w → after.0 ≡ after_grant me.0 w step.first) × (after.1 ≡ me.1) };
 }
 
 pub(crate) struct Sweep;
@@ -48,7 +48,7 @@ impl Play<(), View> for Sweep {
 pub(crate) struct Watch;
 
 impl Play<(), View> for Watch {
-    ghost then = { λ step me n after. ((w : ℕ) → step.word ≡ 18 + w → after.0 ≡ watched me.0 w n) × (after.1 ≡ me.1) × (n ≤ 2 ^ 40) };
+    ghost then = { λ step me n after. ((w : ℕ) → step.word ≡ 18 + w → after.0 ≡ after_watch me.0 w n) × (after.1 ≡ me.1) × (n ≤ 2 ^ 40) };
 }
 
 /// On the unassigned units.
@@ -62,28 +62,28 @@ impl Play<(), View> for PutBack {
 pub(crate) struct Claim;
 
 impl Play<(), View> for Claim {
-    ghost then = { λ step me n after. (step.word ≡ 2 + number_of me.0.role) × (after.0 ≡ claimed me.0 (number_of me.0.role) n) × (after.1 ≡ me.1) × (me.0.hand + n ≤ 2 ^ 40) };
+    ghost then = { λ step me n after. (step.word ≡ 2 + worker_number_of me.0.role) × (after.0 ≡ after_claim me.0 (worker_number_of me.0.role) n) × (after.1 ≡ me.1) × (me.0.hand + n ≤ 2 ^ 40) };
 }
 
 /// On the worker's own count.
 pub(crate) struct Count;
 
 impl Play<(), View> for Count {
-    ghost then = { λ step me n after. (step.word ≡ 18 + number_of me.0.role) × (after.0 ≡ counted_one me.0 (number_of me.0.role)) × (after.1 ≡ me.1) × (me.0.mine + 1 ≤ 2 ^ 40) };
+    ghost then = { λ step me n after. (step.word ≡ 18 + worker_number_of me.0.role) × (after.0 ≡ counted_one me.0 (worker_number_of me.0.role)) × (after.1 ≡ me.1) × (me.0.mine + 1 ≤ 2 ^ 40) };
 }
 
 /// On the unassigned units.
 pub(crate) struct GiveBack;
 
 impl Play<(), View> for GiveBack {
-    ghost then = { λ step me n after. (step.word ≡ 1) × (after.0 ≡ given_back me.0 (number_of me.0.role)) × (after.1 ≡ me.1) };
+    ghost then = { λ step me n after. (step.word ≡ 1) × (after.0 ≡ given_back me.0 (worker_number_of me.0.role)) × (after.1 ≡ me.1) };
 }
 
 /// The chief takes in a worker's seat.
 pub(crate) struct TakeIn;
 
 impl Join<View> for TakeIn {
-    ghost both = { joined };
+    ghost both = { after_join };
 
     ghost spent = { spent_view };
 }

@@ -1,5 +1,5 @@
 ghost use Rattle.std.specs.Prelude.{◌≡◌, ◌-◌, ◌<◌, ◌≤◌, All, IsTrue, length};
-ghost use Rattle.amber_board.specs.Seats.{IsChiefOf, IsSeatOf, chief_view, work_view, workers_of};
+ghost use Rattle.amber_board.specs.Seats.{IsChiefOf, IsSeatOf, chief_view, work_view, board_workers};
 
 use crate::{Board, ChiefSeat, Totals, WorkSeat, close};
 use std::test::Fail;
@@ -34,7 +34,7 @@ fn claim_and_count(board: &Board, seats: &mut [WorkSeat], worker: usize) -> u64
     let claimed = seat.claim(board);
     let all = seat.hand();
     count_times(board, seat, all);
-    claimed
+    after_claim
 }
 
 fn all_empty(seats: &[WorkSeat]) -> bool
@@ -61,7 +61,7 @@ fn labour(board: &Board, seat: &mut WorkSeat)
 // The chief's bounded turns: it draws, grants a little, sweeps and watches.
 fn divide(board: &Board, chief: &mut ChiefSeat)
     requires own { IsChiefOf board.now chief.old }
-    requires workers { workers_of board.now ≡ WORKERS }
+    requires workers { board_workers board.now ≡ WORKERS }
     ensures { IsChiefOf board.now chief.new }
 {
     for turn in 0..TURNS {
@@ -84,7 +84,7 @@ fn side_by_side<R: Threads + Sync>(
     seats: &mut [WorkSeat],
 )
     requires chief { IsChiefOf board.now chief.old }
-    requires workers { workers_of board.now ≡ WORKERS }
+    requires workers { board_workers board.now ≡ WORKERS }
     requires seats { All (IsSeatOf board.now) seats.old }
     ensures chief { IsChiefOf board.now chief.new }
     ensures seats { All (IsSeatOf board.now) seats.new }
@@ -92,7 +92,7 @@ fn side_by_side<R: Threads + Sync>(
     thread::join_mut(
         rt,
         &mut ||
-            requires { IsChiefOf board.now chief.now × (workers_of board.now ≡ WORKERS) }
+            requires { IsChiefOf board.now chief.now × (board_workers board.now ≡ WORKERS) }
             ensures { IsChiefOf board.entry.now chief.exit.now }
         { divide(board, chief) },
         &mut ||
@@ -105,7 +105,7 @@ fn side_by_side<R: Threads + Sync>(
 // What nobody has claimed goes to worker 0, and each worker counts all that it has.
 fn finish(board: &Board, chief: &mut ChiefSeat, seats: &mut [WorkSeat])
     requires chief { IsChiefOf board.now chief.old }
-    requires workers { workers_of board.now ≡ WORKERS }
+    requires workers { board_workers board.now ≡ WORKERS }
     requires seats { All (IsSeatOf board.now) seats.old }
     ensures chief { IsChiefOf board.now chief.new × ((chief_view chief.new).hand ≡ 0) }
     ensures seats { All (IsSeatOf board.now) seats.new }
@@ -122,7 +122,7 @@ fn finish(board: &Board, chief: &mut ChiefSeat, seats: &mut [WorkSeat])
 
 fn collect(board: &Board, chief: &mut ChiefSeat)
     requires chief { IsChiefOf board.now chief.old }
-    requires workers { workers_of board.now ≡ WORKERS }
+    requires workers { board_workers board.now ≡ WORKERS }
     ensures chief { IsChiefOf board.now chief.new × ((chief_view chief.new).hand ≡ 0) }
 {
     chief.draw(board);
@@ -134,7 +134,7 @@ fn collect(board: &Board, chief: &mut ChiefSeat)
 
 fn watch_all(board: &Board, chief: &mut ChiefSeat)
     requires chief { IsChiefOf board.now chief.old }
-    requires workers { workers_of board.now ≡ WORKERS }
+    requires workers { board_workers board.now ≡ WORKERS }
     ensures chief { IsChiefOf board.now chief.new × ((chief_view chief.new).hand ≡ (chief_view chief.old).hand) }
 {
     for worker in 0..WORKERS {

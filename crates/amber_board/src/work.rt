@@ -1,6 +1,6 @@
 //! What a worker does.
 ghost use Rattle.std.specs.Prelude.{◌≡◌, ◌<◌};
-ghost use Rattle.amber_board.specs.Moves.{claimed, counted_one, given_back};
+ghost use Rattle.amber_board.specs.Moves.{after_claim, counted_one, given_back};
 ghost use Rattle.amber_board.specs.Seats.{IsSeatOf, work_view, worker_of};
 
 use crate::kinds;
@@ -12,7 +12,7 @@ impl WorkSeat {
     pub fn claim(&mut self, board: &Board) -> u64
         requires { IsSeatOf board.now self.old }
         ensures own { IsSeatOf board.now self.new }
-        ensures claimed { work_view self.new ≡ claimed (work_view self.old) (worker_of self.old) result }
+        ensures claimed { work_view self.new ≡ after_claim (work_view self.old) (worker_of self.old) result }
     {
         let found = board
             .table

@@ -6,7 +6,7 @@ use Rattle.std.specs.Result.{IfErr, IfOk}
 use Rattle.amber_io.specs.Counts.{Rose}
 use Rattle.amber_io.specs.Folder.{Gives, Lacks, Named, Told}
 use Rattle.amber_rows.specs.declared.flow.Operator.{Operator}
-use Rattle.amber_course.specs.Course.{IsScanFile, IsScanned, load_of, sized, then_on, workflow_in}
+use Rattle.amber_course.specs.Course.{IsScanFile, IsScanned, load_of, require_size, then_on, workflow_in}
 use Rattle.amber_course.specs.Steps.{Follows, IsBounded, IsMissing, Judges, Names, Stopped, Tells}
 use Rattle.amber_course.specs.declared.failure.Failure.{Failure}
 use Rattle.amber_course.specs.declared.failure.Failure.TheVariants as failure
@@ -118,13 +118,13 @@ is-within m most h = grind (arith, nat_tests)
 is-past : (m most : ℕ) → most < m → nat_le m most ≡ false
 is-past m most h = grind (arith, nat_tests)
 
-sized-ok : (most : ℕ) (name bytes whole : List ℕ) → bytes ≡ take (most + 1) whole → length bytes ≤ most → sized most name (Some whole) ≡ Ok bytes
-sized-ok most name bytes whole e short =
+require_size-ok : (most : ℕ) (name bytes whole : List ℕ) → bytes ≡ take (most + 1) whole → length bytes ≤ most → require_size most name (Some whole) ≡ Ok bytes
+require_size-ok most name bytes whole e short =
     let all = whole-file most whole bytes e short in
     rw (is-within (length whole) most all.0, all.1) refl
 
-sized-large : (most : ℕ) (name bytes whole : List ℕ) → bytes ≡ take (most + 1) whole → most < length bytes → sized most name (Some whole) ≡ Err (failure.TooLarge name)
-sized-large most name bytes whole e large =
+require_size-large : (most : ℕ) (name bytes whole : List ℕ) → bytes ≡ take (most + 1) whole → most < length bytes → require_size most name (Some whole) ≡ Err (failure.TooLarge name)
+require_size-large most name bytes whole e large =
     let size = ap length e ∙ length-take (most + 1) whole in
     let past : most < length whole = omega (arith, size, large) in
     rw (is-past (length whole) most past) refl
@@ -133,13 +133,13 @@ load-ok : (told : Option Named) (most : ℕ) (name bytes : List ℕ) → Gives t
     → Told told (λ files. load_of most name files ≡ Ok bytes)
 unfolding load_of
 load-ok None most name bytes h short = tt
-load-ok (Some files) most name bytes h short = rw h.1 (sized-ok most name bytes h.0 h.2 short)
+load-ok (Some files) most name bytes h short = rw h.1 (require_size-ok most name bytes h.0 h.2 short)
 
 load-large : (told : Option Named) (most : ℕ) (name bytes file : List ℕ) → file ≡ name → Gives told name (most + 1) bytes → most < length bytes
     → Told told (λ files. load_of most name files ≡ Err (failure.TooLarge file))
 unfolding load_of
 load-large None most name bytes file e h large = tt
-load-large (Some files) most name bytes file e h large = rw (h.1, e) (sized-large most name bytes h.0 h.2 large)
+load-large (Some files) most name bytes file e h large = rw (h.1, e) (require_size-large most name bytes h.0 h.2 large)
 
 -- the first bytes of a file came
 pub load-bounded : (r : Result (List ℕ) Failure) (told : Option Named) (most : ℕ) (name bytes : List ℕ) (a b : ℕ) → b ≡ a → Gives told name (most + 1) bytes
@@ -194,6 +194,6 @@ names-map other P Q f h = tt
 -- the workflow was read, so one of its scans is named
 pub scan-named : (s : Failure) (told : Option Named) (name : List ℕ) (flow : List Operator) → Told told (λ files. workflow_in name files ≡ Ok flow)
     → Told told (λ files. Names s (IsScanFile flow files)) → Told told (λ files. Names s (IsScanned name files))
-scan-named s told name flow reads h =
+scan-named s told name flow is_scan_of h =
     told-both told (λ files. workflow_in name files ≡ Ok flow) (λ files. Names s (IsScanFile flow files)) (λ files. Names s (IsScanned name files))
-    (λ files e one. names-map s (IsScanFile flow files) (IsScanned name files) (λ file is. (flow, e, is)) one) reads h
+    (λ files e one. names-map s (IsScanFile flow files) (IsScanned name files) (λ file is. (flow, e, is)) one) is_scan_of h

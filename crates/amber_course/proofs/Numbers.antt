@@ -7,14 +7,14 @@ use Rattle.std.proofs.lemmas.Bool.{and_parts, cases_Bool, false_from_ne_true}
 use Rattle.std.proofs.lemmas.Bool.Decides.{nat_tests}
 use Rattle.std.proofs.lemmas.Fmt.{decimal_is_IsNumeral, parse-decimal}
 use Rattle.std.proofs.lemmas.Slice.Eq.{bytes_eq-Decides}
-use Rattle.amber_course.specs.Words.{number_of, number_where}
+use Rattle.amber_course.specs.Words.{number_from, number_where}
 
 is-le : (m n : ℕ) → nat_le m n ≡ true → m ≤ n
 is-le m n e = grind (arith, nat_tests)
 
 -- a word is no such number
-no-number : (most : ℕ) (word : List ℕ) → most < 2 ^ 32 → ((n : ℕ) → n < 2 ^ 32 → word ≡ decimal n → ⊥) → number_of most word ≡ None
-unfolding number_of
+no-number : (most : ℕ) (word : List ℕ) → most < 2 ^ 32 → ((n : ℕ) → n < 2 ^ 32 → word ≡ decimal n → ⊥) → number_from most word ≡ None
+unfolding number_from
 no-number most word small none =
     let v = digits_value 10 word in
     let no : (bytes_eq (decimal v) word && nat_le 1 v && nat_le v most) ≡ false =
@@ -25,8 +25,8 @@ no-number most word small none =
     none v (omega arith) (sym ((bytes_eq-Decides (decimal v) word).0 front.0))) in
     rw no refl
 
-canonical : (most number : ℕ) (word : List ℕ) → number < 2 ^ 32 → decimal number ≡ word → number_where most word number ≡ number_of most word
-unfolding number_of
+canonical : (most number : ℕ) (word : List ℕ) → number < 2 ^ 32 → decimal number ≡ word → number_where most word number ≡ number_from most word
+unfolding number_from
 canonical most number word fits e =
     let value : digits_value 10 word ≡ number = ap (digits_value 10) (sym e) ∙ (decimal_is_IsNumeral number (omega arith)).1 in
     rw value refl
@@ -37,7 +37,7 @@ Parsed = Result ℕ (Unit {0})
 
 -- a word that std reads as a number
 pub number-read : (most number : ℕ) (word : List ℕ) → most < 2 ^ 32 → number < 2 ^ 32 → ParsesUnsigned {E = Unit {0}} 32 10 word (Ok number)
-    → number_where most word number ≡ number_of most word
+    → number_where most word number ≡ number_from most word
 number-read most number word small fits h =
     elim (cases_Bool (bytes_eq (decimal number) word)) [
       | inl same ↦ canonical most number word fits ((bytes_eq-Decides (decimal number) word).0 same)
@@ -49,7 +49,7 @@ number-read most number word small fits h =
     ]
 
 -- a word that std reads as none
-pub number-unread : (most : ℕ) (word : List ℕ) → most < 2 ^ 32 → ParsesUnsigned {E = Unit {0}} 32 10 word (Err tt) → None ≡ number_of most word
+pub number-unread : (most : ℕ) (word : List ℕ) → most < 2 ^ 32 → ParsesUnsigned {E = Unit {0}} 32 10 word (Err tt) → None ≡ number_from most word
 number-unread most word small h =
     sym (no-number most word small (λ n fit is.
     let read : ◌≡◌ {A = Parsed} (Err tt) (Ok n) = parse-decimal 32 n word (Err tt) fit (omega arith) is h in

@@ -11,7 +11,7 @@ use Rattle.amber_rows.specs.declared.flow.What.TheVariants as what
 use Rattle.amber_rows.specs.declared.flow.Operator.{Operator}
 use Rattle.amber_meaning.specs.Plain.{is_scan, scan_count, wrong_header}
 use Rattle.amber_course.specs.Ready.{AreInputs}
-use Rattle.amber_course.specs.Course.{IsScanFile, file_before, headed, most_scanned, scan_before, scan_file, scans_from, scans_of, then_on}
+use Rattle.amber_course.specs.Course.{IsScanFile, file_before, require_header, most_scanned, scan_before, scan_file, scans_from, scans_of, then_on}
 use Rattle.amber_course.specs.Steps.{Follows, Judges, Names, Tells}
 use Rattle.amber_course.specs.declared.failure.Reason.TheVariants as reason
 use Rattle.amber_course.specs.declared.failure.Failure.{Failure}
@@ -214,22 +214,22 @@ inputs-end ops i done h sofar =
     let none = drop_all i ops h in
     let count : scan_count (drop i ops) ≡ 0 = rw none refl in
     let headed : wrong_header (i + 1) [] (drop i ops) ≡ None = rw none refl in
-    record { count = omega (arith, count, sofar.count); headed = rw append-nil at (sofar.headed [] headed) }
+    record { count = omega (arith, count, sofar.count); headed = rw append-nil at (sofar.headed [] require_header) }
 
 -- ---- headers
 
-headed-cases : {A : Type 0} (right : Bool) (x y : A) (s : Failure) → cond right (Ok x) (Err s) ≡ Ok y → (right ≡ true) × (y ≡ x)
-headed-cases true x y s e = (refl, cc)
-headed-cases false x y s e = cc
+require_header-cases : {A : Type 0} (right : Bool) (x y : A) (s : Failure) → cond right (Ok x) (Err s) ≡ Ok y → (right ≡ true) × (y ≡ x)
+require_header-cases true x y s e = (refl, cc)
+require_header-cases false x y s e = cc
 
-pub headed-few : (r : Result (List ℕ) Failure) (op most : ℕ) (columns : List Column) (bytes : List ℕ) → Judges r (headed op columns bytes) → length bytes ≤ most
+pub require_header-few : (r : Result (List ℕ) Failure) (op most : ℕ) (columns : List Column) (bytes : List ℕ) → Judges r (require_header op columns bytes) → length bytes ≤ most
     → IfOk r (λ file. length file ≤ most)
-headed-few (Ok file) op most columns bytes h few = rw (headed-cases (has_header columns bytes) bytes file (failure.BadFlow op reason.Header) h).1 few
-headed-few (Err s) op most columns bytes h few = tt
+require_header-few (Ok file) op most columns bytes h few = rw (require_header-cases (has_header columns bytes) bytes file (failure.BadFlow op reason.Header) h).1 few
+require_header-few (Err s) op most columns bytes h few = tt
 
-pub headed-right : (r : Result (List ℕ) Failure) (op : ℕ) (columns : List Column) (bytes : List ℕ) → Judges r (headed op columns bytes)
+pub require_header-right : (r : Result (List ℕ) Failure) (op : ℕ) (columns : List Column) (bytes : List ℕ) → Judges r (require_header op columns bytes)
     → IfOk r (λ file. has_header columns file ≡ true)
-headed-right (Ok file) op columns bytes h =
-    let one = headed-cases (has_header columns bytes) bytes file (failure.BadFlow op reason.Header) h in
+require_header-right (Ok file) op columns bytes h =
+    let one = require_header-cases (has_header columns bytes) bytes file (failure.BadFlow op reason.Header) h in
     rw one.1 one.0
-headed-right (Err s) op columns bytes h = tt
+require_header-right (Err s) op columns bytes h = tt

@@ -11,7 +11,7 @@ use Rattle.amber_flow.specs.Workflow.{workflow_of}
 use Rattle.amber_flow.specs.declared.error.Fault.{Fault}
 use Rattle.amber_meaning.specs.Plain.{row_total}
 use Rattle.amber_course.specs.Script.{first_said, script_read}
-use Rattle.amber_course.specs.Words.{words_of}
+use Rattle.amber_course.specs.Words.{call_words_of}
 use Rattle.amber_course.specs.declared.job.Job.{Job}
 use Rattle.amber_course.specs.declared.job.Job.TheVariants as job
 use Rattle.amber_course.specs.declared.words.RunWords.{RunWords}
@@ -43,13 +43,13 @@ most_rows = 2 ^ 40
 -- ---- files
 
 -- a file has to be there, and may have so many bytes
-abbrev pub sized : ℕ → List ℕ → Option (List ℕ) → Result (List ℕ) Failure
-sized most name None = Err (failure.ReadFault name)
-sized most name (Some bytes) = if nat_le (length bytes) most then Ok bytes else Err (failure.TooLarge name)
+abbrev pub require_size : ℕ → List ℕ → Option (List ℕ) → Result (List ℕ) Failure
+require_size most name None = Err (failure.ReadFault name)
+require_size most name (Some bytes) = if nat_le (length bytes) most then Ok bytes else Err (failure.TooLarge name)
 
 -- a file of this name
 unfoldable pub load_of : ℕ → List ℕ → Named → Result (List ℕ) Failure
-load_of most name files = sized most name (finmap.get files name)
+load_of most name files = require_size most name (finmap.get files name)
 
 -- the workflow that was read, or the first reason against it
 abbrev pub flow_read : Result (List Operator) Fault → Result (List Operator) Failure
@@ -67,14 +67,14 @@ script_in name files = then_on (load_of most_text name files) (λ bytes. script_
 -- ---- the log
 
 -- whether a scan reads this file
-abbrev pub reads : List ℕ → What → Bool
-reads log (what.Scan file) = bytes_eq file log
-reads log other = false
+abbrev pub is_scan_of : List ℕ → What → Bool
+is_scan_of log (what.Scan file) = bytes_eq file log
+is_scan_of log other = false
 
 -- the first scan, of the operators from this number on, that reads the log
 unfoldable pub log_scan : ℕ → List ℕ → List Operator → Option ℕ
 log_scan op log [] = None
-log_scan op log (operator ∷ more) = if reads log operator.what then Some op else log_scan (op + 1) log more
+log_scan op log (operator ∷ more) = if is_scan_of log operator.what then Some op else log_scan (op + 1) log more
 
 -- the log has to be none of the scans' files
 abbrev pub apart_from : List Operator → Option ℕ → Result (List Operator) Failure
@@ -88,12 +88,12 @@ run_flow workflow log files = then_on (workflow_in workflow files) (λ flow. apa
 -- ---- scans
 
 -- a scan's file has to begin with the names of its columns
-abbrev pub headed : ℕ → List Column → List ℕ → Result (List ℕ) Failure
-headed op columns bytes = if has_header columns bytes then Ok bytes else Err (failure.BadFlow op reason.Header)
+abbrev pub require_header : ℕ → List Column → List ℕ → Result (List ℕ) Failure
+require_header op columns bytes = if has_header columns bytes then Ok bytes else Err (failure.BadFlow op reason.Header)
 
 -- the file of a scan, where all scans from it on may have so many bytes together
 unfoldable pub scan_file : ℕ → ℕ → List ℕ → List Column → Named → Result (List ℕ) Failure
-scan_file op left name columns files = then_on (load_of left name files) (headed op columns)
+scan_file op left name columns files = then_on (load_of left name files) (require_header op columns)
 
 -- a file before those of later scans
 abbrev pub file_before : List ℕ → Result (List (List ℕ)) Failure → Result (List (List ℕ)) Failure
@@ -130,13 +130,13 @@ job_of (form.Run words) files =
     (λ flow. then_on (script_in words.script files) (λ read. then_on (scans_of flow files) (λ inputs. Ok (job.Run flow inputs words.log words.threads words.batch))))
 
 -- the operators of a query that is printed at once give no more rows than they may
-abbrev pub limited : Job → Result Job Failure
-limited (job.Plain flow inputs) = if nat_le (row_total flow inputs) most_rows then Ok (job.Plain flow inputs) else Err failure.Long
-limited (job.Run flow inputs log threads batch) = Ok (job.Run flow inputs log threads batch)
+abbrev pub require_limit : Job → Result Job Failure
+require_limit (job.Plain flow inputs) = if nat_le (row_total flow inputs) most_rows then Ok (job.Plain flow inputs) else Err failure.Long
+require_limit (job.Run flow inputs log threads batch) = Ok (job.Run flow inputs log threads batch)
 
 -- the words are read; the files are loaded and read; for `plain` the rows of all operators are counted
 unfoldable pub course_of : List (List ℕ) → Named → Result Job Failure
-course_of words files = then_on (words_read (words_of words)) (λ read. then_on (job_of read files) limited)
+course_of words files = then_on (words_read (call_words_of words)) (λ read. then_on (job_of read files) require_limit)
 
 -- ---- the files that the order of work loads
 
@@ -164,4 +164,4 @@ IsLoaded (form.Run words) files file = (file ≡ words.workflow) ⊎ IsBehind wo
 
 -- a file that the order of work reaches: what comes before it is there and right
 abbrev pub IsReached : List (List ℕ) → Named → List ℕ → Type 0
-IsReached words files file = (read : Words) × (words_of words ≡ Some read) × IsLoaded read files file
+IsReached words files file = (read : Words) × (call_words_of words ≡ Some read) × IsLoaded read files file

@@ -38,13 +38,13 @@ abbrev pub script_word : ScriptWhy → List ℕ
 script_word script_why.Word = codes "Word"
 
 -- the line that is printed after a refusal; a sink that failed gets none
-abbrev pub line_of : Failure → List ℕ
-line_of failure.Usage = codes "error 1 usage\n"
-line_of (failure.BadFlow op why) = codes "error 2 flow " ++ (decimal op ++ (codes " " ++ (reason_word why ++ codes "\n")))
-line_of (failure.BadScript line why) = codes "error 3 script " ++ (decimal line ++ (codes " " ++ (script_word why ++ codes "\n")))
-line_of (failure.ReadFault name) = codes "error 4 read " ++ (name ++ codes "\n")
-line_of failure.LogFault = codes "error 5 log write\n"
-line_of failure.OutFault = []
-line_of failure.Long = codes "error 8 long\n"
-line_of (failure.TooLarge name) = codes "error 9 large " ++ (name ++ codes "\n")
-line_of failure.NoMemory = codes "error 10 memory\n"
+abbrev pub error_line_of : Failure → List ℕ
+error_line_of failure.Usage = codes "error 1 usage\n"
+error_line_of (failure.BadFlow op why) = codes "error 2 flow " ++ (decimal op ++ (codes " " ++ (reason_word why ++ codes "\n")))
+error_line_of (failure.BadScript line why) = codes "error 3 script " ++ (decimal line ++ (codes " " ++ (script_word why ++ codes "\n")))
+error_line_of (failure.ReadFault name) = codes "error 4 read " ++ (name ++ codes "\n")
+error_line_of failure.LogFault = codes "error 5 log write\n"
+error_line_of failure.OutFault = []
+error_line_of failure.Long = codes "error 8 long\n"
+error_line_of (failure.TooLarge name) = codes "error 9 large " ++ (name ++ codes "\n")
+error_line_of failure.NoMemory = codes "error 10 memory\n"

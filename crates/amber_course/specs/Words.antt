@@ -10,8 +10,8 @@ abbrev pub number_where : ℕ → List ℕ → ℕ → Option ℕ
 number_where most word n = if bytes_eq (decimal n) word && nat_le 1 n && nat_le n most then Some n else None
 
 -- the number from 1 to `most` whose decimal, without leading zeros, a word is
-unfoldable pub number_of : ℕ → List ℕ → Option ℕ
-number_of most word = number_where most word (digits_value 10 word)
+unfoldable pub number_from : ℕ → List ℕ → Option ℕ
+number_from most word = number_where most word (digits_value 10 word)
 
 -- how many threads a run may have, and how many rows a batch
 abbrev pub most_threads : ℕ
@@ -29,11 +29,11 @@ run_words workflow script log (Some threads) (Some batch) =
     else Some (form.Run (record { workflow = workflow; script = script; log = log; threads = threads; batch = batch }))
 
 -- the words are `plain` and the name of a workflow, or `run` and the names of a workflow, a script and a log and two numbers
-unfoldable pub words_of : List (List ℕ) → Option Words
-words_of (word ∷ workflow ∷ []) = if bytes_eq word (codes "plain") then Some (form.Plain workflow) else None
-words_of (word ∷ workflow ∷ script ∷ log ∷ threads ∷ batch ∷ []) =
-    if bytes_eq word (codes "run") then run_words workflow script log (number_of most_threads threads) (number_of most_batch batch) else None
-words_of others = None
+unfoldable pub call_words_of : List (List ℕ) → Option Words
+call_words_of (word ∷ workflow ∷ []) = if bytes_eq word (codes "plain") then Some (form.Plain workflow) else None
+call_words_of (word ∷ workflow ∷ script ∷ log ∷ threads ∷ batch ∷ []) =
+    if bytes_eq word (codes "run") then run_words workflow script log (number_from most_threads threads) (number_from most_batch batch) else None
+call_words_of others = None
 
 -- the numbers of a run are in their ranges
 pub record AreSizes (threads batch : ℕ) : Type 0 where

@@ -4,7 +4,7 @@ ghost use Rattle.amber_flow.specs.Workflow.{workflow_of};
 ghost use Rattle.amber_course.specs.Course.{flow_read, load_of, workflow_in};
 ghost use Rattle.amber_course.specs.Steps.{Follows, IsBounded, IsMissing, IsOversized, Judges, Names};
 
-use crate::failure::{Reason, Failure};
+use crate::failure::{Failure, Reason};
 use amber_flow::{FlowErr, read_flow};
 use amber_io::{Folder, IoErr};
 use amber_rows::{Bytes, Flow, Text};
@@ -84,7 +84,11 @@ fn read(alloc: Global, bytes: &Bytes) -> Result<Flow, Failure>
 }
 
 /// The workflow in a file.
-pub(crate) fn load_flow<F: Folder>(alloc: Global, name: &str, folder: &mut F) -> Result<Flow, Failure>
+pub(crate) fn load_flow<F: Folder>(
+    alloc: Global,
+    name: &str,
+    folder: &mut F,
+) -> Result<Flow, Failure>
     ensures course { Follows result (F.files folder.old) (workflow_in name.now) (F.load_faults folder.old) (F.load_faults folder.new) }
     ensures alone { IfOk result (λ flow. AreAlone flow) }
     ensures named { IfErr result (λ failure. Names failure (λ file. file ≡ name.now)) }

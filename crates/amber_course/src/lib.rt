@@ -5,6 +5,7 @@
 //! and the files alone. Nothing here runs a job or writes a file.
 #![tactic(auto)]
 
+pub mod failure;
 pub mod inputs;
 pub mod job;
 mod log_name;
@@ -13,14 +14,13 @@ pub mod refusal;
 mod scans;
 pub mod script;
 pub mod status;
-pub mod failure;
 pub mod words;
 
+pub use failure::{Failure, Reason};
 pub use job::Job;
 pub use preparing::prepare;
 pub use refusal::{put_output, refuse};
 pub use script::ScriptWhy;
 pub use status::Status;
 pub use std::alloc::AllocError as NoMemory;
-pub use failure::{Reason, Failure};
 pub use words::{RunWords, Words, read_words};

@@ -1,17 +1,17 @@
 ghost use Rattle.std.specs.Prelude.{◌≡◌, IfErr, IfOk};
 ghost use Rattle.amber_flow.specs.Alone.{AreAlone};
-ghost use Rattle.amber_course.specs.Course.{apart_from, log_scan, reads, run_flow};
+ghost use Rattle.amber_course.specs.Course.{apart_from, log_scan, is_scan_of, run_flow};
 ghost use Rattle.amber_course.specs.Steps.{Follows, Judges, Names};
 
+use crate::failure::{Failure, Reason};
 use crate::inputs::load_flow;
-use crate::failure::{Reason, Failure};
 use amber_io::Folder;
 use amber_rows::{Flow, What};
 use std::alloc::Global;
 
 // Whether an operator is a scan of this file.
-fn reads(what: &What, log: &str) -> bool
-    ensures { result ≡ reads log.now what.now }
+fn is_scan_of(what: &What, log: &str) -> bool
+    ensures { result ≡ is_scan_of log.now what.now }
 {
     match what {
         What::Scan { file } => file.get() == log,
@@ -25,7 +25,7 @@ fn log_scan(flow: &Flow, log: &str) -> Option<u32>
 {
     let operators = flow.get();
     for (i, operator) in operators.iter().enumerate() {
-        if reads(&operator.what, log) {
+        if is_scan_of(&operator.what, log) {
             return Some(i as u32 + 1);
         }
     }

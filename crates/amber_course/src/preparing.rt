@@ -5,12 +5,12 @@ ghost use Rattle.amber_course.specs.Course.{IsLoaded, job_of};
 ghost use Rattle.amber_course.specs.Steps.{Follows, Names};
 ghost use Rattle.amber_course.specs.Words.{AreSizes, AreSound};
 
+use crate::failure::Failure;
 use crate::inputs::load_flow;
 use crate::job::Job;
 use crate::log_name::load_run_flow;
 use crate::scans::load_scans;
 use crate::script::load_script;
-use crate::failure::Failure;
 use crate::words::{RunWords, Words};
 use amber_io::Folder;
 use std::alloc::Global;

@@ -2,10 +2,10 @@ ghost use Rattle.std.specs.Prelude.{◌≡◌, ◌++◌, IsOk, codes};
 ghost use Rattle.std.specs.Fmt.{decimal};
 ghost use Rattle.amber_course.specs.Told.{Refuses};
 ghost use Rattle.amber_course.specs.Steps.{Lined, Sent};
-ghost use Rattle.amber_course.specs.Failure.{IsToldAs, line_of};
+ghost use Rattle.amber_course.specs.Failure.{IsToldAs, error_line_of};
 
-use crate::status::Status;
 use crate::failure::Failure;
+use crate::status::Status;
 use amber_io::{IoErr, Sink};
 use itoa::Buffer;
 
@@ -44,7 +44,7 @@ fn put_file_line<O: Sink>(out: &mut O, words: &[u8], name: &str) -> Result<(), I
 // The line of a failure; a sink that failed gets none.
 fn put_line<O: Sink>(out: &mut O, failure: &Failure) -> Result<(), IoErr>
     ensures lined { Lined result (O.written out.old) (O.written out.new)
-        (O.faults out.old) (O.faults out.new) (line_of failure.now) }
+        (O.faults out.old) (O.faults out.new) (error_line_of failure.now) }
     ensures none { failure.now ≡ Failure.OutFault → IsOk result }
 {
     match failure {

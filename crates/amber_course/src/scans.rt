@@ -3,11 +3,11 @@ ghost use Rattle.amber_io.specs.Folder.{Told};
 ghost use Rattle.amber_rows.specs.FlowRules.{IsFlow};
 ghost use Rattle.amber_rows.specs.Record.{has_header};
 ghost use Rattle.amber_course.specs.Ready.{AreInputs};
-ghost use Rattle.amber_course.specs.Course.{IsScanFile, headed, scan_file, scans_of};
+ghost use Rattle.amber_course.specs.Course.{IsScanFile, require_header, scan_file, scans_of};
 ghost use Rattle.amber_course.specs.Steps.{Follows, Judges, Names};
 
+use crate::failure::{Failure, Reason};
 use crate::inputs::load;
-use crate::failure::{Reason, Failure};
 use amber_io::Folder;
 use amber_rows::{Bytes, Files, Flow, Schema, What, has_header};
 use std::alloc::Global;
@@ -17,7 +17,7 @@ const MOST_SCANNED: u64 = 1 << 25;
 
 // A scan's file, where it begins with the names of the scan's columns.
 fn with_header(alloc: Global, op: u32, columns: &Schema, bytes: Bytes) -> Result<Bytes, Failure>
-    ensures { Judges result (headed op columns.now bytes) }
+    ensures { Judges result (require_header op columns.now bytes) }
 {
     let right = has_header(alloc, columns, bytes.get())?;
     if !right {

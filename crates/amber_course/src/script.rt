@@ -5,8 +5,8 @@ ghost use Rattle.amber_course.specs.Script.{first_said, is_blank, says, script_r
 ghost use Rattle.amber_course.specs.Steps.{Follows, Judges, Names};
 ghost use Rattle.amber_course.specs.Failure.{script_word};
 
-use crate::inputs::{MOST_TEXT, load};
 use crate::failure::Failure;
+use crate::inputs::{MOST_TEXT, load};
 use amber_io::Folder;
 use std::alloc::Global;
 
@@ -81,7 +81,11 @@ fn read_script(bytes: &[u8]) -> Result<(), Failure>
 }
 
 /// Reads the script in a file.
-pub(crate) fn load_script<F: Folder>(alloc: Global, name: &str, folder: &mut F) -> Result<(), Failure>
+pub(crate) fn load_script<F: Folder>(
+    alloc: Global,
+    name: &str,
+    folder: &mut F,
+) -> Result<(), Failure>
     ensures course { Follows result (F.files folder.old) (script_in name.now) (F.load_faults folder.old) (F.load_faults folder.new) }
     ensures named { IfErr result (λ failure. Names failure (λ file. file ≡ name.now)) }
     ensures same { F.files folder.new ≡ F.files folder.old }

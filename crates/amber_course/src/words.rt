@@ -1,6 +1,6 @@
 ghost use Rattle.std.specs.Prelude.{◌≡◌, ◌<◌, ◌≤◌, map, string_bytes, IfOk, IfSome, Some};
 ghost use Rattle.amber_course.specs.Steps.{AreRead};
-ghost use Rattle.amber_course.specs.Words.{AreSound, number_of, number_where, run_words, words_of};
+ghost use Rattle.amber_course.specs.Words.{AreSound, number_from, number_where, run_words, call_words_of};
 
 use crate::failure::Failure;
 use amber_rows::Text;
@@ -47,7 +47,7 @@ fn number_where(word: &str, most: u32, number: u32) -> Option<u32>
 
 // The number from 1 to `most` that a word is, without leading zeros.
 fn read_number(word: &str, most: u32) -> Option<u32>
-    ensures number { result ≡ number_of most word.now }
+    ensures number { result ≡ number_from most word.now }
     ensures range { IfSome result (λ number. (0 < number) × (number ≤ most)) }
 {
     match word.parse::<u32>() {
@@ -81,7 +81,7 @@ fn read_run(
     threads: &str,
     batch: &str,
 ) -> Result<Words, Failure>
-    ensures read { AreRead result (run_words workflow.now script.now log.now (number_of 64 threads.now) (number_of 65536 batch.now)) }
+    ensures read { AreRead result (run_words workflow.now script.now log.now (number_from 64 threads.now) (number_from 65536 batch.now)) }
     ensures sound { IfOk result AreSound }
 {
     let Some(threads) = read_number(threads, MOST_THREADS) else {
@@ -103,9 +103,9 @@ fn read_run(
 }
 
 // Reads the words after the program's name.
-#[tactic(auto, unfolding(crate::specs::Words::words_of))]
+#[tactic(auto, unfolding(crate::specs::Words::call_words_of))]
 pub fn read_words(alloc: Global, words: &[String]) -> Result<Words, Failure>
-    ensures read { AreRead result (words_of (map string_bytes words.now)) }
+    ensures read { AreRead result (call_words_of (map string_bytes words.now)) }
     ensures sound { IfOk result AreSound }
 {
     match words {

@@ -3,7 +3,7 @@ use Rattle.std.proofs.Common.{◌≡◌, ℕ, true, List, [], ◌∷◌, ◌++�
 use Rattle.std.proofs.lemmas.List.{map-append}
 use Rattle.std.specs.List.{filter_map, list_all}
 use Rattle.amber_rows.specs.Columns.{names_of}
-use Rattle.amber_rows.specs.Cond.{numbered}
+use Rattle.amber_rows.specs.Cond.{nth}
 use Rattle.amber_rows.specs.FlowRules.{HasInput, IsEarlier, IsKind, agg_kind, agg_name, column_kinds}
 use Rattle.amber_rows.specs.declared.agg.Agg.{Agg}
 use Rattle.amber_rows.specs.declared.column.ColKind.{ColKind}
@@ -20,7 +20,7 @@ use Rattle.amber_flow.proofs.NameFacts.{columns-here}
 
 -- ---- the keys' columns
 
-named_given : (columns : List Column) (names : List (List ℕ)) (keys : List ℕ) → Gives (column_number columns) names keys → filter_map (column_named columns) names ≡ filter_map (numbered columns) keys
+named_given : (columns : List Column) (names : List (List ℕ)) (keys : List ℕ) → Gives (column_number columns) names keys → filter_map (column_named columns) names ≡ filter_map (nth columns) keys
 named_given columns [] [] given = refl
 named_given columns [] (key ∷ keys) given = absurd given
 named_given columns (name ∷ names) [] given = absurd given

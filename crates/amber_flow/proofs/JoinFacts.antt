@@ -3,7 +3,7 @@ use Rattle.std.proofs.Common.{◌≡◌, ℕ, suc, ◌+◌, ◌<◌, ◌≤◌, 
 use Rattle.std.proofs.lemmas.List.{drop_all}
 use Rattle.std.proofs.lemmas.List.Elements.{All-cons, All-nil}
 use Rattle.std.specs.List.{cons_option, filter_map}
-use Rattle.amber_rows.specs.Cond.{numbered}
+use Rattle.amber_rows.specs.Cond.{nth}
 use Rattle.amber_rows.specs.FlowRules.{AreIn, HasInput, IsEarlier, IsKind, kinds_at}
 use Rattle.amber_rows.specs.declared.column.ColKind.{ColKind}
 use Rattle.amber_rows.specs.declared.column.ColKind.TheVariants.{Int, Text}
@@ -11,7 +11,7 @@ use Rattle.amber_rows.specs.declared.column.Column.{Column}
 use Rattle.amber_rows.specs.declared.flow.Operator.{Operator}
 use Rattle.amber_rows.specs.declared.flow.What.TheVariants as what
 use Rattle.amber_flow.specs.Chain.{each}
-use Rattle.amber_flow.specs.Columns.{column_number, kind_at}
+use Rattle.amber_flow.specs.Columns.{column_number, column_kind_at}
 use Rattle.amber_flow.specs.Joins.{AreKeys, are_alike, same_kind}
 use Rattle.amber_flow.specs.declared.join.JoinKeys.{JoinKeys}
 use Rattle.amber_flow.proofs.ListFacts.{Gives, and-true, each-gives, gives-length}
@@ -61,14 +61,14 @@ alike-end kinds others i h k = rw (drop_all i kinds h, drop_all i others k)
 
 -- ---- keys
 
-kinds_first : (columns : List Column) (numbers : List ℕ) (found : Option Column) → filter_map (kind_at columns) numbers ≡ kinds_at columns numbers
-    → cons_option (option_map (λ column. column.kind) found) (filter_map (kind_at columns) numbers) ≡ map (λ column. column.kind) (cons_option found (filter_map (numbered columns) numbers))
+kinds_first : (columns : List Column) (numbers : List ℕ) (found : Option Column) → filter_map (column_kind_at columns) numbers ≡ kinds_at columns numbers
+    → cons_option (option_map (λ column. column.kind) found) (filter_map (column_kind_at columns) numbers) ≡ map (λ column. column.kind) (cons_option found (filter_map (nth columns) numbers))
 kinds_first columns numbers None rest = rest
 kinds_first columns numbers (Some column) rest = ap (λ kinds. column.kind ∷ kinds) rest
 
-kinds-here : (columns : List Column) (numbers : List ℕ) → filter_map (kind_at columns) numbers ≡ kinds_at columns numbers
+kinds-here : (columns : List Column) (numbers : List ℕ) → filter_map (column_kind_at columns) numbers ≡ kinds_at columns numbers
 kinds-here columns [] = refl
-kinds-here columns (number ∷ numbers) = kinds_first columns numbers (numbered columns number) (kinds-here columns numbers)
+kinds-here columns (number ∷ numbers) = kinds_first columns numbers (nth columns number) (kinds-here columns numbers)
 
 in_given : (columns : List Column) (names : List (List ℕ)) (numbers : List ℕ) → Gives (column_number columns) names numbers → AreIn columns numbers
 in_given columns [] [] given = All-nil (λ n. (0 < n) × (n ≤ length columns))
@@ -83,7 +83,7 @@ pub found-in : (columns : List Column) (names : List (List ℕ)) (numbers : List
 found-in columns names numbers found = in_given columns names numbers (each-gives (column_number columns) names numbers found)
 
 pub are-keys : (build probe : List Column) (build_names probe_names : List (List ℕ)) (build_keys probe_keys : List ℕ) (build_kinds probe_kinds : List ColKind) → each (column_number build) build_names ≡ Some build_keys → each (column_number probe) probe_names ≡ Some probe_keys
-    → build_kinds ≡ filter_map (kind_at build) build_keys → probe_kinds ≡ filter_map (kind_at probe) probe_keys → are_alike build_kinds probe_kinds ≡ true
+    → build_kinds ≡ filter_map (column_kind_at build) build_keys → probe_kinds ≡ filter_map (column_kind_at probe) probe_keys → are_alike build_kinds probe_kinds ≡ true
     → (keys : JoinKeys) → keys.build ≡ build_keys → keys.probe ≡ probe_keys → AreKeys build probe build_names keys
 are-keys build probe build_names probe_names build_keys probe_keys build_kinds probe_kinds build_found probe_found build_is probe_is alike keys built probed = record {
   built = rw built (found-in build build_names build_keys build_found);

@@ -9,14 +9,14 @@ use Rattle.std.specs.List.{filter_map, list_all}
 use Rattle.serde_json.specs.Data.{Data}
 use Rattle.serde_json.specs.Find.{at}
 use Rattle.amber_rows.specs.Columns.{names_of}
-use Rattle.amber_rows.specs.Cond.{numbered}
-use Rattle.amber_rows.specs.FlowRules.{AreIn, HasInput, IsEarlier, IsKind, column_kinds, columns_at, is_column_name, kinds_at, schema_of}
+use Rattle.amber_rows.specs.Cond.{nth}
+use Rattle.amber_rows.specs.FlowRules.{AreIn, HasInput, IsEarlier, IsKind, column_kinds, operator_columns, is_column_name, kinds_at, schema_of}
 use Rattle.amber_rows.specs.declared.column.Column.{Column}
 use Rattle.amber_rows.specs.declared.flow.Operator.{Operator}
 use Rattle.amber_rows.specs.declared.flow.What.TheVariants as what
 use Rattle.amber_rows.specs.declared.column.ColKind.TheVariants.{Int}
 use Rattle.amber_flow.specs.Chain.{each}
-use Rattle.amber_flow.specs.Columns.{column_number, is_new_name, renamed, source_of, under}
+use Rattle.amber_flow.specs.Columns.{column_number, is_new_name, renaming_of, source_of, under}
 use Rattle.amber_flow.specs.Fields.{text_in}
 use Rattle.amber_flow.proofs.ListFacts.{Gives, each-gives}
 
@@ -25,7 +25,7 @@ pub record IsNamed (columns : List Column) (number : ℕ) (name : List ℕ) : Ty
   pub some : 0 < number
   pub within : number ≤ length columns
   pub column : Column
-  pub here : numbered columns number ≡ Some column
+  pub here : nth columns number ≡ Some column
   pub named : column.name ≡ name
 
 named_at : (columns : List Column) (name : List ℕ) (place : Option ℕ) (number : ℕ) → position (λ column. bytes_eq column.name name) columns ≡ place → option_map (λ i. i + 1) place ≡ Some number → IsNamed columns number name
@@ -37,7 +37,7 @@ named_at columns name (Some i) number is at =
     let same : i + 1 ≡ number = cc in
     let no : eqb (i + 1) 0 ≡ false = ne_eqb (i + 1) 0 (omega arith) in
     let less : i + 1 - 1 ≡ i = omega arith in
-    let here : numbered columns (i + 1) ≡ Some (get_or columns i none) = rw (no, less) (slice_get-get_or columns i none there) in
+    let here : nth columns (i + 1) ≡ Some (get_or columns i none) = rw (no, less) (slice_get-get_or columns i none there) in
     subst (λ (n : ℕ). IsNamed columns n name) same
     (record { some = omega arith; within = omega arith; column = get_or columns i none; here = here; named = (bytes_eq-Decides (get_or columns i none).name name).0 found.1 })
 
@@ -68,13 +68,13 @@ pair-given pair source is = pair_of pair source (is_none (at 2 pair)) (text_in 1
 -- the columns that pairs rename
 pub record AreRenamed (columns : List Column) (pairs : List Data) (from : List ℕ) : Type 0 where
   pub there : AreIn columns from
-  pub kinds : column_kinds (filter_map (renamed columns) pairs) ≡ kinds_at columns from
-  pub named : list_all is_column_name (names_of (filter_map (renamed columns) pairs)) ≡ true
+  pub kinds : column_kinds (filter_map (renaming_of columns) pairs) ≡ kinds_at columns from
+  pub named : list_all is_column_name (names_of (filter_map (renaming_of columns) pairs)) ≡ true
 
 one_renamed : (columns : List Column) (pair : Data) (pairs : List Data) (source : List ℕ) (number : ℕ) (from : List ℕ) → IsPair pair source → IsNamed columns number source → column_number columns source ≡ Some number → AreRenamed columns pairs from
     → AreRenamed columns (pair ∷ pairs) (number ∷ from)
 one_renamed columns pair pairs source number from said named found rest =
-    let made : renamed columns pair ≡ Some (under said.name named.column) = rw (said.name_is, said.source_is, found, named.here) in
+    let made : renaming_of columns pair ≡ Some (under said.name named.column) = rw (said.name_is, said.source_is, found, named.here) in
     record {
       there = All-cons (λ n. (0 < n) × (n ≤ length columns)) number from (named.some, named.within) rest.there;
       kinds = rw (made, named.here, rest.kinds);
@@ -90,8 +90,8 @@ all_renamed columns (pair ∷ pairs) (source ∷ sources) [] pairs_are found = a
 all_renamed columns (pair ∷ pairs) (source ∷ sources) (number ∷ from) pairs_are found =
     one_renamed columns pair pairs source number from (pair-given pair source pairs_are.0) (number-named columns source number found.0) found.0 (all_renamed columns pairs sources from pairs_are.1 found.1)
 
-pub are-renamed : (columns : List Column) (pairs : List Data) (sources : List (List ℕ)) (from : List ℕ) → each source_of pairs ≡ Some sources → each (column_number columns) sources ≡ Some from → AreRenamed columns pairs from
-are-renamed columns pairs sources from pairs_are found = all_renamed columns pairs sources from (each-gives source_of pairs sources pairs_are) (each-gives (column_number columns) sources from found)
+pub are-renaming_of : (columns : List Column) (pairs : List Data) (sources : List (List ℕ)) (from : List ℕ) → each source_of pairs ≡ Some sources → each (column_number columns) sources ≡ Some from → AreRenamed columns pairs from
+are-renaming_of columns pairs sources from pairs_are found = all_renamed columns pairs sources from (each-gives source_of pairs sources pairs_are) (each-gives (column_number columns) sources from found)
 
 -- ---- the columns of an earlier operator
 
@@ -99,12 +99,12 @@ here_of : (found : Option Operator) (columns : List Column) → IsSomeAnd found 
 here_of None columns has = absurd has
 here_of (Some operator) columns has = has
 
-pub columns-here : (before : List Operator) (input : ℕ) (columns : List Column) → HasInput before input columns → columns_at before input ≡ columns
-columns-here before input columns has = here_of (numbered before input) columns has
+pub columns-here : (before : List Operator) (input : ℕ) (columns : List Column) → HasInput before input columns → operator_columns before input ≡ columns
+columns-here before input columns has = here_of (nth before input) columns has
 
 -- what a projection is, where its reader has given these
 pub project-kind : (before : List Operator) (input : ℕ) (columns : List Column) (pairs : List Data) (sources : List (List ℕ)) (found from : List ℕ) (schema : List Column) → IsEarlier before input → HasInput before input columns
-    → each source_of pairs ≡ Some sources → each (column_number columns) sources ≡ Some found → from ≡ found → schema ≡ filter_map (renamed columns) pairs → IsKind before (what.Project input from) schema
+    → each source_of pairs ≡ Some sources → each (column_number columns) sources ≡ Some found → from ≡ found → schema ≡ filter_map (renaming_of columns) pairs → IsKind before (what.Project input from) schema
 project-kind before input columns pairs sources found from schema earlier has pairs_are found_are from_is schema_is =
-    let made = are-renamed columns pairs sources found pairs_are found_are in
+    let made = are-renaming_of columns pairs sources found pairs_are found_are in
     rw (columns-here before input columns has, from_is, schema_is) (earlier, made.there, made.kinds, made.named)

@@ -17,7 +17,7 @@ AnswersTree (Err (Bad op reason)) meant = (op ≡ 0) × (reason ≡ why.Json) ×
 AnswersTree (Err NoMemory) meant = ⊤
 
 -- the workflow that was meant; its first reason and the operator at fault; or nothing, for want of memory
-abbrev pub Answers : Result (List Operator) FlowErr → Result (List Operator) Fault → Type 0
-Answers (Ok flow) meant = meant ≡ Ok flow
-Answers (Err (Bad op reason)) meant = meant ≡ Err (fault_at op reason)
-Answers (Err NoMemory) meant = ⊤
+abbrev pub AnswersFlow : Result (List Operator) FlowErr → Result (List Operator) Fault → Type 0
+AnswersFlow (Ok flow) meant = meant ≡ Ok flow
+AnswersFlow (Err (Bad op reason)) meant = meant ≡ Err (fault_at op reason)
+AnswersFlow (Err NoMemory) meant = ⊤

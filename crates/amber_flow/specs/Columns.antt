@@ -2,7 +2,7 @@
 use Rattle.std.specs.Prelude.{ℕ, ◌+◌, ◌&&◌, List, [], ◌∷◌, Option, Some, None, ok_or, is_none, if◌then◌else◌, option_map, option_and_then, position, Result, Ok, Bool, false, bytes_eq}
 use Rattle.serde_json.specs.Data.{Data}
 use Rattle.serde_json.specs.Find.{at}
-use Rattle.amber_rows.specs.Cond.{numbered}
+use Rattle.amber_rows.specs.Cond.{nth}
 use Rattle.amber_rows.specs.FlowRules.{is_column_name}
 use Rattle.amber_rows.specs.declared.column.ColKind.{ColKind}
 use Rattle.amber_rows.specs.declared.column.Column.{Column}
@@ -33,11 +33,11 @@ column_number columns name = option_map (λ index. index + 1) (position (λ colu
 
 -- the column with this name
 abbrev pub column_named : List Column → List ℕ → Option Column
-column_named columns name = option_and_then (numbered columns) (column_number columns name)
+column_named columns name = option_and_then (nth columns) (column_number columns name)
 
 -- the kind of the column with a number
-abbrev pub kind_at : List Column → ℕ → Option ColKind
-kind_at columns number = option_map (λ column. column.kind) (numbered columns number)
+abbrev pub column_kind_at : List Column → ℕ → Option ColKind
+column_kind_at columns number = option_map (λ column. column.kind) (nth columns number)
 
 -- whether there is a text, and it may name a column
 abbrev pub is_new_name : Option (List ℕ) → Bool
@@ -53,5 +53,5 @@ abbrev pub under : List ℕ → Column → Column
 under name column = record { name = name; kind = column.kind }
 
 -- the column that a pair renames, under its new name
-abbrev pub renamed : List Column → Data → Option Column
-renamed columns pair = option_and_then (λ name. option_map (under name) (option_and_then (column_named columns) (text_in 0 pair))) (text_in 1 pair)
+abbrev pub renaming_of : List Column → Data → Option Column
+renaming_of columns pair = option_and_then (λ name. option_map (under name) (option_and_then (column_named columns) (text_in 0 pair))) (text_in 1 pair)

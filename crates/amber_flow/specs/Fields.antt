@@ -14,12 +14,12 @@ abbrev pub text_at : List ℕ → Data → Option (List ℕ)
 text_at key tree = option_and_then as_str (get key tree)
 
 -- the list at a key of an object
-abbrev pub list_at : List ℕ → Data → Option (List Data)
-list_at key tree = option_map values_of (option_and_then as_array (get key tree))
+abbrev pub array_at : List ℕ → Data → Option (List Data)
+array_at key tree = option_map values_of (option_and_then as_array (get key tree))
 
 -- the texts of the list at a key, where it has nothing else
 abbrev pub texts_at : List ℕ → Data → Option (List (List ℕ))
-texts_at key tree = option_and_then (each as_str) (list_at key tree)
+texts_at key tree = option_and_then (each as_str) (array_at key tree)
 
 -- the text at an index of a list
 abbrev pub text_in : ℕ → Data → Option (List ℕ)

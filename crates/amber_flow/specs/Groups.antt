@@ -10,7 +10,7 @@ use Rattle.amber_flow.specs.Aggregates.{agg_column, agg_of, is_agg_text}
 use Rattle.amber_flow.specs.Chain.{◌>>=◌, each, require}
 use Rattle.amber_flow.specs.Columns.{column_named, column_number}
 use Rattle.amber_flow.specs.Fields.{text_at, texts_at}
-use Rattle.amber_flow.specs.Inputs.{columns_at, operator_number}
+use Rattle.amber_flow.specs.Inputs.{operator_columns, operator_number}
 use Rattle.amber_flow.specs.declared.error.FlowWhy.{FlowWhy}
 use Rattle.amber_flow.specs.declared.error.FlowWhy.TheVariants.{Column as NoColumn, Forward, Mismatch, Shape}
 use Rattle.amber_flow.specs.declared.parts.Parts.{Parts}
@@ -30,5 +30,5 @@ group_of before tree = do
   texts ← ok_or (texts_at (codes "aggregates") tree) Shape
   formed ← require (list_all is_agg_text texts) Shape
   input ← ok_or (operator_number before id) Forward
-  columns ← ok_or (columns_at before input) Forward
+  columns ← ok_or (operator_columns before input) Forward
   group_over input columns names texts

@@ -1,6 +1,6 @@
 -- The earlier operators from which an operator reads.
 use Rattle.std.specs.Prelude.{ℕ, ◌+◌, ◌≤◌, List, length, Option, option_map, position, bytes_eq}
-use Rattle.amber_rows.specs.Cond.{numbered}
+use Rattle.amber_rows.specs.Cond.{nth}
 use Rattle.amber_rows.specs.declared.column.Column.{Column}
 use Rattle.amber_rows.specs.declared.flow.Operator.{Operator}
 
@@ -9,8 +9,8 @@ abbrev pub operator_number : List Operator → List ℕ → Option ℕ
 operator_number before id = option_map (λ index. index + 1) (position (λ operator. bytes_eq operator.id id) before)
 
 -- the columns of the operator with a number
-abbrev pub columns_at : List Operator → ℕ → Option (List Column)
-columns_at before number = option_map (λ operator. operator.schema) (numbered before number)
+abbrev pub operator_columns : List Operator → ℕ → Option (List Column)
+operator_columns before number = option_map (λ operator. operator.schema) (nth before number)
 
 -- no more columns than an operator may give
 abbrev pub IsNarrow : Operator → Type 0

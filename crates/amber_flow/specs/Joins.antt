@@ -9,9 +9,9 @@ use Rattle.amber_rows.specs.declared.column.Column.{Column}
 use Rattle.amber_rows.specs.declared.flow.What.TheVariants.{Join}
 use Rattle.amber_rows.specs.declared.flow.Operator.{Operator}
 use Rattle.amber_flow.specs.Chain.{◌>>=◌, each, require}
-use Rattle.amber_flow.specs.Columns.{column_number, kind_at}
+use Rattle.amber_flow.specs.Columns.{column_number, column_kind_at}
 use Rattle.amber_flow.specs.Fields.{text_at, texts_at}
-use Rattle.amber_flow.specs.Inputs.{columns_at, operator_number}
+use Rattle.amber_flow.specs.Inputs.{operator_columns, operator_number}
 use Rattle.amber_flow.specs.declared.error.FlowWhy.{FlowWhy}
 use Rattle.amber_flow.specs.declared.error.FlowWhy.TheVariants.{Column as NoColumn, Forward, Mismatch, Shape}
 use Rattle.amber_flow.specs.declared.join.JoinKeys.{JoinKeys}
@@ -39,7 +39,7 @@ unfoldable pub keys_of : List Column → List Column → List (List ℕ) → Lis
 keys_of build probe build_names probe_names = do
   build_keys ← ok_or (each (column_number build) build_names) NoColumn
   probe_keys ← ok_or (each (column_number probe) probe_names) NoColumn
-  alike ← require (are_alike (filter_map (kind_at build) build_keys) (filter_map (kind_at probe) probe_keys)) Mismatch
+  alike ← require (are_alike (filter_map (column_kind_at build) build_keys) (filter_map (column_kind_at probe) probe_keys)) Mismatch
   Ok (record { build = build_keys; probe = probe_keys })
 
 -- columns of the two sides, one pair for each name, and alike
@@ -58,7 +58,7 @@ join_of before tree = do
   paired ← require (are_paired build_names probe_names) Shape
   build ← ok_or (operator_number before build_id) Forward
   probe ← ok_or (operator_number before probe_id) Forward
-  built ← ok_or (columns_at before build) Forward
-  probed ← ok_or (columns_at before probe) Forward
+  built ← ok_or (operator_columns before build) Forward
+  probed ← ok_or (operator_columns before probe) Forward
   keys ← keys_of built probed build_names probe_names
   Ok (record { what = Join build probe keys.build keys.probe; schema = probed ++ built })

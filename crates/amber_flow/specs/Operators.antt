@@ -4,7 +4,7 @@ use Rattle.std.specs.List.{filter_map}
 use Rattle.serde_json.specs.Data.{Data}
 use Rattle.serde_json.specs.Find.{as_i64, as_number, as_str, as_u64, get}
 use Rattle.amber_rows.specs.Columns.{names_of}
-use Rattle.amber_rows.specs.Cond.{numbered}
+use Rattle.amber_rows.specs.Cond.{nth}
 use Rattle.amber_rows.specs.FlowRules.{are_apart, is_among, is_id}
 use Rattle.amber_rows.specs.declared.value.Value.{Value}
 use Rattle.amber_rows.specs.declared.value.Value.TheVariants as value
@@ -16,11 +16,11 @@ use Rattle.amber_rows.specs.declared.cond.Cond.{Cond}
 use Rattle.amber_rows.specs.declared.flow.What.TheVariants as what
 use Rattle.amber_rows.specs.declared.flow.Operator.{Operator}
 use Rattle.amber_flow.specs.Chain.{◌>>=◌, each, require}
-use Rattle.amber_flow.specs.Columns.{column_number, columns_of, renamed, source_of}
-use Rattle.amber_flow.specs.Inputs.{columns_at, operator_number}
+use Rattle.amber_flow.specs.Columns.{column_number, columns_of, renaming_of, source_of}
+use Rattle.amber_flow.specs.Inputs.{operator_columns, operator_number}
 use Rattle.amber_flow.specs.Groups.{group_of}
 use Rattle.amber_flow.specs.Joins.{join_of}
-use Rattle.amber_flow.specs.Fields.{list_at, text_at}
+use Rattle.amber_flow.specs.Fields.{array_at, text_at}
 use Rattle.amber_flow.specs.Names.{is_sink_kind, kind_named, sign_named}
 use Rattle.amber_flow.specs.declared.error.FlowWhy.{FlowWhy}
 use Rattle.amber_flow.specs.declared.error.FlowWhy.TheVariants as why
@@ -72,19 +72,19 @@ is_file_name file = nat_lt 0 (length file) && nat_le (length file) 255
 unfoldable pub scan_of : Data → Result Parts FlowWhy
 scan_of tree = do
   file ← ok_or (text_at (codes "file") tree) why.Shape
-  pairs ← ok_or (list_at (codes "columns") tree) why.Shape
+  pairs ← ok_or (array_at (codes "columns") tree) why.Shape
   columns ← columns_of pairs
   named ← require (is_file_name file) why.Shape
   Ok (record { what = what.Scan file; schema = columns })
 
 -- a value of a column's kind
-abbrev pub constant_of : ColKind → Data → Option Value
-constant_of cells.Int tree = option_map value.Int (option_and_then as_i64 (as_number tree))
-constant_of cells.Text tree = option_map value.Text (as_str tree)
+abbrev pub flow_constant : ColKind → Data → Option Value
+flow_constant cells.Int tree = option_map value.Int (option_and_then as_i64 (as_number tree))
+flow_constant cells.Text tree = option_map value.Text (as_str tree)
 
 -- a value of the kind of the column with a number
 abbrev pub constant_at : List Column → ℕ → Data → Option Value
-constant_at columns number tree = option_and_then (λ column. constant_of column.kind tree) (numbered columns number)
+constant_at columns number tree = option_and_then (λ column. flow_constant column.kind tree) (nth columns number)
 
 unfoldable pub cond_of : List Column → List ℕ → Cmp → Data → Result Cond FlowWhy
 cond_of columns name sign tree = do
@@ -99,25 +99,25 @@ filter_of before tree = do
   sign ← ok_or (option_and_then sign_named (text_at (codes "op") tree)) why.Shape
   constant ← ok_or (get (codes "constant") tree) why.Shape
   input ← ok_or (operator_number before id) why.Forward
-  columns ← ok_or (columns_at before input) why.Forward
+  columns ← ok_or (operator_columns before input) why.Forward
   cond ← cond_of columns name sign constant
   Ok (record { what = what.Filter input cond; schema = columns })
 
 unfoldable pub project_of : List Operator → Data → Result Parts FlowWhy
 project_of before tree = do
   id ← ok_or (text_at (codes "input") tree) why.Shape
-  pairs ← ok_or (list_at (codes "columns") tree) why.Shape
+  pairs ← ok_or (array_at (codes "columns") tree) why.Shape
   sources ← ok_or (each source_of pairs) why.Shape
   input ← ok_or (operator_number before id) why.Forward
-  columns ← ok_or (columns_at before input) why.Forward
+  columns ← ok_or (operator_columns before input) why.Forward
   from ← ok_or (each (column_number columns) sources) why.Column
-  Ok (record { what = what.Project input from; schema = filter_map (renamed columns) pairs })
+  Ok (record { what = what.Project input from; schema = filter_map (renaming_of columns) pairs })
 
 unfoldable pub sink_of : List Operator → Data → Result Parts FlowWhy
 sink_of before tree = do
   id ← ok_or (text_at (codes "input") tree) why.Shape
   input ← ok_or (operator_number before id) why.Forward
-  columns ← ok_or (columns_at before input) why.Forward
+  columns ← ok_or (operator_columns before input) why.Forward
   Ok (record { what = what.Sink input; schema = columns })
 
 abbrev pub parts_of : Kind → List Operator → Data → Result Parts FlowWhy

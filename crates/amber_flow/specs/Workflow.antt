@@ -6,7 +6,7 @@ use Rattle.serde_json.specs.Read.{read}
 use Rattle.amber_rows.specs.FlowRules.{reader_count}
 use Rattle.amber_rows.specs.declared.flow.Operator.{Operator}
 use Rattle.amber_flow.specs.Chain.{◌>>=◌, require}
-use Rattle.amber_flow.specs.Fields.{list_at}
+use Rattle.amber_flow.specs.Fields.{array_at}
 use Rattle.amber_flow.specs.Operators.{operator_of}
 use Rattle.amber_flow.specs.declared.error.Fault.{Fault}
 use Rattle.amber_flow.specs.declared.error.FlowWhy.{FlowWhy}
@@ -34,8 +34,8 @@ operators_from count before (tree ∷ trees) =
 abbrev pub is_flow_length : ℕ → Bool
 is_flow_length count = nat_le 2 count && nat_le count 32
 
-abbrev pub worker_count : List Operator → ℕ
-worker_count flow = sum_by (λ operator. operator.workers) flow
+abbrev pub workers_in_all : List Operator → ℕ
+workers_in_all flow = sum_by (λ operator. operator.workers) flow
 
 -- the first of the operators from this one on that is not read exactly once
 abbrev pub unread_from : List Operator → ℕ → ℕ → Option ℕ
@@ -53,14 +53,14 @@ refuse (Some op) reason = Err (fault_at op reason)
 -- the workers and readers of all operators
 unfoldable pub check_whole : List Operator → Result (List Operator) Fault
 check_whole flow = do
-  few ← require (nat_le (worker_count flow) 128) (fault_at 0 why.Count)
+  few ← require (nat_le (workers_in_all flow) 128) (fault_at 0 why.Count)
   once ← refuse (first_unread flow) why.Readers
   Ok flow
 
 -- the workflow that a JSON value means
 unfoldable pub flow_of : Data → Result (List Operator) Fault
 flow_of tree = do
-  trees ← ok_or (list_at (codes "operators") tree) (fault_at 0 why.Shape)
+  trees ← ok_or (array_at (codes "operators") tree) (fault_at 0 why.Shape)
   sized ← require (is_flow_length (length trees)) (fault_at 0 why.Count)
   flow ← operators_from (length trees) [] trees
   check_whole flow

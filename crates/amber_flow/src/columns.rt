@@ -4,7 +4,7 @@ ghost use Rattle.serde_json.specs.View.{view};
 ghost use Rattle.amber_rows.specs.Columns.{names_of};
 ghost use Rattle.amber_rows.specs.FlowRules.{are_apart, is_among, is_column_name};
 ghost use Rattle.amber_flow.specs.Chain.{each};
-ghost use Rattle.amber_flow.specs.Columns.{column_named, column_number, column_of, columns_of, kind_at};
+ghost use Rattle.amber_flow.specs.Columns.{column_named, column_number, column_of, columns_of, column_kind_at};
 
 use crate::error::FlowWhy;
 use crate::fields::text_item;
@@ -119,7 +119,7 @@ pub fn add_column(columns: &mut Vec<Column>, found: Option<Column>) -> Result<()
 
 /// The kind of the column with this number.
 pub fn kind_of_column(columns: &[Column], number: u32) -> Option<ColKind>
-    ensures { result ≡ kind_at columns.now number }
+    ensures { result ≡ column_kind_at columns.now number }
 {
     if number == 0 {
         return None;

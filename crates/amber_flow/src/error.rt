@@ -1,5 +1,5 @@
 ghost use Rattle.std.specs.Prelude.{◌≡◌, Some};
-ghost use Rattle.amber_flow.specs.Words.{why_word};
+ghost use Rattle.amber_flow.specs.Words.{flow_reason_word};
 
 use std::fmt;
 use thiserror::Error;
@@ -38,7 +38,7 @@ pub enum FlowWhy {
 impl FlowWhy {
     /// The reason's word, as error lines have it.
     pub fn word(self) -> &'static str
-        ensures { result.now ≡ why_word self }
+        ensures { result.now ≡ flow_reason_word self }
     {
         match self {
             FlowWhy::Json => "Json",
@@ -59,7 +59,7 @@ impl FlowWhy {
 }
 
 impl fmt::Display for FlowWhy {
-    ghost output = { λ why. Some (why_word why) };
+    ghost output = { λ why. Some (flow_reason_word why) };
 
     fn fmt<W: fmt::Write>(&self, f: &mut fmt::Formatter<W>) -> fmt::Result {
         f.write_str(self.word())

@@ -2,7 +2,7 @@ ghost use Rattle.std.specs.Prelude.{◌≡◌, IfOk, map, option_and_then, optio
 ghost use Rattle.serde_json.specs.Find.{as_array, as_str, get};
 ghost use Rattle.serde_json.specs.View.{items_view, view};
 ghost use Rattle.amber_flow.specs.Chain.{each};
-ghost use Rattle.amber_flow.specs.Fields.{list_at, text_at, text_in, texts_at};
+ghost use Rattle.amber_flow.specs.Fields.{array_at, text_at, text_in, texts_at};
 
 use serde_json::Value;
 use std::alloc::{AllocError, Global};
@@ -22,7 +22,7 @@ fn items_field<'v>(object: &'v Value, key: &str) -> Option<&'v Vec<Value>>
 
 /// The list at a key of an object.
 pub fn list_field<'v>(object: &'v Value, key: &str) -> Option<&'v Vec<Value>>
-    ensures { option_map (λ list. map view list.now.items) result ≡ list_at key.now (view object.now) }
+    ensures { option_map (λ list. map view list.now.items) result ≡ array_at key.now (view object.now) }
 {
     items_field(object, key)
 }

@@ -2,7 +2,7 @@ ghost use Rattle.std.specs.Prelude.{◌≡◌, ◌<◌, ◌≤◌, All, IfOk, If
 ghost use Rattle.serde_json.specs.View.{view};
 ghost use Rattle.amber_rows.specs.FlowRules.{IsCondOn, IsKind, is_sink, kind_of};
 ghost use Rattle.amber_flow.specs.Inputs.{IsNarrow};
-ghost use Rattle.amber_flow.specs.Operators.{cond_of, constant_of, filter_of};
+ghost use Rattle.amber_flow.specs.Operators.{cond_of, flow_constant, filter_of};
 
 use crate::columns::find_column;
 use crate::error::FlowWhy;
@@ -16,7 +16,7 @@ use std::alloc::{AllocError, Global};
 
 /// The constant that a value is for a column of this kind.
 fn read_constant(alloc: Global, kind: ColKind, tree: &Value) -> Result<Option<Cell>, AllocError>
-    ensures constant { IfOk result (λ read. read ≡ constant_of kind (view tree.now)) }
+    ensures constant { IfOk result (λ read. read ≡ flow_constant kind (view tree.now)) }
     ensures kind { IfOk result (λ read. IfSome read (λ cell. kind_of cell ≡ kind)) }
 {
     match kind {

@@ -1,6 +1,6 @@
 ghost use Rattle.std.specs.Prelude.{◌≡◌, ◌<◌, ◌≤◌, All, IfSome, Some, bytes_eq, length, option_map, position};
 ghost use Rattle.amber_rows.specs.FlowRules.{HasInput};
-ghost use Rattle.amber_flow.specs.Inputs.{IsNarrow, columns_at, operator_number};
+ghost use Rattle.amber_flow.specs.Inputs.{IsNarrow, operator_columns, operator_number};
 
 use amber_rows::{Operator, Schema};
 
@@ -27,7 +27,7 @@ pub fn schema_at(before: &[Operator], number: u32) -> &Schema
     requires from_one { 0 < number }
     requires there { number ≤ length before.now }
     requires narrow { All IsNarrow before.now }
-    ensures columns { columns_at before.now number ≡ Some result.now }
+    ensures columns { operator_columns before.now number ≡ Some result.now }
     ensures input { HasInput before.now number result.now }
     ensures few { length result.now ≤ 64 }
 {

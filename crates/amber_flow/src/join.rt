@@ -2,7 +2,7 @@ ghost use Rattle.std.specs.Prelude.{◌≡◌, ◌++◌, ◌<◌, ◌≤◌, All
 ghost use Rattle.std.specs.List.{filter_map};
 ghost use Rattle.serde_json.specs.View.{view};
 ghost use Rattle.amber_rows.specs.FlowRules.{IsKind, is_sink};
-ghost use Rattle.amber_flow.specs.Columns.{kind_at};
+ghost use Rattle.amber_flow.specs.Columns.{column_kind_at};
 ghost use Rattle.amber_flow.specs.Inputs.{IsNarrow};
 ghost use Rattle.amber_flow.specs.Joins.{AreKeys, are_alike, are_paired, join_of, keys_of, same_kind};
 
@@ -43,7 +43,7 @@ fn is_same(kind: ColKind, other: ColKind) -> bool
 
 /// The kinds of the columns with these numbers.
 fn kinds_of(alloc: Global, columns: &[Column], numbers: &[u32]) -> Result<Vec<ColKind>, AllocError>
-    ensures { IfOk result (λ kinds. kinds.items ≡ filter_map (kind_at columns.now) numbers.now) }
+    ensures { IfOk result (λ kinds. kinds.items ≡ filter_map (column_kind_at columns.now) numbers.now) }
 {
     numbers
         .iter()

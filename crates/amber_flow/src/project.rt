@@ -3,7 +3,7 @@ ghost use Rattle.std.specs.List.{filter_map};
 ghost use Rattle.serde_json.specs.View.{view};
 ghost use Rattle.amber_rows.specs.FlowRules.{IsKind, is_sink};
 ghost use Rattle.amber_flow.specs.Chain.{each};
-ghost use Rattle.amber_flow.specs.Columns.{is_new_name, renamed, source_of};
+ghost use Rattle.amber_flow.specs.Columns.{is_new_name, renaming_of, source_of};
 ghost use Rattle.amber_flow.specs.Fields.{text_in};
 ghost use Rattle.amber_flow.specs.Inputs.{IsNarrow};
 ghost use Rattle.amber_flow.specs.Operators.{project_of};
@@ -55,7 +55,7 @@ fn read_sources(alloc: Global, pairs: &[Value]) -> Result<Option<Vec<&str>>, All
 /// The column that a pair renames, under its new name.
 fn rename(alloc: Global, columns: &[Column], pair: &Value) -> Result<Option<Column>, AllocError>
     requires { length columns.now ≤ 64 }
-    ensures { IfOk result (λ made. made ≡ renamed columns.now (view pair.now)) }
+    ensures { IfOk result (λ made. made ≡ renaming_of columns.now (view pair.now)) }
 {
     let Some(name) = text_item(pair, 1) else {
         return Ok(None);
@@ -75,7 +75,7 @@ fn rename(alloc: Global, columns: &[Column], pair: &Value) -> Result<Option<Colu
 /// The columns that pairs name, under their new names.
 fn rename_all(alloc: Global, columns: &[Column], pairs: &[Value]) -> Result<Vec<Column>, AllocError>
     requires { length columns.now ≤ 64 }
-    ensures { IfOk result (λ made. made.items ≡ filter_map (renamed columns.now) (map view pairs.now)) }
+    ensures { IfOk result (λ made. made.items ≡ filter_map (renaming_of columns.now) (map view pairs.now)) }
 {
     let mut made = Vec::new(alloc);
     for pair in pairs {

@@ -2,7 +2,7 @@ ghost use Rattle.std.specs.Prelude.{◌≡◌, ◌==◌, ◌<◌, ◌≤◌, ◌
 ghost use Rattle.serde_json.specs.View.{view};
 ghost use Rattle.amber_rows.specs.FlowRules.{AreNext, ends_in_sink};
 ghost use Rattle.amber_flow.specs.Alone.{AreAlone};
-ghost use Rattle.amber_flow.specs.Answers.{Answers, AnswersTree};
+ghost use Rattle.amber_flow.specs.Answers.{AnswersFlow, AnswersTree};
 ghost use Rattle.amber_flow.specs.Workflow.{check_whole, flow_of, is_flow_length, operators_from, tree_of, workflow_of};
 
 use crate::error::{Fault, FlowErr, FlowWhy};
@@ -116,7 +116,7 @@ fn read_whole(alloc: Global, tree: &Value) -> Result<Result<Flow, Fault>, AllocE
 /// says which workflow the bytes mean, or the first reason why they mean none, and the operator at fault.
 #[tactic(auto, unfolding(crate::specs::Workflow::workflow_of))]
 pub fn read_flow(alloc: Global, bytes: &[u8]) -> Result<Flow, FlowErr>
-    ensures answer { Answers result (workflow_of bytes.now) }
+    ensures answer { AnswersFlow result (workflow_of bytes.now) }
     ensures alone { IfOk result (λ flow. AreAlone flow) }
 {
     let tree = read_tree(alloc, bytes)?;

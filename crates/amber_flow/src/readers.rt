@@ -1,13 +1,13 @@
 ghost use Rattle.std.specs.Prelude.{◌≡◌, ◌==◌, ◌<◌, ◌≤◌, ℕ, length, sum_by, count_by, IfNone};
 ghost use Rattle.amber_rows.specs.FlowRules.{inputs_of, reader_count};
-ghost use Rattle.amber_flow.specs.Workflow.{first_unread, worker_count};
+ghost use Rattle.amber_flow.specs.Workflow.{first_unread, workers_in_all};
 
 use amber_rows::{Operator, What};
 
 /// The workers of all operators.
 pub fn count_workers(operators: &[Operator]) -> u64
     requires { length operators.now ≤ 32 }
-    ensures { result ≡ worker_count operators.now }
+    ensures { result ≡ workers_in_all operators.now }
 {
     let mut count: u64 = 0;
     for operator in operators {

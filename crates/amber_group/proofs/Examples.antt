@@ -1,14 +1,14 @@
 -- Groups on literals, each named by what it shows.
 use Rattle.std.specs.Prelude.{⊤}
 use Rattle.std.proofs.Common.{◌≡◌, ℕ, ◌-◌, pos, negsuc, List, [], ◌∷◌, ◌++◌, length, codes, refl}
-use Rattle.amber_rows.specs.Operators.{agg_value, agg_values, first_keys, greatest_of, grouped, least_of, picked, refused_keys, total_of}
+use Rattle.amber_rows.specs.Operators.{agg_value, agg_values, first_keys, greatest_of, group_result, least_of, pick_cells, refused_keys, total_of}
 use Rattle.amber_rows.specs.declared.agg.Agg.{Agg}
 use Rattle.amber_rows.specs.declared.agg.Agg.TheVariants.{Count, Sum, Min, Max}
 use Rattle.amber_rows.specs.declared.value.Value.{Value}
 use Rattle.amber_rows.specs.declared.value.Value.TheVariants.{Int, Text}
 
 unfoldable groups_on_literals : ⊤
-unfolding picked first_keys grouped refused_keys total_of least_of greatest_of agg_value agg_values
+unfolding pick_cells first_keys group_result refused_keys total_of least_of greatest_of agg_value agg_values
 groups_on_literals = tt
 
 -- ---- cells and rows
@@ -66,7 +66,7 @@ Rows = List (List Value)
 
 -- the rows of the groups and the refused keys, and how many groups there are
 abbrev finished : List ℕ → List Agg → Rows → Rows × Rows
-finished keys aggs rows = (grouped keys aggs rows, refused_keys keys aggs rows)
+finished keys aggs rows = (group_result keys aggs rows, refused_keys keys aggs rows)
 
 abbrev group_count : List ℕ → Rows → ℕ
 group_count keys rows = length (first_keys keys rows)

@@ -4,12 +4,12 @@ use Rattle.std.specs.List.{cons_option, filter_map}
 use Rattle.std.specs.Option.{option_and_then, option_to_list}
 use Rattle.std.proofs.lemmas.List.{append-nil, drop_all, drop_more}
 use Rattle.std.proofs.lemmas.List.Elements.{filter_map-append}
-use Rattle.amber_rows.specs.Operators.{agg_value, agg_values, first_keys, group_row, grouped, key_if_none, refused_keys, rows_with}
+use Rattle.amber_rows.specs.Operators.{agg_value, agg_values, first_keys, group_row, group_result, key_if_none, refused_keys, rows_with}
 use Rattle.amber_rows.specs.declared.value.Value.{Value}
 use Rattle.amber_rows.specs.declared.agg.Agg.{Agg}
 use Rattle.amber_rows.specs.declared.agg.Agg.TheVariants as agg
 use Rattle.amber_group.specs.declared.running.Running.{Running}
-use Rattle.amber_group.specs.Finished.{refused_of, row_of, rows_of, value_of, values_of}
+use Rattle.amber_group.specs.Finished.{refused_of, finished_row, finished_rows, value_of, aggregate_values}
 use Rattle.amber_group.specs.Group.{groups_of}
 use Rattle.amber_group.specs.Running.{running_of}
 
@@ -26,8 +26,8 @@ value-running rows (agg.Sum column) = refl
 value-running rows (agg.Min column) = refl
 value-running rows (agg.Max column) = refl
 
-values-running : (rows : List Row) (aggs : List Agg) → values_of (map (running_of rows) aggs) ≡ agg_values rows aggs
-unfolding values_of agg_values
+values-running : (rows : List Row) (aggs : List Agg) → aggregate_values (map (running_of rows) aggs) ≡ agg_values rows aggs
+unfolding aggregate_values agg_values
 values-running rows [] = refl
 values-running rows (one ∷ aggs) = λ i. option_and_then (λ cell. option_map (λ cells. cell ∷ cells) (values-running rows aggs i)) (value-running rows one i)
 
@@ -37,17 +37,17 @@ entry_by_entry f g h same [] = refl
 entry_by_entry f g h same (key ∷ ks) = λ i. cons_option (same key i) (entry_by_entry f g h same ks i)
 
 module _ (keys : List ℕ) (aggs : List Agg) (rows : List Row) where
-  row-group : (key : Row) → row_of (key, map (running_of (rows_with keys rows key)) aggs) ≡ group_row keys aggs rows key
+  row-group : (key : Row) → finished_row (key, map (running_of (rows_with keys rows key)) aggs) ≡ group_row keys aggs rows key
   row-group key = ap (option_map (λ cells. key ++ cells)) (values-running (rows_with keys rows key) aggs)
 
-  pub rows-groups : rows_of (groups_of keys aggs rows) ≡ grouped keys aggs rows
-  unfolding groups_of grouped
-  rows-groups = entry_by_entry (λ key. map (running_of (rows_with keys rows key)) aggs) row_of (group_row keys aggs rows) row-group (first_keys keys rows)
+  pub rows-groups : finished_rows (groups_of keys aggs rows) ≡ group_result keys aggs rows
+  unfolding groups_of group_result
+  rows-groups = entry_by_entry (λ key. map (running_of (rows_with keys rows key)) aggs) finished_row (group_row keys aggs rows) row-group (first_keys keys rows)
 
   pub refused-groups : refused_of (groups_of keys aggs rows) ≡ refused_keys keys aggs rows
   unfolding groups_of refused_keys
   refused-groups =
-      entry_by_entry (λ key. map (running_of (rows_with keys rows key)) aggs) (λ group. key_if_none group.0 (row_of group)) (λ key. key_if_none key (group_row keys aggs rows key))
+      entry_by_entry (λ key. map (running_of (rows_with keys rows key)) aggs) (λ group. key_if_none group.0 (finished_row group)) (λ key. key_if_none key (group_row keys aggs rows key))
       (λ key. ap (key_if_none key) (row-group key)) (first_keys keys rows)
 
 -- ---- group by group
@@ -57,17 +57,17 @@ take_next [] i less = absurd (omega arith)
 take_next (x ∷ xs) zero less = refl
 take_next (x ∷ xs) (suc i) less = let same : suc i + 1 ≡ suc (i + 1) = omega arith in rw same (ap (λ ys. x ∷ ys) (take_next xs i (omega arith)))
 
-pub rows-next : (groups : List Group) (i : ℕ) (old new : List Row) → i < length groups → old ≡ rows_of (take i groups)
-    → new ≡ old ++ rows_of (option_to_list (slice_get groups i)) → new ≡ rows_of (take (i + 1) groups)
+pub rows-next : (groups : List Group) (i : ℕ) (old new : List Row) → i < length groups → old ≡ finished_rows (take i groups)
+    → new ≡ old ++ finished_rows (option_to_list (slice_get groups i)) → new ≡ finished_rows (take (i + 1) groups)
 rows-next groups i old new less o n =
-    n ∙ ap (λ before. before ++ rows_of (option_to_list (slice_get groups i))) o
-    ∙ sym (ap rows_of (take_next groups i less) ∙ filter_map-append row_of (take i groups) (option_to_list (slice_get groups i)))
+    n ∙ ap (λ before. before ++ finished_rows (option_to_list (slice_get groups i))) o
+    ∙ sym (ap finished_rows (take_next groups i less) ∙ filter_map-append finished_row (take i groups) (option_to_list (slice_get groups i)))
 
 pub refused-next : (groups : List Group) (i : ℕ) (old new : List Row) → i < length groups → old ≡ refused_of (take i groups)
     → new ≡ old ++ refused_of (option_to_list (slice_get groups i)) → new ≡ refused_of (take (i + 1) groups)
 refused-next groups i old new less o n =
     n ∙ ap (λ before. before ++ refused_of (option_to_list (slice_get groups i))) o
-    ∙ sym (ap refused_of (take_next groups i less) ∙ filter_map-append (λ (group : Group). key_if_none group.0 (row_of group)) (take i groups) (option_to_list (slice_get groups i)))
+    ∙ sym (ap refused_of (take_next groups i less) ∙ filter_map-append (λ (group : Group). key_if_none group.0 (finished_row group)) (take i groups) (option_to_list (slice_get groups i)))
 
 -- ---- value by value
 
@@ -81,15 +81,15 @@ running_here runnings i running h e = drop_more runnings i running h ∙ ap (λ 
 
 pub values-go : (runnings : List Running) (i : ℕ) (running : Running) (cells new : List Value) (value : Value) → i < length runnings → running ≡ get_or runnings i running
     → value_of running ≡ Some value → new ≡ cells ++ value ∷ []
-    → option_map (λ values. cells ++ values) (values_of (drop i runnings)) ≡ option_map (λ values. new ++ values) (values_of (drop (i + 1) runnings))
-unfolding values_of
-values-go runnings i running cells new value h e is n = rw (running_here runnings i running h e, is, n) (one_before cells value (values_of (drop (i + 1) runnings)))
+    → option_map (λ values. cells ++ values) (aggregate_values (drop i runnings)) ≡ option_map (λ values. new ++ values) (aggregate_values (drop (i + 1) runnings))
+unfolding aggregate_values
+values-go runnings i running cells new value h e is n = rw (running_here runnings i running h e, is, n) (one_before cells value (aggregate_values (drop (i + 1) runnings)))
 
 pub values-stop : (runnings : List Running) (i : ℕ) (running : Running) (cells : List Value) → i < length runnings → running ≡ get_or runnings i running
-    → value_of running ≡ None → option_map (λ values. cells ++ values) (values_of (drop i runnings)) ≡ None
-unfolding values_of
+    → value_of running ≡ None → option_map (λ values. cells ++ values) (aggregate_values (drop i runnings)) ≡ None
+unfolding aggregate_values
 values-stop runnings i running cells h e is = rw (running_here runnings i running h e, is) refl
 
-pub values-end : (runnings : List Running) (i : ℕ) (cells : List Value) → length runnings ≤ i → option_map (λ values. cells ++ values) (values_of (drop i runnings)) ≡ Some cells
-unfolding values_of
+pub values-end : (runnings : List Running) (i : ℕ) (cells : List Value) → length runnings ≤ i → option_map (λ values. cells ++ values) (aggregate_values (drop i runnings)) ≡ Some cells
+unfolding aggregate_values
 values-end runnings i cells h = rw (drop_all i runnings h) (ap Some (append-nil cells))

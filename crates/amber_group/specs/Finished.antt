@@ -14,17 +14,17 @@ value_of (Min column best) = best
 value_of (Max column best) = best
 
 -- a value for each aggregate, where each has one
-unfoldable pub values_of : List Running → Option (List Value)
-values_of [] = Some []
-values_of (running ∷ runnings) = option_and_then (λ cell. option_map (λ cells. cell ∷ cells) (values_of runnings)) (value_of running)
+unfoldable pub aggregate_values : List Running → Option (List Value)
+aggregate_values [] = Some []
+aggregate_values (running ∷ runnings) = option_and_then (λ cell. option_map (λ cells. cell ∷ cells) (aggregate_values runnings)) (value_of running)
 
 -- the row of a group, if its aggregates have values
-abbrev pub row_of : List Value × List Running → Option (List Value)
-row_of group = option_map (λ cells. group.0 ++ cells) (values_of group.1)
+abbrev pub finished_row : List Value × List Running → Option (List Value)
+finished_row group = option_map (λ cells. group.0 ++ cells) (aggregate_values group.1)
 
-abbrev pub rows_of : List (List Value × List Running) → List (List Value)
-rows_of groups = filter_map row_of groups
+abbrev pub finished_rows : List (List Value × List Running) → List (List Value)
+finished_rows groups = filter_map finished_row groups
 
 -- the keys of the groups that have no row
 abbrev pub refused_of : List (List Value × List Running) → List (List Value)
-refused_of groups = filter_map (λ group. key_if_none group.0 (row_of group)) groups
+refused_of groups = filter_map (λ group. key_if_none group.0 (finished_row group)) groups

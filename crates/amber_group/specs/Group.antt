@@ -3,7 +3,7 @@ use Rattle.std.specs.Prelude.{◌≡◌, ℕ, List, length, map}
 use Rattle.amber_rows.specs.Operators.{first_keys, rows_with}
 use Rattle.amber_rows.specs.declared.value.Value.{Value}
 use Rattle.amber_rows.specs.declared.agg.Agg.{Agg}
-use Rattle.amber_keys.specs.Tables.{entries_of}
+use Rattle.amber_keys.specs.Tables.{table_entries}
 use Rattle.amber_group.specs.Running.{running_of}
 use Rattle.amber_group.specs.declared.running.Running.{Running}
 
@@ -16,7 +16,7 @@ pub record Group : Type 0 where
 
 -- the groups of rows, in the order in which their keys stand first
 unfoldable pub groups_of : List ℕ → List Agg → List (List Value) → List (List Value × List Running)
-groups_of keys aggs rows = entries_of (λ key. map (running_of (rows_with keys rows key)) aggs) (first_keys keys rows)
+groups_of keys aggs rows = table_entries (λ key. map (running_of (rows_with keys rows key)) aggs) (first_keys keys rows)
 
 -- a state that was fed these rows, in this order
 abbrev pub IsFedWith : Group → List (List Value) → Type 0

@@ -3,7 +3,7 @@ use Rattle.std.specs.Prelude.{ℕ, ◌+◌, ◌*◌, ◌^◌, ◌≤◌, ℤ, po
 use Rattle.std.specs.List.{AllByRecursion}
 use Rattle.std.specs.Ordering.{is_gt, is_lt}
 use Rattle.std.specs.declared.cmp.Ordering.{Ordering}
-use Rattle.amber_rows.specs.Cond.{numbered}
+use Rattle.amber_rows.specs.Cond.{nth}
 use Rattle.amber_rows.specs.Operators.{number_of}
 use Rattle.amber_rows.specs.Order.{value_cmp}
 use Rattle.amber_rows.specs.declared.value.Value.{Value}
@@ -20,18 +20,18 @@ winner better (Some old) (Some cell) = if better (value_cmp cell old) then Some 
 unfoldable pub change_of : List Value → Running → Option Value
 change_of row (Count rows) = None
 change_of row (Sum column total) = None
-change_of row (Min column best) = winner is_lt best (numbered row column)
-change_of row (Max column best) = winner is_gt best (numbered row column)
+change_of row (Min column best) = winner is_lt best (nth row column)
+change_of row (Max column best) = winner is_gt best (nth row column)
 
 -- what a cell adds to a sum; a text adds nothing
-abbrev pub added : Option Value → ℤ
-added None = pos 0
-added (Some cell) = number_of cell
+abbrev pub addend : Option Value → ℤ
+addend None = pos 0
+addend (Some cell) = number_of cell
 
 -- what a row adds to a sum
 abbrev pub addend_of : List Value → Running → ℤ
 addend_of row (Count rows) = pos 0
-addend_of row (Sum column total) = added (numbered row column)
+addend_of row (Sum column total) = addend (nth row column)
 addend_of row (Min column best) = pos 0
 addend_of row (Max column best) = pos 0
 
@@ -40,15 +40,15 @@ first_of_both None best = best
 first_of_both (Some cell) best = Some cell
 
 -- one row more, where this is the new best cell if there is one
-unfoldable pub settled : List Value → Option Value → Running → Running
-settled row change (Count rows) = Count (rows + 1)
-settled row change (Sum column total) = Sum column (total +ℤ added (numbered row column))
-settled row change (Min column best) = Min column (first_of_both change best)
-settled row change (Max column best) = Max column (first_of_both change best)
+unfoldable pub with_best : List Value → Option Value → Running → Running
+with_best row change (Count rows) = Count (rows + 1)
+with_best row change (Sum column total) = Sum column (total +ℤ addend (nth row column))
+with_best row change (Min column best) = Min column (first_of_both change best)
+with_best row change (Max column best) = Max column (first_of_both change best)
 
 -- one row more
-abbrev pub step : List Value → Running → Running
-step row running = settled row (change_of row running) running
+abbrev pub running_after : List Value → Running → Running
+running_after row running = with_best row (change_of row running) running
 
 -- ---- how large the numbers can be after so many rows
 

@@ -1,10 +1,10 @@
 ghost use Rattle.std.specs.Prelude.{◌≡◌, ◌+◌, ◌+ℤ◌, ◌^◌, ◌<◌, [], IfOk, ℕ, option_map};
 ghost use Rattle.std.specs.Ordering.{is_gt, is_lt};
-ghost use Rattle.amber_rows.specs.Cond.{numbered};
+ghost use Rattle.amber_rows.specs.Cond.{nth};
 ghost use Rattle.amber_rows.specs.Operators.{int_value, number_of};
 ghost use Rattle.amber_group.specs.Finished.{value_of};
 ghost use Rattle.amber_group.specs.Running.{running_of};
-ghost use Rattle.amber_group.specs.Steps.{IsSumWithin, IsWithin, added, addend_of, change_of, first_of_both, settled, winner};
+ghost use Rattle.amber_group.specs.Steps.{IsSumWithin, IsWithin, addend, addend_of, change_of, first_of_both, with_best, winner};
 
 use amber_rows::{Agg, Row, Value};
 use std::alloc::AllocError;
@@ -60,10 +60,10 @@ impl Running {
     }
 
     /// Takes in a row more, whose new best cell this is if it has one.
-    #[tactic(auto, unfolding(crate::specs::Steps::settled, crate::specs::Steps::IsWithin))]
+    #[tactic(auto, unfolding(crate::specs::Steps::with_best, crate::specs::Steps::IsWithin))]
     pub fn settle(&mut self, row: &Row, change: Option<Value>)
         requires { (rows : ℕ) × (rows < 2 ^ 40) × IsWithin rows self.old }
-        ensures value { self.new ≡ settled row.now change self.old }
+        ensures value { self.new ≡ with_best row.now change self.old }
         ensures within { (rows : ℕ) → IsWithin rows self.old → IsWithin (rows + 1) self.new }
     {
         let number = self.addend(row);
@@ -113,7 +113,7 @@ impl Clone for Running {
 
 // The cell of the column with this number, if there is one.
 fn cell_at(row: &Row, column: u32) -> Option<&Value>
-    ensures { option_map (λ cell. cell.now) result ≡ numbered row.now column }
+    ensures { option_map (λ cell. cell.now) result ≡ nth row.now column }
 {
     if column == 0 {
         return None;
@@ -123,7 +123,7 @@ fn cell_at(row: &Row, column: u32) -> Option<&Value>
 
 // What a row adds to the sum of a column. Texts are never summed.
 fn number_at(row: &Row, column: u32) -> i64
-    ensures { result ≡ added (numbered row.now column) }
+    ensures { result ≡ addend (nth row.now column) }
 {
     match cell_at(row, column) {
         Some(Value::Int(number)) => *number,

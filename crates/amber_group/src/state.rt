@@ -1,5 +1,5 @@
 ghost use Rattle.std.specs.Prelude.{◌≡◌, ◌+◌, ◌^◌, ◌<◌, ◌++◌, ◌∷◌, [], List, IfOk, OnErr, OnOk, length};
-ghost use Rattle.amber_rows.specs.Operators.{first_keys, grouped, refused_keys};
+ghost use Rattle.amber_rows.specs.Operators.{first_keys, group_result, refused_keys};
 ghost use Rattle.amber_rows.specs.declared.value.Value.{Value as Cell};
 ghost use Rattle.amber_group.specs.Group.{IsFedWith};
 
@@ -79,7 +79,7 @@ impl GroupState {
     /// bits do not hold, or with an aggregate of a column that none of its rows has, stands in `refused` instead.
     /// Keys stand in the order in which they came first.
     pub fn finish(&self) -> Result<Grouped, AllocError>
-        ensures rows { IfOk result (λ groups. (rows : List (List Cell)) → IsFedWith self.now rows → groups.rows ≡ grouped self.now.keys self.now.aggs rows) }
+        ensures rows { IfOk result (λ groups. (rows : List (List Cell)) → IsFedWith self.now rows → groups.rows ≡ group_result self.now.keys self.now.aggs rows) }
         ensures refused { IfOk result (λ groups. (rows : List (List Cell)) → IsFedWith self.now rows → groups.refused ≡ refused_keys self.now.keys self.now.aggs rows) }
     {
         finish(self.alloc, &self.groups)

@@ -1,9 +1,9 @@
 ghost use Rattle.std.specs.Prelude.{◌≡◌, ◌+◌, ◌^◌, ◌<◌, ◌++◌, ◌∷◌, [], ℕ, List, IfOk, OnErr, OnOk, map};
-ghost use Rattle.amber_rows.specs.Operators.{picked};
+ghost use Rattle.amber_rows.specs.Operators.{pick_cells};
 ghost use Rattle.amber_rows.specs.declared.value.Value.{Value as Cell};
 ghost use Rattle.amber_group.specs.Group.{groups_of};
 ghost use Rattle.amber_group.specs.Running.{running_of};
-ghost use Rattle.amber_group.specs.Steps.{AreWithin, GroupsWithin, change_of, step};
+ghost use Rattle.amber_group.specs.Steps.{AreWithin, GroupsWithin, change_of, running_after};
 
 use crate::running::Running;
 use amber_keys::Key;
@@ -46,7 +46,7 @@ impl Totals {
         row: &Row,
         changes: &mut Vec<Option<Value>>,
     ) -> Result<Self, AllocError>
-        ensures value { IfOk result (λ totals. totals ≡ map (step row.now) (map (running_of []) aggs.now)) }
+        ensures value { IfOk result (λ totals. totals ≡ map (running_after row.now) (map (running_of []) aggs.now)) }
         ensures within { IfOk result (AreWithin 1) }
     {
         let mut totals = Totals::new(alloc, aggs)?;
@@ -57,7 +57,7 @@ impl Totals {
     // Takes in a row more. Its new best cells are made in `changes` first, whose content before does not matter.
     fn add(&mut self, row: &Row, changes: &mut Vec<Option<Value>>) -> Result<(), AllocError>
         requires { (rows : ℕ) × (rows < 2 ^ 40) × AreWithin rows self.old }
-        ensures ok { OnOk result (self.new ≡ map (step row.now) self.old) }
+        ensures ok { OnOk result (self.new ≡ map (running_after row.now) self.old) }
         ensures within { OnOk result ((rows : ℕ) → AreWithin rows self.old → AreWithin (rows + 1) self.new) }
         ensures same { OnErr result (self.new ≡ self.old) }
     {
@@ -103,7 +103,7 @@ fn find_changes(
 fn settle_all(runnings: &mut Vec<Running>, row: &Row, changes: &mut Vec<Option<Value>>)
     requires changes { changes.old.items ≡ map (change_of row.now) runnings.old.items }
     requires within { (rows : ℕ) × (rows < 2 ^ 40) × AreWithin rows runnings.old.items }
-    ensures value { runnings.new.items ≡ map (step row.now) runnings.old.items }
+    ensures value { runnings.new.items ≡ map (running_after row.now) runnings.old.items }
     ensures within { (rows : ℕ) → AreWithin rows runnings.old.items → AreWithin (rows + 1) runnings.new.items }
 {
     for i in 0..runnings.len() {
@@ -122,7 +122,7 @@ pub fn take_in(
     changes: &mut Vec<Option<Value>>,
 ) -> Result<(), AllocError>
     requires { (fed : ℕ) × (fed < 2 ^ 40) × GroupsWithin fed groups.old.entries }
-    ensures ok { OnOk result ((keys : List ℕ) (rows : List (List Cell)) → groups.old.entries ≡ groups_of keys aggs.now rows → key ≡ picked keys row.now → groups.new.entries ≡ groups_of keys aggs.now (rows ++ row.now ∷ [])) }
+    ensures ok { OnOk result ((keys : List ℕ) (rows : List (List Cell)) → groups.old.entries ≡ groups_of keys aggs.now rows → key ≡ pick_cells keys row.now → groups.new.entries ≡ groups_of keys aggs.now (rows ++ row.now ∷ [])) }
     ensures within { OnOk result ((fed : ℕ) → GroupsWithin fed groups.old.entries → GroupsWithin (fed + 1) groups.new.entries) }
     ensures same { OnErr result (groups.new.entries ≡ groups.old.entries) }
 {

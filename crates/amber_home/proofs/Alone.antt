@@ -7,7 +7,7 @@ use Rattle.std.proofs.lemmas.List.{get_or_default, length-take-le}
 use Rattle.std.proofs.lemmas.List.Elements.{All-take}
 use Rattle.std.proofs.lemmas.List.Sums.{sum_by-cons}
 use Rattle.amber_rows.specs.Chunks.{numbers_below}
-use Rattle.amber_rows.specs.Cond.{numbered}
+use Rattle.amber_rows.specs.Cond.{nth}
 use Rattle.amber_rows.specs.Crew as crew
 use Rattle.amber_rows.specs.Crew.{crew_of, first_worker_of, op_of, what_at, worker_count, workers_in, workers_of}
 use Rattle.amber_rows.specs.FlowRules.{IsFlow, schema_of}
@@ -19,7 +19,7 @@ use Rattle.amber_rows.specs.declared.value.Value.{Value}
 use Rattle.amber_rows.proofs.FlowFacts.{AreNext-at}
 use Rattle.amber_meaning.specs.Plain as plain
 use Rattle.amber_meaning.specs.Plan as plan
-use Rattle.amber_meaning.proofs.Operators.{numbered-here}
+use Rattle.amber_meaning.proofs.Operators.{nth-here}
 use Rattle.amber_scan.specs.Shares as shares
 use Rattle.amber_scan.specs.declared.share.Scanned.{Scanned}
 use Rattle.amber_worker.specs.Fields.{arrival_of}
@@ -30,7 +30,7 @@ use Rattle.amber_worker.specs.WorkerState.{WorkerState}
 use Rattle.amber_meaning.specs.ScanFiles.{is_headed, records_at}
 use Rattle.amber_meaning.specs.Position.{origin}
 use Rattle.amber_home.specs.declared.error.HomeErr.{HomeErr}
-use Rattle.amber_home.specs.Start.{HoldsRecords, NamesOperator, IsAtStart, kind_at, schema_at}
+use Rattle.amber_home.specs.Start.{HoldsRecords, NamesOperator, IsAtStart, operator_kind, schema_at}
 
 -- ---- numbers
 
@@ -72,14 +72,14 @@ first-alone flow k alone h =
 
 -- ---- the operator of a worker
 
-pub operator-here : (flow : List Operator) (k : ℕ) (d : Operator) → k < length flow → numbered flow (k + 1) ≡ Some (get_or flow k d)
-operator-here flow k d h = numbered-here flow k (get_or flow k d) h (get_or_default flow k d (get_or flow k d) h)
+pub operator-here : (flow : List Operator) (k : ℕ) (d : Operator) → k < length flow → nth flow (k + 1) ≡ Some (get_or flow k d)
+operator-here flow k d h = nth-here flow k (get_or flow k d) h (get_or_default flow k d (get_or flow k d) h)
 
-pub kind-here : (flow : List Operator) (k : ℕ) (o : Operator) → k < length flow → o ≡ get_or flow k o → kind_at flow k ≡ o.what
-kind-here flow k o h is = ap crew.kind_at (numbered-here flow k o h is)
+pub kind-here : (flow : List Operator) (k : ℕ) (o : Operator) → k < length flow → o ≡ get_or flow k o → operator_kind flow k ≡ o.what
+kind-here flow k o h is = ap crew.operator_kind (nth-here flow k o h is)
 
 pub schema-here : (flow : List Operator) (k : ℕ) (o : Operator) → k < length flow → o ≡ get_or flow k o → schema_at flow k ≡ o.schema
-schema-here flow k o h is = ap schema_of (numbered-here flow k o h is)
+schema-here flow k o h is = ap schema_of (nth-here flow k o h is)
 
 pub what-alone : (flow : List Operator) (k : ℕ) (o : Operator) → AreAlone flow → k < length flow → o ≡ get_or flow k o → what_at flow (op_of flow k) ≡ o.what
 what-alone flow k o alone h is = ap (what_at flow) (op-alone flow k alone h) ∙ kind-here flow k o h is
@@ -153,7 +153,7 @@ role-share flow records k alone h =
 pub stands-scan : (flow : List Operator) (k size : ℕ) (o : Operator) (file : List ℕ) (share : List Scanned) (w : WorkerState) → AreAlone flow → k < length flow → o ≡ get_or flow k o
     → HoldsRecords (records_at o.what o.schema file) share
     → ((records : List Records) → HasShare (Some share) (plan.role_of flow records k) → Stood flow records size k w)
-    → IsAtStart flow k size (records_at (kind_at flow k) (schema_at flow k) file) w
+    → IsAtStart flow k size (records_at (operator_kind flow k) (schema_at flow k) file) w
 stands-scan flow k size o file share w alone h is holds made records own =
     made records
     (ap (map arrival_of) holds ∙ share-same (records_at o.what o.schema file)
@@ -163,15 +163,15 @@ stands-scan flow k size o file share w alone h is holds made records own =
 -- of another operator
 pub stands-other : (flow : List Operator) (k size : ℕ) (file : List ℕ) (w : WorkerState)
     → ((records : List Records) → HasShare None (plan.role_of flow records k) → Stood flow records size k w)
-    → IsAtStart flow k size (records_at (kind_at flow k) (schema_at flow k) file) w
+    → IsAtStart flow k size (records_at (operator_kind flow k) (schema_at flow k) file) w
 stands-other flow k size file w made records own = made records tt
 
 -- ---- headers
 
 pub names-at : (error : HomeErr) (flow : List Operator) (k : ℕ) (o : Operator) (file : List ℕ) → k < length flow → o ≡ get_or flow k o
-    → NamesOperator error o.what o.schema file (k + 1) → NamesOperator error (kind_at flow k) (schema_at flow k) file (k + 1)
+    → NamesOperator error o.what o.schema file (k + 1) → NamesOperator error (operator_kind flow k) (schema_at flow k) file (k + 1)
 names-at error flow k o file h is has = rw (kind-here flow k o h is, schema-here flow k o h is) has
 
 pub headed-other : (flow : List Operator) (k : ℕ) (o : Operator) (file : List ℕ) → k < length flow → o ≡ get_or flow k o → plain.is_scan o.what ≡ false
-    → is_headed (kind_at flow k) (schema_at flow k) file ≡ true
+    → is_headed (operator_kind flow k) (schema_at flow k) file ≡ true
 headed-other flow k o file h is other = rw (kind-here flow k o h is, other) refl

@@ -20,13 +20,13 @@ use Rattle.amber_meaning.specs.Position.{Position, Taken, fed, arrivals_of, shar
 use Rattle.amber_meaning.specs.State.{position_at}
 use Rattle.amber_meaning.specs.Task.{Arrival, Task}
 use Rattle.amber_meaning.specs.Views.{answer_in, by_number, insert_numbered, op_refuses, refusal_in, refused_in, rows_in, sink_rows, taken_by, taken_of, worker_refuses}
-use Rattle.amber_worker.specs.AtPosition.{AreAlone, kept_of, placement_of}
+use Rattle.amber_worker.specs.AtPosition.{AreAlone, kept_rows, placement_of}
 use Rattle.amber_worker.specs.WorkerState.{WorkerState}
 use Rattle.amber_worker.proofs.Shares.{by_number-share}
 use Rattle.amber_home.specs.Answers.{IsGatheredFrom, ShowAll, refused_at, rows_before}
 use Rattle.amber_home.specs.Parts.{reached}
 use Rattle.amber_home.proofs.Alone.{crew-alone, op-alone, workers-alone}
-use Rattle.amber_meaning.proofs.Lists.{numbered-next}
+use Rattle.amber_meaning.proofs.Lists.{nth-next}
 use Rattle.amber_home.proofs.Reached.{listed-at}
 
 -- ---- the order of what was refused
@@ -149,10 +149,10 @@ last-sink (operator ∷ []) zero ends long = ends
 last-sink (operator ∷ []) (suc n) ends long = absurd (omega arith)
 last-sink (operator ∷ next ∷ more) zero ends long = absurd (omega arith)
 last-sink (operator ∷ next ∷ more) (suc n) ends long =
-    ap (λ found. is_sink (kind_at found)) (numbered-next (operator ∷ next ∷ more) (suc n) ∙ sym (numbered-next (next ∷ more) n))
+    ap (λ found. is_sink (kind_at found)) (nth-next (operator ∷ next ∷ more) (suc n) ∙ sym (nth-next (next ∷ more) n))
     ∙ last-sink (next ∷ more) n (and_parts (not (is_sink operator.what)) (ends_in_sink (next ∷ more)) ends).1 (omega arith)
 
-kept-sink : (kind : What) (task : Task) (arrivals : List Arrival) → is_sink kind ≡ true → kept_of kind task arrivals ≡ rows_in task arrivals
+kept-sink : (kind : What) (task : Task) (arrivals : List Arrival) → is_sink kind ≡ true → kept_rows kind task arrivals ≡ rows_in task arrivals
 kept-sink (what.Scan file) task arrivals e = absurd (false≢true e)
 kept-sink (what.Filter input cond) task arrivals e = absurd (false≢true e)
 kept-sink (what.Project input columns) task arrivals e = absurd (false≢true e)

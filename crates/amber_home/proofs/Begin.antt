@@ -23,7 +23,7 @@ use Rattle.amber_worker.specs.WorkerState.{WorkerState}
 use Rattle.amber_home.specs.declared.error.HomeErr.{HomeErr}
 use Rattle.amber_home.specs.declared.error.HomeErr.TheVariants as home_err
 use Rattle.amber_home.specs.HomeState.{NamesScan}
-use Rattle.amber_home.specs.Start.{AreEmpty, NamesOperator, IsAtStart, kind_at, schema_at}
+use Rattle.amber_home.specs.Start.{AreEmpty, NamesOperator, IsAtStart, operator_kind, schema_at}
 use Rattle.amber_home.specs.AtWork.{AreAtPositions, no_worker_state, sent_by, worker_state_at}
 use Rattle.amber_home.proofs.Alone.{crew-alone, kind-here, schema-here}
 
@@ -47,24 +47,24 @@ header-start flow files = refl
 
 module _ (flow : List Operator) (files : List (List ℕ)) (i : ℕ) (inside : i < length flow)
     (left : wrong_header 1 files flow ≡ wrong_header (i + 1) (files_left files (take i flow)) (drop i flow)) where
-  headed-here : (b : Bool) → is_headed (kind_at flow i) (schema_at flow i) (next_file (files_left files (take i flow))) ≡ b
+  headed-here : (b : Bool) → is_headed (operator_kind flow i) (schema_at flow i) (next_file (files_left files (take i flow))) ≡ b
       → is_headed (get_or flow i d).what (get_or flow i d).schema (next_file (files_left files (take i flow))) ≡ b
   headed-here b is =
       let o = get_or flow i d in
       let e : o ≡ get_or flow i o = get_or_default flow i d o inside in
       rw (← kind-here flow i o inside e, ← schema-here flow i o inside e) is
 
-  pub header-more : (file : List ℕ) → file ≡ next_file (files_left files (take i flow)) → is_headed (kind_at flow i) (schema_at flow i) file ≡ true
+  pub header-more : (file : List ℕ) → file ≡ next_file (files_left files (take i flow)) → is_headed (operator_kind flow i) (schema_at flow i) file ≡ true
       → wrong_header 1 files flow ≡ wrong_header (i + 1 + 1) (files_left files (take (i + 1) flow)) (drop (i + 1) flow)
   header-more file is headed =
       wrong_header-more files flow i (get_or flow i d) (wrong_header 1 files flow) inside (get_or_default flow i d (get_or flow i d) inside) left
-      (headed-here true (subst (λ f. is_headed (kind_at flow i) (schema_at flow i) f ≡ true) is headed))
+      (headed-here true (subst (λ f. is_headed (operator_kind flow i) (schema_at flow i) f ≡ true) is headed))
 
   pub header-names : (file : List ℕ) (error : HomeErr) → file ≡ next_file (files_left files (take i flow))
-      → NamesOperator error (kind_at flow i) (schema_at flow i) file (i + 1) → NamesScan error flow files
+      → NamesOperator error (operator_kind flow i) (schema_at flow i) file (i + 1) → NamesScan error flow files
   header-names file (home_err.Header named) is has =
       wrong_header-here files flow i (get_or flow i d) (wrong_header 1 files flow) inside (get_or_default flow i d (get_or flow i d) inside) left
-      (headed-here false (subst (λ f. is_headed (kind_at flow i) (schema_at flow i) f ≡ false) is has.1))
+      (headed-here false (subst (λ f. is_headed (operator_kind flow i) (schema_at flow i) f ≡ false) is has.1))
       ∙ ap Some (sym has.0)
   header-names file home_err.NoMemory is has = tt
 
@@ -88,18 +88,18 @@ pub empty-more : (crew longer : List WorkerState) (w : WorkerState) → longer �
 empty-more crew longer w is before here k =
     subst (λ (xs : List WorkerState). AreEmpty (worker_state_at xs k)) (sym is) (at-push crew w (λ _ v. AreEmpty v) (λ j _. before j) here (λ _ _. empty-none) k)
 
-pub begun-more : (flow : List Operator) (files : List (List ℕ)) (size count : ℕ) (crew longer : List WorkerState) (w : WorkerState) (file : List ℕ) → longer ≡ crew ++ w ∷ []
+pub begin_leg-more : (flow : List Operator) (files : List (List ℕ)) (size count : ℕ) (crew longer : List WorkerState) (w : WorkerState) (file : List ℕ) → longer ≡ crew ++ w ∷ []
     → length crew ≡ count → count < length flow → file ≡ next_file (files_left files (take count flow))
-    → HaveBegun flow (records_of files flow) size crew count → IsAtStart flow count size (records_at (kind_at flow count) (schema_at flow count) file) w
+    → HaveBegun flow (records_of files flow) size crew count → IsAtStart flow count size (records_at (operator_kind flow count) (schema_at flow count) file) w
     → HaveBegun flow (records_of files flow) size longer (count + 1)
-begun-more flow files size count crew longer w file is long inside file-is before stands worker below =
+begin_leg-more flow files size count crew longer w file is long inside file-is before stands worker below =
     subst (λ (xs : List WorkerState). IsAtPosition (placement_of flow (records_of files flow) size worker) (first_orders flow worker) (worker_state_at xs worker) origin origin (λ _. [])) (sym is)
     (at-push crew w (λ k v. k < count + 1 → IsAtPosition (placement_of flow (records_of files flow) size k) (first_orders flow k) v origin origin (λ _. []))
     (λ k less _. before k (rw (← long) less))
     (λ _. subst (λ n. IsAtPosition (placement_of flow (records_of files flow) size n) (first_orders flow n) w origin origin (λ _. [])) (sym long) (stands (records_of files flow) own))
     (λ k more less. absurd (omega arith)) worker below)
   where
-    own : list_at (records_of files flow) (count + 1) ≡ records_at (kind_at flow count) (schema_at flow count) file
+    own : list_at (records_of files flow) (count + 1) ≡ records_at (operator_kind flow count) (schema_at flow count) file
     own =
         let e : get_or flow count d ≡ get_or flow count (get_or flow count d) = get_or_default flow count d (get_or flow count d) inside in
         numbered_or (records_of files flow) count [] ∙ records-here files flow count (get_or flow count d) inside e
@@ -123,10 +123,10 @@ none-sent crew sender receiver empty = none-waits sender (worker_state_at crew r
 pub all-begun : (flow : List Operator) (files : List (List ℕ)) (size most : ℕ) (crew : List WorkerState) → AreAlone flow → length crew ≡ length flow
     → ((k : ℕ) → AreEmpty (worker_state_at crew k)) → HaveBegun flow (records_of files flow) size crew (length flow)
     → AreAtPositions (query_over flow files size most) crew (λ _. origin)
-all-begun flow files size most crew alone long empty begun = record {
+all-begin_leg flow files size most crew alone long empty begun = record {
   all = long ∙ sym (crew-alone flow alone);
   each = λ worker below.
       subst (λ sent. IsAtPosition (placement_of flow (records_of files flow) size worker) (first_orders flow worker) (worker_state_at crew worker) origin origin sent)
       (λ i receiver. sym (none-sent crew worker receiver empty) i)
-      (begun worker (rw (← crew-alone flow alone) below));
+      (begin_leg worker (rw (← crew-alone flow alone) below));
 }

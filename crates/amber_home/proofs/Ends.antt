@@ -12,7 +12,7 @@ use Rattle.amber_meaning.specs.Plan.{role_of}
 use Rattle.amber_meaning.specs.Position.{Position, origin, taken_from}
 use Rattle.amber_meaning.specs.Replay.{state_after}
 use Rattle.amber_meaning.specs.Rules.{Leads}
-use Rattle.amber_meaning.specs.State.{State, begun_to_end, start_of, steps_in}
+use Rattle.amber_meaning.specs.State.{State, begin_last_leg, start_of, steps_in}
 use Rattle.amber_meaning.proofs.Fronts.{legal_logs_grow}
 use Rattle.amber_meaning.proofs.OneState.{legal_logs_have_one_state}
 use Rattle.amber_meaning.proofs.Senders.{flows_send_forward}
@@ -22,7 +22,7 @@ use Rattle.amber_worker.specs.WorkerState.{WorkerState}
 use Rattle.amber_worker.proofs.Settling.{sent-made, steps-shown}
 use Rattle.amber_home.specs.HomeState.{end_item}
 use Rattle.amber_home.specs.Finish.{IsClosed}
-use Rattle.amber_home.specs.Leg.{IsDone}
+use Rattle.amber_home.specs.Leg.{IsLegDone}
 use Rattle.amber_home.specs.Parts.{parts_from, reached}
 use Rattle.amber_home.specs.AtWork.{AreAtWork, AreAtPositions, sent_by, worker_state_at, steps_by}
 use Rattle.amber_home.proofs.Links.{receives}
@@ -58,7 +58,7 @@ entries-here : (crew : List WorkerState) (worker : ℕ) → entries_of (parts_fr
 entries-here crew worker = ap (entries_of (parts_from 0 crew)) (sym (zero-add worker)) ∙ entries-at 0 crew worker
 
 worked : (query : Query) (crew : List WorkerState) (positions : ℕ → Position) → AreAtPositions query crew positions
-    → IsWorked query (begun_to_end (start_of query.flow)) (parts_from 0 crew) (reached query positions)
+    → IsWorked query (begin_last_leg (start_of query.flow)) (parts_from 0 crew) (reached query positions)
 worked query crew positions at_positions = record {
   same_arms = refl;
   crew = length-listed positions (crew_of query.flow);
@@ -86,7 +86,7 @@ steps-reached query crew positions at_positions =
     (λ k below. steps-shown (placement_of query.flow query.records query.size k) (first_orders query.flow k) (worker_state_at crew k) (positions k) (sent_by crew positions k) (at_positions.each k below).shows)
     ∙ ap steps_by (take_all (crew_of query.flow) crew (let all = at_positions.all in omega arith))
 
-closed-as : (query : Query) (crew : List WorkerState) (positions : ℕ → Position) → AreAtPositions query crew positions → (closed : Close) → IsDone closed query.most crew
+closed-as : (query : Query) (crew : List WorkerState) (positions : ℕ → Position) → AreAtPositions query crew positions → (closed : Close) → IsLegDone closed query.most crew
     → IsClosed query (reached query positions) closed
 closed-as query crew positions at_positions close.Cut done = (
   all-finished positions (crew_of query.flow) (λ k below. sym (at_positions.each k below).shows.finished ∙ done.0 k (rw at_positions.all below)),
@@ -113,7 +113,7 @@ pub record HasEnded (query : Query) (crew : List WorkerState) (positions : ℕ �
   pub is : IsClosed query (reached query positions) closed
 
 pub has-ended : (query : Query) (crew : List WorkerState) (closed : Close) → IsBatch query.size → (work : AreAtWork query crew) → length crew ≤ 2 ^ 32
-    → IsDone closed query.most crew → HasEnded query crew work.positions closed
+    → IsLegDone closed query.most crew → HasEnded query crew work.positions closed
 unfolding empty-legal
 has-ended query crew closed batch work few done =
     let is = closed-as query crew work.positions work.at_positions closed done in

@@ -13,7 +13,7 @@ use Rattle.amber_meaning.specs.Legal.{IsLegal, Query, query_over}
 use Rattle.amber_meaning.specs.Replay.{state_after}
 use Rattle.amber_meaning.specs.Views.{answer_in}
 use Rattle.amber_worker.specs.WorkerState.{WorkerState}
-use Rattle.amber_home.specs.HomeState.{Closes, Ends, HomeState, end_item, is_spent}
+use Rattle.amber_home.specs.HomeState.{ClosesLeg, Ends, HomeState, end_item, is_spent}
 use Rattle.amber_home.specs.Finish.{Finishes, HasRun, IsClosed, IsRun, IsStart}
 use Rattle.amber_home.specs.Kept.{IsHome, Rests}
 use Rattle.amber_home.specs.Start.{HasNotBegun}
@@ -75,7 +75,7 @@ module _ (flow : List Operator) (files : List (List ℕ)) (most : ℕ) (log : Lo
   closed-home = record { flow = flow; files = files; most = most; log = record { batch = log.batch; items = items }; phase = phase.Over }
 
   closes : (closed : Close) (now : Phase) → items ≡ log.items ++ end_item parts closed ∷ []
-      → Closes (record { flow = flow; files = files; most = most; log = log; phase = now }) closed-home closed
+      → ClosesLeg (record { flow = flow; files = files; most = most; log = log; phase = now }) closed-home closed
   closes closed now is = record {
     parts = parts;
     is = λ i. record { flow = flow; files = files; most = most; log = record { batch = log.batch; items = is i }; phase = phase.Over };

@@ -12,7 +12,7 @@ use Rattle.amber_log.specs.declared.leg.Part.{Part}
 use Rattle.amber_meaning.specs.Legal.{entries_of}
 use Rattle.amber_worker.specs.Incoming.{has_some}
 use Rattle.amber_worker.specs.WorkerState.{WorkerState}
-use Rattle.amber_home.specs.Parts.{part_of, parts_from, without_journal}
+use Rattle.amber_home.specs.Parts.{part_if_any, parts_from, without_journal}
 use Rattle.amber_home.specs.AtWork.{worker_state_at}
 
 -- ---- who has a part
@@ -133,13 +133,13 @@ arrivals-next xs crew i d now h is now-is =
 
 pub parts-next : (xs crew : List WorkerState) (i : ℕ) (d : WorkerState) (old new whole : List Part) (entries : List Entry) → i < length xs
     → crew ≡ map without_journal (take i xs) ++ drop i xs → entries ≡ (get_or crew i d).journal
-    → new ≡ old ++ part_of i entries → old ++ parts_from i (drop i xs) ≡ whole → new ++ parts_from (i + 1) (drop (i + 1) xs) ≡ whole
+    → new ≡ old ++ part_if_any i entries → old ++ parts_from i (drop i xs) ≡ whole → new ++ parts_from (i + 1) (drop (i + 1) xs) ≡ whole
 unfolding parts_from
 parts-next xs crew i d old new whole entries h is entries-is grown rest =
     let split : drop i xs ≡ get_or xs i d ∷ drop (i + 1) xs = drop_more xs i d h in
     let journal : entries ≡ (get_or xs i d).journal = entries-is ∙ ap (λ w. w.journal) (read-arrivals xs crew i d h is) in
-    ap (λ ys. ys ++ parts_from (i + 1) (drop (i + 1) xs)) (grown ∙ ap (λ es. old ++ part_of i es) journal)
-    ∙ append_assoc old (part_of i (get_or xs i d).journal) (parts_from (i + 1) (drop (i + 1) xs))
+    ap (λ ys. ys ++ parts_from (i + 1) (drop (i + 1) xs)) (grown ∙ ap (λ es. old ++ part_if_any i es) journal)
+    ∙ append_assoc old (part_if_any i (get_or xs i d).journal) (parts_from (i + 1) (drop (i + 1) xs))
     ∙ ap (λ ys. old ++ parts_from i ys) (sym split)
     ∙ rest
 

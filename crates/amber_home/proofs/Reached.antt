@@ -8,14 +8,14 @@ use Rattle.std.proofs.lemmas.List.Sums.{sum_by-append}
 use Rattle.std.proofs.lemmas.Grind.{take_at_read}
 use Rattle.std.proofs.Math.ListN.{get_or-map}
 use Rattle.amber_rows.specs.Chunks.{numbers_below}
-use Rattle.amber_rows.specs.Cond.{numbered}
+use Rattle.amber_rows.specs.Cond.{nth}
 use Rattle.amber_rows.specs.Crew.{crew_of, kind_at, op_of, what_at}
 use Rattle.amber_rows.specs.declared.flow.Operator.{Operator}
 use Rattle.amber_log.specs.declared.entry.Entry.{Entry}
 use Rattle.amber_log.specs.declared.entry.Entry.TheVariants as entry
 use Rattle.amber_meaning.specs.Position.{Position, origin, steps_of}
 use Rattle.amber_meaning.specs.Rules.{Leads, Moves, Orders}
-use Rattle.amber_meaning.specs.State.{arms_at, begun_to_end, disarmed, first_constants, let_go, no_arms, orders_of, position_at, start_of}
+use Rattle.amber_meaning.specs.State.{arms_at, begin_last_leg, without_arms, first_constants, let_go, no_arms, orders_of, position_at, start_of}
 use Rattle.amber_meaning.specs.Task.{Role}
 use Rattle.amber_meaning.proofs.Lists.{list_all-at, list_all-below}
 use Rattle.amber_meaning.proofs.OneState.{position-before, position-get_or, position-last}
@@ -53,31 +53,31 @@ get-map f [] i = refl
 get-map f (x ∷ xs) zero = refl
 get-map f (x ∷ xs) (suc i) = get-map f xs i
 
-numbered-map : {A B : Type 0} (f : A → B) (xs : List A) (n : ℕ) → numbered (map f xs) n ≡ option_map f (numbered xs n)
-numbered-map f xs n = by (nat_eq n 0)
+nth-map : {A B : Type 0} (f : A → B) (xs : List A) (n : ℕ) → nth (map f xs) n ≡ option_map f (nth xs n)
+nth-map f xs n = by (nat_eq n 0)
   where
     by : (b : Bool) → (if b then None else slice_get (map f xs) (n - 1)) ≡ option_map f (if b then None else slice_get xs (n - 1))
     by true = refl
     by false = get-map f xs (n - 1)
 
-start-arms : (flow : List Operator) (op : ℕ) → arms_at (begun_to_end (start_of flow)) op ≡ record no_arms { constants = first_constants (what_at flow op) }
-unfolding begun_to_end start_of
+start-arms : (flow : List Operator) (op : ℕ) → arms_at (begin_last_leg (start_of flow)) op ≡ record no_arms { constants = first_constants (what_at flow op) }
+unfolding begin_last_leg start_of
 start-arms flow op =
     ap (λ found. unwrap_or found no_arms)
-    (numbered-map disarmed (map (λ (operator : Operator). record no_arms { constants = first_constants operator.what }) flow) op
-    ∙ ap (option_map disarmed) (numbered-map (λ (operator : Operator). record no_arms { constants = first_constants operator.what }) flow op))
-    ∙ by (numbered flow op)
+    (nth-map without_arms (map (λ (operator : Operator). record no_arms { constants = first_constants operator.what }) flow) op
+    ∙ ap (option_map without_arms) (nth-map (λ (operator : Operator). record no_arms { constants = first_constants operator.what }) flow op))
+    ∙ by (nth flow op)
   where
-    by : (found : Option Operator) → unwrap_or (option_map disarmed (option_map (λ (operator : Operator). record no_arms { constants = first_constants operator.what }) found)) no_arms
+    by : (found : Option Operator) → unwrap_or (option_map without_arms (option_map (λ (operator : Operator). record no_arms { constants = first_constants operator.what }) found)) no_arms
         ≡ record no_arms { constants = first_constants (kind_at found) }
     by None = refl
     by (Some operator) = refl
 
-pub start-orders : (flow : List Operator) (worker : ℕ) → orders_of (arms_at (begun_to_end (start_of flow)) (op_of flow worker)) ≡ first_orders flow worker
+pub start-orders : (flow : List Operator) (worker : ℕ) → orders_of (arms_at (begin_last_leg (start_of flow)) (op_of flow worker)) ≡ first_orders flow worker
 unfolding first_orders
 start-orders flow worker = ap orders_of (start-arms flow (op_of flow worker))
 
-pub start-uncounted : (flow : List Operator) (op : ℕ) → (arms_at (begun_to_end (start_of flow)) op).count ≡ None
+pub start-uncounted : (flow : List Operator) (op : ℕ) → (arms_at (begin_last_leg (start_of flow)) op).count ≡ None
 start-uncounted flow op = ap (λ arms. arms.count) (start-arms flow op)
 
 at-origin : (n k : ℕ) → get_or (replicate n origin) k origin ≡ origin
@@ -85,8 +85,8 @@ at-origin zero k = refl
 at-origin (suc n) zero = refl
 at-origin (suc n) (suc k) = at-origin n k
 
-pub start-position : (flow : List Operator) (worker : ℕ) → position_at (begun_to_end (start_of flow)).positions worker ≡ origin
-unfolding begun_to_end start_of
+pub start-position : (flow : List Operator) (worker : ℕ) → position_at (begin_last_leg (start_of flow)).positions worker ≡ origin
+unfolding begin_last_leg start_of
 start-position flow worker =
     position-get_or (map let_go (replicate (crew_of flow) origin)) worker
     ∙ get_or-map let_go (replicate (crew_of flow) origin) worker origin
@@ -112,7 +112,7 @@ hand-stays role orders p q (one ∷ more) uncounted none leads =
 
 -- ---- steps, and who has finished
 
-pub steps-listed : (crew : List WorkerState) (positions : ℕ → Position) (n : ℕ) → n ≤ length crew → ((k : ℕ) → k < n → worker_state.steps_in (worker_state_at crew k) ≡ steps_of (positions k))
+pub steps-listed : (crew : List WorkerState) (positions : ℕ → Position) (n : ℕ) → n ≤ length crew → ((k : ℕ) → k < n → worker_state.steps_made (worker_state_at crew k) ≡ steps_of (positions k))
     → sum_by steps_of (map positions (numbers_below n)) ≡ steps_by (take n crew)
 unfolding numbers_below steps_by
 steps-listed crew positions zero h same = refl
@@ -121,8 +121,8 @@ steps-listed crew positions (suc n) h same =
     ∙ sum_by-append steps_of (map positions (numbers_below n)) (positions n ∷ [])
     ∙ ap (λ m. m + (0 + steps_of (positions n))) (steps-listed crew positions n (omega arith) (λ k below. same k (omega arith)))
     ∙ ap (λ m. steps_by (take n crew) + (0 + m)) (sym (same n (omega arith)))
-    ∙ sym (sum_by-append worker_state.steps_in (take n crew) (worker_state_at crew n ∷ []))
-    ∙ ap (sum_by worker_state.steps_in) (sym ((take_at_read crew n no_worker_state (omega (arith, h))).1) ∙ ap (λ m. take m crew) (add-one n))
+    ∙ sym (sum_by-append worker_state.steps_made (take n crew) (worker_state_at crew n ∷ []))
+    ∙ ap (sum_by worker_state.steps_made) (sym ((take_at_read crew n no_worker_state (omega (arith, h))).1) ∙ ap (λ m. take m crew) (add-one n))
 
 all-map : {A B : Type 0} (test : B → Bool) (f : A → B) (xs : List A) → list_all test (map f xs) ≡ list_all (λ x. test (f x)) xs
 all-map test f [] = refl

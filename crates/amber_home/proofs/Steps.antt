@@ -15,7 +15,7 @@ use Rattle.amber_worker.specs.Incoming.{has_some, have_all_ended}
 use Rattle.amber_worker.specs.Outgoing.{Outgoing}
 use Rattle.amber_worker.specs.Links.{waiting_for, without_batches}
 use Rattle.amber_worker.specs.AtPosition.{HasTurned, Keeps, first_orders, placement_of, stream_to}
-use Rattle.amber_worker.specs.WorkerState.{WorkerState, next_turn, has_ready, steps_in}
+use Rattle.amber_worker.specs.WorkerState.{WorkerState, next_turn, has_ready, steps_made}
 use Rattle.amber_worker.specs.declared.turn.Turn.{Turn}
 use Rattle.amber_worker.specs.declared.turn.Turn.TheVariants as turn
 use Rattle.amber_worker.proofs.Idle.{has_marked-chunks_of, never_idle}
@@ -100,7 +100,7 @@ ended-finished false false false false false h = cc
 -- an unfinished worker whose senders have all finished makes a step
 pub moves : (crew : List WorkerState) (worker : ℕ) (now : WorkerState) (done : Turn) → IsCrew crew → worker < length crew → HaveFinished worker crew
     → (worker_state_at crew worker).finished ≡ false → done ≡ next_turn (worker_state_at crew worker) → HasTurned done (worker_state_at crew worker) now
-    → steps_in now ≡ steps_in (worker_state_at crew worker) + 1
+    → steps_made now ≡ steps_made (worker_state_at crew worker) + 1
 moves crew worker now turn.Moved work inside finished not-yet is turned = turned
 moves crew worker now turn.Idle work inside finished not-yet is turned = absurd (busy work.0 crew worker work.1 inside finished (sym is))
 moves crew worker now turn.Ended work inside finished not-yet is turned =
@@ -109,11 +109,11 @@ moves crew worker now turn.Ended work inside finished not-yet is turned =
 
 -- ---- sums of steps
 
-pub steps-cons : (w : WorkerState) (crew : List WorkerState) → steps_by (w ∷ crew) ≡ steps_in w + steps_by crew
+pub steps-cons : (w : WorkerState) (crew : List WorkerState) → steps_by (w ∷ crew) ≡ steps_made w + steps_by crew
 unfolding steps_by
-steps-cons w crew = sum_by-cons steps_in w crew
+steps-cons w crew = sum_by-cons steps_made w crew
 
-sum-set : (crew : List WorkerState) (i : ℕ) (w : WorkerState) → i < length crew → steps_by (set crew i w) + steps_in (worker_state_at crew i) ≡ steps_by crew + steps_in w
+sum-set : (crew : List WorkerState) (i : ℕ) (w : WorkerState) → i < length crew → steps_by (set crew i w) + steps_made (worker_state_at crew i) ≡ steps_by crew + steps_made w
 sum-set [] i w h = absurd (omega arith)
 sum-set (x ∷ xs) zero w h =
     rw (steps-cons w xs, steps-cons x xs) (omega arith)
@@ -121,10 +121,10 @@ sum-set (x ∷ xs) (suc i) w h =
     let rest = sum-set xs i w (omega arith) in
     rw (steps-cons x (set xs i w), steps-cons x xs) (omega arith)
 
-pub sum-more : (crew : List WorkerState) (i : ℕ) (w : WorkerState) → i < length crew → steps_in w ≡ steps_in (worker_state_at crew i) + 1 → steps_by (set crew i w) ≡ steps_by crew + 1
+pub sum-more : (crew : List WorkerState) (i : ℕ) (w : WorkerState) → i < length crew → steps_made w ≡ steps_made (worker_state_at crew i) + 1 → steps_by (set crew i w) ≡ steps_by crew + 1
 sum-more crew i w h more = let sum = sum-set crew i w h in omega arith
 
-pub sum-same : (crew : List WorkerState) (i : ℕ) (w : WorkerState) → i < length crew → steps_in w ≡ steps_in (worker_state_at crew i) → steps_by (set crew i w) ≡ steps_by crew
+pub sum-same : (crew : List WorkerState) (i : ℕ) (w : WorkerState) → i < length crew → steps_made w ≡ steps_made (worker_state_at crew i) → steps_by (set crew i w) ≡ steps_by crew
 sum-same crew i w h same = let sum = sum-set crew i w h in omega arith
 
 pub sum-passed : (crew : List WorkerState) (from to : ℕ) → from < to → to < length crew
@@ -134,10 +134,10 @@ sum-passed crew from to before there =
     let ne : to ≢ from = omega arith in
     let given = given_of (worker_state_at crew from) (worker_state_at crew to) in
     let taker = taker_of (worker_state_at crew from) (worker_state_at crew to) in
-    sum-same (set crew from given) to taker (rw length-set there) (ap steps_in (sym (get_or-set_other crew from to given no_worker_state ne)))
+    sum-same (set crew from given) to taker (rw length-set there) (ap steps_made (sym (get_or-set_other crew from to given no_worker_state ne)))
     ∙ sum-same crew from given from-there refl
 
-pub sum-member : (crew : List WorkerState) (i : ℕ) → steps_in (worker_state_at crew i) ≤ steps_by crew
+pub sum-member : (crew : List WorkerState) (i : ℕ) → steps_made (worker_state_at crew i) ≤ steps_by crew
 sum-member [] i = omega arith
 sum-member (x ∷ xs) zero = rw (steps-cons x xs) (omega arith)
 sum-member (x ∷ xs) (suc i) = let rest = sum-member xs i in rw (steps-cons x xs) (omega arith)

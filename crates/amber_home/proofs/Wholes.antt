@@ -14,11 +14,11 @@ use Rattle.amber_meaning.specs.Position.{Position, origin}
 use Rattle.amber_meaning.specs.Replay.{state_after}
 use Rattle.amber_meaning.specs.Views.{answer_in}
 use Rattle.amber_worker.specs.AtPosition.{Shows, first_orders, placement_of}
-use Rattle.amber_worker.specs.WorkerState.{WorkerState, steps_in}
+use Rattle.amber_worker.specs.WorkerState.{WorkerState, steps_made}
 use Rattle.amber_worker.proofs.Settling.{IsAtPosition-without_journal, steps-shown}
 use Rattle.amber_home.specs.Answers.{IsGatheredFrom, ShowAll}
 use Rattle.amber_home.specs.Finish.{Finishes, IsClosed, IsRun, IsStart, leg_log}
-use Rattle.amber_home.specs.Leg.{IsDone}
+use Rattle.amber_home.specs.Leg.{IsLegDone}
 use Rattle.amber_home.specs.Parts.{parts_from, reached, without_journal}
 use Rattle.amber_home.specs.Start.{HasNotBegun}
 use Rattle.amber_home.specs.AtWork.{AreAtWork, IsCrew, StayAtWork, AreAtPositions, no_worker_state, sent_by, worker_state_at, steps_by}
@@ -35,7 +35,7 @@ at-work query crew start = record { flow = start.flow; positions = λ _. origin;
 pub start-crew : (flow : List Operator) (most : ℕ) (crew : List WorkerState) → IsStart flow most crew → IsCrew crew
 start-crew flow most crew start = (start.0, at-work start.0 crew start.3)
 
-none-made : (crew : List WorkerState) → ((k : ℕ) → k < length crew → steps_in (worker_state_at crew k) ≡ 0) → steps_by crew ≡ 0
+none-made : (crew : List WorkerState) → ((k : ℕ) → k < length crew → steps_made (worker_state_at crew k) ≡ 0) → steps_by crew ≡ 0
 unfolding steps_by
 none-made [] none = refl
 none-made (w ∷ crew) none =
@@ -73,7 +73,7 @@ show-all query crew positions at_positions k below =
           (IsAtPosition-without_journal (placement_of query.flow query.records query.size k) (first_orders query.flow k) (worker_state_at crew k) origin (positions k) (sent_by crew positions k) (at_positions.each k here)).shows,
     )
 
-has-run : (query : Query) (old crew : List WorkerState) (parts : List Part) (closed : Close) → IsBatch query.size → HasNotBegun query old → (stay : StayAtWork old crew) → IsDone closed query.most crew
+has-run : (query : Query) (old crew : List WorkerState) (parts : List Part) (closed : Close) → IsBatch query.size → HasNotBegun query old → (stay : StayAtWork old crew) → IsLegDone closed query.most crew
     → parts ≡ parts_from 0 crew → (positions : ℕ → Position) × AreAtPositions query crew positions × IsRun query parts closed
     × (answer_in query (reached query positions) ≡ answer_in query (state_after query (leg_log query parts closed).items))
 unfolding StayAtWork
@@ -88,17 +88,17 @@ has-run query old crew parts closed batch start stay done is =
       ap (answer_in query) (sym ended.state) ∙ ap (λ (ps : List Part). answer_in query (state_after query (leg_log query ps closed).items)) (sym is),
     )
 
-pub finish-long : (flow : List Operator) (most : ℕ) (old crew : List WorkerState) (parts : List Part) → StayAtWork old crew → IsDone close.Long most crew → parts ≡ parts_from 0 crew
+pub finish-long : (flow : List Operator) (most : ℕ) (old crew : List WorkerState) (parts : List Part) → StayAtWork old crew → IsLegDone close.Long most crew → parts ≡ parts_from 0 crew
     → Finishes flow most old (record { parts = parts; answer = None })
 unfolding Finishes
 finish-long flow most old crew parts stay done is query flow-is most-is batch start =
-    (has-run query old crew parts close.Long batch start stay (subst (λ n. IsDone close.Long n crew) (sym most-is) done) is).2
+    (has-run query old crew parts close.Long batch start stay (subst (λ n. IsLegDone close.Long n crew) (sym most-is) done) is).2
 
-pub finish-cut : (flow : List Operator) (most : ℕ) (old crew : List WorkerState) (parts : List Part) (answer : Answer) → StayAtWork old crew → IsDone close.Cut most crew → parts ≡ parts_from 0 crew
+pub finish-cut : (flow : List Operator) (most : ℕ) (old crew : List WorkerState) (parts : List Part) (answer : Answer) → StayAtWork old crew → IsLegDone close.Cut most crew → parts ≡ parts_from 0 crew
     → IsGatheredFrom flow (map without_journal crew) answer → Finishes flow most old (record { parts = parts; answer = Some answer })
 unfolding Finishes
 finish-cut flow most old crew parts answer stay done is gathered query flow-is most-is batch start =
-    let run = has-run query old crew parts close.Cut batch start stay (subst (λ n. IsDone close.Cut n crew) (sym most-is) done) is in
+    let run = has-run query old crew parts close.Cut batch start stay (subst (λ n. IsLegDone close.Cut n crew) (sym most-is) done) is in
     let at_positions = run.1 in
     let long : length (map without_journal crew) ≡ length query.flow = length-map crew without_journal ∙ at_positions.all ∙ crew-alone query.flow start.alone in (
       run.2,

@@ -13,7 +13,7 @@ use Rattle.amber_meaning.specs.Legal.{Query}
 use Rattle.amber_meaning.specs.Plain.{refused_groups}
 use Rattle.amber_meaning.specs.Position.{Position}
 use Rattle.amber_meaning.specs.Views.{refused_in, taken_of, worker_refuses}
-use Rattle.amber_worker.specs.AtPosition.{Placement, Shows, first_orders, kept_of, placement_of}
+use Rattle.amber_worker.specs.AtPosition.{Placement, Shows, first_orders, kept_rows, placement_of}
 use Rattle.amber_worker.specs.WorkerState.{WorkerState}
 use Rattle.amber_home.specs.AtWork.{worker_state_at}
 
@@ -37,7 +37,7 @@ unfoldable pub rows_before : Query → (ℕ → Position) → ℕ → List (List
 rows_before query positions zero = []
 rows_before query positions (suc worker) =
     let role = (placement_at query worker).role in
-    sort_rows (kept_of role.task.kind role.task (taken_of role (positions worker)))
+    sort_rows (kept_rows role.task.kind role.task (taken_of role (positions worker)))
 
 -- an answer has what each worker has refused, and the rows of the last, wherever they stand
 unfoldable pub IsGatheredFrom : List Operator → List WorkerState → Answer → Type 0

@@ -7,7 +7,7 @@ use Rattle.amber_meaning.specs.Legal.{Query}
 use Rattle.amber_meaning.specs.Position.{Position, origin, taken_from}
 use Rattle.amber_worker.specs.Links.{waiting_from}
 use Rattle.amber_worker.specs.AtPosition.{IsAtPosition, first_orders, placement_of}
-use Rattle.amber_worker.specs.WorkerState.{WorkerState, steps_in}
+use Rattle.amber_worker.specs.WorkerState.{WorkerState, steps_made}
 use Rattle.amber_worker.specs.declared.operator_state.OperatorState.TheVariants as operator_state
 
 -- a worker that is not there
@@ -71,7 +71,7 @@ StayAtWork old new = (query : Query) → AreAtWork query old → AreAtWork query
 
 -- the steps that they have made together
 unfoldable pub steps_by : List WorkerState → ℕ
-steps_by crew = sum_by steps_in crew
+steps_by crew = sum_by steps_made crew
 
 -- the first workers have finished
 abbrev pub HaveFinished : ℕ → List WorkerState → Type 0
@@ -79,4 +79,4 @@ HaveFinished workers crew = (worker : ℕ) → worker < workers → (worker_stat
 
 -- none but this worker has made a step
 abbrev pub MovesOnly : List WorkerState → List WorkerState → ℕ → Type 0
-MovesOnly old new worker = (other : ℕ) → other ≢ worker → steps_in (worker_state_at new other) ≡ steps_in (worker_state_at old other)
+MovesOnly old new worker = (other : ℕ) → other ≢ worker → steps_made (worker_state_at new other) ≡ steps_made (worker_state_at old other)

@@ -57,7 +57,7 @@ abbrev pub with_item : Log → Item → Log
 with_item log one = record log { items = log.items ++ one ∷ [] }
 
 -- the last leg stands in the log, closed so, and nothing else has changed
-pub record Closes (old new : HomeState) (closed : Close) : Type 0 where
+pub record ClosesLeg (old new : HomeState) (closed : Close) : Type 0 where
   pub parts : List Part
   pub is : new ≡ record old { log = with_item old.log (end_item parts closed); phase = phase.Over }
 
@@ -65,9 +65,9 @@ pub record Closes (old new : HomeState) (closed : Close) : Type 0 where
 -- somebody has not finished; or only memory was wanting
 abbrev pub Ends : Result Answer LegErr → HomeState → HomeState → Type 0
 Ends (Ok answer) old new =
-    Closes old new close.Cut × (have_finished (state_after (query_of old) new.log.items) ≡ true)
+    ClosesLeg old new close.Cut × (have_finished (state_after (query_of old) new.log.items) ≡ true)
     × (answer ≡ answer_in (query_of old) (state_after (query_of old) new.log.items))
 Ends (Err leg_err.Long) old new =
-    Closes old new close.Long × (have_finished (state_after (query_of old) new.log.items) ≡ false)
+    ClosesLeg old new close.Long × (have_finished (state_after (query_of old) new.log.items) ≡ false)
     × (steps_in (state_after (query_of old) new.log.items) ≡ old.most)
 Ends (Err leg_err.NoMemory) old new = new ≡ record old { phase = phase.Spent }

@@ -3,7 +3,7 @@ use Rattle.std.specs.Prelude.{◌≡◌, ℕ, ◌<◌, ◌≤◌, List, length, 
 use Rattle.amber_log.specs.declared.leg.Close.{Close}
 use Rattle.amber_log.specs.declared.leg.Close.TheVariants as close
 use Rattle.amber_worker.specs.Links.{waiting_for, with_batches, without_batches}
-use Rattle.amber_worker.specs.WorkerState.{WorkerState, steps_in}
+use Rattle.amber_worker.specs.WorkerState.{WorkerState, steps_made}
 use Rattle.amber_home.specs.AtWork.{HaveFinished, worker_state_at, steps_by}
 
 -- a worker whose batches for another one were moved, and that other one
@@ -15,11 +15,11 @@ taker_of giver taker = record taker { ins = with_batches giver.number (waiting_f
 
 -- the workers behind this one have made no step
 abbrev pub WaitBehind : ℕ → List WorkerState → Type 0
-WaitBehind worker crew = (other : ℕ) → worker < other → steps_in (worker_state_at crew other) ≡ 0
+WaitBehind worker crew = (other : ℕ) → worker < other → steps_made (worker_state_at crew other) ≡ 0
 
 -- all have finished; or the steps are as many as may be, and somebody has not: the workers before have finished, and those behind have
 -- not begun
-abbrev pub IsDone : Close → ℕ → List WorkerState → Type 0
-IsDone close.Cut most crew = HaveFinished (length crew) crew × (steps_by crew ≤ most)
-IsDone close.Long most crew = (worker : ℕ) × (worker < length crew) × ((worker_state_at crew worker).finished ≡ false) × (steps_by crew ≡ most)
+abbrev pub IsLegDone : Close → ℕ → List WorkerState → Type 0
+IsLegDone close.Cut most crew = HaveFinished (length crew) crew × (steps_by crew ≤ most)
+IsLegDone close.Long most crew = (worker : ℕ) × (worker < length crew) × ((worker_state_at crew worker).finished ≡ false) × (steps_by crew ≡ most)
     × HaveFinished worker crew × WaitBehind worker crew

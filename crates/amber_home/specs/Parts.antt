@@ -6,18 +6,18 @@ use Rattle.amber_log.specs.declared.entry.Entry.{Entry}
 use Rattle.amber_log.specs.declared.leg.Part.{Part}
 use Rattle.amber_meaning.specs.Legal.{Query}
 use Rattle.amber_meaning.specs.Position.{Position}
-use Rattle.amber_meaning.specs.State.{State, begun_to_end, start_of}
+use Rattle.amber_meaning.specs.State.{State, begin_last_leg, start_of}
 use Rattle.amber_worker.specs.Incoming.{has_some}
 use Rattle.amber_worker.specs.WorkerState.{WorkerState}
 
 -- the part of a worker that did this; none where it did nothing
-abbrev pub part_of : ℕ → List Entry → List Part
-part_of worker entries = if has_some entries then record { worker = worker; entries = entries } ∷ [] else []
+abbrev pub part_if_any : ℕ → List Entry → List Part
+part_if_any worker entries = if has_some entries then record { worker = worker; entries = entries } ∷ [] else []
 
 -- what the workers from this number on have done
 unfoldable pub parts_from : ℕ → List WorkerState → List Part
 parts_from number [] = []
-parts_from number (w ∷ more) = part_of number w.journal ++ parts_from (number + 1) more
+parts_from number (w ∷ more) = part_if_any number w.journal ++ parts_from (number + 1) more
 
 -- a worker whose journal was handed out
 abbrev pub without_journal : WorkerState → WorkerState
@@ -25,4 +25,4 @@ without_journal w = record w { journal = [] }
 
 -- the state of workers at these positions in a leg to the end from the start
 abbrev pub reached : Query → (ℕ → Position) → State
-reached query positions = record (begun_to_end (start_of query.flow)) { positions = map positions (numbers_below (crew_of query.flow)) }
+reached query positions = record (begin_last_leg (start_of query.flow)) { positions = map positions (numbers_below (crew_of query.flow)) }

@@ -20,8 +20,8 @@ use Rattle.amber_home.specs.declared.error.HomeErr.{HomeErr}
 use Rattle.amber_home.specs.declared.error.HomeErr.TheVariants as home_err
 
 -- what the operator behind so many does, and its columns
-abbrev pub kind_at : List Operator → ℕ → What
-kind_at flow before = crew.what_at flow (before + 1)
+abbrev pub operator_kind : List Operator → ℕ → What
+operator_kind flow before = crew.what_at flow (before + 1)
 
 abbrev pub schema_at : List Operator → ℕ → List Column
 schema_at flow before = columns_at flow (before + 1)

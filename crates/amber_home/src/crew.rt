@@ -8,7 +8,7 @@ ghost use Rattle.amber_meaning.specs.Plain.{is_scan, list_at};
 ghost use Rattle.amber_meaning.specs.Position.{origin};
 ghost use Rattle.amber_worker.specs.AtPosition.{AreAlone, IsAtPosition, first_orders, placement_of};
 ghost use Rattle.amber_home.specs.HomeState.{BeginsOrNames};
-ghost use Rattle.amber_home.specs.Start.{AreEmpty, HasHeader, HasNotBegun, HoldsRecords, IsAtStart, kind_at, schema_at};
+ghost use Rattle.amber_home.specs.Start.{AreEmpty, HasHeader, HasNotBegun, HoldsRecords, IsAtStart, operator_kind, schema_at};
 
 use crate::error::HomeErr;
 use amber_meaning::file_behind;
@@ -47,9 +47,9 @@ fn start_worker(
     requires some { 0 < batch }
     requires few { batch ≤ 65536 }
     requires alone { AreAlone flow.now }
-    ensures header { HasHeader result (kind_at flow.now before) (schema_at flow.now before) file.now (before + 1) }
+    ensures header { HasHeader result (operator_kind flow.now before) (schema_at flow.now before) file.now (before + 1) }
     ensures empty { IfOk result AreEmpty }
-    ensures stands { IfOk result (IsAtStart flow.now before batch (records_at (kind_at flow.now before) (schema_at flow.now before) file.now)) }
+    ensures stands { IfOk result (IsAtStart flow.now before batch (records_at (operator_kind flow.now before) (schema_at flow.now before) file.now)) }
 {
     let operator = &flow.get()[before];
     let number = before as u32;

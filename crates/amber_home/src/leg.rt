@@ -1,8 +1,8 @@
 //! A leg: the workers make their steps, one worker after the other.
 ghost use Rattle.std.specs.Prelude.{◌≡◌, ◌+◌, ◌<◌, ◌≤◌, ◌^◌, ◌==◌, false, true, length, slice_set, IfOk, OnOk};
 ghost use Rattle.std.specs.List.{list_any};
-ghost use Rattle.amber_worker.specs.WorkerState.{steps_in};
-ghost use Rattle.amber_home.specs.Leg.{IsDone, given_of, taker_of};
+ghost use Rattle.amber_worker.specs.WorkerState.{steps_made};
+ghost use Rattle.amber_home.specs.Leg.{IsLegDone, given_of, taker_of};
 ghost use Rattle.amber_home.specs.AtWork.{HaveFinished, IsCrew, MovesOnly, StayAtWork, worker_state_at, steps_by};
 
 use amber_log::Close;
@@ -29,7 +29,7 @@ fn step(crew: &mut [Worker], number: usize) -> Result<(), AllocError>
     requires crew { IsCrew crew.old }
     requires first { HaveFinished number crew.old }
     requires unfinished { (worker_state_at crew.old number).finished ≡ false }
-    requires few { steps_in (worker_state_at crew.old number) < 2 ^ 40 }
+    requires few { steps_made (worker_state_at crew.old number) < 2 ^ 40 }
     ensures stay { OnOk result (StayAtWork crew.old crew.new) }
     ensures one { OnOk result (steps_by crew.new ≡ steps_by crew.old + 1) }
     ensures only { OnOk result (MovesOnly crew.old crew.new number) }
@@ -73,7 +73,7 @@ pub(crate) fn run_crew(crew: &mut [Worker], most: u64) -> Result<Close, AllocErr
     requires fresh { steps_by crew.old ≡ 0 }
     requires few { most ≤ 2 ^ 40 }
     ensures stay { OnOk result (StayAtWork crew.old crew.new) }
-    ensures done { IfOk result (λ close. IsDone close most crew.new) }
+    ensures done { IfOk result (λ close. IsLegDone close most crew.new) }
 {
     let mut left = most;
     'workers: for number in 0..crew.len() {

@@ -1,6 +1,6 @@
 //! What the workers have done in a leg.
 ghost use Rattle.std.specs.Prelude.{◌≡◌, ◌++◌, ◌<◌, ◌^◌, length, map, IfOk, OnOk};
-ghost use Rattle.amber_home.specs.Parts.{part_of, parts_from, without_journal};
+ghost use Rattle.amber_home.specs.Parts.{part_if_any, parts_from, without_journal};
 
 use amber_log::{Entries, Part, Parts};
 use amber_worker::Worker;
@@ -8,7 +8,7 @@ use std::alloc::{AllocError, Global};
 
 // Puts a worker's part behind the others, if it has done something.
 fn push_part(parts: &mut Vec<Part>, worker: u32, entries: Entries) -> Result<(), AllocError>
-    ensures { OnOk result (parts.new.items ≡ parts.old.items ++ part_of worker entries) }
+    ensures { OnOk result (parts.new.items ≡ parts.old.items ++ part_if_any worker entries) }
 {
     if entries.get().is_empty() {
         return Ok(());

@@ -9,7 +9,7 @@ abbrev pub Begins : Option (List ℕ) → Option (List ℕ) → List ℕ → Typ
 Begins old new piece = (part : List ℕ) × (rest : List ℕ) × (part ++ rest ≡ piece) × Appends old new part
 
 -- the whole piece was appended, or nothing for want of memory, or a front part at a failure
-abbrev pub Leaves : {A : Type 0} → Result A IoErr → Option (List ℕ) → Option (List ℕ) → List ℕ → Type 0
-Leaves (Ok x) old new piece = Appends old new piece
-Leaves (Err NoMemory) old new piece = Keeps old new
-Leaves (Err Failed) old new piece = Begins old new piece
+abbrev pub LeavesPiece : {A : Type 0} → Result A IoErr → Option (List ℕ) → Option (List ℕ) → List ℕ → Type 0
+LeavesPiece (Ok x) old new piece = Appends old new piece
+LeavesPiece (Err NoMemory) old new piece = Keeps old new
+LeavesPiece (Err Failed) old new piece = Begins old new piece

@@ -1,6 +1,6 @@
 ghost use Rattle.std.specs.Prelude.{◌≡◌, ◌++◌, [], Some, IfOk, take};
 ghost use Rattle.amber_io.specs.Counts.{HasCause, next_number};
-ghost use Rattle.amber_io.specs.Sink.{Leaves};
+ghost use Rattle.amber_io.specs.Sink.{LeavesPiece};
 ghost use Rattle.amber_io.specs.Memory.{IsPlanned, KeepsPart, is_listed};
 ghost use Rattle.amber_io.specs.MemSink.{written_bytes, sink_plan, puts_made, failed_puts};
 
@@ -50,7 +50,7 @@ impl Sink for MemSink {
     /// As the trait says; the put fails where its number is listed, and has then written the first
     /// `keep` bytes of its piece, or all of a shorter one.
     fn put(&mut self, bytes: &[u8]) -> Result<(), IoErr>
-        ensures leaves { Leaves result (Some (written_bytes self.old)) (Some (written_bytes self.new)) bytes.now }
+        ensures leaves { LeavesPiece result (Some (written_bytes self.old)) (Some (written_bytes self.new)) bytes.now }
         ensures cause { HasCause result ⊥ (failed_puts self.old) (failed_puts self.new) }
         ensures plan { sink_plan self.new ≡ sink_plan self.old }
         ensures made { puts_made self.new ≡ next_number (puts_made self.old) }

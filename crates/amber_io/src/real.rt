@@ -1,7 +1,7 @@
 ghost use Rattle.std.specs.Prelude.{◌≡◌, ◌≢◌, ◌≤◌, Option, None, IfOk, IsErr, vec_len};
 ghost use Rattle.amber_io.specs.Counts.{HasCause};
 ghost use Rattle.amber_io.specs.Folder.{Named, Lacks, Gives, Creates, Extends, IsThere};
-ghost use Rattle.amber_io.specs.Sink.{Leaves};
+ghost use Rattle.amber_io.specs.Sink.{LeavesPiece};
 ghost use Rattle.amber_io.specs.Real.{failed_loads, failed_writes, failed_puts, IsCounted};
 
 use crate::error::IoErr;
@@ -193,7 +193,7 @@ impl<R: Print> Sink for RealSink<'_, R> {
     /// As the trait says; each failure is counted. A part of the piece may have been written when memory
     /// runs out, so that is a failure too.
     fn put(&mut self, bytes: &[u8]) -> Result<(), IoErr>
-        ensures leaves { Leaves result None None bytes.now }
+        ensures leaves { LeavesPiece result None None bytes.now }
         ensures cause { HasCause result ⊥ (failed_puts self.old) (failed_puts self.new) }
         ensures memory { result ≢ Err IoErr.NoMemory }
         ensures counted { IsCounted result (failed_puts self.old) (failed_puts self.new) }

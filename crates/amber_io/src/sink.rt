@@ -1,6 +1,6 @@
 ghost use Rattle.std.specs.Prelude.{ℕ, List, Option};
 ghost use Rattle.amber_io.specs.Counts.{HasCause};
-ghost use Rattle.amber_io.specs.Sink.{Leaves};
+ghost use Rattle.amber_io.specs.Sink.{LeavesPiece};
 
 use crate::error::IoErr;
 
@@ -19,6 +19,6 @@ pub trait Sink {
     /// After `NoMemory` nothing was written. `Failed` comes only where `faults` rose in this call, and then
     /// a front part of the piece was written, perhaps all of it.
     fn put(&mut self, bytes: &[u8]) -> Result<(), IoErr>
-        ensures leaves { Leaves result (written self.old) (written self.new) bytes.now }
+        ensures leaves { LeavesPiece result (written self.old) (written self.new) bytes.now }
         ensures cause { HasCause result ⊥ (faults self.old) (faults self.new) };
 }

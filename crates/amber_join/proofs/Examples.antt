@@ -1,12 +1,12 @@
 -- Joins on literals, each named by what it shows.
 use Rattle.std.specs.Prelude.{⊤}
 use Rattle.std.proofs.Common.{◌≡◌, ℕ, ◌-◌, pos, negsuc, List, [], ◌∷◌, length, codes, refl}
-use Rattle.amber_rows.specs.Operators.{first_keys, joined, matches_of, picked}
+use Rattle.amber_rows.specs.Operators.{first_keys, join_result, matches_of, pick_cells}
 use Rattle.amber_rows.specs.declared.value.Value.{Value}
 use Rattle.amber_rows.specs.declared.value.Value.TheVariants.{Int, Text}
 
 unfoldable joins_on_literals : ⊤
-unfolding picked matches_of joined first_keys
+unfolding pick_cells matches_of join_result first_keys
 joins_on_literals = tt
 
 -- ---- cells and rows
@@ -67,7 +67,7 @@ key_count keys rows = length (first_keys keys rows)
 abbrev pairs : Rows
 pairs = three (int 1) a (int 10) ∷ three (int 1) b (int 20) ∷ three (int 2) a (int 30) ∷ []
 
-keys_of_two_columns : joined (1 ∷ 2 ∷ []) (2 ∷ 1 ∷ []) pairs (two b (int 1) ∷ two a (int 2) ∷ two a (int 3) ∷ [])
+keys_of_two_columns : join_result (1 ∷ 2 ∷ []) (2 ∷ 1 ∷ []) pairs (two b (int 1) ∷ two a (int 2) ∷ two a (int 3) ∷ [])
     ≡ five b (int 1) (int 1) b (int 20) ∷ five a (int 2) (int 2) a (int 30) ∷ []
 unfolding joins_on_literals
 keys_of_two_columns = refl
@@ -84,7 +84,7 @@ repeated = two (int 7) x ∷ two (int 8) y ∷ two (int 7) z ∷ two (int 7) x �
 abbrev sevens : Rows
 sevens = three (int 7) (int 7) x ∷ three (int 7) (int 7) z ∷ three (int 7) (int 7) x ∷ []
 
-duplicates_on_both_sides : joined (1 ∷ []) (1 ∷ []) repeated (one (int 7) ∷ one (int 8) ∷ one (int 7) ∷ [])
+duplicates_on_both_sides : join_result (1 ∷ []) (1 ∷ []) repeated (one (int 7) ∷ one (int 8) ∷ one (int 7) ∷ [])
     ≡ three (int 7) (int 7) x ∷ three (int 7) (int 7) z ∷ three (int 7) (int 7) x ∷ three (int 8) (int 8) y ∷ sevens
 unfolding joins_on_literals
 duplicates_on_both_sides = refl
@@ -98,7 +98,7 @@ count_duplicates_on_both_sides = refl
 abbrev lone : Rows
 lone = one (int 1) ∷ one (int 2) ∷ one (minus 3) ∷ []
 
-no_match : joined (1 ∷ []) (1 ∷ []) lone (one (int 3) ∷ one (int 12) ∷ one (minus 1) ∷ []) ≡ []
+no_match : join_result (1 ∷ []) (1 ∷ []) lone (one (int 3) ∷ one (int 12) ∷ one (minus 1) ∷ []) ≡ []
 unfolding joins_on_literals
 no_match = refl
 
@@ -106,7 +106,7 @@ count_no_match : key_count (1 ∷ []) lone ≡ 3
 unfolding joins_on_literals
 count_no_match = refl
 
-no_build_row : joined (1 ∷ []) (1 ∷ []) [] (one (int 1) ∷ one a ∷ []) ≡ []
+no_build_row : join_result (1 ∷ []) (1 ∷ []) [] (one (int 1) ∷ one a ∷ []) ≡ []
 unfolding joins_on_literals
 no_build_row = refl
 
@@ -114,7 +114,7 @@ count_no_build_row : key_count (1 ∷ []) [] ≡ 0
 unfolding joins_on_literals
 count_no_build_row = refl
 
-no_probe_row : joined (1 ∷ []) (1 ∷ []) (one (int 1) ∷ one (int 2) ∷ one (int 1) ∷ []) [] ≡ []
+no_probe_row : join_result (1 ∷ []) (1 ∷ []) (one (int 1) ∷ one (int 2) ∷ one (int 1) ∷ []) [] ≡ []
 unfolding joins_on_literals
 no_probe_row = refl
 
@@ -124,7 +124,7 @@ count_no_probe_row = refl
 
 -- ---- with no columns of keys each row matches each
 
-no_key_column : joined [] [] (one (int 1) ∷ one (int 2) ∷ []) (one a ∷ one b ∷ [])
+no_key_column : join_result [] [] (one (int 1) ∷ one (int 2) ∷ []) (one a ∷ one b ∷ [])
     ≡ two a (int 1) ∷ two a (int 2) ∷ two b (int 1) ∷ two b (int 2) ∷ []
 unfolding joins_on_literals
 no_key_column = refl
@@ -138,7 +138,7 @@ count_no_key_column = refl
 abbrev accents : Rows
 accents = two accented (int 1) ∷ two decomposed (int 2) ∷ two (Text (codes "e")) (int 3) ∷ []
 
-bytes_alone : joined (1 ∷ []) (1 ∷ []) accents (one decomposed ∷ one accented ∷ one (Text (codes "E")) ∷ [])
+bytes_alone : join_result (1 ∷ []) (1 ∷ []) accents (one decomposed ∷ one accented ∷ one (Text (codes "E")) ∷ [])
     ≡ three decomposed decomposed (int 2) ∷ three accented accented (int 1) ∷ []
 unfolding joins_on_literals
 bytes_alone = refl
@@ -150,7 +150,7 @@ count_bytes_alone = refl
 abbrev ones : Rows
 ones = two (Text (codes "number")) (int 1) ∷ two (Text (codes "text")) (Text (codes "1")) ∷ []
 
-number_against_text : joined (2 ∷ []) (1 ∷ []) ones (one (Text (codes "1")) ∷ one (int 1) ∷ [])
+number_against_text : join_result (2 ∷ []) (1 ∷ []) ones (one (Text (codes "1")) ∷ one (int 1) ∷ [])
     ≡ three (Text (codes "1")) (Text (codes "text")) (Text (codes "1")) ∷ three (int 1) (Text (codes "number")) (int 1) ∷ []
 unfolding joins_on_literals
 number_against_text = refl

@@ -4,7 +4,7 @@ use Rattle.std.specs.List.{filter_map, list_any, IsDistinct}
 use Rattle.std.specs.Map.{keys_of, lookup, values_of}
 use Rattle.std.proofs.lemmas.List.{append-nil, length-map}
 use Rattle.indexmap.specs.IndexMap.{set_value_at}
-use Rattle.amber_rows.specs.Operators.{first_keys, matches_of, picked, same_row}
+use Rattle.amber_rows.specs.Operators.{first_keys, matches_of, pick_cells, same_row}
 use Rattle.amber_rows.specs.declared.value.Value.{Value}
 use Rattle.amber_keys.specs.SameRows.{same-itself}
 use Rattle.amber_keys.proofs.FirstKeys.{among, among-first_keys, rows_with-absent}
@@ -77,33 +77,33 @@ read-places test xs = read-from test [] xs
 -- ---- the table
 
 module _ (keys : List ℕ) (rows : List Row) (row : Row) where
-  agree : (x : Row) → same_row (picked keys row) x ≡ false → places_of keys (rows ++ row ∷ []) x ≡ places_of keys rows x
+  agree : (x : Row) → same_row (pick_cells keys row) x ≡ false → places_of keys (rows ++ row ∷ []) x ≡ places_of keys rows x
   agree x e =
-      places-push (λ other. same_row (picked keys other) x) 0 rows row
+      places-push (λ other. same_row (pick_cells keys other) x) 0 rows row
       ∙ ap (λ t. places_of keys rows x ++ cond t ((0 + length rows) ∷ []) []) e
       ∙ append-nil (places_of keys rows x)
 
-  own : places_of keys (rows ++ row ∷ []) (picked keys row) ≡ places_of keys rows (picked keys row) ++ length rows ∷ []
+  own : places_of keys (rows ++ row ∷ []) (pick_cells keys row) ≡ places_of keys rows (pick_cells keys row) ++ length rows ∷ []
   own =
       let same : 0 + length rows ≡ length rows = omega arith in
-      places-push (λ other. same_row (picked keys other) (picked keys row)) 0 rows row
-      ∙ ap (λ t. places_of keys rows (picked keys row) ++ cond t ((0 + length rows) ∷ []) []) (same-itself (picked keys row))
-      ∙ ap (λ n. places_of keys rows (picked keys row) ++ n ∷ []) same
+      places-push (λ other. same_row (pick_cells keys other) (pick_cells keys row)) 0 rows row
+      ∙ ap (λ t. places_of keys rows (pick_cells keys row) ++ cond t ((0 + length rows) ∷ []) []) (same-itself (pick_cells keys row))
+      ∙ ap (λ n. places_of keys rows (pick_cells keys row) ++ n ∷ []) same
 
   pub table-known : (entries : List (Row × List ℕ)) (i : ℕ) (old new : List ℕ) → entries ≡ table_of keys rows
-      → position (same_row (picked keys row)) (keys_of entries) ≡ Some i → IsDistinct same_row (keys_of entries) → slice_get (values_of entries) i ≡ Some old
+      → position (same_row (pick_cells keys row)) (keys_of entries) ≡ Some i → IsDistinct same_row (keys_of entries) → slice_get (values_of entries) i ≡ Some old
       → new ≡ old ++ length rows ∷ [] → set_value_at entries i new ≡ table_of keys (rows ++ row ∷ [])
   unfolding table_of
   table-known entries i old new is at distinct found more =
       entries-known (places_of keys) keys rows row agree entries i old new is at distinct found
       (λ e. more ∙ ap (λ ps. ps ++ length rows ∷ []) e ∙ sym own)
 
-  pub table-new : (entries : List (Row × List ℕ)) (new : List ℕ) → entries ≡ table_of keys rows → lookup (same_row (picked keys row)) entries ≡ None
-      → new ≡ length rows ∷ [] → entries ++ (picked keys row, new) ∷ [] ≡ table_of keys (rows ++ row ∷ [])
+  pub table-new : (entries : List (Row × List ℕ)) (new : List ℕ) → entries ≡ table_of keys rows → lookup (same_row (pick_cells keys row)) entries ≡ None
+      → new ≡ length rows ∷ [] → entries ++ (pick_cells keys row, new) ∷ [] ≡ table_of keys (rows ++ row ∷ [])
   unfolding table_of
   table-new entries new is none one =
       entries-new (places_of keys) keys rows row agree entries new is none
-      (λ absent. one ∙ ap (λ ps. ps ++ length rows ∷ []) (sym (places-none (λ other. same_row (picked keys other) (picked keys row)) 0 rows (sym (among-first_keys keys rows (picked keys row)) ∙ absent))) ∙ sym own)
+      (λ absent. one ∙ ap (λ ps. ps ++ length rows ∷ []) (sym (places-none (λ other. same_row (pick_cells keys other) (pick_cells keys row)) 0 rows (sym (among-first_keys keys rows (pick_cells keys row)) ∙ absent))) ∙ sym own)
 
 pub length-table : (keys : List ℕ) (rows : List Row) → length (table_of keys rows) ≡ length (first_keys keys rows)
 unfolding table_of
@@ -111,32 +111,32 @@ length-table keys rows = length-map (first_keys keys rows) (λ key. (key, places
 
 -- ---- a probe
 
-probe_by : (build_keys probe_keys : List ℕ) (build : List Row) (row : Row) (t : Bool) → among (picked probe_keys row) (first_keys build_keys build) ≡ t → (ps : List ℕ)
-    → cond t (Some (places_of build_keys build (picked probe_keys row))) None ≡ Some ps
+probe_by : (build_keys probe_keys : List ℕ) (build : List Row) (row : Row) (t : Bool) → among (pick_cells probe_keys row) (first_keys build_keys build) ≡ t → (ps : List ℕ)
+    → cond t (Some (places_of build_keys build (pick_cells probe_keys row))) None ≡ Some ps
     → map (λ other. row ++ other) (filter_map (slice_get build) ps) ≡ matches_of build_keys probe_keys build row
 unfolding matches_of
 probe_by build_keys probe_keys build row true e ps h =
-    let same : ps ≡ places_of build_keys build (picked probe_keys row) = cc in
+    let same : ps ≡ places_of build_keys build (pick_cells probe_keys row) = cc in
     ap (map (λ other. row ++ other))
-    (ap (filter_map (slice_get build)) same ∙ read-places (λ other. same_row (picked build_keys other) (picked probe_keys row)) build)
+    (ap (filter_map (slice_get build)) same ∙ read-places (λ other. same_row (pick_cells build_keys other) (pick_cells probe_keys row)) build)
 probe_by build_keys probe_keys build row false e ps h = absurd (cc)
 
 -- the rows at the places that the table has for a probe row's key give its matches
 pub probe-found : (build_keys probe_keys : List ℕ) (build : List Row) (row : Row) (entries : List (Row × List ℕ)) (ps : List ℕ) → entries ≡ table_of build_keys build
-    → lookup (same_row (picked probe_keys row)) entries ≡ Some ps
+    → lookup (same_row (pick_cells probe_keys row)) entries ≡ Some ps
     → map (λ other. row ++ other) (filter_map (slice_get build) ps) ≡ matches_of build_keys probe_keys build row
 unfolding table_of
 probe-found build_keys probe_keys build row entries ps is found =
-    let k = picked probe_keys row in
+    let k = pick_cells probe_keys row in
     let ks = first_keys build_keys build in
     probe_by build_keys probe_keys build row (among k ks) refl ps (sym (lookup-entries (places_of build_keys build) k ks) ∙ ap (lookup (same_row k)) (sym is) ∙ found)
 
 -- no match where the table has none
 pub probe-none : (build_keys probe_keys : List ℕ) (build : List Row) (row : Row) (entries : List (Row × List ℕ)) → entries ≡ table_of build_keys build
-    → lookup (same_row (picked probe_keys row)) entries ≡ None → [] ≡ matches_of build_keys probe_keys build row
+    → lookup (same_row (pick_cells probe_keys row)) entries ≡ None → [] ≡ matches_of build_keys probe_keys build row
 unfolding table_of matches_of
 probe-none build_keys probe_keys build row entries is none =
-    let k = picked probe_keys row in
+    let k = pick_cells probe_keys row in
     let ks = first_keys build_keys build in
     let absent : among k ks ≡ false = cond_none (among k ks) _ (sym (lookup-entries (places_of build_keys build) k ks) ∙ ap (lookup (same_row k)) (sym is) ∙ none) in
     ap (map (λ other. row ++ other)) (sym (rows_with-absent build_keys build k absent))

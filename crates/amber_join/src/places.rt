@@ -1,5 +1,5 @@
 ghost use Rattle.std.specs.Prelude.{◌≡◌, ◌++◌, ◌∷◌, [], ℕ, List, IfOk, OnErr, OnOk, length};
-ghost use Rattle.amber_rows.specs.Operators.{picked};
+ghost use Rattle.amber_rows.specs.Operators.{pick_cells};
 ghost use Rattle.amber_rows.specs.declared.value.Value.{Value as Cell};
 ghost use Rattle.amber_join.specs.Places.{table_of};
 
@@ -67,7 +67,7 @@ pub fn note(
     key: Key,
     place: usize,
 ) -> Result<(), AllocError>
-    ensures ok { OnOk result ((keys : List ℕ) (rows : List (List Cell)) (row : List Cell) → table.old.entries ≡ table_of keys rows → key ≡ picked keys row → place ≡ length rows → table.new.entries ≡ table_of keys (rows ++ row ∷ [])) }
+    ensures ok { OnOk result ((keys : List ℕ) (rows : List (List Cell)) (row : List Cell) → table.old.entries ≡ table_of keys rows → key ≡ pick_cells keys row → place ≡ length rows → table.new.entries ≡ table_of keys (rows ++ row ∷ [])) }
     ensures same { OnErr result (table.new.entries ≡ table.old.entries) }
 {
     match table.get_index_of(&key) {

@@ -7,10 +7,10 @@ use Rattle.amber_journal.specs.declared.read.LogErr.{LogErr}
 use Rattle.amber_journal.specs.declared.read.LogErr.TheVariants.{NoMemory, Text}
 
 -- the log that was found, or the number of the first bad line; or nothing, for want of memory
-abbrev pub Gives : Result Log LogErr → Result Log ℕ → Type 0
-Gives (Ok log) found = found ≡ Ok log
-Gives (Err (Text line)) found = found ≡ Err line
-Gives (Err NoMemory) found = ⊤
+abbrev pub GivesLog : Result Log LogErr → Result Log ℕ → Type 0
+GivesLog (Ok log) found = found ≡ Ok log
+GivesLog (Err (Text line)) found = found ≡ Err line
+GivesLog (Err NoMemory) found = ⊤
 
 -- P of the line, where one is named
 abbrev pub IfText : Result Log LogErr → (ℕ → Type 0) → Type 0

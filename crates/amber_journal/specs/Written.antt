@@ -21,14 +21,14 @@ abbrev pub leg_text : Leg → List ℕ
 leg_text leg = flat_map part_text leg.parts ++ line_text (line.Close leg.close)
 
 -- a command that a log keeps as a line. Those that run are kept as legs
-abbrev pub IsKept : Command → Type 0
-IsKept command.Run = ⊥
-IsKept command.End = ⊥
-IsKept (command.Pause op n) = Unit {0}
-IsKept (command.Count op n) = Unit {0}
-IsKept (command.When op test) = Unit {0}
-IsKept (command.Clear op) = Unit {0}
-IsKept (command.Set op constant) = Unit {0}
-IsKept (command.Drop op worker) = Unit {0}
-IsKept (command.Inspect op) = Unit {0}
-IsKept (command.Lose op worker) = Unit {0}
+abbrev pub IsKeptAsLine : Command → Type 0
+IsKeptAsLine command.Run = ⊥
+IsKeptAsLine command.End = ⊥
+IsKeptAsLine (command.Pause op n) = Unit {0}
+IsKeptAsLine (command.Count op n) = Unit {0}
+IsKeptAsLine (command.When op test) = Unit {0}
+IsKeptAsLine (command.Clear op) = Unit {0}
+IsKeptAsLine (command.Set op constant) = Unit {0}
+IsKeptAsLine (command.Drop op worker) = Unit {0}
+IsKeptAsLine (command.Inspect op) = Unit {0}
+IsKeptAsLine (command.Lose op worker) = Unit {0}

@@ -3,7 +3,7 @@ ghost use Rattle.std.specs.Prelude.{◌≡◌, ◌<◌, ◌^◌, true};
 ghost use Rattle.std.specs.Str.{is_utf8};
 ghost use Rattle.amber_rows.specs.Number.{fits_i64};
 ghost use Rattle.amber_log.specs.Grammar.{IsCommand, IsConstant};
-ghost use Rattle.amber_journal.specs.Written.{IsKept};
+ghost use Rattle.amber_journal.specs.Written.{IsKeptAsLine};
 
 use amber_log::Command;
 use amber_rows::Value;
@@ -37,7 +37,7 @@ fn constants_have_text(constant: &Value)
 /// A command has a text unless it runs, so `write_item` takes each of them that a workflow takes. It does nothing; its
 /// contract is the law.
 pub fn commands_have_text(command: &Command)
-    requires { IsKept command.now }
+    requires { IsKeptAsLine command.now }
     ensures { IsCommand command.now }
 {
     match command {

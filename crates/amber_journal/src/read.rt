@@ -4,7 +4,7 @@ ghost use Rattle.amber_log.specs.ReadAs.{IsReadAs, lines_of};
 ghost use Rattle.amber_log.specs.ReadLines.{read_lines, start, step};
 ghost use Rattle.amber_log.specs.ReadWords.{parse};
 ghost use Rattle.amber_log.specs.declared.log.Log.{Log};
-ghost use Rattle.amber_journal.specs.Answered.{Gives, IfText, IsBadLineOf, IsUnlessNoMemory};
+ghost use Rattle.amber_journal.specs.Answered.{GivesLog, IfText, IsBadLineOf, IsUnlessNoMemory};
 ghost use Rattle.amber_journal.specs.declared.read.LogErr.TheVariants.{NoMemory, Text};
 
 use crate::parting::next_line;
@@ -57,7 +57,7 @@ fn next(alloc: Global, reading: Reading, bytes: &[u8]) -> Result<Option<Reading>
 /// The log of all these lines.
 #[tactic(auto, unfolding(amber_log::specs::ReadLines::read_lines, amber_log::specs::ReadLines::read_on))]
 fn read_lines(alloc: Global, bytes: &[u8]) -> Result<Log, LogErr>
-    ensures { Gives result (read_lines (lines_of bytes.now)) }
+    ensures { GivesLog result (read_lines (lines_of bytes.now)) }
 {
     let Some((head, mut rest)) = next_line(bytes) else {
         let items = Items::new(Vec::new(alloc));

@@ -1,6 +1,6 @@
 //! What is read of a log with one more line.
 ghost use Rattle.std.specs.Prelude.{◌≡◌, ◌++◌, ◌∷◌, [], length, IfOk, Some, false, MatchOption, ℕ, Ok, Err};
-ghost use Rattle.amber_log.specs.ReadLines.{closed, finish, part_of, start, step, step_at, step_inside, step_opened, step_outside};
+ghost use Rattle.amber_log.specs.ReadLines.{with_leg, finish, part_of, start, step, step_at, step_inside, step_opened, step_outside};
 ghost use Rattle.amber_log.specs.Grammar.{is_go};
 ghost use Rattle.amber_log.specs.declared.reading.Place.TheVariants as place;
 ghost use Rattle.amber_journal.specs.ReadBack.{reading_at};
@@ -45,9 +45,9 @@ fn step_outside(batch: u32, mut items: Items, line: Line) -> Result<Option<Readi
 }
 
 /// Behind the end of a leg of these parts.
-fn closed(batch: u32, mut items: Items, end: bool, leg: Leg) -> Result<Reading, AllocError>
+fn with_leg(batch: u32, mut items: Items, end: bool, leg: Leg) -> Result<Reading, AllocError>
     ensures { IfOk result (λ next. next
-        ≡ closed (reading_at batch items place.Outside) end leg.parts leg.close) }
+        ≡ with_leg (reading_at batch items place.Outside) end leg.parts leg.close) }
 {
     let over = end || leg.close == Close::Long;
     items.push(if end { Item::End(leg) } else { Item::Run(leg) })?;
@@ -88,7 +88,7 @@ fn step_opened(
             }))
         }
         Line::Close(close) => {
-            let next = closed(batch, items, end, Leg { parts, close })?;
+            let next = with_leg(batch, items, end, Leg { parts, close })?;
             Ok(Some(next))
         }
         Line::Head(_) | Line::Do(_) | Line::Run | Line::End | Line::Entry(_) => Ok(None),
@@ -200,7 +200,7 @@ fn step_inside(
                 return Ok(None);
             }
             let parts = with_part(parts, worker, entries)?;
-            let next = closed(batch, items, end, Leg { parts, close })?;
+            let next = with_leg(batch, items, end, Leg { parts, close })?;
             Ok(Some(next))
         }
         Line::Head(_) | Line::Do(_) | Line::Run | Line::End => Ok(None),

@@ -3,7 +3,7 @@ use Rattle.std.proofs.Common.{◌≡◌, ℕ, ◌||◌, Bool, true, false, cond,
 use Rattle.std.specs.List.{list_any}
 use Rattle.std.proofs.lemmas.List.{append-nil}
 use Rattle.std.proofs.lemmas.List.Elements.{filter-append}
-use Rattle.amber_rows.specs.Operators.{first_keys, picked, rows_with, same_row}
+use Rattle.amber_rows.specs.Operators.{first_keys, pick_cells, rows_with, same_row}
 use Rattle.amber_rows.specs.declared.value.Value.{Value}
 use Rattle.amber_keys.specs.SameRows.{same-is, same-itself}
 
@@ -59,23 +59,23 @@ push_by y k found false false e f =
 
 -- a row more has its key last, or at its old place
 pub first_keys-push : (keys : List ℕ) (rows : List Row) (row : Row)
-    → first_keys keys (rows ++ row ∷ []) ≡ cond (among (picked keys row) (first_keys keys rows)) (first_keys keys rows) (first_keys keys rows ++ picked keys row ∷ [])
+    → first_keys keys (rows ++ row ∷ []) ≡ cond (among (pick_cells keys row) (first_keys keys rows)) (first_keys keys rows) (first_keys keys rows ++ pick_cells keys row ∷ [])
 unfolding first_keys others
 first_keys-push keys [] row = refl
 first_keys-push keys (y ∷ rows) row =
-    ap (λ found. picked keys y ∷ others (picked keys y) found) (first_keys-push keys rows row)
-    ∙ push_by (picked keys y) (picked keys row) (first_keys keys rows) (among (picked keys row) (first_keys keys rows)) (same_row (picked keys y) (picked keys row)) refl refl
+    ap (λ found. pick_cells keys y ∷ others (pick_cells keys y) found) (first_keys-push keys rows row)
+    ∙ push_by (pick_cells keys y) (pick_cells keys row) (first_keys keys rows) (among (pick_cells keys row) (first_keys keys rows)) (same_row (pick_cells keys y) (pick_cells keys row)) refl refl
 
 among_by : (y k : Row) (found : List Row) (t : Bool) → same_row y k ≡ t → (t || among k (others y found)) ≡ (t || among k found)
 among_by y k found true e = refl
 among_by y k found false e = any-others y k e found
 
 -- a key is among the keys exactly where a row has it
-pub among-first_keys : (keys : List ℕ) (rows : List Row) (k : Row) → among k (first_keys keys rows) ≡ list_any (λ row. same_row (picked keys row) k) rows
+pub among-first_keys : (keys : List ℕ) (rows : List Row) (k : Row) → among k (first_keys keys rows) ≡ list_any (λ row. same_row (pick_cells keys row) k) rows
 unfolding first_keys others
 among-first_keys keys [] k = refl
 among-first_keys keys (y ∷ rows) k =
-    among_by (picked keys y) k (first_keys keys rows) (same_row (picked keys y) k) refl ∙ ap (λ t. same_row (picked keys y) k || t) (among-first_keys keys rows k)
+    among_by (pick_cells keys y) k (first_keys keys rows) (same_row (pick_cells keys y) k) refl ∙ ap (λ t. same_row (pick_cells keys y) k || t) (among-first_keys keys rows k)
 
 none_by : {X : Type 0} (test : X → Bool) (x : X) (xs : List X) (t : Bool) → test x ≡ t → (t || list_any test xs) ≡ false → (list_any test xs ≡ false → filter test xs ≡ []) → filter test (x ∷ xs) ≡ []
 none_by test x xs true f g rest = absurd (cc)
@@ -87,4 +87,4 @@ none_passes test (x ∷ xs) e = none_by test x xs (test x) refl e (none_passes t
 
 -- no row has a key that is not among the keys
 pub rows_with-absent : (keys : List ℕ) (rows : List Row) (k : Row) → among k (first_keys keys rows) ≡ false → rows_with keys rows k ≡ []
-rows_with-absent keys rows k e = none_passes (λ row. same_row (picked keys row) k) rows (sym (among-first_keys keys rows k) ∙ e)
+rows_with-absent keys rows k e = none_passes (λ row. same_row (pick_cells keys row) k) rows (sym (among-first_keys keys rows k) ∙ e)

@@ -1,7 +1,7 @@
 ghost use Rattle.std.specs.Prelude.{◌≡◌, IfOk, fold};
 ghost use Rattle.std.specs.Ordering.{eq_by_cmp};
 ghost use Rattle.std.specs.Cmp.{eq_by_cmp_equiv, partial_equiv_from_equiv};
-ghost use Rattle.amber_rows.specs.Operators.{picked};
+ghost use Rattle.amber_rows.specs.Operators.{pick_cells};
 ghost use Rattle.amber_rows.specs.Order.{row_cmp};
 ghost use Rattle.amber_rows.specs.OrderLaws.{row-total};
 ghost use Rattle.amber_keys.specs.Hashing.{cell_writes, key_writes, key_writes_alike};
@@ -30,7 +30,7 @@ impl Key {
     /// The cells that a row has in these columns, in this order. Columns are numbered from 1; one that the row
     /// does not have gives no cell.
     pub fn of(alloc: Global, row: &Row, columns: &Cols) -> Result<Self, AllocError>
-        ensures { IfOk result (λ key. key ≡ picked columns.now row.now) }
+        ensures { IfOk result (λ key. key ≡ pick_cells columns.now row.now) }
     {
         Ok(Key {
             row: row.pick(alloc, columns)?,

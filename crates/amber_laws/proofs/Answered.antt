@@ -24,7 +24,7 @@ use Rattle.amber_meaning.specs.Total.{dealt_to, given, arrivals_from}
 use Rattle.amber_meaning.specs.Views.{answer_in, by_number, keys_refused, op_refuses, refusal_in, refused_in, rows_in, sink_rows, taken_by, taken_of, worker_refuses}
 use Rattle.amber_meaning.specs.declared.answer.Refusal.{Refusal}
 use Rattle.amber_meaning.specs.declared.answer.Refusal.TheVariants as refusal
-use Rattle.amber_meaning.proofs.Operators.{list_at-is, numbered-here, refusals-end, refusals-more, rows-before, rows-here}
+use Rattle.amber_meaning.proofs.Operators.{list_at-is, nth-here, refusals-end, refusals-more, rows-before, rows-here}
 use Rattle.amber_meaning.proofs.OneState.{position-get_or}
 use Rattle.amber_meaning.proofs.Senders.{flows_send_forward}
 use Rattle.amber_laws.proofs.Bags.{Same, Join, among, equal-among, same-among, same-filter_map, same-flat_map, same-length, same-self, same-sorted}
@@ -142,10 +142,10 @@ no-groups : (op : ℕ) → refused_groups op [] ≡ []
 unfolding sort_rows
 no-groups op = refl
 
-none-grouped : (query : Query) (state : State) (op : ℕ)
+none-group_result : (query : Query) (state : State) (op : ℕ)
     → Same (flat_map (λ worker. worker_refuses (role_in query worker) (stands state worker)) (workers_of query.flow op)) (flat_map {A = List Value} (λ (n : ℕ). []) (workers_of query.flow op))
     → refused_groups op (flat_map (λ worker. worker_refuses (role_in query worker) (stands state worker)) (workers_of query.flow op)) ≡ []
-none-grouped query state op h =
+none-group_result query state op h =
     ap (refused_groups op)
     (same-none (flat_map (λ worker. worker_refuses (role_in query worker) (stands state worker)) (workers_of query.flow op))
     (flat_map {A = List Value} (λ (n : ℕ). []) (workers_of query.flow op)) h (nothing-refused (workers_of query.flow op)))
@@ -160,11 +160,11 @@ op-refuses query state h out op some within = by (what_at query.flow op) refl
     others : (kind : What) → what_at query.flow op ≡ kind → is_scan kind ≡ false
         → Same (flat_map (λ worker. worker_refuses (role_in query worker) (stands state worker)) (workers_of query.flow op)) (flat_map {A = List Value} (λ (n : ℕ). []) (workers_of query.flow op))
         → op_refuses query state op ≡ []
-    others kind e rows none = rw (others-refuse query state h op some within (ap is_scan e ∙ rows)) (none-grouped query state op none)
+    others kind e rows none = rw (others-refuse query state h op some within (ap is_scan e ∙ rows)) (none-group_result query state op none)
 
     by : (kind : What) → what_at query.flow op ≡ kind → op_refuses query state op ≡ refused_by op kind (list_at query.records op) (outputs query.records [] query.flow)
     by (what.Scan file) e =
-        rw (none-grouped query state op (keys-together query state h op (what.Scan file) e), append-nil (refused_in op (by_number (taken_by query state op))))
+        rw (none-group_result query state op (keys-together query state h op (what.Scan file) e), append-nil (refused_in op (by_number (taken_by query state op))))
         (scan-refuses query state h op some within (ap is_scan e))
     by (what.Filter input cond) e = others (what.Filter input cond) e refl (keys-together query state h op (what.Filter input cond) e)
     by (what.Project input columns) e = others (what.Project input columns) e refl (keys-together query state h op (what.Project input columns) e)
@@ -184,7 +184,7 @@ refused-here : (query : Query) (i : ℕ) (o : Operator) → i < length query.flo
     → refused_at query (i + 1) ≡ refused_by (i + 1) o.what (get_or query.records i []) (outputs query.records [] query.flow)
 refused-here query i o h e =
     let less : i + 1 - 1 ≡ i = omega arith in
-    rw (numbered-here query.flow i o h e, list_at-is query.records (i + 1) (omega arith), less) refl
+    rw (nth-here query.flow i o h e, list_at-is query.records (i + 1) (omega arith), less) refl
 
 refusals-so_far : (query : Query) (d : Operator) (i : ℕ) → i ≤ length query.flow
     → refusals 1 query.records (outputs query.records [] query.flow) query.flow

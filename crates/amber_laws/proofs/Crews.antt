@@ -4,7 +4,7 @@ use Rattle.std.proofs.lemmas.Bool.{cases_lt, le-ltb, lt-ltb}
 use Rattle.std.proofs.lemmas.List.Sums.{sum_by-cons}
 use Rattle.amber_rows.specs.Crew.{crew_of, first_worker_of, op_of, worker_count, workers_in, workers_of}
 use Rattle.amber_rows.specs.declared.flow.Operator.{Operator}
-use Rattle.amber_meaning.proofs.Lists.{numbered-next}
+use Rattle.amber_meaning.proofs.Lists.{nth-next}
 use Rattle.amber_laws.proofs.Bags.{among, are_different}
 use Rattle.amber_laws.proofs.Numbers.{different-row, in-row, row-in}
 
@@ -84,7 +84,7 @@ placed (o ∷ flow) worker h = by (cases_lt worker o.workers) (placed flow (work
 -- ---- by numbers from 1
 
 count_place : (flow : List Operator) (place : ℕ) → worker_count flow (place + 1) ≡ count_at flow place
-count_place flow place = ap workers_in (numbered-next flow place)
+count_place flow place = ap workers_in (nth-next flow place)
 
 first_place : (flow : List Operator) (place : ℕ) → first_worker_of flow (place + 1) ≡ first_at flow place
 unfolding first_worker_of

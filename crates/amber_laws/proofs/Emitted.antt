@@ -6,7 +6,7 @@ use Rattle.std.proofs.lemmas.List.{take-append-drop}
 use Rattle.amber_rows.specs.Crew.{crew_of, receiver_of}
 use Rattle.amber_rows.specs.declared.value.Value.{Value}
 use Rattle.amber_meaning.specs.Laws.{SendersFirst}
-use Rattle.amber_meaning.specs.Legal.{AreOffered, Begins, Query, batches_for, role_in, stream_of}
+use Rattle.amber_meaning.specs.Legal.{AreOffered, IsPrefix, Query, batches_for, role_in, stream_of}
 use Rattle.amber_meaning.specs.Plan.{role_of}
 use Rattle.amber_meaning.specs.Position.{Position, Taken, emitted_rows, fed, has_last, have_ended, is_complete, kept, produced_rows, product, share_or, taken_from}
 use Rattle.amber_meaning.specs.State.{State, first_constants, position_at}
@@ -37,7 +37,7 @@ rows_taken state worker sender = flat_map batch_rows (taken_from (stands state w
 -- the batches that were taken of a sender are the first that it has made
 pub taken-begins : (query : Query) (state : State) → IsRun query state → (worker sender : ℕ) → worker < crew_of query.flow
     → among sender (role_in query worker).senders ≡ true
-    → Begins (taken_from (stands state worker).taken sender) (batches_for query state.positions sender worker)
+    → IsPrefix (taken_from (stands state worker).taken sender) (batches_for query state.positions sender worker)
 unfolding AreOffered
 taken-begins query state run worker sender less known = run.offered worker less sender known
 

@@ -8,8 +8,8 @@ use Rattle.amber_log.specs.declared.log.Item.{Item}
 use Rattle.amber_log.specs.declared.log.Item.TheVariants as item
 use Rattle.amber_meaning.specs.Legal.{ClosesEnd, IsLegal, IsUnaltered, Query, Reaches}
 use Rattle.amber_meaning.specs.Plain.{answer_from}
-use Rattle.amber_meaning.specs.Replay.{after_item, state_after, worked}
-use Rattle.amber_meaning.specs.State.{State, begun_to_end, have_finished, start_of}
+use Rattle.amber_meaning.specs.Replay.{after_item, state_after, after_leg}
+use Rattle.amber_meaning.specs.State.{State, begin_last_leg, have_finished, start_of}
 use Rattle.amber_meaning.specs.Texts.{answer_text}
 use Rattle.amber_meaning.specs.Transcript.{end_reply, reply_of}
 use Rattle.amber_meaning.specs.Views.{answer_in}
@@ -51,9 +51,9 @@ pub ended-reply : (query : Query) (batch : ℕ) (done : List Item) (leg : Leg) �
     → reply_of query (state_after query done) (item.End leg) ≡ answer_text query.flow (answer_from query.flow query.records)
 unfolding reply_of after_item
 ended-reply query batch done leg flow out e plain legal =
-    let last : worked query (begun_to_end (state_after query done)) leg.parts ≡ legal.after =
+    let last : after_leg query (begin_last_leg (state_after query done)) leg.parts ≡ legal.after =
     sym (transcripts_grow query done (item.End leg)).1
     ∙ legal_logs_have_one_state query (ended_log batch done leg) (flows_send_forward query.flow flow) legal in
-    cut-reply query (worked query (begun_to_end (state_after query done)) leg.parts) leg.close e
+    cut-reply query (after_leg query (begin_last_leg (state_after query done)) leg.parts) leg.close e
     ∙ ap (λ state. answer_text query.flow (answer_in query state)) last
     ∙ ap (answer_text query.flow) (ended-answer query batch done leg flow out e plain legal)

@@ -9,7 +9,7 @@ use Rattle.std.proofs.lemmas.List.Elements.{filter-append, filter_map-append}
 use Rattle.std.proofs.lemmas.List.Folds.{flat_map-map}
 use Rattle.amber_rows.specs.Cond.{holds_of}
 use Rattle.amber_rows.specs.Crew.{workers_of}
-use Rattle.amber_rows.specs.Operators.{grouped, joined, matches_of, picked, projected}
+use Rattle.amber_rows.specs.Operators.{group_result, join_result, matches_of, pick_cells, project_result}
 use Rattle.amber_rows.specs.Suits.{suits_of}
 use Rattle.amber_rows.specs.declared.agg.Agg.{Agg}
 use Rattle.amber_rows.specs.declared.cond.Cond.{Cond}
@@ -102,15 +102,15 @@ filter-gives flow op input test dealt senders h =
 
 pub project-gives : (flow : List Operator) (op input : ℕ) (from : List ℕ) (dealt : ℕ → List (List Value)) (senders : List ℕ)
     → AreSuiting (task_with flow op (what.Project input from)) dealt senders
-    → gives (task_with flow op (what.Project input from)) (fed_by dealt senders) ≡ projected from (flat_map dealt senders)
-unfolding gives closing projected
+    → gives (task_with flow op (what.Project input from)) (fed_by dealt senders) ≡ project_result from (flat_map dealt senders)
+unfolding gives closing project_result
 project-gives flow op input from dealt senders h =
     let task = task_with flow op (what.Project input from) in
     append-nil (flat_map (λ one. yields task (fed_by dealt senders) one []) (fed_by dealt senders))
     ∙ yields_fed task (fed_by dealt senders) dealt senders h
-    ∙ equal-among (λ sender. flat_map (λ row. picked from row ∷ []) (dealt sender)) (λ sender. map (picked from) (dealt sender)) senders
-    (λ sender k. flat_map_single (picked from) (dealt sender))
-    ∙ map_flat (picked from) dealt senders
+    ∙ equal-among (λ sender. flat_map (λ row. pick_cells from row ∷ []) (dealt sender)) (λ sender. map (pick_cells from) (dealt sender)) senders
+    (λ sender k. flat_map_single (pick_cells from) (dealt sender))
+    ∙ map_flat (pick_cells from) dealt senders
 
 -- ---- groups
 
@@ -127,13 +127,13 @@ nothing_each dealt (sender ∷ senders) = rw (nothing_of (dealt sender)) (nothin
 
 pub group-gives : (flow : List Operator) (op input : ℕ) (keys : List ℕ) (aggs : List Agg) (dealt : ℕ → List (List Value)) (senders : List ℕ)
     → AreSuiting (task_with flow op (what.Group input keys aggs)) dealt senders
-    → gives (task_with flow op (what.Group input keys aggs)) (fed_by dealt senders) ≡ grouped keys aggs (flat_map dealt senders)
+    → gives (task_with flow op (what.Group input keys aggs)) (fed_by dealt senders) ≡ group_result keys aggs (flat_map dealt senders)
 unfolding gives closing
 group-gives flow op input keys aggs dealt senders h =
     let task = task_with flow op (what.Group input keys aggs) in
     let nothing : flat_map (λ one. yields task (fed_by dealt senders) one []) (fed_by dealt senders) ≡ [] =
     yields_fed task (fed_by dealt senders) dealt senders h ∙ nothing_each dealt senders in
-    rw nothing (ap (grouped keys aggs) (rows-fed task dealt senders h))
+    rw nothing (ap (group_result keys aggs) (rows-fed task dealt senders h))
 
 -- ---- joins
 
@@ -182,14 +182,14 @@ built_fed task dealt builders others e h apart =
     ap (filter_map (suiting task)) first ∙ rows-fed task dealt builders (λ sender k. h sender (among-left sender builders others k))
 
 side_rows : (build_keys probe_keys : List ℕ) (built rows : List (List Value)) (b : Bool)
-    → flat_map (λ row. cond b [] (matches_of build_keys probe_keys built row)) rows ≡ cond b [] (joined build_keys probe_keys built rows)
-unfolding joined
+    → flat_map (λ row. cond b [] (matches_of build_keys probe_keys built row)) rows ≡ cond b [] (join_result build_keys probe_keys built rows)
+unfolding join_result
 side_rows build_keys probe_keys built rows true = nothing_of rows
 side_rows build_keys probe_keys built rows false = refl
 
 joined_flat : (build_keys probe_keys : List ℕ) (built : List (List Value)) (dealt : ℕ → List (List Value)) (senders : List ℕ)
-    → flat_map (λ sender. joined build_keys probe_keys built (dealt sender)) senders ≡ joined build_keys probe_keys built (flat_map dealt senders)
-unfolding joined
+    → flat_map (λ sender. join_result build_keys probe_keys built (dealt sender)) senders ≡ join_result build_keys probe_keys built (flat_map dealt senders)
+unfolding join_result
 joined_flat build_keys probe_keys built dealt senders = flat-flat (matches_of build_keys probe_keys built) dealt senders
 
 no_rows : (builders : List ℕ) (f : ℕ → List (List Value)) → ((sender : ℕ) → among sender builders ≡ true → f sender ≡ []) → flat_map f builders ≡ []
@@ -201,20 +201,20 @@ pub join-gives : (flow : List Operator) (op build probe : ℕ) (build_keys probe
     → AreSuiting (task_with flow op (what.Join build probe build_keys probe_keys)) dealt (workers_of flow build ++ others)
     → ((sender : ℕ) → among sender others ≡ true → among sender (workers_of flow build) ≡ false)
     → gives (task_with flow op (what.Join build probe build_keys probe_keys)) (fed_by dealt (workers_of flow build ++ others))
-    ≡ joined build_keys probe_keys (flat_map dealt (workers_of flow build)) (flat_map dealt others)
+    ≡ join_result build_keys probe_keys (flat_map dealt (workers_of flow build)) (flat_map dealt others)
 unfolding gives closing
 join-gives flow op build probe build_keys probe_keys dealt others h apart =
     let task = task_with flow op (what.Join build probe build_keys probe_keys) in
     let builders = workers_of flow build in
     let all = fed_by dealt (builders ++ others) in
-    let each = λ (sender : ℕ). cond (among sender builders) [] (joined build_keys probe_keys (built_of task all) (dealt sender)) in
+    let each = λ (sender : ℕ). cond (among sender builders) [] (join_result build_keys probe_keys (built_of task all) (dealt sender)) in
     append-nil (flat_map (λ one. yields task all one []) all)
     ∙ yields_fed task all dealt (builders ++ others) h
     ∙ equal-among (λ sender. flat_map (λ row. cond (among sender builders) [] (matches_of build_keys probe_keys (built_of task all) row)) (dealt sender)) each (builders ++ others)
     (λ sender k. side_rows build_keys probe_keys (built_of task all) (dealt sender) (among sender builders))
     ∙ flat_map-append each builders others
-    ∙ ap (λ l. l ++ flat_map each others) (no_rows builders each (λ sender k. ap (λ b. cond b [] (joined build_keys probe_keys (built_of task all) (dealt sender))) k))
-    ∙ equal-among each (λ sender. joined build_keys probe_keys (built_of task all) (dealt sender)) others
-    (λ sender k. ap (λ b. cond b [] (joined build_keys probe_keys (built_of task all) (dealt sender))) (apart sender k))
+    ∙ ap (λ l. l ++ flat_map each others) (no_rows builders each (λ sender k. ap (λ b. cond b [] (join_result build_keys probe_keys (built_of task all) (dealt sender))) k))
+    ∙ equal-among each (λ sender. join_result build_keys probe_keys (built_of task all) (dealt sender)) others
+    (λ sender k. ap (λ b. cond b [] (join_result build_keys probe_keys (built_of task all) (dealt sender))) (apart sender k))
     ∙ joined_flat build_keys probe_keys (built_of task all) dealt others
-    ∙ ap (λ built. joined build_keys probe_keys built (flat_map dealt others)) (built_fed task dealt builders others refl h apart)
+    ∙ ap (λ built. join_result build_keys probe_keys built (flat_map dealt others)) (built_fed task dealt builders others refl h apart)

@@ -4,22 +4,22 @@ use Rattle.std.specs.List.{flat_map, list_any}
 use Rattle.std.proofs.lemmas.Bool.{and_parts, eq-eqb, eqb-true, false≢true, not-true, or_cases}
 use Rattle.std.proofs.lemmas.List.{length-take}
 use Rattle.std.proofs.lemmas.List.Sums.{sum_by-append, sum_by-cons}
-use Rattle.amber_rows.specs.Cond.{numbered}
+use Rattle.amber_rows.specs.Cond.{nth}
 use Rattle.amber_rows.specs.Crew.{kind_at, reader_from, reader_of, reads, what_at, worker_count, workers_in}
 use Rattle.amber_rows.specs.FlowRules.{HasInput, IsEarlier, IsFlow, IsKind, IsNext, columns_at, ends_in_sink, inputs_of, is_sink, reader_count, schema_of}
 use Rattle.amber_rows.specs.declared.column.Column.{Column}
 use Rattle.amber_rows.specs.declared.flow.What.{What}
 use Rattle.amber_rows.specs.declared.flow.What.TheVariants as what
 use Rattle.amber_rows.specs.declared.flow.Operator.{Operator}
-use Rattle.amber_meaning.proofs.Lists.{numbered-next}
-use Rattle.amber_meaning.proofs.Operators.{next-here, numbered-within}
+use Rattle.amber_meaning.proofs.Lists.{nth-next}
+use Rattle.amber_meaning.proofs.Operators.{next-here, nth-within}
 
 -- ---- each operator
 
 -- the operator with a number
 pub record IsThere (flow : List Operator) (op : ℕ) : Type 0 where
   pub operator : Operator
-  pub here : numbered flow op ≡ Some operator
+  pub here : nth flow op ≡ Some operator
   pub at : operator ≡ get_or flow (op - 1) operator
   pub next : IsNext (take (op - 1) flow) operator
 
@@ -34,7 +34,7 @@ there flow is op some within =
     let back : op ≡ op - 1 + 1 = omega arith in
     record {
       operator = found.0;
-      here = ap (numbered flow) back ∙ numbered-next flow (op - 1) ∙ found.1;
+      here = ap (nth flow) back ∙ nth-next flow (op - 1) ∙ found.1;
       at = found.2;
       next = next-here flow is (op - 1) found.0 (omega arith) found.2;
     }
@@ -62,7 +62,7 @@ reads_one input op P h p = by (or_cases (eqb input op) false h)
     by (inr e) = absurd (false≢true e)
 
 has_earlier : (before : List Operator) (input : ℕ) (columns : List Column) → HasInput before input columns → IsEarlier before input
-has_earlier before input columns h = numbered-within before input (λ earlier. earlier.schema ≡ columns) h
+has_earlier before input columns h = nth-within before input (λ earlier. earlier.schema ≡ columns) h
 
 kind_inputs : (before : List Operator) (kind : What) (columns : List Column) (op : ℕ) → IsKind before kind columns → reads kind op ≡ true → IsEarlier before op
 kind_inputs before (what.Scan file) columns op h r = absurd (false≢true r)
@@ -133,7 +133,7 @@ reader-is flow is op input some within r =
     let earlier = input-earlier flow is op input some within r in
     let back : op ≡ op - 1 + 1 = omega arith in
     let place : reads (kind_at (slice_get flow (op - 1))) input ≡ true =
-    ap (λ found. reads (kind_at found) input) (sym (ap (numbered flow) back ∙ numbered-next flow (op - 1))) ∙ r in
+    ap (λ found. reads (kind_at found) input) (sym (ap (nth flow) back ∙ nth-next flow (op - 1))) ∙ r in
     omega (arith, reader_at flow 1 (op - 1) input earlier.0 (is.read_once input earlier.0 (omega (arith, earlier.1))) place)
 
 counted_at : (flow : List Operator) (place op : ℕ) (o : Operator) → slice_get flow place ≡ Some o → counted op (inputs_of o.what) ≤ reader_count flow op
@@ -153,7 +153,7 @@ sides-differ flow is op build probe build_keys probe_keys some within e same =
     let kind : at.operator.what ≡ what.Join build build build_keys probe_keys =
     sym (kind-there flow op at) ∙ e ∙ ap (λ p. what.Join build p build_keys probe_keys) (sym same) in
     let back : op ≡ op - 1 + 1 = omega arith in
-    let place : slice_get flow (op - 1) ≡ Some at.operator = sym (ap (numbered flow) back ∙ numbered-next flow (op - 1)) ∙ at.here in
+    let place : slice_get flow (op - 1) ≡ Some at.operator = sym (ap (nth flow) back ∙ nth-next flow (op - 1)) ∙ at.here in
     let r : reads (what_at flow op) build ≡ true = rw (e, eq-eqb build build refl) refl in
     let earlier = input-earlier flow is op build some within r in
     let once = is.read_once build earlier.0 (omega (arith, earlier.1)) in
@@ -180,10 +180,10 @@ last_sink (o ∷ p ∷ flow) e =
 pub no-sink : (flow : List Operator) → IsFlow flow → (op : ℕ) → 0 < op → op < length flow → is_sink (what_at flow op) ≡ false
 no-sink flow is op some within =
     let back : op ≡ op - 1 + 1 = omega arith in
-    ap (λ found. is_sink (kind_at found)) (ap (numbered flow) back ∙ numbered-next flow (op - 1)) ∙ sink_at flow (op - 1) is.ends (omega arith)
+    ap (λ found. is_sink (kind_at found)) (ap (nth flow) back ∙ nth-next flow (op - 1)) ∙ sink_at flow (op - 1) is.ends (omega arith)
 
 pub sink-last : (flow : List Operator) → IsFlow flow → is_sink (what_at flow (length flow)) ≡ true
 sink-last flow is =
     let some = is.some in
     let back : length flow ≡ length flow - 1 + 1 = omega arith in
-    ap (λ found. is_sink (kind_at found)) (ap (numbered flow) back ∙ numbered-next flow (length flow - 1)) ∙ last_sink flow is.ends
+    ap (λ found. is_sink (kind_at found)) (ap (nth flow) back ∙ nth-next flow (length flow - 1)) ∙ last_sink flow is.ends

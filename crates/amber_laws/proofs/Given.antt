@@ -6,7 +6,7 @@ use Rattle.std.proofs.lemmas.List.{map-append}
 use Rattle.std.proofs.lemmas.List.Concat.{flat_map-append}
 use Rattle.amber_rows.specs.Crew.{crew_of, senders_of, sends_to}
 use Rattle.amber_rows.specs.Chunks.{numbers_below}
-use Rattle.amber_rows.specs.Operators.{matches_of, picked, same_row}
+use Rattle.amber_rows.specs.Operators.{matches_of, pick_cells, same_row}
 use Rattle.amber_rows.specs.declared.value.Value.{Value}
 use Rattle.amber_rows.specs.declared.flow.What.{What}
 use Rattle.amber_rows.specs.declared.flow.What.TheVariants as what
@@ -17,7 +17,7 @@ use Rattle.amber_meaning.specs.Task.{Arrival, Task, built_of, closing, closing_r
 use Rattle.amber_meaning.specs.Total.{gives, arrivals_from, task_constants}
 use Rattle.amber_laws.proofs.Bags.{Same, Empty, Join, Part, among, are_different, equal-among, part-among, part-begin, part-both, part-filter, part-filter_map, part-map, part-none, part-self, part-then, same-among, same-both, same-dealt, same-each, same-filter, same-filter_map, same-flat_map, same-map, same-self, same-turned, sent_to}
 use Rattle.amber_meaning.proofs.Chunks.{batch_rows}
-use Rattle.amber_laws.proofs.Grouping.{grouped-same}
+use Rattle.amber_laws.proofs.Grouping.{group_result-same}
 use Rattle.amber_laws.proofs.Numbers.{different-below, different-kept}
 
 -- ---- what a task gives
@@ -34,13 +34,13 @@ matches-part : (build_keys probe_keys : List ℕ) (row : List Value) {xs ys : Li
     → Part (matches_of build_keys probe_keys xs row) (matches_of build_keys probe_keys ys row)
 unfolding matches_of
 matches-part build_keys probe_keys row h =
-    part-map (λ other. row ++ other) (part-filter (λ other. same_row (picked build_keys other) (picked probe_keys row)) h)
+    part-map (λ other. row ++ other) (part-filter (λ other. same_row (pick_cells build_keys other) (pick_cells probe_keys row)) h)
 
 matches-same : (build_keys probe_keys : List ℕ) (row : List Value) {xs ys : List (List Value)} → Same xs ys
     → Same (matches_of build_keys probe_keys xs row) (matches_of build_keys probe_keys ys row)
 unfolding matches_of
 matches-same build_keys probe_keys row h =
-    same-map (λ other. row ++ other) (same-filter (λ other. same_row (picked build_keys other) (picked probe_keys row)) h)
+    same-map (λ other. row ++ other) (same-filter (λ other. same_row (pick_cells build_keys other) (pick_cells probe_keys row)) h)
 
 row-part : (task : Task) (kind : What) (from : ℕ) (constants row : List Value) {xs ys : List Arrival} → Part xs ys
     → Part (yields_row task kind xs from constants row) (yields_row task kind ys from constants row)
@@ -89,7 +89,7 @@ closing_rows-same (what.Scan file) h = Empty
 closing_rows-same (what.Filter input cond) h = Empty
 closing_rows-same (what.Project input columns) h = Empty
 closing_rows-same (what.Join build probe build_keys probe_keys) h = Empty
-closing_rows-same (what.Group input keys aggs) h = grouped-same keys aggs h
+closing_rows-same (what.Group input keys aggs) h = group_result-same keys aggs h
 closing_rows-same (what.Sink input) h = Empty
 
 pub closing-same : (task : Task) {xs ys : List Arrival} → Same xs ys → Same (closing task xs) (closing task ys)

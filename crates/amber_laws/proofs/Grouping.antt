@@ -9,8 +9,8 @@ use Rattle.std.proofs.lemmas.Bool.{false≢true}
 use Rattle.std.proofs.lemmas.Cmp.{tied_itself, upto}
 use Rattle.std.proofs.lemmas.Int.{ints}
 use Rattle.amber_rows.proofs.Sorting.{row-same}
-use Rattle.amber_rows.specs.Cond.{numbered}
-use Rattle.amber_rows.specs.Operators.{agg_value, agg_values, cells_at, first_keys, greatest_of, greatest_value, group_row, grouped, int_value, key_if_none, least_of, least_value, number_of, picked, refused_keys, same_row, total_of}
+use Rattle.amber_rows.specs.Cond.{nth}
+use Rattle.amber_rows.specs.Operators.{agg_value, agg_values, cells_at, first_keys, greatest_of, greatest_value, group_row, group_result, int_value, key_if_none, least_of, least_value, number_of, pick_cells, refused_keys, same_row, total_of}
 use Rattle.amber_rows.specs.Order.{row_cmp, value_cmp}
 use Rattle.amber_rows.specs.OrderLaws.{row-total, value-total}
 use Rattle.amber_rows.specs.declared.agg.Agg.{Agg}
@@ -62,8 +62,8 @@ turn-keys k l keys false false e f =
 pub first_keys-same : (keys : List ℕ) {xs ys : List (List Value)} → Same xs ys → Same (first_keys keys xs) (first_keys keys ys)
 unfolding first_keys others
 first_keys-same keys Empty = Empty
-first_keys-same keys (Keep x xs ys h) = Keep (picked keys x) _ _ (same-filter (λ key. not (same_row key (picked keys x))) (first_keys-same keys h))
-first_keys-same keys (Turn x y xs) = turn-keys (picked keys x) (picked keys y) (first_keys keys xs) _ _ refl refl
+first_keys-same keys (Keep x xs ys h) = Keep (pick_cells keys x) _ _ (same-filter (λ key. not (same_row key (pick_cells keys x))) (first_keys-same keys h))
+first_keys-same keys (Turn x y xs) = turn-keys (pick_cells keys x) (pick_cells keys y) (first_keys keys xs) _ _ refl refl
 first_keys-same keys (Join xs ys zs h k) = Join (first_keys keys xs) (first_keys keys ys) (first_keys keys zs) (first_keys-same keys h) (first_keys-same keys k)
 
 -- ---- sums
@@ -208,7 +208,7 @@ greatest_value-is (cell ∷ cells) = ap Some (greatest-is cell cells)
 -- ---- aggregates
 
 cells-same : (column : ℕ) {xs ys : List (List Value)} → Same xs ys → Same (cells_at column xs) (cells_at column ys)
-cells-same column h = same-filter_map (λ row. numbered row column) h
+cells-same column h = same-filter_map (λ row. nth row column) h
 
 agg-same : (agg : Agg) {xs ys : List (List Value)} → Same xs ys → agg_value xs agg ≡ agg_value ys agg
 unfolding agg_value
@@ -225,7 +225,7 @@ aggs-same [] h = refl
 aggs-same (agg ∷ aggs) h = rw (agg-same agg h, aggs-same aggs h) refl
 
 pub group_row-same : (keys : List ℕ) (aggs : List Agg) (key : List Value) {xs ys : List (List Value)} → Same xs ys → group_row keys aggs xs key ≡ group_row keys aggs ys key
-group_row-same keys aggs key h = ap (option_map (λ cells. key ++ cells)) (aggs-same aggs (same-filter (λ row. same_row (picked keys row) key) h))
+group_row-same keys aggs key h = ap (option_map (λ cells. key ++ cells)) (aggs-same aggs (same-filter (λ row. same_row (pick_cells keys row) key) h))
 
 -- ---- groups
 
@@ -233,9 +233,9 @@ pub filter_map-same : {A B : Type 0} (f g : A → Option B) → ((x : A) → f x
 filter_map-same f g h [] = refl
 filter_map-same f g h (x ∷ xs) = rw (h x, filter_map-same f g h xs) refl
 
-pub grouped-same : (keys : List ℕ) (aggs : List Agg) {xs ys : List (List Value)} → Same xs ys → Same (grouped keys aggs xs) (grouped keys aggs ys)
-unfolding grouped
-grouped-same keys aggs {xs} {ys} h =
+pub group_result-same : (keys : List ℕ) (aggs : List Agg) {xs ys : List (List Value)} → Same xs ys → Same (group_result keys aggs xs) (group_result keys aggs ys)
+unfolding group_result
+group_result-same keys aggs {xs} {ys} h =
     rw (filter_map-same (group_row keys aggs xs) (group_row keys aggs ys) (λ key. group_row-same keys aggs key h) (first_keys keys xs))
     (same-filter_map (group_row keys aggs ys) (first_keys-same keys h))
 

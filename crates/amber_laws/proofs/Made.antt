@@ -6,7 +6,7 @@ use Rattle.std.proofs.lemmas.Bool.{and_from}
 use Rattle.std.proofs.lemmas.List.{length-take}
 use Rattle.std.proofs.lemmas.List.Folds.{list_all-append}
 use Rattle.std.proofs.lemmas.Option.{none-some, same_Some}
-use Rattle.amber_rows.specs.Cond.{holds_of, numbered}
+use Rattle.amber_rows.specs.Cond.{holds_of, nth}
 use Rattle.amber_rows.specs.Crew.{crew_of, op_of, what_at}
 use Rattle.amber_rows.specs.FlowRules.{HasInput, IsEarlier, IsFlow, IsKind, agg_kind, column_kinds, columns_at, kinds_at, schema_of}
 use Rattle.amber_rows.specs.Operators.{matches_of}
@@ -17,7 +17,7 @@ use Rattle.amber_rows.specs.declared.record.RowFault.{RowFault}
 use Rattle.amber_rows.specs.declared.flow.What.{What}
 use Rattle.amber_rows.specs.declared.flow.What.TheVariants as what
 use Rattle.amber_rows.specs.declared.flow.Operator.{Operator}
-use Rattle.amber_meaning.proofs.Operators.{numbered-within}
+use Rattle.amber_meaning.proofs.Operators.{nth-within}
 use Rattle.amber_meaning.specs.Legal.{Query, role_in}
 use Rattle.amber_meaning.specs.Plan.{built_columns, builders_in, arrival_columns, role_of, task_of}
 use Rattle.amber_meaning.specs.Task.{Arrival, Task, built_of, closing, columns_from, is_builder, row_in, suiting, yields, yields_if, yields_row}
@@ -25,7 +25,7 @@ use Rattle.amber_meaning.specs.Total.{dealt_to, given, gives}
 use Rattle.amber_laws.proofs.Crews.{op-within}
 use Rattle.amber_laws.proofs.Dealt.{dealt-is}
 use Rattle.amber_laws.proofs.Flows.{columns-there, kind-there, there}
-use Rattle.amber_laws.proofs.Suited.{all-flat, all-found, all-true, grouped-suit, matches-suit, picked-suit}
+use Rattle.amber_laws.proofs.Suited.{all-flat, all-found, all-true, group_result-suit, matches-suit, pick_cells-suit}
 
 -- ---- how an operator's columns come of those of its inputs
 
@@ -54,7 +54,7 @@ columns_before flow n input h = by (eqb input 0)
     by false = ap schema_of (get_front flow n (input - 1) (omega (arith, h.0, h.1, length-take n flow)))
 
 has_columns : (before : List Operator) (input : ℕ) (columns : List Column) → HasInput before input columns → columns_at before input ≡ columns
-has_columns before input columns h = by (numbered before input) h
+has_columns before input columns h = by (nth before input) h
   where
     by : (o : Option Operator) → IsSomeAnd o (λ earlier. earlier.schema ≡ columns) → schema_of o ≡ columns
     by None e = absurd e
@@ -62,7 +62,7 @@ has_columns before input columns h = by (numbered before input) h
 
 has_made : (flow : List Operator) (n input : ℕ) (columns : List Column) → HasInput (take n flow) input columns → columns_at flow input ≡ columns
 has_made flow n input columns h =
-    sym (columns_before flow n input (numbered-within (take n flow) input (λ earlier. earlier.schema ≡ columns) h)) ∙ has_columns (take n flow) input columns h
+    sym (columns_before flow n input (nth-within (take n flow) input (λ earlier. earlier.schema ≡ columns) h)) ∙ has_columns (take n flow) input columns h
 
 kind_made : (flow : List Operator) (n : ℕ) (kind : What) (columns : List Column) → IsKind (take n flow) kind columns → AreMade flow kind columns
 kind_made flow n (what.Scan file) columns h = tt
@@ -138,7 +138,7 @@ row_suits flow op (what.Scan file) before from row m h = rw h refl
 row_suits flow op (what.Filter input test) before from row m h =
     one_suits (columns_at flow op) row (holds_of test row) (ap (λ columns. suits_of columns row) (sym m) ∙ h)
 row_suits flow op (what.Project input from_columns) before from row m h =
-    rw (picked-suit (columns_at flow input) (columns_at flow op) row from_columns m h) refl
+    rw (pick_cells-suit (columns_at flow input) (columns_at flow op) row from_columns m h) refl
 row_suits flow op (what.Join build probe build_keys probe_keys) before from row m h =
     by (is_builder (task_with flow op (what.Join build probe build_keys probe_keys)) from) h
   where
@@ -169,7 +169,7 @@ closing_suits flow op (what.Project input from) arrivals m = refl
 closing_suits flow op (what.Join build probe build_keys probe_keys) arrivals m = refl
 closing_suits flow op (what.Group input keys aggs) arrivals m =
     let task = task_with flow op (what.Group input keys aggs) in
-    grouped-suit (columns_at flow input) (columns_at flow op) keys aggs (filter_map (suiting task) arrivals) (rows_suit task arrivals refl) m
+    group_result-suit (columns_at flow input) (columns_at flow op) keys aggs (filter_map (suiting task) arrivals) (rows_suit task arrivals refl) m
 closing_suits flow op (what.Sink input) arrivals m = refl
 
 gives_suit : (flow : List Operator) (op : ℕ) (kind : What) (arrivals : List Arrival) → AreMade flow kind (columns_at flow op)

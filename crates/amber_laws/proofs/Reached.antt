@@ -14,12 +14,12 @@ use Rattle.amber_log.specs.declared.leg.Part.{Part}
 use Rattle.amber_log.specs.declared.log.Item.{Item}
 use Rattle.amber_log.specs.declared.log.Item.TheVariants as item
 use Rattle.amber_log.specs.declared.log.Log.{Log}
-use Rattle.amber_meaning.specs.Legal.{AreOffered, IsLegal, IsOpen, IsUnaltered, IsWorked, Makes, Query, Reaches, after_close, alters, entries_of, opened, role_in}
+use Rattle.amber_meaning.specs.Legal.{AreOffered, IsLegal, IsOpen, IsUnaltered, IsWorked, Makes, Query, Reaches, after_close, alters, entries_of, leg_start, role_in}
 use Rattle.amber_meaning.specs.Plan.{role_of, task_of}
 use Rattle.amber_meaning.specs.Position.{Position, origin}
-use Rattle.amber_meaning.specs.State.{Arms, State, arms_at, begun, begun_to_end, changed_from, commanded, disarmed, first_constants, let_go, no_arms, orders_of, position_at, start_of, with_arms}
+use Rattle.amber_meaning.specs.State.{Arms, State, arms_at, begin_leg, begin_last_leg, changed_from, after_command, without_arms, first_constants, let_go, no_arms, orders_of, position_at, start_of, with_arms}
 use Rattle.amber_meaning.specs.Stops.{arms_left, op_numbers, without_stops}
-use Rattle.amber_meaning.proofs.Lists.{numbered-next}
+use Rattle.amber_meaning.proofs.Lists.{nth-next}
 use Rattle.amber_meaning.proofs.OneState.{position-get_or}
 use Rattle.amber_meaning.proofs.Rest.{legal_logs_rest}
 use Rattle.amber_meaning.proofs.Chunks.{offered-orderly}
@@ -41,9 +41,9 @@ changed-own change number place (a ∷ arms) same = by (eqb place number) (chang
     by true e = rw (same a, e) refl
     by false e = rw e refl
 
-disarmed-own : (arms : List Arms) → map (λ (a : Arms). a.constants) (map disarmed arms) ≡ map (λ (a : Arms). a.constants) arms
-disarmed-own [] = refl
-disarmed-own (a ∷ arms) = ap (λ l. a.constants ∷ l) (disarmed-own arms)
+without_arms-own : (arms : List Arms) → map (λ (a : Arms). a.constants) (map without_arms arms) ≡ map (λ (a : Arms). a.constants) arms
+without_arms-own [] = refl
+without_arms-own (a ∷ arms) = ap (λ l. a.constants ∷ l) (without_arms-own arms)
 
 start-own : (flow : List Operator) → HasOwn flow (map (λ (operator : Operator). record no_arms { constants = first_constants operator.what }) flow)
 start-own [] = refl
@@ -63,7 +63,7 @@ constants-of (o ∷ flow) (a ∷ arms) (suc n) h =
 pub own-constants : (flow : List Operator) (state : State) (op : ℕ) → HasOwn flow state.arms → (arms_at state op).constants ≡ first_constants (what_at flow op)
 own-constants flow state zero h = refl
 own-constants flow state (suc n) h =
-    rw (← add-one n, numbered-next state.arms n, numbered-next flow n) (constants-of flow state.arms n h)
+    rw (← add-one n, nth-next state.arms n, nth-next flow n) (constants-of flow state.arms n h)
 
 slice_get-some : {A : Type 0} (xs : List A) (n : ℕ) (d : A) → n < length xs → slice_get xs n ≡ Some (get_or xs n d)
 slice_get-some [] n d h = absurd (omega arith)
@@ -77,7 +77,7 @@ unfolding numbers_below
 first-ops flow d zero h = refl
 first-ops flow d (suc n) h =
     let here : first_constants (what_at flow (suc n)) ≡ first_constants (get_or flow n d).what =
-    rw (← add-one n, numbered-next flow n, slice_get-some flow n d (omega arith)) refl in
+    rw (← add-one n, nth-next flow n, slice_get-some flow n d (omega arith)) refl in
     ap (map (λ op. first_constants (what_at flow op))) (map-append suc (numbers_below n) (n ∷ []))
     ∙ map-append (λ op. first_constants (what_at flow op)) (map suc (numbers_below n)) (suc n ∷ [])
     ∙ rw (first-ops flow d n (omega arith), here, ← add-one n, take_more flow n d (omega arith), map-append (λ (o : Operator). first_constants o.what) (take n flow) (get_or flow n d ∷ [])) refl
@@ -100,9 +100,9 @@ pub record IsFit (query : Query) (state : State) : Type 0 where
   pub own : HasOwn query.flow state.arms
   pub sound : (worker : ℕ) → worker < crew_of query.flow → IsSound (role_in query worker) (position_at state.positions worker)
 
-worked-fit : (query : Query) (before after : State) (parts : List Part) → IsWorked query before parts after → IsFit query before → IsFit query after
+after_leg-fit : (query : Query) (before after : State) (parts : List Part) → IsWorked query before parts after → IsFit query before → IsFit query after
 unfolding role_of task_of
-worked-fit query before after parts h fit = record {
+after_leg-fit query before after parts h fit = record {
   own = rw h.same_arms fit.own;
   sound = λ worker less.
       led-sound (role_in query worker) (orders_of (arms_at before (op_of query.flow worker))) (position_at before.positions worker)
@@ -118,13 +118,13 @@ let_go-at ps worker = rw (position-get_or (map let_go ps) worker, position-get_o
     by (p ∷ ps) zero = refl
     by (p ∷ ps) (suc n) = by ps n
 
-begun-fit : (query : Query) (to_end : Bool) (state : State) → IsFit query state → IsFit query (opened to_end state)
-unfolding begun begun_to_end
-begun-fit query true state fit = record {
-  own = disarmed-own state.arms ∙ fit.own;
+begin_leg-fit : (query : Query) (to_end : Bool) (state : State) → IsFit query state → IsFit query (leg_start to_end state)
+unfolding begin_leg begin_last_leg
+begin_leg-fit query true state fit = record {
+  own = without_arms-own state.arms ∙ fit.own;
   sound = λ worker less. rw (let_go-at state.positions worker) (let_go-sound (role_in query worker) (position_at state.positions worker) (fit.sound worker less));
 }
-begun-fit query false state fit = record {
+begin_leg-fit query false state fit = record {
   own = fit.own;
   sound = λ worker less. rw (let_go-at state.positions worker) (let_go-sound (role_in query worker) (position_at state.positions worker) (fit.sound worker less));
 }
@@ -133,18 +133,18 @@ rearmed-fit : (query : Query) (state : State) (change : Arms → Arms) (op : ℕ
     → IsFit query state → IsFit query (with_arms change op state)
 rearmed-fit query state change op same fit = record { own = changed-own change op 1 state.arms same ∙ fit.own; sound = fit.sound }
 
-commanded-fit : (query : Query) (state : State) (done : Command) → not (alters (item.Do done)) ≡ true → IsFit query state → IsFit query (commanded query.flow done state)
-unfolding commanded
-commanded-fit query state command.Run e fit = fit
-commanded-fit query state command.End e fit = fit
-commanded-fit query state (command.Pause op n) e fit = rearmed-fit query state _ op (λ a. refl) fit
-commanded-fit query state (command.Count op n) e fit = rearmed-fit query state _ op (λ a. refl) fit
-commanded-fit query state (command.When op cond) e fit = rearmed-fit query state _ op (λ a. refl) fit
-commanded-fit query state (command.Clear op) e fit = rearmed-fit query state _ op (λ a. refl) fit
-commanded-fit query state (command.Set op value) e fit = absurd (false≢true e)
-commanded-fit query state (command.Drop op worker) e fit = absurd (false≢true e)
-commanded-fit query state (command.Inspect op) e fit = fit
-commanded-fit query state (command.Lose op worker) e fit = fit
+after_command-fit : (query : Query) (state : State) (done : Command) → not (alters (item.Do done)) ≡ true → IsFit query state → IsFit query (after_command query.flow done state)
+unfolding after_command
+after_command-fit query state command.Run e fit = fit
+after_command-fit query state command.End e fit = fit
+after_command-fit query state (command.Pause op n) e fit = rearmed-fit query state _ op (λ a. refl) fit
+after_command-fit query state (command.Count op n) e fit = rearmed-fit query state _ op (λ a. refl) fit
+after_command-fit query state (command.When op cond) e fit = rearmed-fit query state _ op (λ a. refl) fit
+after_command-fit query state (command.Clear op) e fit = rearmed-fit query state _ op (λ a. refl) fit
+after_command-fit query state (command.Set op value) e fit = absurd (false≢true e)
+after_command-fit query state (command.Drop op worker) e fit = absurd (false≢true e)
+after_command-fit query state (command.Inspect op) e fit = fit
+after_command-fit query state (command.Lose op worker) e fit = fit
 
 closed-fit : (query : Query) (state : State) (closed : Close) → IsFit query state → IsFit query (after_close query state closed)
 unfolding without_stops
@@ -152,11 +152,11 @@ closed-fit query state close.Cut fit = record { own = left-ops query.flow state 
 closed-fit query state close.Long fit = fit
 
 made-fit : (query : Query) (state after : State) (one : Item) → Makes query state one after → not (alters one) ≡ true → IsFit query state → IsFit query after
-made-fit query state after (item.Do done) h e fit = rw h.1 (commanded-fit query state done e fit)
+made-fit query state after (item.Do done) h e fit = rw h.1 (after_command-fit query state done e fit)
 made-fit query state after (item.Run leg) h e fit =
-    rw h.3 (closed-fit query h.0 leg.close (worked-fit query (begun state) h.0 leg.parts h.1 (begun-fit query false state fit)))
+    rw h.3 (closed-fit query h.0 leg.close (after_leg-fit query (begin_leg state) h.0 leg.parts h.1 (begin_leg-fit query false state fit)))
 made-fit query state after (item.End leg) h e fit =
-    rw h.3 (worked-fit query (begun_to_end state) h.0 leg.parts h.1 (begun-fit query true state fit))
+    rw h.3 (after_leg-fit query (begin_last_leg state) h.0 leg.parts h.1 (begin_leg-fit query true state fit))
 
 reached-fit : (query : Query) (state after : State) (items : List Item) → Reaches query state items after → IsUnaltered items → IsFit query state → IsFit query after
 unfolding Reaches
@@ -206,6 +206,6 @@ pub open-run : (query : Query) (log : Log) (to_end : Bool) (parts : List Part) (
 open-run query log to_end parts leg e = record {
   some = omega (arith, leg.legal.text.batch, leg.legal.batch);
   crew = leg.worked.crew;
-  sound = (worked-fit query (opened to_end leg.legal.after) leg.now parts leg.worked (begun-fit query to_end leg.legal.after (legal-fit query log leg.legal e))).sound;
+  sound = (after_leg-fit query (leg_start to_end leg.legal.after) leg.now parts leg.worked (begin_leg-fit query to_end leg.legal.after (legal-fit query log leg.legal e))).sound;
   offered = leg.worked.offered;
 }

@@ -102,23 +102,23 @@ unfolding with_numbers
 not-below [] n m h = refl
 not-below (one ∷ more) n m h = rw (ne_eqb n m (λ e. omega arith)) (not-below more (n + 1) m (omega arith))
 
-numbered-apart : (records : List (Result (List Value) RowFault)) (n : ℕ) → are_different (numbers_in (with_numbers n records)) ≡ true
+nth-apart : (records : List (Result (List Value) RowFault)) (n : ℕ) → are_different (numbers_in (with_numbers n records)) ≡ true
 unfolding with_numbers
-numbered-apart [] n = refl
-numbered-apart (one ∷ more) n = and_from _ _ (ap not (not-below more (n + 1) n (omega arith))) (numbered-apart more (n + 1))
+nth-apart [] n = refl
+nth-apart (one ∷ more) n = and_from _ _ (ap not (not-below more (n + 1) n (omega arith))) (nth-apart more (n + 1))
 
-numbered-ordered : (records : List (Result (List Value) RowFault)) (n : ℕ) → by_number (with_numbers n records) ≡ with_numbers n records
+nth-ordered : (records : List (Result (List Value) RowFault)) (n : ℕ) → by_number (with_numbers n records) ≡ with_numbers n records
 unfolding with_numbers by_number insert_numbered
-numbered-ordered [] n = refl
-numbered-ordered (one ∷ []) n = refl
-numbered-ordered (one ∷ next ∷ more) n =
-    ap (insert_numbered (record { from = n; what = one })) (numbered-ordered (next ∷ more) (n + 1))
+nth-ordered [] n = refl
+nth-ordered (one ∷ []) n = refl
+nth-ordered (one ∷ next ∷ more) n =
+    ap (insert_numbered (record { from = n; what = one })) (nth-ordered (next ∷ more) (n + 1))
     ∙ rw (le-ltb (n + 1) n (omega arith)) refl
 
 -- records that were dealt out stand, put in order, as they were
 pub records-ordered : (records : List (Result (List Value) RowFault)) (xs : List Arrival) → Same xs (with_numbers 1 records) → by_number xs ≡ with_numbers 1 records
 records-ordered records xs h =
-    by_number-same h (same-different (same-map (λ (one : Arrival). one.from) h) ∙ numbered-apart records 1) ∙ numbered-ordered records 1
+    by_number-same h (same-different (same-map (λ (one : Arrival). one.from) h) ∙ nth-apart records 1) ∙ nth-ordered records 1
 
 -- those with a fault are refused
 pub records-refused : (op : ℕ) (records : List (Result (List Value) RowFault)) (n : ℕ) → refused_in op (with_numbers n records) ≡ refused_records op n records

@@ -9,7 +9,7 @@ use Rattle.amber_rows.specs.Cond.{holds_of}
 use Rattle.amber_rows.specs.Crew.{reads, what_at, workers_of}
 use Rattle.amber_rows.specs.FlowRules.{IsFlow, columns_at, is_sink, kind_of}
 use Rattle.amber_rows.specs.Number.{read_int_of}
-use Rattle.amber_rows.specs.Operators.{joined, matches_of, picked, projected, refused_keys, same_row}
+use Rattle.amber_rows.specs.Operators.{join_result, matches_of, pick_cells, project_result, refused_keys, same_row}
 use Rattle.amber_rows.specs.Record.{cell_before, cell_of, cells_of, file_records, int_cell, later_records, ok_of, row_of, typed_records}
 use Rattle.amber_rows.specs.Suits.{same_kind, suits_of}
 use Rattle.amber_rows.specs.declared.column.ColKind.{ColKind}
@@ -34,7 +34,7 @@ use Rattle.amber_meaning.specs.Views.{rows_in}
 use Rattle.amber_laws.proofs.Answered.{IsDealtOut, plain_rows, rows_given}
 use Rattle.amber_laws.proofs.Bags.{Same, Join, among, among-first, among-more, equal-among, same-each, same-filter, same-flat_map, same-is, same-map}
 use Rattle.amber_laws.proofs.Flows.{columns-there, input-earlier, kind-there, no-sink, there}
-use Rattle.amber_laws.proofs.Grouping.{grouped-same, refused_keys-same}
+use Rattle.amber_laws.proofs.Grouping.{group_result-same, refused_keys-same}
 use Rattle.amber_laws.proofs.Links.{scan-whole}
 use Rattle.amber_laws.proofs.Made.{task_with}
 use Rattle.amber_laws.proofs.Together.{IsOperator, filter-together, group-together, join-together, keys-together, one-by-one, project-together, sink-together, worker-task}
@@ -142,18 +142,18 @@ scan-together query op file h typed =
 
 -- ---- rows in another order
 
-projected_same : (from : List ℕ) {xs ys : List (List Value)} → Same xs ys → Same (projected from xs) (projected from ys)
-unfolding projected
-projected_same from h = same-map (picked from) h
+projected_same : (from : List ℕ) {xs ys : List (List Value)} → Same xs ys → Same (project_result from xs) (project_result from ys)
+unfolding project_result
+projected_same from h = same-map (pick_cells from) h
 
 matched_same : (build_keys probe_keys : List ℕ) (row : List Value) {xs ys : List (List Value)} → Same xs ys
     → Same (matches_of build_keys probe_keys xs row) (matches_of build_keys probe_keys ys row)
 unfolding matches_of
-matched_same build_keys probe_keys row h = same-map (λ other. row ++ other) (same-filter (λ other. same_row (picked build_keys other) (picked probe_keys row)) h)
+matched_same build_keys probe_keys row h = same-map (λ other. row ++ other) (same-filter (λ other. same_row (pick_cells build_keys other) (pick_cells probe_keys row)) h)
 
 joined_same : (build_keys probe_keys : List ℕ) {ws xs ys zs : List (List Value)} → Same ws xs → Same ys zs
-    → Same (joined build_keys probe_keys ws ys) (joined build_keys probe_keys xs zs)
-unfolding joined
+    → Same (join_result build_keys probe_keys ws ys) (join_result build_keys probe_keys xs zs)
+unfolding join_result
 joined_same build_keys probe_keys {ws} {xs} {ys} {zs} h k =
     Join (flat_map (matches_of build_keys probe_keys ws) ys) (flat_map (matches_of build_keys probe_keys xs) ys) (flat_map (matches_of build_keys probe_keys xs) zs)
     (same-each (matches_of build_keys probe_keys ws) (matches_of build_keys probe_keys xs) (λ row. matched_same build_keys probe_keys row h) ys)
@@ -203,7 +203,7 @@ kind_together query op (what.Join build probe build_keys probe_keys) h typed s i
 kind_together query op (what.Group input keys aggs) h typed s inputs =
     let own : reads (what.Group input keys aggs) input ≡ true = among-first input [] in
     rw (rows_plain query op (what.Group input keys aggs) h, input_plain query op (what.Group input keys aggs) h input own)
-    (Join _ _ _ (group-together query op input keys aggs h) (grouped-same keys aggs (inputs input own)))
+    (Join _ _ _ (group-together query op input keys aggs h) (group_result-same keys aggs (inputs input own)))
 kind_together query op (what.Sink input) h typed s inputs = absurd (false≢true (sym s))
 
 below_together : (query : Query) → IsFlow query.flow → AreTyped query → (bound op : ℕ) → op < bound → 0 < op → op < length query.flow → AreTogether query op

@@ -4,7 +4,7 @@ use Rattle.std.specs.List.{filter_map, flat_map, list_all}
 use Rattle.std.proofs.lemmas.Bool.{and_from, and_parts, both_ways}
 use Rattle.std.proofs.lemmas.Grind.{flat_map-append}
 use Rattle.std.proofs.lemmas.List.Elements.{filter_map-append}
-use Rattle.amber_rows.specs.Operators.{agg_values, first_keys, grouped, joined, key_if_none, matches_of, picked, refused_keys, rows_with, same_row}
+use Rattle.amber_rows.specs.Operators.{agg_values, first_keys, group_result, join_result, key_if_none, matches_of, pick_cells, refused_keys, rows_with, same_row}
 use Rattle.amber_rows.specs.declared.agg.Agg.{Agg}
 use Rattle.amber_rows.specs.declared.value.Value.{Value}
 use Rattle.amber_laws.proofs.Bags.{Same, Join, among, are_different, equal-among, same-dealt, same-filter_map, same-flat_map, same-is, sent_to}
@@ -61,7 +61,7 @@ gathered make keys rows = filter_map (λ key. make key (rows_with keys rows key)
 
 -- the number to which a row goes by its key
 abbrev pub by_key : (Row → ℕ) → List ℕ → Row → ℕ
-by_key route keys row = route (picked keys row)
+by_key route keys row = route (pick_cells keys row)
 
 keys_sent_by : (route : Row → ℕ) (key : Row) (found : List Row) (n : ℕ) (b : Bool) → eqb (route key) n ≡ b
     → cond b (key ∷ filter (λ other. not (same_row other key)) (sent_to route found n)) (sent_to route found n)
@@ -81,12 +81,12 @@ keys-sent : (route : Row → ℕ) (keys : List ℕ) (rows : List Row) (n : ℕ)
 unfolding first_keys
 keys-sent route keys [] n = refl
 keys-sent route keys (row ∷ rows) n =
-    by (eqb (route (picked keys row)) n) (keys-sent route keys rows n) ∙ keys_sent_by route (picked keys row) (first_keys keys rows) n (eqb (route (picked keys row)) n) refl
+    by (eqb (route (pick_cells keys row)) n) (keys-sent route keys rows n) ∙ keys_sent_by route (pick_cells keys row) (first_keys keys rows) n (eqb (route (pick_cells keys row)) n) refl
   where
     by : (b : Bool) → first_keys keys (sent_to (by_key route keys) rows n) ≡ sent_to route (first_keys keys rows) n
         → first_keys keys (cond b (row ∷ sent_to (by_key route keys) rows n) (sent_to (by_key route keys) rows n))
-        ≡ cond b (picked keys row ∷ filter (λ other. not (same_row other (picked keys row))) (sent_to route (first_keys keys rows) n)) (sent_to route (first_keys keys rows) n)
-    by true e = ap (λ l. picked keys row ∷ filter (λ other. not (same_row other (picked keys row))) l) e
+        ≡ cond b (pick_cells keys row ∷ filter (λ other. not (same_row other (pick_cells keys row))) (sent_to route (first_keys keys rows) n)) (sent_to route (first_keys keys rows) n)
+    by true e = ap (λ l. pick_cells keys row ∷ filter (λ other. not (same_row other (pick_cells keys row))) l) e
     by false e = e
 
 keys_routed : (route : Row → ℕ) (keys : List ℕ) (ns : List ℕ) (rows : List Row) → list_all (λ row. among (by_key route keys row) ns) rows ≡ true
@@ -95,16 +95,16 @@ unfolding first_keys
 keys_routed route keys ns [] h = refl
 keys_routed route keys ns (row ∷ rows) h =
     let parts = and_parts (among (by_key route keys row) ns) (list_all (λ one. among (by_key route keys one) ns) rows) h in
-    and_from (among (route (picked keys row)) ns) (list_all (λ key. among (route key) ns) (filter (λ other. not (same_row other (picked keys row))) (first_keys keys rows)))
-    parts.0 (all-kept (λ key. among (route key) ns) (λ other. not (same_row other (picked keys row))) (first_keys keys rows) (keys_routed route keys ns rows parts.1))
+    and_from (among (route (pick_cells keys row)) ns) (list_all (λ key. among (route key) ns) (filter (λ other. not (same_row other (pick_cells keys row))) (first_keys keys rows)))
+    parts.0 (all-kept (λ key. among (route key) ns) (λ other. not (same_row other (pick_cells keys row))) (first_keys keys rows) (keys_routed route keys ns rows parts.1))
 
 part_gathered : (make : Row → List Row → Option Row) (route : Row → ℕ) (keys : List ℕ) (rows : List Row) (n : ℕ)
     → gathered make keys (sent_to (by_key route keys) rows n) ≡ filter_map (λ key. make key (rows_with keys rows key)) (sent_to route (first_keys keys rows) n)
 part_gathered make route keys rows n =
     ap (filter_map (λ key. make key (rows_with keys (sent_to (by_key route keys) rows n) key))) (keys-sent route keys rows n)
     ∙ map_kept (λ key. make key (rows_with keys (sent_to (by_key route keys) rows n) key)) (λ key. make key (rows_with keys rows key)) (λ key. eqb (route key) n)
-    (λ key goes. ap (make key) (filter_both (λ row. same_row (picked keys row) key) (λ row. eqb (by_key route keys row) n)
-    (λ row same. ap (λ k. eqb (route k) n) (keys-are (picked keys row) key same) ∙ goes) rows)) (first_keys keys rows)
+    (λ key goes. ap (make key) (filter_both (λ row. same_row (pick_cells keys row) key) (λ row. eqb (by_key route keys row) n)
+    (λ row same. ap (λ k. eqb (route k) n) (keys-are (pick_cells keys row) key same) ∙ goes) rows)) (first_keys keys rows)
 
 -- what is made of the parts is what is made of the whole
 pub gathered-spread : (make : Row → List Row → Option Row) (route : Row → ℕ) (keys : List ℕ) (ns : List ℕ) (rows : List Row) → are_different ns ≡ true
@@ -119,11 +119,11 @@ gathered-spread make route keys ns rows d h =
     ∙ found-flat one (sent_to route found) ns))
     (same-filter_map one (same-dealt route ns d found (keys_routed route keys ns rows h)))
 
-pub grouped-spread : (keys : List ℕ) (aggs : List Agg) (route : Row → ℕ) (ns : List ℕ) (rows : List Row) → are_different ns ≡ true
+pub group_result-spread : (keys : List ℕ) (aggs : List Agg) (route : Row → ℕ) (ns : List ℕ) (rows : List Row) → are_different ns ≡ true
     → list_all (λ row. among (by_key route keys row) ns) rows ≡ true
-    → Same (flat_map (λ n. grouped keys aggs (sent_to (by_key route keys) rows n)) ns) (grouped keys aggs rows)
-unfolding grouped
-grouped-spread keys aggs route ns rows d h = gathered-spread (λ key same. option_map (λ cells. key ++ cells) (agg_values same aggs)) route keys ns rows d h
+    → Same (flat_map (λ n. group_result keys aggs (sent_to (by_key route keys) rows n)) ns) (group_result keys aggs rows)
+unfolding group_result
+group_result-spread keys aggs route ns rows d h = gathered-spread (λ key same. option_map (λ cells. key ++ cells) (agg_values same aggs)) route keys ns rows d h
 
 pub refused-spread : (keys : List ℕ) (aggs : List Agg) (route : Row → ℕ) (ns : List ℕ) (rows : List Row) → are_different ns ≡ true
     → list_all (λ row. among (by_key route keys row) ns) rows ≡ true
@@ -139,15 +139,15 @@ matches_sent : (route : Row → ℕ) (build_keys probe_keys : List ℕ) (build :
 unfolding matches_of
 matches_sent route build_keys probe_keys build row n goes =
     ap (map (λ other. row ++ other))
-    (filter_both (λ other. same_row (picked build_keys other) (picked probe_keys row)) (λ other. eqb (by_key route build_keys other) n)
-    (λ other same. ap (λ k. eqb (route k) n) (keys-are (picked build_keys other) (picked probe_keys row) same) ∙ goes) build)
+    (filter_both (λ other. same_row (pick_cells build_keys other) (pick_cells probe_keys row)) (λ other. eqb (by_key route build_keys other) n)
+    (λ other same. ap (λ k. eqb (route k) n) (keys-are (pick_cells build_keys other) (pick_cells probe_keys row) same) ∙ goes) build)
 
-pub joined-spread : (build_keys probe_keys : List ℕ) (route : Row → ℕ) (ns : List ℕ) (build probe : List Row) → are_different ns ≡ true
+pub join_result-spread : (build_keys probe_keys : List ℕ) (route : Row → ℕ) (ns : List ℕ) (build probe : List Row) → are_different ns ≡ true
     → list_all (λ row. among (by_key route probe_keys row) ns) probe ≡ true
-    → Same (flat_map (λ n. joined build_keys probe_keys (sent_to (by_key route build_keys) build n) (sent_to (by_key route probe_keys) probe n)) ns)
-    (joined build_keys probe_keys build probe)
-unfolding joined
-joined-spread build_keys probe_keys route ns build probe d h =
+    → Same (flat_map (λ n. join_result build_keys probe_keys (sent_to (by_key route build_keys) build n) (sent_to (by_key route probe_keys) probe n)) ns)
+    (join_result build_keys probe_keys build probe)
+unfolding join_result
+join_result-spread build_keys probe_keys route ns build probe d h =
     let whole = matches_of build_keys probe_keys build in
     let parts = sent_to (by_key route probe_keys) probe in
     Join (flat_map (λ n. flat_map (matches_of build_keys probe_keys (sent_to (by_key route build_keys) build n)) (parts n)) ns) (flat_map whole (flat_map parts ns)) (flat_map whole probe)

@@ -6,10 +6,10 @@ use Rattle.std.proofs.lemmas.List.{map-append}
 use Rattle.std.proofs.lemmas.List.Folds.{list_all-append}
 use Rattle.std.specs.Ordering.{is_gt, is_lt}
 use Rattle.std.proofs.lemmas.Option.{none-some, same_Some, slice_get-map}
-use Rattle.amber_rows.specs.Cond.{numbered}
+use Rattle.amber_rows.specs.Cond.{nth}
 use Rattle.amber_rows.specs.FlowRules.{agg_kind, column_kinds, kind_of, kinds_at}
 use Rattle.amber_rows.specs.Number.{fits_i64}
-use Rattle.amber_rows.specs.Operators.{agg_value, agg_values, cells_at, first_keys, greatest_of, greatest_value, group_row, grouped, int_value, least_of, least_value, matches_of, picked, rows_with, same_row, total_of}
+use Rattle.amber_rows.specs.Operators.{agg_value, agg_values, cells_at, first_keys, greatest_of, greatest_value, group_row, group_result, int_value, least_of, least_value, matches_of, pick_cells, rows_with, same_row, total_of}
 use Rattle.amber_rows.specs.Order.{value_cmp}
 use Rattle.amber_rows.specs.Suits.{same_kind, suits_of}
 use Rattle.amber_rows.specs.declared.agg.Agg.{Agg}
@@ -69,7 +69,7 @@ both_append ws xs ys zs e f = rw (e, f) refl
 
 -- ---- cells by number
 
-pub numbered_map : {A B : Type 0} (f : A → B) (xs : List A) (n : ℕ) → numbered (map f xs) n ≡ option_map f (numbered xs n)
+pub numbered_map : {A B : Type 0} (f : A → B) (xs : List A) (n : ℕ) → nth (map f xs) n ≡ option_map f (nth xs n)
 numbered_map f xs n = by (eqb n 0)
   where
     by : (b : Bool) → cond b None (slice_get (map f xs) (n - 1)) ≡ option_map f (cond b None (slice_get xs (n - 1)))
@@ -81,15 +81,15 @@ map_some f None xs = refl
 map_some f (Some x) xs = refl
 
 -- numbers look up in a list that is mapped what they look up in the list, mapped
-looked_up : {A B : Type 0} (f : A → B) (xs : List A) (ns : List ℕ) → map f (filter_map (numbered xs) ns) ≡ filter_map (numbered (map f xs)) ns
+looked_up : {A B : Type 0} (f : A → B) (xs : List A) (ns : List ℕ) → map f (filter_map (nth xs) ns) ≡ filter_map (nth (map f xs)) ns
 looked_up f xs [] = refl
-looked_up f xs (n ∷ ns) = map_some f (numbered xs n) (filter_map (numbered xs) ns) ∙ rw (numbered_map f xs n, looked_up f xs ns) refl
+looked_up f xs (n ∷ ns) = map_some f (nth xs n) (filter_map (nth xs) ns) ∙ rw (numbered_map f xs n, looked_up f xs ns) refl
 
 -- the picked cells of a row that suits are of the kinds of the picked columns
-pub picked-kinds : (columns : List Column) (row : List Value) (numbers : List ℕ) → suits_of columns row ≡ true → kinds_in (picked numbers row) ≡ kinds_at columns numbers
-unfolding picked
-picked-kinds columns row numbers h =
-    looked_up kind_of row numbers ∙ ap (λ kinds. filter_map (numbered kinds) numbers) (sym (suits-kinds columns row h))
+pub pick_cells-kinds : (columns : List Column) (row : List Value) (numbers : List ℕ) → suits_of columns row ≡ true → kinds_in (pick_cells numbers row) ≡ kinds_at columns numbers
+unfolding pick_cells
+pick_cells-kinds columns row numbers h =
+    looked_up kind_of row numbers ∙ ap (λ kinds. filter_map (nth kinds) numbers) (sym (suits-kinds columns row h))
     ∙ sym (looked_up (λ (column : Column). column.kind) columns numbers)
 
 -- ---- all rows of a list suit
@@ -130,9 +130,9 @@ all-true (x ∷ xs) = all-true xs
 
 -- ---- project and join
 
-pub picked-suit : (columns made : List Column) (row : List Value) (numbers : List ℕ) → column_kinds made ≡ kinds_at columns numbers → suits_of columns row ≡ true
-    → suits_of made (picked numbers row) ≡ true
-picked-suit columns made row numbers e h = kinds-suit made (picked numbers row) (e ∙ sym (picked-kinds columns row numbers h))
+pub pick_cells-suit : (columns made : List Column) (row : List Value) (numbers : List ℕ) → column_kinds made ≡ kinds_at columns numbers → suits_of columns row ≡ true
+    → suits_of made (pick_cells numbers row) ≡ true
+pick_cells-suit columns made row numbers e h = kinds-suit made (pick_cells numbers row) (e ∙ sym (pick_cells-kinds columns row numbers h))
 
 pub beside-suit : (left right : List Column) (row other : List Value) → suits_of left row ≡ true → suits_of right other ≡ true → suits_of (left ++ right) (row ++ other) ≡ true
 beside-suit left right row other h k =
@@ -143,7 +143,7 @@ pub matches-suit : (left right : List Column) (build_keys probe_keys : List ℕ)
     → suits_of left row ≡ true → list_all (suits_of right) build ≡ true → list_all (suits_of (left ++ right)) (matches_of build_keys probe_keys build row) ≡ true
 unfolding matches_of
 matches-suit left right build_keys probe_keys build row h k =
-    let keep = λ (other : List Value). same_row (picked build_keys other) (picked probe_keys row) in
+    let keep = λ (other : List Value). same_row (pick_cells build_keys other) (pick_cells probe_keys row) in
     all-mapped (suits_of (left ++ right)) (suits_of right) (λ other. row ++ other) (λ other e. beside-suit left right row other h e) (filter keep build)
     (all-kept (suits_of right) keep build k)
 
@@ -194,14 +194,14 @@ found_kind : {A : Type 0} (k l : A) (o p : Option A) → o ≡ Some k → p ≡ 
 found_kind k l o p d e f = same_Some k l (sym d ∙ f ∙ e)
 
 -- the cells of a column are of its kind
-cells_kind : (columns : List Column) (column : ℕ) (k : ColKind) → option_map (λ c. c.kind) (numbered columns column) ≡ Some k → (rows : List (List Value))
+cells_kind : (columns : List Column) (column : ℕ) (k : ColKind) → option_map (λ c. c.kind) (nth columns column) ≡ Some k → (rows : List (List Value))
     → list_all (suits_of columns) rows ≡ true → list_all (is_kind k) (cells_at column rows) ≡ true
 cells_kind columns column k e rows h =
-    all-found (is_kind k) (suits_of columns) (λ row. numbered row column)
+    all-found (is_kind k) (suits_of columns) (λ row. nth row column)
     (λ row v s f.
-    let there : option_map kind_of (numbered row column) ≡ Some (kind_of v) = ap (option_map kind_of) f in
+    let there : option_map kind_of (nth row column) ≡ Some (kind_of v) = ap (option_map kind_of) f in
     let same : k ≡ kind_of v = same_Some k (kind_of v)
-    (sym e ∙ sym (numbered_map (λ (c : Column). c.kind) columns column) ∙ ap (λ kinds. numbered kinds column) (suits-kinds columns row s) ∙ numbered_map kind_of row column ∙ there) in
+    (sym e ∙ sym (numbered_map (λ (c : Column). c.kind) columns column) ∙ ap (λ kinds. nth kinds column) (suits-kinds columns row s) ∙ numbered_map kind_of row column ∙ there) in
     ap (λ l. same_kind l (kind_of v)) same ∙ same_kind_itself (kind_of v)) rows h
 
 -- the value of an aggregate is of its kind
@@ -209,9 +209,9 @@ agg_value_kind : (columns : List Column) (rows : List (List Value)) (one : Agg) 
     → agg_kind columns one ≡ Some k → agg_value rows one ≡ Some v → k ≡ kind_of v
 unfolding agg_value
 agg_value_kind columns rows agg.Count k v h e f = sym (same_Some kind.Int k e) ∙ int_value_kind (pos (length rows)) v f
-agg_value_kind columns rows (agg.Sum column) k v h e f = by (option_map (λ c. c.kind) (numbered columns column)) refl e ∙ int_value_kind (total_of (cells_at column rows)) v f
+agg_value_kind columns rows (agg.Sum column) k v h e f = by (option_map (λ c. c.kind) (nth columns column)) refl e ∙ int_value_kind (total_of (cells_at column rows)) v f
   where
-    by : (o : Option ColKind) → option_map (λ c. c.kind) (numbered columns column) ≡ o → agg_kind columns (agg.Sum column) ≡ Some k → k ≡ kind.Int
+    by : (o : Option ColKind) → option_map (λ c. c.kind) (nth columns column) ≡ o → agg_kind columns (agg.Sum column) ≡ Some k → k ≡ kind.Int
     by None s d = absurd (none-some k (rw s at d))
     by (Some kind.Int) s d = sym (same_Some kind.Int k (rw s at d))
     by (Some kind.Text) s d = absurd (none-some k (rw s at d))
@@ -249,7 +249,7 @@ agg_values_kinds columns rows (one ∷ aggs) (k ∷ kinds) cells h e f =
 
 -- the columns with these numbers
 abbrev pub picked_columns : List Column → List ℕ → List Column
-picked_columns columns numbers = filter_map (numbered columns) numbers
+picked_columns columns numbers = filter_map (nth columns) numbers
 
 first_keys_suit : (columns : List Column) (keys : List ℕ) (rows : List (List Value)) → list_all (suits_of columns) rows ≡ true
     → list_all (suits_of (picked_columns columns keys)) (first_keys keys rows) ≡ true
@@ -257,9 +257,9 @@ unfolding first_keys
 first_keys_suit columns keys [] h = refl
 first_keys_suit columns keys (row ∷ rows) h =
     let parts = and_parts (suits_of columns row) (list_all (suits_of columns) rows) h in
-    and_from (suits_of (picked_columns columns keys) (picked keys row)) (list_all (suits_of (picked_columns columns keys)) (filter (λ key. not (same_row key (picked keys row))) (first_keys keys rows)))
-    (picked-suit columns (picked_columns columns keys) row keys refl parts.0)
-    (all-kept (suits_of (picked_columns columns keys)) (λ key. not (same_row key (picked keys row))) (first_keys keys rows) (first_keys_suit columns keys rows parts.1))
+    and_from (suits_of (picked_columns columns keys) (pick_cells keys row)) (list_all (suits_of (picked_columns columns keys)) (filter (λ key. not (same_row key (pick_cells keys row))) (first_keys keys rows)))
+    (pick_cells-suit columns (picked_columns columns keys) row keys refl parts.0)
+    (all-kept (suits_of (picked_columns columns keys)) (λ key. not (same_row key (pick_cells keys row))) (first_keys keys rows) (first_keys_suit columns keys rows parts.1))
 
 split_kinds : (kinds front : List ColKind) (back : List (Option ColKind)) → map Some kinds ≡ map Some front ++ back
     → (rest : List ColKind) × (kinds ≡ front ++ rest) × (map Some rest ≡ back)
@@ -270,17 +270,17 @@ split_kinds (l ∷ kinds) (k ∷ front) back e =
     let more = split_kinds kinds front back (rest_same (Some l) (Some k) (map Some kinds) (map Some front ++ back) e) in
     (more.0, both_cons l k kinds (front ++ more.0) same more.1, more.2)
 
-pub grouped-suit : (columns made : List Column) (keys : List ℕ) (aggs : List Agg) (rows : List (List Value)) → list_all (suits_of columns) rows ≡ true
+pub group_result-suit : (columns made : List Column) (keys : List ℕ) (aggs : List Agg) (rows : List (List Value)) → list_all (suits_of columns) rows ≡ true
     → map Some (column_kinds made) ≡ map Some (kinds_at columns keys) ++ map (agg_kind columns) aggs
-    → list_all (suits_of made) (grouped keys aggs rows) ≡ true
-unfolding grouped
-grouped-suit columns made keys aggs rows h e =
+    → list_all (suits_of made) (group_result keys aggs rows) ≡ true
+unfolding group_result
+group_result-suit columns made keys aggs rows h e =
     let parts = split_kinds (column_kinds made) (kinds_at columns keys) (map (agg_kind columns) aggs) e in
     all-found (suits_of made) (suits_of (picked_columns columns keys)) (group_row keys aggs rows)
     (λ key row s f.
     let found = some_mapped (λ cells. key ++ cells) (agg_values (rows_with keys rows key) aggs) row f in
     let own : kinds_at columns keys ≡ kinds_in key = suits-kinds (picked_columns columns keys) key s in
     let values : parts.0 ≡ kinds_in found.0 =
-    agg_values_kinds columns (rows_with keys rows key) aggs parts.0 found.0 (all-kept (suits_of columns) (λ one. same_row (picked keys one) key) rows h) parts.2 found.1 in
+    agg_values_kinds columns (rows_with keys rows key) aggs parts.0 found.0 (all-kept (suits_of columns) (λ one. same_row (pick_cells keys one) key) rows h) parts.2 found.1 in
     kinds-suit made row (parts.1 ∙ both_append (kinds_at columns keys) (kinds_in key) parts.0 (kinds_in found.0) own values ∙ sym (map-append kind_of key found.0) ∙ ap kinds_in found.2))
     (first_keys keys rows) (first_keys_suit columns keys rows h)

@@ -8,7 +8,7 @@ use Rattle.std.proofs.lemmas.List.Elements.{filter_agree}
 use Rattle.amber_rows.specs.Cond.{holds_of}
 use Rattle.amber_rows.specs.Crew.{first_worker_of, is_keyed, keyed_receiver_of, op_of, reader_of, receiver_of, side_keys, what_at, worker_count, workers_of}
 use Rattle.amber_rows.specs.FlowRules.{IsFlow, columns_at, inputs_of}
-use Rattle.amber_rows.specs.Operators.{grouped, joined, picked, projected, refused_keys}
+use Rattle.amber_rows.specs.Operators.{group_result, join_result, pick_cells, project_result, refused_keys}
 use Rattle.amber_rows.specs.Routing.{fnv_of, key_bytes_of, key_piece, route_of}
 use Rattle.amber_rows.specs.Suits.{suits_of}
 use Rattle.amber_rows.specs.declared.agg.Agg.{Agg}
@@ -34,7 +34,7 @@ use Rattle.amber_laws.proofs.Grouping.{refused_keys-same}
 use Rattle.amber_laws.proofs.Links.{fed_by, feeder-reads, feeders_of, filter_flat, filter_arrivals, row_route, rows-given, rows-whole}
 use Rattle.amber_laws.proofs.Made.{dealt-suit, role-task, task_with}
 use Rattle.amber_laws.proofs.Numbers.{among-cases, among-left, among-right}
-use Rattle.amber_laws.proofs.Spread.{by_key, flat-flat, found-flat, grouped-spread, joined-spread, refused-spread}
+use Rattle.amber_laws.proofs.Spread.{by_key, flat-flat, found-flat, group_result-spread, join_result-spread, refused-spread}
 use Rattle.amber_laws.proofs.Suited.{all-kept}
 
 -- ---- one worker
@@ -168,14 +168,14 @@ filter-together query op input test h =
     ∙ ap (filter (holds_of test)) (only_rows query input)))
 
 pub project-together : (query : Query) (op input : ℕ) (from : List ℕ) → IsOperator query op (what.Project input from)
-    → Same (flat_map (dealt_to query) (workers_of query.flow op)) (projected from (flat_map (dealt_to query) (workers_of query.flow input)))
+    → Same (flat_map (dealt_to query) (workers_of query.flow op)) (project_result from (flat_map (dealt_to query) (workers_of query.flow input)))
 project-together query op input from h =
     let kind = what.Project input from in
     let all = fed_by (dealt_to query) (only_input query.flow input) in
     Join (flat_map (dealt_to query) (workers_of query.flow op)) (gives (task_with query.flow op kind) all) _
     (one-by-one query op kind h (alone (task_with query.flow op kind)) (project_alone query.flow op input from) all (whole_rows query op kind h refl))
     (same-is _ _ (project-gives query.flow op input from (dealt_to query) (only_input query.flow input) (project_suiting query op input from h.flow)
-    ∙ ap (projected from) (only_rows query input)))
+    ∙ ap (project_result from) (only_rows query input)))
 
 -- ---- kinds whose rows go by their keys
 
@@ -197,8 +197,8 @@ routed : (query : Query) (op : ℕ) (kind : What) → IsOperator query op kind �
 unfolding route_of
 routed query op kind h keys rows =
     list_all-every (λ row. among (by_key (key_route query.flow op) keys row) (workers_of query.flow op)) rows
-    (λ row. place-worker query.flow op (fnv_of (flat_map key_piece (picked keys row)) % worker_count query.flow op)
-    (mod-lt (fnv_of (flat_map key_piece (picked keys row))) (some-workers query.flow h.flow op h.some h.within)))
+    (λ row. place-worker query.flow op (fnv_of (flat_map key_piece (pick_cells keys row)) % worker_count query.flow op)
+    (mod-lt (fnv_of (flat_map key_piece (pick_cells keys row))) (some-workers query.flow h.flow op h.some h.within)))
 
 -- the rows of a sender that go to a worker
 abbrev sent_rows : Query → ℕ → ℕ → List (List Value)
@@ -246,23 +246,23 @@ group_sent query op input keys aggs worker h =
     (λ sender k row. keyed_receiver query op (what.Group input keys aggs) h refl sender k row)
 
 pub group-together : (query : Query) (op input : ℕ) (keys : List ℕ) (aggs : List Agg) → IsOperator query op (what.Group input keys aggs)
-    → Same (flat_map (dealt_to query) (workers_of query.flow op)) (grouped keys aggs (flat_map (dealt_to query) (workers_of query.flow input)))
+    → Same (flat_map (dealt_to query) (workers_of query.flow op)) (group_result keys aggs (flat_map (dealt_to query) (workers_of query.flow input)))
 group-together query op input keys aggs h =
     let kind = what.Group input keys aggs in
     let workers = workers_of query.flow op in
     let senders = only_input query.flow input in
     let rows = flat_map (dealt_to query) senders in
-    let parts = λ (worker : ℕ). grouped keys aggs (sent_to (by_key (key_route query.flow op) keys) rows worker) in
+    let parts = λ (worker : ℕ). group_result keys aggs (sent_to (by_key (key_route query.flow op) keys) rows worker) in
     let each : Same (flat_map (dealt_to query) workers) (flat_map parts workers) =
     same-among (dealt_to query) parts workers (λ worker mine.
     Join (dealt_to query worker) (gives (task_with query.flow op kind) (fed_by (sent_rows query worker) senders)) (parts worker)
     (keyed_gives query op kind worker h refl mine)
     (same-is _ _ (group-gives query.flow op input keys aggs (sent_rows query worker) senders
     (sent_suiting query (task_with query.flow op kind) senders worker (group_suiting query op input keys aggs h.flow))
-    ∙ ap (grouped keys aggs) (group_sent query op input keys aggs worker h)))) in
+    ∙ ap (group_result keys aggs) (group_sent query op input keys aggs worker h)))) in
     rw (← only_rows query input)
-    (Join (flat_map (dealt_to query) workers) (flat_map parts workers) (grouped keys aggs rows) each
-    (grouped-spread keys aggs (key_route query.flow op) workers rows (different-workers query.flow op) (routed query op kind h keys rows)))
+    (Join (flat_map (dealt_to query) workers) (flat_map parts workers) (group_result keys aggs rows) each
+    (group_result-spread keys aggs (key_route query.flow op) workers rows (different-workers query.flow op) (routed query op kind h keys rows)))
 
 -- the keys that an operator's workers refuse
 pub keys-together : (query : Query) (op input : ℕ) (keys : List ℕ) (aggs : List Agg) → IsOperator query op (what.Group input keys aggs)
@@ -314,7 +314,7 @@ probe_side query op build probe build_keys probe_keys worker h =
 
 pub join-together : (query : Query) (op build probe : ℕ) (build_keys probe_keys : List ℕ) → IsOperator query op (what.Join build probe build_keys probe_keys)
     → Same (flat_map (dealt_to query) (workers_of query.flow op))
-    (joined build_keys probe_keys (flat_map (dealt_to query) (workers_of query.flow build)) (flat_map (dealt_to query) (workers_of query.flow probe)))
+    (join_result build_keys probe_keys (flat_map (dealt_to query) (workers_of query.flow build)) (flat_map (dealt_to query) (workers_of query.flow probe)))
 join-together query op build probe build_keys probe_keys h =
     let kind = what.Join build probe build_keys probe_keys in
     let task = task_with query.flow op kind in
@@ -324,7 +324,7 @@ join-together query op build probe build_keys probe_keys h =
     let route = key_route query.flow op in
     let left = flat_map (dealt_to query) builders in
     let right = flat_map (dealt_to query) others in
-    let parts = λ (worker : ℕ). joined build_keys probe_keys (sent_to (by_key route build_keys) left worker) (sent_to (by_key route probe_keys) right worker) in
+    let parts = λ (worker : ℕ). join_result build_keys probe_keys (sent_to (by_key route build_keys) left worker) (sent_to (by_key route probe_keys) right worker) in
     let each : Same (flat_map (dealt_to query) workers) (flat_map parts workers) =
     same-among (dealt_to query) parts workers (λ worker mine.
     Join (dealt_to query worker) (gives task (fed_by (sent_rows query worker) (builders ++ others))) (parts worker)
@@ -332,11 +332,11 @@ join-together query op build probe build_keys probe_keys h =
     (same-is _ _ (join-gives query.flow op build probe build_keys probe_keys (sent_rows query worker) others
     (sent_suiting query task (builders ++ others) worker (join_suiting query op build probe build_keys probe_keys h.flow))
     (apart_sides query op build probe build_keys probe_keys h)
-    ∙ ap (λ built. joined build_keys probe_keys built (flat_map (sent_rows query worker) others)) (build_side query op build probe build_keys probe_keys worker h)
-    ∙ ap (joined build_keys probe_keys (sent_to (by_key route build_keys) left worker)) (probe_side query op build probe build_keys probe_keys worker h)))) in
+    ∙ ap (λ built. join_result build_keys probe_keys built (flat_map (sent_rows query worker) others)) (build_side query op build probe build_keys probe_keys worker h)
+    ∙ ap (join_result build_keys probe_keys (sent_to (by_key route build_keys) left worker)) (probe_side query op build probe build_keys probe_keys worker h)))) in
     rw (← only_rows query probe)
-    (Join (flat_map (dealt_to query) workers) (flat_map parts workers) (joined build_keys probe_keys left right) each
-    (joined-spread build_keys probe_keys route workers left right (different-workers query.flow op) (routed query op kind h probe_keys right)))
+    (Join (flat_map (dealt_to query) workers) (flat_map parts workers) (join_result build_keys probe_keys left right) each
+    (join_result-spread build_keys probe_keys route workers left right (different-workers query.flow op) (routed query op kind h probe_keys right)))
 
 -- ---- the sink
 

@@ -44,16 +44,16 @@ sum-flat f g (n ∷ ns) =
     let later = sum-flat f g ns in
     omega (arith, sum_by-append f (g n) (flat_map g ns), sum_by-cons (λ n. sum_by f (g n)) n ns)
 
-numbered-length : (number : ℕ) (records : List (Result (List Value) RowFault)) → length (with_numbers number records) ≡ length records
+nth-length : (number : ℕ) (records : List (Result (List Value) RowFault)) → length (with_numbers number records) ≡ length records
 unfolding with_numbers
-numbered-length number [] = refl
-numbered-length number (one ∷ records) = ap suc (numbered-length (number + 1) records)
+nth-length number [] = refl
+nth-length number (one ∷ records) = ap suc (nth-length (number + 1) records)
 
 scan-taken : (query : Query) (op : ℕ) → IsFlow query.flow → 0 < op → op ≤ length query.flow → is_scan (what_at query.flow op) ≡ true
     → sum_by (λ worker. length (given query (dealt_to query) worker)) (workers_of query.flow op) ≡ length (list_at query.records op)
 scan-taken query op is some within scan =
     sym (length-flat_map (given query (dealt_to query)) (workers_of query.flow op))
-    ∙ same-length (scan-whole query is (dealt_to query) op some within scan) ∙ numbered-length 1 (list_at query.records op)
+    ∙ same-length (scan-whole query is (dealt_to query) op some within scan) ∙ nth-length 1 (list_at query.records op)
 
 fed-length : (dealt : ℕ → List (List Value)) (feeders : List ℕ) → length (fed_by dealt feeders) ≡ sum_by (λ sender. length (dealt sender)) feeders
 unfolding fed_by
@@ -115,11 +115,11 @@ every-worker flow =
     (λ worker h.
     let known = below-in (crew_of flow) worker h in
     let place = op-within flow worker known in
-    among-flat (workers_of flow) (op_of flow worker) worker (op_numbers flow) (numbered (op_of flow worker) place.0 place.1) (own-worker flow worker known))
+    among-flat (workers_of flow) (op_of flow worker) worker (op_numbers flow) (nth (op_of flow worker) place.0 place.1) (own-worker flow worker known))
     (λ worker h. let found = flat_among (workers_of flow) worker (op_numbers flow) h in in-below (crew_of flow) worker (worker-known flow found.0 worker found.2))
   where
-    numbered : (op : ℕ) → 0 < op → op ≤ length flow → among op (op_numbers flow) ≡ true
-    numbered op some within =
+    nth : (op : ℕ) → 0 < op → op ≤ length flow → among op (op_numbers flow) ≡ true
+    nth op some within =
         let next : suc (op - 1) ≡ op = omega arith in
         ap (λ (n : ℕ). among n (op_numbers flow)) (sym next) ∙ in-row suc (length flow) (op - 1) (omega arith)
 

@@ -1,7 +1,7 @@
 -- The sequential answer asks for no number of workers.
 use Rattle.std.proofs.Common.{◌≡◌, ℕ, ◌+◌, Option, Some, None, option_map, List, [], ◌∷◌, ◌++◌, length, map, Result, refl, sym, ◌∙◌, ap}
 use Rattle.std.proofs.lemmas.List.{length-map}
-use Rattle.amber_rows.specs.Cond.{numbered}
+use Rattle.amber_rows.specs.Cond.{nth}
 use Rattle.amber_rows.specs.FlowRules.{columns_at, schema_of}
 use Rattle.amber_rows.specs.declared.record.RowFault.{RowFault}
 use Rattle.amber_rows.specs.declared.value.Value.{Value}
@@ -38,7 +38,7 @@ schema_same None = refl
 schema_same (Some operator) = refl
 
 columns_same : (flow : List Operator) (op : ℕ) → columns_at (map with_one_worker flow) op ≡ columns_at flow op
-columns_same flow op = ap schema_of (numbered_map with_one_worker flow op) ∙ schema_same (numbered flow op)
+columns_same flow op = ap schema_of (numbered_map with_one_worker flow op) ∙ schema_same (nth flow op)
 
 answer_same : (flow : List Operator) (files : List (List ℕ)) → answer_of (map with_one_worker flow) files ≡ answer_of flow files
 unfolding answer_of answer_from

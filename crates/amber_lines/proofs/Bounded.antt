@@ -8,7 +8,7 @@ use Rattle.amber_rows.specs.declared.batch.Batch.{Batch}
 use Rattle.amber_rows.specs.declared.cond.Cond.{Cond}
 use Rattle.amber_log.specs.declared.entry.Entry.{Entry}
 use Rattle.amber_log.specs.declared.entry.Entry.TheVariants as entry
-use Rattle.amber_meaning.specs.Legal.{Begins}
+use Rattle.amber_meaning.specs.Legal.{IsPrefix}
 use Rattle.amber_meaning.specs.Position.{Position, Taken, fed, has_last, have_ended, is_complete, origin, pending_rows, produced_rows, product}
 use Rattle.amber_meaning.specs.Rules.{Leads, MayGo, MayHold, MayTake, Moves, Orders, first_is_watched, took, went}
 use Rattle.amber_meaning.specs.State.{let_go, without_held}
@@ -27,7 +27,7 @@ pub record IsBounded (role : Role) (p : Position) : Type 0 where
 -- as batches are taken
 pub product-taken : (role : Role) (taken : List Taken) (from : ℕ) (batch : Batch) (ks : List (List Value)) → length ks ≤ length (fed role taken)
     → IsOrderly role (taken ++ record { from = from; batch = batch } ∷ []) → list_any (λ one. eqb one from) role.senders ≡ true
-    → Begins (product role taken ks) (product role (taken ++ record { from = from; batch = batch } ∷ []) ks)
+    → IsPrefix (product role taken ks) (product role (taken ++ record { from = from; batch = batch } ∷ []) ks)
 unfolding product have_ended
 product-taken role taken from batch ks within orderly known =
     let early : have_ended role.senders taken ≡ false =
@@ -79,7 +79,7 @@ pub product-later : (role : Role) (taken : List Taken) (ks : List (List Value)) 
 product-later role taken ks zero now within = ([], ap (product role taken) (append-nil ks) ∙ sym (append-nil (product role taken ks)))
 product-later role taken ks (suc n) now within = some-later role taken ks (replicate (suc n) now) (omega arith)
 
-begins-length : {A : Type 0} (xs ys : List A) → Begins xs ys → length xs ≤ length ys
+begins-length : {A : Type 0} (xs ys : List A) → IsPrefix xs ys → length xs ≤ length ys
 begins-length xs ys b =
     let size = ap length (b.1) in
     let parts = length-append xs b.0 in

@@ -9,9 +9,9 @@ use Rattle.amber_log.specs.declared.leg.Part.{Part}
 use Rattle.amber_log.specs.declared.log.Item.{Item}
 use Rattle.amber_log.specs.declared.log.Item.TheVariants as item
 use Rattle.amber_log.specs.declared.log.Log.{Log}
-use Rattle.amber_meaning.specs.Legal.{IsLegal, IsOpen, IsWorked, Makes, Query, Reaches, after_close, entries_of, opened, role_in}
+use Rattle.amber_meaning.specs.Legal.{IsLegal, IsOpen, IsWorked, Makes, Query, Reaches, after_close, entries_of, leg_start, role_in}
 use Rattle.amber_meaning.specs.Position.{Position, origin}
-use Rattle.amber_meaning.specs.State.{State, begun, begun_to_end, changed_from, commanded, let_go, position_at, start_of, worker_at, without_held}
+use Rattle.amber_meaning.specs.State.{State, begin_leg, begin_last_leg, changed_from, after_command, let_go, position_at, start_of, worker_at, without_held}
 use Rattle.amber_meaning.specs.Stops.{without_stops}
 use Rattle.amber_meaning.specs.Task.{Role}
 use Rattle.amber_meaning.proofs.Chunks.{offered-orderly}
@@ -54,15 +54,15 @@ unfolding start_of
 start-bounded query worker less =
     rw (position-get_or (replicate (crew_of query.flow) origin) worker, origin-at (crew_of query.flow) worker) (origin-bounded (role_in query worker))
 
-begun-bounded : (query : Query) (positions : List Position) → AreBounded query positions → AreBounded query (map let_go positions)
-begun-bounded query positions h worker less =
+begin_leg-bounded : (query : Query) (positions : List Position) → AreBounded query positions → AreBounded query (map let_go positions)
+begin_leg-bounded query positions h worker less =
     rw (position-get_or (map let_go positions) worker, let_go-at positions worker, ← position-get_or positions worker)
     (let_go-bounded (role_in query worker) (position_at positions worker) (h worker less))
 
-pub opened-bounded : (query : Query) (to_end : Bool) (state : State) → AreBounded query state.positions → AreBounded query (opened to_end state).positions
-unfolding begun begun_to_end
-opened-bounded query true state h = begun-bounded query state.positions h
-opened-bounded query false state h = begun-bounded query state.positions h
+pub leg_start-bounded : (query : Query) (to_end : Bool) (state : State) → AreBounded query state.positions → AreBounded query (leg_start to_end state).positions
+unfolding begin_leg begin_last_leg
+leg_start-bounded query true state h = begin_leg-bounded query state.positions h
+leg_start-bounded query false state h = begin_leg-bounded query state.positions h
 
 dropped-bounded : (query : Query) (number : ℕ) (positions : List Position) → AreBounded query positions → AreBounded query (changed_from without_held number 1 positions)
 dropped-bounded query number positions h worker less = by (changed-or number 1 positions worker)
@@ -79,24 +79,24 @@ dropped-bounded query number positions h worker less = by (changed-or number 1 p
     by (inl same) = rw (position-get_or (changed_from without_held number 1 positions) worker, same) at
     by (inr new) = rw (position-get_or (changed_from without_held number 1 positions) worker, new) (without_held-bounded role (get_or positions worker origin) at)
 
-commanded-bounded : (query : Query) (state : State) (done : Command) → AreBounded query state.positions → AreBounded query (commanded query.flow done state).positions
-unfolding commanded
-commanded-bounded query state command.Run h = h
-commanded-bounded query state command.End h = h
-commanded-bounded query state (command.Pause op n) h = h
-commanded-bounded query state (command.Count op n) h = h
-commanded-bounded query state (command.When op cond) h = h
-commanded-bounded query state (command.Clear op) h = h
-commanded-bounded query state (command.Set op value) h = h
-commanded-bounded query state (command.Drop op worker) h = dropped-bounded query (worker_at query.flow op worker + 1) state.positions h
-commanded-bounded query state (command.Inspect op) h = h
-commanded-bounded query state (command.Lose op worker) h = h
+after_command-bounded : (query : Query) (state : State) (done : Command) → AreBounded query state.positions → AreBounded query (after_command query.flow done state).positions
+unfolding after_command
+after_command-bounded query state command.Run h = h
+after_command-bounded query state command.End h = h
+after_command-bounded query state (command.Pause op n) h = h
+after_command-bounded query state (command.Count op n) h = h
+after_command-bounded query state (command.When op cond) h = h
+after_command-bounded query state (command.Clear op) h = h
+after_command-bounded query state (command.Set op value) h = h
+after_command-bounded query state (command.Drop op worker) h = dropped-bounded query (worker_at query.flow op worker + 1) state.positions h
+after_command-bounded query state (command.Inspect op) h = h
+after_command-bounded query state (command.Lose op worker) h = h
 
-pub worked-bounded : (query : Query) (before after : State) (parts : List Part) → IsWorked query before parts after → AreBounded query before.positions
+pub after_leg-bounded : (query : Query) (before after : State) (parts : List Part) → IsWorked query before parts after → AreBounded query before.positions
     → AreBounded query after.positions
-worked-bounded query before after parts worked h worker less =
+after_leg-bounded query before after parts after_leg h worker less =
     led-bounded (role_in query worker) (orders_in query before worker) (position_at before.positions worker) (position_at after.positions worker)
-    (entries_of parts worker) (offered-orderly query after.positions worker worked.offered less) (worked.moved worker less) (h worker less)
+    (entries_of parts worker) (offered-orderly query after.positions worker after_leg.offered less) (after_leg.moved worker less) (h worker less)
 
 after_close-bounded : (query : Query) (state : State) (closed : Close) → AreBounded query state.positions → AreBounded query (after_close query state closed).positions
 unfolding without_stops
@@ -104,11 +104,11 @@ after_close-bounded query state close.Cut h = h
 after_close-bounded query state close.Long h = h
 
 made-bounded : (query : Query) (state after : State) (one : Item) → Makes query state one after → AreBounded query state.positions → AreBounded query after.positions
-made-bounded query state after (item.Do done) h bounded = rw h.1 (commanded-bounded query state done bounded)
+made-bounded query state after (item.Do done) h bounded = rw h.1 (after_command-bounded query state done bounded)
 made-bounded query state after (item.Run leg) h bounded =
-    rw h.3 (after_close-bounded query h.0 leg.close (worked-bounded query (begun state) h.0 leg.parts h.1 (opened-bounded query false state bounded)))
+    rw h.3 (after_close-bounded query h.0 leg.close (after_leg-bounded query (begin_leg state) h.0 leg.parts h.1 (leg_start-bounded query false state bounded)))
 made-bounded query state after (item.End leg) h bounded =
-    rw h.3 (worked-bounded query (begun_to_end state) h.0 leg.parts h.1 (opened-bounded query true state bounded))
+    rw h.3 (after_leg-bounded query (begin_last_leg state) h.0 leg.parts h.1 (leg_start-bounded query true state bounded))
 
 reached-bounded : (query : Query) (state after : State) (items : List Item) → Reaches query state items after → AreBounded query state.positions
     → AreBounded query after.positions
@@ -121,4 +121,4 @@ legal-bounded query log legal = reached-bounded query (start_of query.flow) lega
 
 pub open-bounded : (query : Query) (log : Log) (to_end : Bool) (parts : List Part) → (leg : IsOpen query log to_end parts) → AreBounded query leg.now.positions
 open-bounded query log to_end parts leg =
-    worked-bounded query (opened to_end leg.legal.after) leg.now parts leg.worked (opened-bounded query to_end leg.legal.after (legal-bounded query log leg.legal))
+    after_leg-bounded query (leg_start to_end leg.legal.after) leg.now parts leg.worked (leg_start-bounded query to_end leg.legal.after (legal-bounded query log leg.legal))

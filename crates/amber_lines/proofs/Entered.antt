@@ -1,7 +1,7 @@
 -- The test of an entry, and what the state behind it is.
 use Rattle.std.proofs.Common.{◌≡◌, ℕ, zero, suc, ◌+◌, ◌<◌, List, [], ◌∷◌, length, get_or, Option, Some, None, is_some, true, refl, sym, ap, ◌∙◌, arith}
 use Rattle.std.proofs.lemmas.Bool.{and_from, and_parts, eq-eqb, false≢true, ne_eqb}
-use Rattle.amber_rows.specs.Cond.{numbered}
+use Rattle.amber_rows.specs.Cond.{nth}
 use Rattle.amber_rows.specs.declared.batch.Batch.{Batch}
 use Rattle.amber_log.specs.declared.entry.Entry.{Entry}
 use Rattle.amber_log.specs.declared.entry.Entry.TheVariants as entry
@@ -24,10 +24,10 @@ use Rattle.amber_lines.specs.Moving.{TakesOffered, orders_in}
 
 -- a batch that is offered is taken
 pub takes-from : (offer : ℕ → List Batch) (orders : Orders) (p : Position) (made : Entry) → is_offered offer made ≡ true → TakesOffered offer p made (moved_by offer orders made p)
-takes-from offer orders p (entry.Take from number) e = by (numbered (offer from) (number + 1)) refl e
+takes-from offer orders p (entry.Take from number) e = by (nth (offer from) (number + 1)) refl e
   where
-    by : (found : Option Batch) → numbered (offer from) (number + 1) ≡ found → is_some found ≡ true
-        → (batch : Batch) × (numbered (offer from) (number + 1) ≡ Some batch) × (took_if from found p ≡ took from batch p)
+    by : (found : Option Batch) → nth (offer from) (number + 1) ≡ found → is_some found ≡ true
+        → (batch : Batch) × (nth (offer from) (number + 1) ≡ Some batch) × (took_if from found p ≡ took from batch p)
     by None is f = absurd (false≢true f)
     by (Some batch) is f = (batch, is, refl)
 takes-from offer orders p (entry.Go rows outs) e = tt

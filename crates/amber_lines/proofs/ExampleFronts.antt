@@ -30,8 +30,8 @@ nothing_is_a_beginning = refl
 
 -- ---- a group with four workers, of which two get no row
 
-abbrev grouped : List (List ℕ)
-grouped =
+abbrev group_result : List (List ℕ)
+group_result =
     codes "amber 1 400"
     ∷ codes "end"
     ∷ codes "w 0"
@@ -61,20 +61,20 @@ grouped =
     ∷ codes "f"
     ∷ codes "cut" ∷ []
 
-the_group_is_legal : judged_text (query_of by_item 400) grouped ≡ Ok None
+the_group_is_legal : judged_text (query_of by_item 400) group_result ≡ Ok None
 unfolding reading_on_literals judging_on_literals
 the_group_is_legal = refl
 
 -- the third worker has two keys and three rows
-no_more_rows_than_the_worker_was_given : judged_text (query_of by_item 400) (with_line 14 (codes "g 4 2") grouped) ≡ Ok (Some 14)
+no_more_rows_than_the_worker_was_given : judged_text (query_of by_item 400) (with_line 14 (codes "g 4 2") group_result) ≡ Ok (Some 14)
 unfolding reading_on_literals judging_on_literals
 no_more_rows_than_the_worker_was_given = refl
 
-nothing_is_taken_twice : judged_text (query_of by_item 400) (with_line 22 (codes "t 1 0") grouped) ≡ Ok (Some 22)
+nothing_is_taken_twice : judged_text (query_of by_item 400) (with_line 22 (codes "t 1 0") group_result) ≡ Ok (Some 22)
 unfolding reading_on_literals judging_on_literals
 nothing_is_taken_twice = refl
 
 -- worker 5 is the sink, and the sixth
-no_seventh_worker : judged_text (query_of by_item 400) (with_line 20 (codes "w 6") grouped) ≡ Ok (Some 20)
+no_seventh_worker : judged_text (query_of by_item 400) (with_line 20 (codes "w 6") group_result) ≡ Ok (Some 20)
 unfolding reading_on_literals judging_on_literals
 no_seventh_worker = refl

@@ -18,9 +18,9 @@ use Rattle.amber_log.specs.declared.log.Item.{Item}
 use Rattle.amber_log.specs.declared.log.Item.TheVariants as item
 use Rattle.amber_log.specs.declared.log.Log.{Log}
 use Rattle.amber_log.proofs.Pushes.{ends_over-push}
-use Rattle.amber_meaning.specs.Legal.{AreKnown, IsLegal, IsOpen, Query, Reaches, after_close, entries_of, opened, role_in}
+use Rattle.amber_meaning.specs.Legal.{AreKnown, IsLegal, IsOpen, Query, Reaches, after_close, entries_of, leg_start, role_in}
 use Rattle.amber_meaning.specs.LegalTests.{may_close_end, may_close_run}
-use Rattle.amber_meaning.specs.State.{State, commanded, position_at, start_of, steps_in}
+use Rattle.amber_meaning.specs.State.{State, after_command, position_at, start_of, steps_in}
 use Rattle.amber_meaning.proofs.Fronts.{legal_logs_grow}
 use Rattle.amber_meaning.proofs.Led.{Leads-push}
 use Rattle.amber_meaning.proofs.LegalFrom.{close_end-from, close_run-from}
@@ -55,7 +55,7 @@ enter-open : (query : Query) (log : Log) (to_end : Bool) (parts longer : List Pa
     → IsLonger query worker made parts longer → may_enter query leg.now worker made ≡ true → steps_in (state_behind query leg.now worker made) ≤ query.most
     → OpenAt query log to_end longer (state_behind query leg.now worker made)
 enter-open query log to_end parts longer worker made leg h may few =
-    let start : State = opened to_end leg.legal.after in
+    let start : State = leg_start to_end leg.legal.after in
     let now = leg.now in
     let behind = position_behind query now worker made in
     let arms : now.arms ≡ start.arms = leg.worked.same_arms in
@@ -224,11 +224,11 @@ command-legal : (query : Query) (log : Log) (command : Command) (more : List Lin
 unfolding judge_all
 command-legal query log command more last state legal may is e =
     let found = first-of (judge query (Between state) (line.Do command)) (λ next. judge_all query next more) last e in
-    let test = passes (fits_of query.flow command) (Between (commanded query.flow command state)) found.0 found.1 in
+    let test = passes (fits_of query.flow command) (Between (after_command query.flow command state)) found.0 found.1 in
     record {
-      after = commanded query.flow command state;
-      legal = legal_logs_grow query log.batch log.items (item.Do command) (commanded query.flow command state) legal.0 may is
-          (test.0, ap (commanded query.flow command) (sym legal.1));
+      after = after_command query.flow command state;
+      legal = legal_logs_grow query log.batch log.items (item.Do command) (after_command query.flow command state) legal.0 may is
+          (test.0, ap (after_command query.flow command) (sym legal.1));
       rest = subst (λ (p : Progress). judge_all query p more ≡ Some last) (sym test.1) found.2;
     }
 
@@ -264,25 +264,25 @@ nobody-known : (query : Query) → AreKnown query []
 nobody-known query worker none = absurd (false≢true none)
 
 pub opens : (query : Query) (log : Log) (to_end : Bool) (state : State) → LegalAt query log state → ends_over false log.items ≡ false
-    → OpenAt query log to_end [] (opened to_end state)
+    → OpenAt query log to_end [] (leg_start to_end state)
 opens query log to_end state legal may =
     let leg = legs_open query log to_end legal.0 may in
-    (leg.0, leg.1 ∙ ap (opened to_end) legal.1)
+    (leg.0, leg.1 ∙ ap (leg_start to_end) legal.1)
 
 -- the lines of a leg's parts, from its opening
 pub leg-open : (query : Query) (log : Log) (to_end : Bool) (parts : List Part) (more : List Line) (last : Progress) (state : State) → LegalAt query log state
-    → ends_over false log.items ≡ false → AreParts 0 parts → judge_all query (Within to_end (opened to_end state) 0) (flat_map part_lines parts ++ more) ≡ Some last
+    → ends_over false log.items ≡ false → AreParts 0 parts → judge_all query (Within to_end (leg_start to_end state) 0) (flat_map part_lines parts ++ more) ≡ Some last
     → GoesOn query log to_end parts more last
 leg-open query log to_end parts more last state legal may text e =
-    parts-open query log to_end [] parts more last (opened to_end state) 0 (nobody-known query) text (opens query log to_end state legal may) e
+    parts-open query log to_end [] parts more last (leg_start to_end state) 0 (nobody-known query) text (opens query log to_end state legal may) e
 
 leg-lines : (query : Query) (log : Log) (to_end : Bool) (leg : Leg) (more : List Line) (last : Progress) (state : State) → LegalAt query log state
     → ends_over false log.items ≡ false → AreParts 0 leg.parts
-    → judge_all query (Within to_end (opened to_end state) 0) ((flat_map part_lines leg.parts ++ line.Close leg.close ∷ []) ++ more) ≡ Some last
+    → judge_all query (Within to_end (leg_start to_end state) 0) ((flat_map part_lines leg.parts ++ line.Close leg.close ∷ []) ++ more) ≡ Some last
     → GoesOn query log to_end leg.parts (line.Close leg.close ∷ more) last
 leg-lines query log to_end leg more last state legal may text e =
     leg-open query log to_end leg.parts (line.Close leg.close ∷ more) last state legal may text
-    (ap (judge_all query (Within to_end (opened to_end state) 0)) (sym (append_assoc (flat_map part_lines leg.parts) (line.Close leg.close ∷ []) more)) ∙ e)
+    (ap (judge_all query (Within to_end (leg_start to_end state) 0)) (sym (append_assoc (flat_map part_lines leg.parts) (line.Close leg.close ∷ []) more)) ∙ e)
 
 item-legal : (query : Query) (log : Log) (one : Item) (more : List Line) (last : Progress) (state : State) → LegalAt query log state
     → ends_over false log.items ≡ false → IsItem one → judge_all query (Between state) (item_lines one ++ more) ≡ Some last → GoesBehind query (with_item log one) more last

@@ -9,7 +9,7 @@ use Rattle.std.proofs.lemmas.List.Elements.{filter-append}
 use Rattle.std.proofs.lemmas.Nat.{le-div}
 use Rattle.std.proofs.lemmas.Option.{slice_get_within}
 use Rattle.amber_rows.specs.Chunks.{chunks_of, numbers_below}
-use Rattle.amber_rows.specs.Cond.{numbered}
+use Rattle.amber_rows.specs.Cond.{nth}
 use Rattle.amber_rows.specs.Crew.{crew_of, receiver_of}
 use Rattle.amber_rows.specs.declared.value.Value.{Value}
 use Rattle.amber_rows.specs.declared.batch.Batch.{Batch}
@@ -17,21 +17,21 @@ use Rattle.amber_log.specs.Grammar.{IsBatch}
 use Rattle.amber_log.specs.declared.entry.Entry.{Entry}
 use Rattle.amber_log.specs.declared.entry.Entry.TheVariants as entry
 use Rattle.amber_log.specs.declared.log.Log.{Log}
-use Rattle.amber_meaning.specs.Legal.{AreOffered, Begins, IsLegal, Query, batches_for, entries_of, opened, role_in, stream_of}
+use Rattle.amber_meaning.specs.Legal.{AreOffered, IsPrefix, IsLegal, Query, batches_for, entries_of, leg_start, role_in, stream_of}
 use Rattle.amber_meaning.specs.Plan.{role_of}
 use Rattle.amber_meaning.specs.Position.{Position, emitted_rows, kept, produced_rows, taken_from}
 use Rattle.amber_meaning.specs.Rules.{Leads, MayGo, MayTake, Moves, Orders, took, went}
 use Rattle.amber_meaning.specs.State.{position_at}
 use Rattle.amber_meaning.specs.Task.{Role}
 use Rattle.amber_meaning.proofs.Chunks.{chunks-marked, full_batch, fulls-longer}
-use Rattle.amber_meaning.proofs.Lists.{Begins-refl, Begins-trans, numbered-next, slice_get-seam}
+use Rattle.amber_meaning.proofs.Lists.{IsPrefix-refl, IsPrefix-trans, nth-next, slice_get-seam}
 use Rattle.amber_meaning.proofs.OneState.{same-batches, taken_from-other, taken_from-push}
 use Rattle.amber_meaning.proofs.Orderly.{IsOrderly, marked-front}
 use Rattle.amber_lines.specs.Moving.{HaveMoved, IsNextEntry, NextEntry, TakesOffered, orders_in}
 use Rattle.amber_lines.specs.MovingLaws.{OpenLegsGrow}
 use Rattle.amber_lines.proofs.Bounded.{IsBounded, product-later, product-taken}
 use Rattle.amber_lines.proofs.BoundedLogs.{open-bounded}
-use Rattle.amber_lines.proofs.Splitting.{moved-of, worked-of}
+use Rattle.amber_lines.proofs.Splitting.{moved-of, after_leg-of}
 
 -- ---- fates over lists of rows
 
@@ -44,7 +44,7 @@ kept-front (x ∷ xs) more [] h = refl
 kept-front (x ∷ xs) more (true ∷ outcomes) h = ap (λ l. x ∷ l) (kept-front xs more outcomes (omega arith))
 kept-front (x ∷ xs) more (false ∷ outcomes) h = kept-front xs more outcomes (omega arith)
 
-kept-later : {A : Type 0} (xs : List A) (outcomes others : List Bool) → Begins (kept xs outcomes) (kept xs (outcomes ++ others))
+kept-later : {A : Type 0} (xs : List A) (outcomes others : List Bool) → IsPrefix (kept xs outcomes) (kept xs (outcomes ++ others))
 unfolding kept
 kept-later [] outcomes others = ([], refl)
 kept-later (x ∷ xs) [] others = (kept (x ∷ xs) others, refl)
@@ -55,7 +55,7 @@ kept-later (x ∷ xs) (false ∷ outcomes) others = kept-later xs outcomes other
 
 -- what was emitted stays, and with a finished worker nothing comes
 pub record IsGrown (role : Role) (p q : Position) : Type 0 where
-  pub emitted : Begins (emitted_rows role p) (emitted_rows role q)
+  pub emitted : IsPrefix (emitted_rows role p) (emitted_rows role q)
   pub over : p.finished ≡ true → (emitted_rows role q ≡ emitted_rows role p) × (q.finished ≡ true)
 
 still : (p : Position) (A : Type 0) → p.finished ≡ false → p.finished ≡ true → A
@@ -67,21 +67,21 @@ took-grown role p from number batch orderly may h =
     let longer = product-taken role p.taken from batch p.constants h.within orderly may.sender in
     let same : emitted_rows role (took from batch p) ≡ emitted_rows role p =
     ap (λ (rows : List (List Value)). kept rows p.outcomes) (sym longer.1) ∙ kept-front (produced_rows role p) longer.0 p.outcomes h.produced in
-    record { emitted = rw same (Begins-refl (emitted_rows role p)); over = still p _ may.free.unfinished }
+    record { emitted = rw same (IsPrefix-refl (emitted_rows role p)); over = still p _ may.free.unfinished }
 
 went-grown : (role : Role) (orders : Orders) (p : Position) (rows outs : ℕ) → MayGo role orders p rows outs → IsBounded role p
     → IsGrown role p (went orders rows outs p)
 went-grown role orders p rows outs may h =
     let longer = product-later role p.taken p.constants rows orders.constants may.within in
     let all : List (List Value) = produced_rows role p ++ longer.0 in
-    let first : Begins (kept all p.outcomes) (kept all (p.outcomes ++ replicate outs true)) = kept-later all p.outcomes (replicate outs true) in
+    let first : IsPrefix (kept all p.outcomes) (kept all (p.outcomes ++ replicate outs true)) = kept-later all p.outcomes (replicate outs true) in
     record {
       emitted = rw (longer.1, ← kept-front (produced_rows role p) longer.0 p.outcomes h.produced) first;
       over = still p _ may.free.unfinished;
     }
 
 flags-grown : (role : Role) (p : Position) (hand : ℕ) (held waved paused : Bool) → IsGrown role p (record p { hand = hand; held = held; waved = waved; paused = paused })
-flags-grown role p hand held waved paused = record { emitted = Begins-refl (emitted_rows role p); over = λ e. (refl, e) }
+flags-grown role p hand held waved paused = record { emitted = IsPrefix-refl (emitted_rows role p); over = λ e. (refl, e) }
 
 pub moved-grown : (role : Role) (orders : Orders) (p q : Position) (one : Entry) → IsOrderly role q.taken → Moves role orders p one q → IsBounded role p → IsGrown role p q
 moved-grown role orders p q (entry.Take from number) orderly h bounded = rw h.2 (took-grown role p from number h.0 (rw h.2 at orderly) h.1 bounded)
@@ -91,23 +91,23 @@ moved-grown role orders p q (entry.Back n) orderly h bounded = rw h.1 (flags-gro
 moved-grown role orders p q entry.Pause orderly h bounded = rw h.1 (flags-grown role p p.hand p.held p.waved true)
 moved-grown role orders p q entry.Resume orderly h bounded = rw h.1 (flags-grown role p p.hand p.held p.waved false)
 moved-grown role orders p q entry.Hold orderly h bounded = rw h.1 (flags-grown role p p.hand true p.waved p.paused)
-moved-grown role orders p q entry.Finish orderly h bounded = rw h.1 (record { emitted = Begins-refl (emitted_rows role p); over = λ e. (refl, refl) })
+moved-grown role orders p q entry.Finish orderly h bounded = rw h.1 (record { emitted = IsPrefix-refl (emitted_rows role p); over = λ e. (refl, refl) })
 
 -- ---- batches of a stream that grows
 
-numbers-begin : (fewer more : ℕ) → fewer ≤ more → Begins (numbers_below fewer) (numbers_below more)
+numbers-begin : (fewer more : ℕ) → fewer ≤ more → IsPrefix (numbers_below fewer) (numbers_below more)
 unfolding numbers_below
-numbers-begin fewer zero h = let none : fewer ≡ 0 = omega arith in rw none (Begins-refl [])
+numbers-begin fewer zero h = let none : fewer ≡ 0 = omega arith in rw none (IsPrefix-refl [])
 numbers-begin fewer (suc more) h = by (cases_lt fewer (suc more)) (λ less. numbers-begin fewer more less)
   where
-    by : (fewer < suc more) ⊎ (suc more ≤ fewer) → (fewer ≤ more → Begins (numbers_below fewer) (numbers_below more)) → Begins (numbers_below fewer) (numbers_below more ++ more ∷ [])
+    by : (fewer < suc more) ⊎ (suc more ≤ fewer) → (fewer ≤ more → IsPrefix (numbers_below fewer) (numbers_below more)) → IsPrefix (numbers_below fewer) (numbers_below more ++ more ∷ [])
     by (inl less) rest =
         let front = rest (omega arith) in
         (front.0 ++ more ∷ [], sym (append_assoc (numbers_below fewer) front.0 (more ∷ [])) ∙ ap (λ (l : List ℕ). l ++ more ∷ []) front.1)
-    by (inr all) rest = let same : fewer ≡ suc more = omega arith in rw same (Begins-refl (numbers_below more ++ more ∷ []))
+    by (inr all) rest = let same : fewer ≡ suc more = omega arith in rw same (IsPrefix-refl (numbers_below more ++ more ∷ []))
 
 fulls-begin : (size : ℕ) (stream more : List (List Value)) → 0 < size
-    → Begins (map (full_batch size stream) (numbers_below (length stream / size))) (map (full_batch size (stream ++ more)) (numbers_below (length (stream ++ more) / size)))
+    → IsPrefix (map (full_batch size stream) (numbers_below (length stream / size))) (map (full_batch size (stream ++ more)) (numbers_below (length (stream ++ more) / size)))
 fulls-begin size stream more some =
     let fewer = length stream / size in
     let within : fewer * size ≤ length stream = div-mul-le_self (length stream) size in
@@ -120,13 +120,13 @@ fulls-begin size stream more some =
           ∙ ap (map (full_batch size (stream ++ more))) numbers.1,
     )
 
-chunks-grow : (size : ℕ) (stream more : List (List Value)) (ended : Bool) → 0 < size → Begins (chunks_of size stream false) (chunks_of size (stream ++ more) ended)
+chunks-grow : (size : ℕ) (stream more : List (List Value)) (ended : Bool) → 0 < size → IsPrefix (chunks_of size stream false) (chunks_of size (stream ++ more) ended)
 unfolding chunks_of
 chunks-grow size stream more ended some =
     let fulls = fulls-begin size stream more some in
-    let front : Begins (map (full_batch size stream) (numbers_below (length stream / size)) ++ []) (map (full_batch size stream) (numbers_below (length stream / size))) =
+    let front : IsPrefix (map (full_batch size stream) (numbers_below (length stream / size)) ++ []) (map (full_batch size stream) (numbers_below (length stream / size))) =
     ([], append-nil _ ∙ append-nil _) in
-    Begins-trans _ _ _ front (Begins-trans _ _ _ fulls (_, refl))
+    IsPrefix-trans _ _ _ front (IsPrefix-trans _ _ _ fulls (_, refl))
 
 -- ---- what a sender has for a receiver
 
@@ -138,7 +138,7 @@ same-stream query sender receiver rows more all e =
 
 pub batches-grow : (query : Query) (before after : List Position) (sender receiver : ℕ) → 0 < query.size
     → IsGrown (role_in query sender) (position_at before sender) (position_at after sender)
-    → Begins (batches_for query before sender receiver) (batches_for query after sender receiver)
+    → IsPrefix (batches_for query before sender receiver) (batches_for query after sender receiver)
 unfolding batches_for stream_of role_of
 batches-grow query before after sender receiver some grown = by (position_at before sender).finished refl
   where
@@ -149,18 +149,18 @@ batches-grow query before after sender receiver some grown = by (position_at bef
     goes = λ row. eqb (receiver_of query.flow sender row) receiver
 
     by : (over : Bool) → (position_at before sender).finished ≡ over
-        → Begins (chunks_of query.size (filter goes (emitted_rows role (position_at before sender))) over)
+        → IsPrefix (chunks_of query.size (filter goes (emitted_rows role (position_at before sender))) over)
         (chunks_of query.size (filter goes (emitted_rows role (position_at after sender))) (position_at after sender).finished)
     by true e =
         let same = grown.over e in
-        rw (same.0, same.1) (Begins-refl (chunks_of query.size (filter goes (emitted_rows role (position_at before sender))) true))
+        rw (same.0, same.1) (IsPrefix-refl (chunks_of query.size (filter goes (emitted_rows role (position_at before sender))) true))
     by false e =
         rw (same-stream query sender receiver (emitted_rows role (position_at before sender)) grown.emitted.0 (emitted_rows role (position_at after sender)) grown.emitted.1)
         (chunks-grow query.size (filter goes (emitted_rows role (position_at before sender))) (filter goes grown.emitted.0) (position_at after sender).finished some)
 
 -- ---- one entry more
 
-next-of : {A : Type 0} (xs ys : List A) (y : A) → Begins xs ys → slice_get ys (length xs) ≡ Some y → Begins (xs ++ y ∷ []) ys
+next-of : {A : Type 0} (xs ys : List A) (y : A) → IsPrefix xs ys → slice_get ys (length xs) ≡ Some y → IsPrefix (xs ++ y ∷ []) ys
 next-of xs ys y ([], e) at =
     let inside = slice_get_within ys (length xs) y at in
     let size = ap length e in
@@ -173,21 +173,21 @@ next-of xs ys y (z ∷ more, e) at =
 
 -- the next batch of a sender
 taken-next : (offer : ℕ → List Batch) (p : Position) (from number : ℕ) (batch : Batch) → number ≡ length (taken_from p.taken from)
-    → numbered (offer from) (number + 1) ≡ Some batch → Begins (taken_from p.taken from) (offer from) → Begins (taken_from (took from batch p).taken from) (offer from)
+    → nth (offer from) (number + 1) ≡ Some batch → IsPrefix (taken_from p.taken from) (offer from) → IsPrefix (taken_from (took from batch p).taken from) (offer from)
 taken-next offer p from number batch next there begins =
     rw (taken_from-push p.taken from batch)
     (next-of (taken_from p.taken from) (offer from) batch begins
-    (sym (numbered-next (offer from) (length (taken_from p.taken from))) ∙ ap (λ (n : ℕ). numbered (offer from) (n + 1)) (sym next) ∙ there))
+    (sym (nth-next (offer from) (length (taken_from p.taken from))) ∙ ap (λ (n : ℕ). nth (offer from) (n + 1)) (sym next) ∙ there))
 
 -- what was taken, with the batch that an entry takes, are the first batches of its sender
 pub taken-offered : (role : Role) (orders : Orders) (offer : ℕ → List Batch) (p q : Position) (one : Entry) (sender : ℕ) → Moves role orders p one q → TakesOffered offer p one q
-    → Begins (taken_from p.taken sender) (offer sender) → Begins (taken_from q.taken sender) (offer sender)
+    → IsPrefix (taken_from p.taken sender) (offer sender) → IsPrefix (taken_from q.taken sender) (offer sender)
 taken-offered role orders offer p q (entry.Take from number) sender h there begins = rw there.2 (by (cases_eq from sender))
   where
-    by : (from ≡ sender) ⊎ (from ≡ sender → ⊥) → Begins (taken_from (took from there.0 p).taken sender) (offer sender)
+    by : (from ≡ sender) ⊎ (from ≡ sender → ⊥) → IsPrefix (taken_from (took from there.0 p).taken sender) (offer sender)
     by (inl same) =
-        subst (λ (s : ℕ). Begins (taken_from (took from there.0 p).taken s) (offer s)) same
-        (taken-next offer p from number there.0 h.1.next there.1 (subst (λ (s : ℕ). Begins (taken_from p.taken s) (offer s)) (sym same) begins))
+        subst (λ (s : ℕ). IsPrefix (taken_from (took from there.0 p).taken s) (offer s)) same
+        (taken-next offer p from number there.0 h.1.next there.1 (subst (λ (s : ℕ). IsPrefix (taken_from p.taken s) (offer s)) (sym same) begins))
     by (inr other) = rw (taken_from-other p.taken from sender there.0 other) begins
 taken-offered role orders offer p q (entry.Go rows outs) sender h there begins = rw h.1 begins
 taken-offered role orders offer p q (entry.Grant n) sender h there begins = rw h.1 begins
@@ -202,7 +202,7 @@ grown-offered : (query : Query) (next : NextEntry) → 0 < query.size → AreOff
     → IsBounded (role_in query next.worker) (position_at next.now.positions next.worker) → IsNextEntry query next → AreOffered query next.after.positions
 unfolding AreOffered batches_for role_of
 grown-offered query next some offered bounded h receiver less sender known =
-    Begins-trans _ _ _ (taken (cases_eq receiver next.worker) (offered receiver less sender known)) (grows (cases_eq sender next.worker))
+    IsPrefix-trans _ _ _ (taken (cases_eq receiver next.worker) (offered receiver less sender known)) (grows (cases_eq sender next.worker))
   where
     now : List Position
     now = next.now.positions
@@ -222,20 +222,20 @@ grown-offered query next some offered bounded h receiver less sender known =
         (offered next.worker h.inside one is) in
         marked-front _ begins.0 (rw begins.1 (chunks-marked query.size _ _))
 
-    grows : (sender ≡ next.worker) ⊎ (sender ≡ next.worker → ⊥) → Begins (batches_for query now sender receiver) (batches_for query after sender receiver)
+    grows : (sender ≡ next.worker) ⊎ (sender ≡ next.worker → ⊥) → IsPrefix (batches_for query now sender receiver) (batches_for query after sender receiver)
     grows (inl same) =
         let grown = moved-grown role (orders_in query next.start next.worker) (position_at now next.worker) (position_at after next.worker) next.made orderly h.allowed bounded in
         batches-grow query now after sender receiver some
         (subst (λ (s : ℕ). IsGrown (role_in query s) (position_at now s) (position_at after s)) (sym same) grown)
-    grows (inr other) = rw (same-batches query after now sender receiver (h.others sender other).0) (Begins-refl (batches_for query now sender receiver))
+    grows (inr other) = rw (same-batches query after now sender receiver (h.others sender other).0) (IsPrefix-refl (batches_for query now sender receiver))
 
     taken : (receiver ≡ next.worker) ⊎ (receiver ≡ next.worker → ⊥)
-        → Begins (taken_from (position_at now receiver).taken sender) (batches_for query now sender receiver)
-        → Begins (taken_from (position_at after receiver).taken sender) (batches_for query now sender receiver)
+        → IsPrefix (taken_from (position_at now receiver).taken sender) (batches_for query now sender receiver)
+        → IsPrefix (taken_from (position_at after receiver).taken sender) (batches_for query now sender receiver)
     taken (inl same) begins =
-        subst (λ (r : ℕ). Begins (taken_from (position_at after r).taken sender) (batches_for query now sender r)) (sym same)
+        subst (λ (r : ℕ). IsPrefix (taken_from (position_at after r).taken sender) (batches_for query now sender r)) (sym same)
         (taken-offered role (orders_in query next.start next.worker) offer (position_at now next.worker) (position_at after next.worker) next.made sender h.allowed h.offered
-        (subst (λ (r : ℕ). Begins (taken_from (position_at now r).taken sender) (batches_for query now sender r)) same begins))
+        (subst (λ (r : ℕ). IsPrefix (taken_from (position_at now r).taken sender) (batches_for query now sender r)) same begins))
     taken (inr other) begins = rw ((h.others receiver other).0) begins
 
 grown-moved : (query : Query) (next : NextEntry) → HaveMoved query next.start next.parts next.now → IsNextEntry query next → HaveMoved query next.start next.longer next.after
@@ -258,9 +258,9 @@ some-size query log legal = let same = legal.batch in let batch : IsBatch log.ba
 
 pub open_legs_grow : OpenLegsGrow
 open_legs_grow query log to_end parts longer worker made after leg h text few =
-    let next : NextEntry = record { start = opened to_end leg.legal.after; now = leg.now; after = after; parts = parts; longer = longer; worker = worker; made = made } in
+    let next : NextEntry = record { start = leg_start to_end leg.legal.after; now = leg.now; after = after; parts = parts; longer = longer; worker = worker; made = made } in
     let offered = grown-offered query next (some-size query log leg.legal) leg.worked.offered (open-bounded query log to_end parts leg worker h.inside) h in
     let moved = grown-moved query next (moved-of query next.start next.now parts leg.worked) h in (
-      record { legal = leg.legal; more = leg.more; text = text; now = after; worked = worked-of query next.start after longer moved offered; few = few },
+      record { legal = leg.legal; more = leg.more; text = text; now = after; worked = after_leg-of query next.start after longer moved offered; few = few },
       refl,
     )

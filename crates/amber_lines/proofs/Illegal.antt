@@ -18,7 +18,7 @@ use Rattle.amber_lines.proofs.Beginnings.{beginnings_have_fronts, whole_logs_are
 -- judging stops at this place
 record StopsAt (query : Query) (progress : Progress) (number found : ℕ) (lines : List Line) : Type 0 where
   place : ℕ
-  numbered : found ≡ number + place
+  nth : found ≡ number + place
   inside : place < length lines
   last : Progress
   good : judge_all query progress (take place lines) ≡ Some last
@@ -60,7 +60,7 @@ some-stops query progress number found (one ∷ more) e = by (judge query progre
         let here : number ≡ found = cc in
         record {
           place = 0;
-          numbered = omega arith;
+          nth = omega arith;
           inside = omega arith;
           last = progress;
           good = refl;
@@ -68,11 +68,11 @@ some-stops query progress number found (one ∷ more) e = by (judge query progre
         }
     by (Some next) is rest e =
         let later = rest next e in
-        let place = later.numbered in
+        let place = later.nth in
         let inside = later.inside in
         record {
           place = suc later.place;
-          numbered = omega arith;
+          nth = omega arith;
           inside = omega arith;
           last = later.last;
           good = ap (option_and_then (λ next. judge_all query next (take later.place more))) is ∙ later.good;
@@ -88,10 +88,10 @@ front-begins query log count last text good =
 
 stops-first : (query : Query) (log : Log) (number : ℕ) → IsLog log → StopsAt query Fresh 1 number (log_lines log) → IsFirstIllegal query (log_lines log) number
 stops-first query log number text h =
-    let numbered = h.numbered in
+    let nth = h.nth in
     record {
       place = h.place;
-      numbered = omega arith;
+      nth = omega arith;
       inside = h.inside;
       good = front-begins query log h.place h.last text h.good;
       bad = λ begins. refused (subst (λ (n : ℕ). IsBeginning query (take n (log_lines log))) (one_more h.place) begins);
@@ -120,7 +120,7 @@ one-first : (query : Query) (lines : List Line) (number other : ℕ) → IsFirst
 one-first query lines number other h g = by (cases_order h.place g.place)
   where
     by : (h.place ≡ g.place) ⊎ ((h.place < g.place) ⊎ (g.place < h.place)) → number ≡ other
-    by (inl same) = h.numbered ∙ ap (λ (n : ℕ). n + 1) same ∙ sym g.numbered
+    by (inl same) = h.nth ∙ ap (λ (n : ℕ). n + 1) same ∙ sym g.nth
     by (inr (inl less)) = absurd (h.bad (fewer-begin query (h.place + 1) g.place lines (omega arith) g.good))
     by (inr (inr less)) = absurd (g.bad (fewer-begin query (g.place + 1) h.place lines (omega arith) h.good))
 

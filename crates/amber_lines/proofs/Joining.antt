@@ -152,11 +152,11 @@ pub goes_join : GoesJoin
 unfolding Leads
 goes_join role orders start p q done rows outs more others leads moves =
     let parts = Leads-parts role orders start p done (entry.Go rows outs ∷ []) leads in
-    joined parts.0 parts.1 parts.2.1.0 (sym parts.2.2 ∙ parts.2.1.1)
+    join_result parts.0 parts.1 parts.2.1.0 (sym parts.2.2 ∙ parts.2.1.1)
   where
     joined : (m : Position) → Leads role orders start done m → MayGo role orders m rows outs → p ≡ went orders rows outs m
         → Leads role orders start (done ++ entry.Go (rows + more) (outs + others) ∷ []) q
-    joined m before may is =
+    join_result m before may is =
         let second : MayGo role orders (went orders rows outs m) more others = rw is at moves.0 in
         let now : q ≡ went orders (rows + more) (outs + others) m = moves.1 ∙ ap (went orders more others) is ∙ went-both orders m rows outs more others in
         Leads-push role orders start done m (entry.Go (rows + more) (outs + others)) q before (go-both role orders m rows outs more others may second, now)

@@ -8,12 +8,12 @@ use Rattle.amber_log.specs.declared.leg.Part.{Part}
 use Rattle.amber_log.specs.declared.log.Item.{Item}
 use Rattle.amber_log.specs.declared.log.Item.TheVariants as item
 use Rattle.amber_meaning.specs.declared.view.Stop.{Stop}
-use Rattle.amber_meaning.specs.Legal.{Query, opened, stops_in}
-use Rattle.amber_meaning.specs.Replay.{after_item, after_items, state_after, worked}
+use Rattle.amber_meaning.specs.Legal.{Query, leg_start, stops_in}
+use Rattle.amber_meaning.specs.Replay.{after_item, after_items, state_after, after_leg}
 use Rattle.amber_meaning.specs.State.{State, start_of}
 use Rattle.amber_meaning.specs.Texts.{stops_text}
 use Rattle.amber_meaning.specs.Transcript.{reply_of}
-use Rattle.amber_meaning.proofs.OneState.{legal_logs_have_one_state, worked-is}
+use Rattle.amber_meaning.proofs.OneState.{legal_logs_have_one_state, after_leg-is}
 use Rattle.amber_lines.specs.KeptStops.{CommandsKeepStops, KeptStopsWereReplied, LegsKeepTheirStops, NoStopsAtFirst, is_leg_item, kept_stops, leg_of, stops_along, stops_left}
 
 none-along : (query : Query) (state : State) (items : List Item) → list_all (λ (one : Item). not (is_leg_item one)) items ≡ true → stops_along query state [] items ≡ []
@@ -47,7 +47,7 @@ pub commands_keep_stops : CommandsKeepStops
 commands_keep_stops query items one e = kept-push query items one ∙ command-leaves query (state_after query items) (kept_stops query items) one e
 
 leg-leaves : (query : Query) (state : State) (kept : List Stop) (to_end : Bool) (parts : List Part) (closed : Close)
-    → stops_left query state kept (leg_of to_end parts closed) ≡ stops_in query (worked query (opened to_end state) parts)
+    → stops_left query state kept (leg_of to_end parts closed) ≡ stops_in query (after_leg query (leg_start to_end state) parts)
 leg-leaves query state kept false parts closed = refl
 leg-leaves query state kept true parts closed = refl
 
@@ -55,8 +55,8 @@ pub legs_keep_their_stops : LegsKeepTheirStops
 legs_keep_their_stops query log to_end parts closed reached first legal h =
     kept-push query log.items (leg_of to_end parts closed)
     ∙ leg-leaves query (state_after query log.items) (kept_stops query log.items) to_end parts closed
-    ∙ ap (λ (s : State). stops_in query (worked query (opened to_end s) parts)) (legal_logs_have_one_state query log first legal)
-    ∙ ap (stops_in query) (worked-is query (opened to_end legal.after) reached parts first h)
+    ∙ ap (λ (s : State). stops_in query (after_leg query (leg_start to_end s) parts)) (legal_logs_have_one_state query log first legal)
+    ∙ ap (stops_in query) (after_leg-is query (leg_start to_end legal.after) reached parts first h)
 
 pub kept_stops_were_replied : KeptStopsWereReplied
 unfolding reply_of

@@ -19,11 +19,11 @@ use Rattle.amber_log.specs.declared.log.Item.TheVariants as item
 use Rattle.amber_log.specs.declared.log.Log.{Log}
 use Rattle.amber_log.proofs.Pushes.{ends_over-push}
 use Rattle.amber_meaning.specs.Laws.{SendersFirst}
-use Rattle.amber_meaning.specs.Legal.{AreKnown, AreOffered, ClosesEnd, ClosesRun, IsLegal, IsOpen, IsWorked, Makes, Query, Reaches, after_close, entries_of, opened, role_in}
+use Rattle.amber_meaning.specs.Legal.{AreKnown, AreOffered, ClosesEnd, ClosesRun, IsLegal, IsOpen, IsWorked, Makes, Query, Reaches, after_close, entries_of, leg_start, role_in}
 use Rattle.amber_meaning.specs.Plan.{role_of}
 use Rattle.amber_meaning.specs.Position.{Position, origin, taken_from}
 use Rattle.amber_meaning.specs.Rules.{Leads, Moves, Orders}
-use Rattle.amber_meaning.specs.State.{State, begun, begun_to_end, commanded, position_at, start_of, steps_in}
+use Rattle.amber_meaning.specs.State.{State, begin_leg, begin_last_leg, after_command, position_at, start_of, steps_in}
 use Rattle.amber_meaning.specs.Task.{Role}
 use Rattle.amber_meaning.proofs.Fronts.{legal_logs_grow}
 use Rattle.amber_meaning.proofs.LegalTests.{may_close_end-is, may_close_run-is, offered-is}
@@ -218,21 +218,21 @@ parts-judged query to_end now after least before (one ∷ rest) more first text 
 pub leg-judged : (query : Query) (to_end : Bool) (start after : State) (parts : List Part) (more : List Line)
     → SendersFirst query.flow → AreParts 0 parts → length start.positions ≡ crew_of query.flow → IsWorked query start parts after → steps_in after ≤ query.most
     → (worker : ℕ) × (judge_all query (Within to_end start 0) (flat_map part_lines parts ++ more) ≡ judge_all query (Within to_end after worker) more)
-leg-judged query to_end start after parts more first text crew worked few =
-    parts-judged query to_end start after 0 0 parts more first text worked.known
-    (record { arms = worked.same_arms; crew = crew; crew_after = worked.crew; offered = worked.offered; few = few; led = worked.moved })
+leg-judged query to_end start after parts more first text crew after_leg few =
+    parts-judged query to_end start after 0 0 parts more first text after_leg.known
+    (record { arms = after_leg.same_arms; crew = crew; crew_after = after_leg.crew; offered = after_leg.offered; few = few; led = after_leg.moved })
 
 -- ---- items
 
-opened-length : (to_end : Bool) (state : State) → length (opened to_end state).positions ≡ length state.positions
-unfolding begun begun_to_end
-opened-length true state = length-map state.positions _
-opened-length false state = length-map state.positions _
+leg_start-length : (to_end : Bool) (state : State) → length (leg_start to_end state).positions ≡ length state.positions
+unfolding begin_leg begin_last_leg
+leg_start-length true state = length-map state.positions _
+leg_start-length false state = length-map state.positions _
 
-pub opened-crew : (query : Query) (log : Log) (to_end : Bool) (state : State) → LegalAt query log state → length (opened to_end state).positions ≡ crew_of query.flow
-opened-crew query log to_end state legal =
+pub leg_start-crew : (query : Query) (log : Log) (to_end : Bool) (state : State) → LegalAt query log state → length (leg_start to_end state).positions ≡ crew_of query.flow
+leg_start-crew query log to_end state legal =
     let rests = legal_logs_rest query log legal.0 in
-    opened-length to_end state ∙ ap (λ (s : State). length s.positions) (sym legal.1) ∙ rests.crew
+    leg_start-length to_end state ∙ ap (λ (s : State). length s.positions) (sym legal.1) ∙ rests.crew
 
 few-run : (query : Query) (state : State) (closed : Close) → ClosesRun query state closed → steps_in state ≤ query.most
 few-run query state close.Cut h = h.1
@@ -246,17 +246,17 @@ item-judged : (query : Query) (log : Log) (state after : State) (one : Item) (mo
     → Makes query state one after → judge_all query (Between state) (item_lines one ++ more) ≡ judge_all query (Between after) more
 unfolding judge_all
 item-judged query log state after (item.Do command) more first legal is h =
-    ap (λ (b : Bool). option_and_then (λ next. judge_all query next more) (when b (Between (commanded query.flow command state)))) h.0
+    ap (λ (b : Bool). option_and_then (λ next. judge_all query next more) (when b (Between (after_command query.flow command state)))) h.0
     ∙ ap (λ (s : State). judge_all query (Between s) more) (sym h.1)
 item-judged query log state after (item.Run leg) more first legal is h =
-    let lines = leg-judged query false (opened false state) h.0 leg.parts (line.Close leg.close ∷ more) first is (opened-crew query log false state legal) h.1 (few-run query h.0 leg.close h.2) in
-    ap (judge_all query (Within false (opened false state) 0)) (append_assoc (flat_map part_lines leg.parts) (line.Close leg.close ∷ []) more)
+    let lines = leg-judged query false (leg_start false state) h.0 leg.parts (line.Close leg.close ∷ more) first is (leg_start-crew query log false state legal) h.1 (few-run query h.0 leg.close h.2) in
+    ap (judge_all query (Within false (leg_start false state) 0)) (append_assoc (flat_map part_lines leg.parts) (line.Close leg.close ∷ []) more)
     ∙ lines.1
     ∙ ap (λ (b : Bool). option_and_then (λ next. judge_all query next more) (when b (Between (after_close query h.0 leg.close)))) (may_close_run-is query h.0 leg.close h.2)
     ∙ ap (λ (s : State). judge_all query (Between s) more) (sym h.3)
 item-judged query log state after (item.End leg) more first legal is h =
-    let lines = leg-judged query true (opened true state) h.0 leg.parts (line.Close leg.close ∷ more) first is (opened-crew query log true state legal) h.1 (few-end query h.0 leg.close h.2) in
-    ap (judge_all query (Within true (opened true state) 0)) (append_assoc (flat_map part_lines leg.parts) (line.Close leg.close ∷ []) more)
+    let lines = leg-judged query true (leg_start true state) h.0 leg.parts (line.Close leg.close ∷ more) first is (leg_start-crew query log true state legal) h.1 (few-end query h.0 leg.close h.2) in
+    ap (judge_all query (Within true (leg_start true state) 0)) (append_assoc (flat_map part_lines leg.parts) (line.Close leg.close ∷ []) more)
     ∙ lines.1
     ∙ ap (λ (b : Bool). option_and_then (λ next. judge_all query next more) (when b (Between h.0))) (may_close_end-is query h.0 leg.close h.2)
     ∙ ap (λ (s : State). judge_all query (Between s) more) (sym h.3)
@@ -289,7 +289,7 @@ log-judged query log more first legal =
     ∙ items-judged query log.batch [] log.items (start_of query.flow) legal.after more first (start-legal query log legal) legal.text.items legal.reached
 
 pub opening-judged : (query : Query) (to_end : Bool) (state : State) (more : List Line)
-    → judge_all query (Between state) (leg_line to_end ∷ more) ≡ judge_all query (Within to_end (opened to_end state) 0) more
+    → judge_all query (Between state) (leg_line to_end ∷ more) ≡ judge_all query (Within to_end (leg_start to_end state) 0) more
 unfolding judge_all
 opening-judged query false state more = refl
 opening-judged query true state more = refl
@@ -299,7 +299,7 @@ pub open-judged : (query : Query) (log : Log) (to_end : Bool) (parts : List Part
     → (worker : ℕ) × (judge_all query Fresh (open_lines log to_end parts ++ more) ≡ judge_all query (Within to_end leg.now worker) more)
 open-judged query log to_end parts more first leg =
     let state = leg.legal.after in
-    let lines = leg-judged query to_end (opened to_end state) leg.now parts more first leg.text (opened-crew query log to_end state (leg.legal, refl)) leg.worked leg.few in (
+    let lines = leg-judged query to_end (leg_start to_end state) leg.now parts more first leg.text (leg_start-crew query log to_end state (leg.legal, refl)) leg.worked leg.few in (
       lines.0,
       ap (judge_all query Fresh) (append_assoc (log_lines log) (leg_line to_end ∷ flat_map part_lines parts) more)
           ∙ log-judged query log (leg_line to_end ∷ (flat_map part_lines parts ++ more)) first leg.legal

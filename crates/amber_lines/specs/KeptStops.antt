@@ -9,17 +9,17 @@ use Rattle.amber_log.specs.declared.log.Item.TheVariants as item
 use Rattle.amber_log.specs.declared.log.Log.{Log}
 use Rattle.amber_meaning.specs.declared.view.Stop.{Stop}
 use Rattle.amber_meaning.specs.Laws.{SendersFirst}
-use Rattle.amber_meaning.specs.Legal.{IsLegal, IsWorked, Query, opened, stops_in}
-use Rattle.amber_meaning.specs.Replay.{after_item, state_after, worked}
-use Rattle.amber_meaning.specs.State.{State, begun, begun_to_end, start_of}
+use Rattle.amber_meaning.specs.Legal.{IsLegal, IsWorked, Query, leg_start, stops_in}
+use Rattle.amber_meaning.specs.Replay.{after_item, state_after, after_leg}
+use Rattle.amber_meaning.specs.State.{State, begin_leg, begin_last_leg, start_of}
 use Rattle.amber_meaning.specs.Texts.{stops_text}
 use Rattle.amber_meaning.specs.Transcript.{reply_of}
 
 -- the stops that an item leaves, in the state before it: a leg its own, a command those that were kept
 abbrev pub stops_left : Query → State → List Stop → Item → List Stop
 stops_left query state kept (item.Do command) = kept
-stops_left query state kept (item.Run leg) = stops_in query (worked query (begun state) leg.parts)
-stops_left query state kept (item.End leg) = stops_in query (worked query (begun_to_end state) leg.parts)
+stops_left query state kept (item.Run leg) = stops_in query (after_leg query (begin_leg state) leg.parts)
+stops_left query state kept (item.End leg) = stops_in query (after_leg query (begin_last_leg state) leg.parts)
 
 unfoldable pub stops_along : Query → State → List Stop → List Item → List Stop
 stops_along query state kept [] = kept
@@ -52,7 +52,7 @@ leg_of true parts closed = item.End (record { parts = parts; close = closed })
 -- behind a leg of a legal log they are the stops of the state that its workers reached
 abbrev pub LegsKeepTheirStops : Type 0
 LegsKeepTheirStops = (query : Query) (log : Log) (to_end : Bool) (parts : List Part) (closed : Close) (reached : State)
-    → SendersFirst query.flow → (legal : IsLegal query log) → IsWorked query (opened to_end legal.after) parts reached
+    → SendersFirst query.flow → (legal : IsLegal query log) → IsWorked query (leg_start to_end legal.after) parts reached
     → kept_stops query (log.items ++ leg_of to_end parts closed ∷ []) ≡ stops_in query reached
 
 -- and what was replied to a leg that was cut is their text

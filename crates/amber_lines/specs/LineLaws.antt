@@ -57,7 +57,7 @@ PartsAreBegun = (query : Query) (log : Log) (to_end : Bool) (parts : List Part) 
 -- the lines before this one, numbered from 1, are a legal beginning, and with it they are none
 pub record IsFirstIllegal (query : Query) (lines : List Line) (number : ℕ) : Type 0 where
   pub place : ℕ
-  pub numbered : number ≡ place + 1
+  pub nth : number ≡ place + 1
   pub inside : place < length lines
   pub good : IsBeginning query (take place lines)
   pub bad : IsBeginning query (take (place + 1) lines) → ⊥

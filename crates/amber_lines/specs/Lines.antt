@@ -12,12 +12,12 @@ use Rattle.amber_log.specs.declared.leg.Part.{Part}
 use Rattle.amber_log.specs.declared.line.Line.{Line}
 use Rattle.amber_log.specs.declared.line.Line.TheVariants as line
 use Rattle.amber_log.specs.declared.log.Log.{Log}
-use Rattle.amber_meaning.specs.Legal.{Begins, Query, after_close, batches_for, opened, role_in}
+use Rattle.amber_meaning.specs.Legal.{IsPrefix, Query, after_close, batches_for, leg_start, role_in}
 use Rattle.amber_meaning.specs.LegalTests.{is_offered, may_close_end, may_close_run}
 use Rattle.amber_meaning.specs.Position.{Position}
 use Rattle.amber_meaning.specs.Replay.{moved_by}
 use Rattle.amber_meaning.specs.RuleTests.{may_move}
-use Rattle.amber_meaning.specs.State.{State, changed_at, commanded, position_at, start_of, steps_in}
+use Rattle.amber_meaning.specs.State.{State, changed_at, after_command, position_at, start_of, steps_in}
 use Rattle.amber_lines.specs.Moving.{orders_in}
 
 -- how far a log was judged: no line yet, behind an item, or inside a leg, to the end or not, in the part of a worker
@@ -67,9 +67,9 @@ judge_close query true now closed = when (may_close_end query now closed) (Betwe
 
 -- a line behind an item: a command that fits the workflow, or the start of a leg
 abbrev pub judge_between : Query → State → Line → Option Progress
-judge_between query state (line.Do command) = when (fits_of query.flow command) (Between (commanded query.flow command state))
-judge_between query state line.Run = Some (Within false (opened false state) 0)
-judge_between query state line.End = Some (Within true (opened true state) 0)
+judge_between query state (line.Do command) = when (fits_of query.flow command) (Between (after_command query.flow command state))
+judge_between query state line.Run = Some (Within false (leg_start false state) 0)
+judge_between query state line.End = Some (Within true (leg_start true state) 0)
 judge_between query state (line.Head batch) = None
 judge_between query state (line.Worker worker) = None
 judge_between query state (line.Entry made) = None
@@ -112,7 +112,7 @@ judge_all query progress (one ∷ more) = option_and_then (λ next. judge_all qu
 pub record IsBeginning (query : Query) (lines : List Line) : Type 0 where
   pub log : Log
   pub text : IsLog log
-  pub front : Begins lines (log_lines log)
+  pub front : IsPrefix lines (log_lines log)
   pub progress : Progress
   pub good : judge_all query Fresh lines ≡ Some progress
 

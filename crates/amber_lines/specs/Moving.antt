@@ -1,6 +1,6 @@
 -- A leg's work in two parts: each worker moves by its rules, and what was taken was offered.
 use Rattle.std.specs.Prelude.{◌≡◌, ℕ, ◌+◌, ◌<◌, ◌≤◌, List, length, Some, Bool, false}
-use Rattle.amber_rows.specs.Cond.{numbered}
+use Rattle.amber_rows.specs.Cond.{nth}
 use Rattle.amber_rows.specs.Crew.{crew_of, op_of}
 use Rattle.amber_rows.specs.declared.batch.Batch.{Batch}
 use Rattle.amber_log.specs.Grammar.{AreParts, ends_over}
@@ -8,7 +8,7 @@ use Rattle.amber_log.specs.declared.entry.Entry.{Entry}
 use Rattle.amber_log.specs.declared.entry.Entry.TheVariants as entry
 use Rattle.amber_log.specs.declared.leg.Part.{Part}
 use Rattle.amber_log.specs.declared.log.Log.{Log}
-use Rattle.amber_meaning.specs.Legal.{AreKnown, IsLegal, Query, batches_for, entries_of, opened, role_in}
+use Rattle.amber_meaning.specs.Legal.{AreKnown, IsLegal, Query, batches_for, entries_of, leg_start, role_in}
 use Rattle.amber_meaning.specs.Position.{Position}
 use Rattle.amber_meaning.specs.Rules.{Leads, Moves, Orders, took}
 use Rattle.amber_meaning.specs.State.{State, arms_at, orders_of, position_at, steps_in}
@@ -31,14 +31,14 @@ pub record IsUnderway (query : Query) (log : Log) (to_end : Bool) (parts : List 
   pub legal : IsLegal query log
   pub more : ends_over false log.items ≡ false
   pub text : AreParts 0 parts
-  pub moved : HaveMoved query (opened to_end legal.after) parts now
+  pub moved : HaveMoved query (leg_start to_end legal.after) parts now
   pub few : steps_in now ≤ query.most
 
 -- ---- an entry more
 
 -- an entry takes the batch that is offered under its number, and leads so to the position afterwards
 abbrev pub TakesOffered : (ℕ → List Batch) → Position → Entry → Position → Type 0
-TakesOffered offer p (entry.Take from number) q = (batch : Batch) × (numbered (offer from) (number + 1) ≡ Some batch) × (q ≡ took from batch p)
+TakesOffered offer p (entry.Take from number) q = (batch : Batch) × (nth (offer from) (number + 1) ≡ Some batch) × (q ≡ took from batch p)
 TakesOffered offer p (entry.Go rows outs) q = Unit {0}
 TakesOffered offer p (entry.Grant n) q = Unit {0}
 TakesOffered offer p (entry.Back n) q = Unit {0}

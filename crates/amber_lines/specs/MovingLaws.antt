@@ -5,7 +5,7 @@ use Rattle.amber_log.specs.declared.entry.Entry.{Entry}
 use Rattle.amber_log.specs.declared.entry.Entry.TheVariants as entry
 use Rattle.amber_log.specs.declared.leg.Part.{Part}
 use Rattle.amber_log.specs.declared.log.Log.{Log}
-use Rattle.amber_meaning.specs.Legal.{AreOffered, IsOpen, IsWorked, Query, opened}
+use Rattle.amber_meaning.specs.Legal.{AreOffered, IsOpen, IsWorked, Query, leg_start}
 use Rattle.amber_meaning.specs.Position.{Position}
 use Rattle.amber_meaning.specs.Rules.{Leads, Moves, Orders}
 use Rattle.amber_meaning.specs.State.{State, steps_in}
@@ -26,7 +26,7 @@ OpenIsMovingAndOffering = (query : Query) (log : Log) (to_end : Bool) (parts : L
 abbrev pub OpenLegsGrow : Type 0
 OpenLegsGrow = (query : Query) (log : Log) (to_end : Bool) (parts longer : List Part) (worker : ℕ) (made : Entry) (after : State)
     → (leg : IsOpen query log to_end parts)
-    → IsNextEntry query (record { start = opened to_end leg.legal.after; now = leg.now; after = after; parts = parts; longer = longer; worker = worker; made = made })
+    → IsNextEntry query (record { start = leg_start to_end leg.legal.after; now = leg.now; after = after; parts = parts; longer = longer; worker = worker; made = made })
     → AreParts 0 longer → steps_in after ≤ query.most
     → (grown : IsOpen query log to_end longer) × (grown.now ≡ after)
 

@@ -67,7 +67,7 @@ first_bad : (before : List (List ℕ)) (bytes : List ℕ) (lines : List (List �
 first_bad before bytes lines begins fails =
     record {
       place = length before;
-      numbered = refl;
+      nth = refl;
       inside = let size = length-append before (bytes ∷ lines) in omega arith;
       good = subst BeginsText (sym (take-append_seam before (bytes ∷ lines))) begins;
       bad = λ h. fails_at (subst BeginsText (ap (λ (n : ℕ). take n (before ++ bytes ∷ lines)) (add-one (length before)) ∙ take-one_more before bytes lines) h);
@@ -230,7 +230,7 @@ one_first : (lines : List (List ℕ)) (number other : ℕ) → IsFirstBadLine li
 one_first lines number other h g = by_order (cases_order h.place g.place)
   where
     by_order : (h.place ≡ g.place) ⊎ ((h.place < g.place) ⊎ (g.place < h.place)) → number ≡ other
-    by_order (inl same) = h.numbered ∙ ap (λ (n : ℕ). n + 1) same ∙ sym g.numbered
+    by_order (inl same) = h.nth ∙ ap (λ (n : ℕ). n + 1) same ∙ sym g.nth
     by_order (inr (inl less)) = absurd (h.bad (fewer_begin (h.place + 1) g.place lines (omega arith) g.good))
     by_order (inr (inr less)) = absurd (g.bad (fewer_begin (g.place + 1) h.place lines (omega arith) h.good))
 

@@ -5,7 +5,7 @@ use Rattle.std.specs.List.{flat_map}
 use Rattle.std.proofs.lemmas.Bool.{lt-ltb}
 use Rattle.amber_log.specs.Grammar.{AreEntries, AreItems, AreParts, IsItem, IsLeg, IsLine, IsLog, IsPart, ends_go, ends_over, is_go, is_last}
 use Rattle.amber_log.specs.LogText.{item_lines, leg_lines, log_lines, part_lines}
-use Rattle.amber_log.specs.ReadLines.{behind_item, closed, finish, next_or, read_lines, read_on, start, step}
+use Rattle.amber_log.specs.ReadLines.{behind_item, with_leg, finish, next_or, read_lines, read_on, start, step}
 use Rattle.amber_log.specs.Words.{spell}
 use Rattle.amber_log.specs.declared.entry.Entry.{Entry}
 use Rattle.amber_log.specs.declared.leg.Close.{Close}
@@ -80,7 +80,7 @@ behind batch items over = record { batch = batch; items = items; place = behind_
 
 -- behind a leg
 abbrev pub behind_leg : ℕ → List Item → Bool → List Part → Close → Reading
-behind_leg batch items end parts close = closed (opened batch items end) end parts close
+behind_leg batch items end parts close = with_leg (opened batch items end) end parts close
 
 feed-entries : (batch : ℕ) (items : List Item) (end : Bool) (parts : List Part) (worker : ℕ) (read : List Entry) (gone : Bool) (entries : List Entry) (lines : List Line)
     → AreEntries gone entries

@@ -5,7 +5,7 @@ use Rattle.std.proofs.lemmas.Bool.{cond_both, false≢true, lt-ltb, not-true}
 use Rattle.amber_log.specs.Grammar.{IsLog, is_long}
 use Rattle.amber_log.specs.LogText.{log_lines}
 use Rattle.amber_log.specs.ReadAs.{closes}
-use Rattle.amber_log.specs.ReadLines.{behind_item, closed, part_of, step, step_at}
+use Rattle.amber_log.specs.ReadLines.{behind_item, with_leg, part_of, step, step_at}
 use Rattle.amber_log.specs.Words.{spell}
 use Rattle.amber_log.specs.declared.command.Command.{Command}
 use Rattle.amber_log.specs.declared.entry.Entry.{Entry}
@@ -57,7 +57,7 @@ opened_ends : (batch : ℕ) (items : List Item) (end : Bool) → IsReading (here
 unfolding step
 opened_ends batch items end r =
     let now = here batch items (place.Opened end) in
-    let next = closed now end [] close.Cut in
+    let next = with_leg now end [] close.Cut in
     add now next (line.Close close.Cut) (step-adds now (line.Close close.Cut))
     (at_rest batch next.items (end || false) (step-is now (line.Close close.Cut) r tt))
 
@@ -72,7 +72,7 @@ part_ends : (batch : ℕ) (items : List Item) (end : Bool) (parts : List Part) (
 unfolding step
 part_ends batch items end parts worker entries gone some r =
     let now = here batch items (place.Inside end parts worker entries gone) in
-    let next = closed now end (parts ++ part_of worker entries ∷ []) close.Cut in
+    let next = with_leg now end (parts ++ part_of worker entries ∷ []) close.Cut in
     let may = nat_lt 0 (length entries) in
     add now next (line.Close close.Cut) (made may next (Adds now (line.Close close.Cut)) some (step-adds now (line.Close close.Cut)))
     (at_rest batch next.items (end || false) (made may next IsReading some (step-is now (line.Close close.Cut) r tt)))

@@ -8,7 +8,7 @@ use Rattle.std.proofs.lemmas.List.Concat.{flat_map-append}
 use Rattle.std.proofs.lemmas.List.Splits.{join_with_byte-slice_split}
 use Rattle.amber_log.specs.Grammar.{AreEntries, AreItems, AreParts, IsBatch, IsItem, IsLeg, IsLine, IsLog, IsPart, ends_go, ends_over, is_go, is_last, is_long}
 use Rattle.amber_log.specs.LogText.{item_lines, leg_lines, log_lines, part_lines}
-use Rattle.amber_log.specs.ReadLines.{behind_item, closed, finish, finish_at, leg_item, next_or, part_of, read_on, step, step_at, step_inside}
+use Rattle.amber_log.specs.ReadLines.{behind_item, with_leg, finish, finish_at, leg_item, next_or, part_of, read_on, step, step_at, step_inside}
 use Rattle.amber_log.specs.ReadWords.{line_of, parse}
 use Rattle.amber_log.specs.Words.{spell}
 use Rattle.amber_log.specs.declared.entry.Entry.{Entry}
@@ -83,9 +83,9 @@ item_lines-leg true leg = refl
 
 -- the lines behind a leg of these parts
 lines_read-closed : (batch : ℕ) (items : List Item) (place : Place) (end : Bool) (parts : List Part) (close : Close)
-    → lines_read (closed (at batch items place) end parts close)
+    → lines_read (with_leg (at batch items place) end parts close)
     ≡ line.Head batch ∷ ((flat_map item_lines items ++ opening end ∷ flat_map part_lines parts) ++ line.Close close ∷ [])
-lines_read-closed batch items place end parts close =
+lines_read-with_leg batch items place end parts close =
     let leg : Leg = record { parts = parts; close = close } in
     ap (λ (l : List Line). line.Head batch ∷ l)
     (lines_at-behind (flat_map item_lines (items ++ leg_item end leg ∷ [])) (end || is_long close)
@@ -123,7 +123,7 @@ step_inside-adds batch items end parts worker entries gone (line.Close close) =
     let before = flat_map item_lines items in
     let part = part_of worker entries in
     cond_both (nat_lt 0 (length entries)) _ None (λ o. IfSome o (Adds (at batch items (place.Inside end parts worker entries gone)) (line.Close close)))
-    (λ e. lines_read-closed batch items (place.Inside end parts worker entries gone) end (parts ++ part ∷ []) close
+    (λ e. lines_read-with_leg batch items (place.Inside end parts worker entries gone) end (parts ++ part ∷ []) close
     ∙ ap (λ (l : List Line). line.Head batch ∷ ((before ++ opening end ∷ l) ++ line.Close close ∷ [])) (parts-push parts part))
     (λ e. tt)
 
@@ -143,7 +143,7 @@ step_at-adds batch items (place.Opened end) line.End = tt
 step_at-adds batch items (place.Opened end) (line.Worker worker) =
     ap (λ (l : List Line). line.Head batch ∷ l) (sym (append_assoc (flat_map item_lines items) (opening end ∷ []) (line.Worker worker ∷ [])))
 step_at-adds batch items (place.Opened end) (line.Entry entry) = tt
-step_at-adds batch items (place.Opened end) (line.Close close) = lines_read-closed batch items (place.Opened end) end [] close
+step_at-adds batch items (place.Opened end) (line.Close close) = lines_read-with_leg batch items (place.Opened end) end [] close
 step_at-adds batch items (place.Inside end parts worker entries gone) one = step_inside-adds batch items end parts worker entries gone one
 
 -- a step adds its line
@@ -210,9 +210,9 @@ is_last-leg : (end : Bool) (leg : Leg) → is_last (leg_item end leg) ≡ (end |
 is_last-leg false leg = refl
 is_last-leg true leg = refl
 
-closed-is : (batch : ℕ) (items : List Item) (here : Place) (end : Bool) (parts : List Part) (close : Close)
-    → IsBatch batch → AreItems false items → ends_over false items ≡ false → AreParts 0 parts → IsReading (closed (at batch items here) end parts close)
-closed-is batch items here end parts close b h may p =
+with_leg-is : (batch : ℕ) (items : List Item) (here : Place) (end : Bool) (parts : List Part) (close : Close)
+    → IsBatch batch → AreItems false items → ends_over false items ≡ false → AreParts 0 parts → IsReading (with_leg (at batch items here) end parts close)
+with_leg-is batch items here end parts close b h may p =
     let leg : Leg = record { parts = parts; close = close } in
     record {
       batch = b;
@@ -270,7 +270,7 @@ step_inside-is batch items end parts worker entries gone (line.Entry entry) r h 
     })
 step_inside-is batch items end parts worker entries gone (line.Close close) r h =
     cond_both (nat_lt 0 (length entries)) _ None (λ o. IfSome o IsReading)
-    (λ e. closed-is batch items (place.Inside end parts worker entries gone) end (parts ++ part_of worker entries ∷ []) close r.batch r.items r.over (part_ends parts worker entries gone r.place e))
+    (λ e. with_leg-is batch items (place.Inside end parts worker entries gone) end (parts ++ part_of worker entries ∷ []) close r.batch r.items r.over (part_ends parts worker entries gone r.place e))
     (λ e. tt)
 
 step_at-is : (batch : ℕ) (items : List Item) (here : Place) (one : Line) → IsReading (at batch items here) → IsLine one → IfSome (step_at (at batch items here) here one) IsReading
@@ -291,7 +291,7 @@ step_at-is batch items (place.Opened end) line.End r h = tt
 step_at-is batch items (place.Opened end) (line.Worker worker) r h =
     record { batch = r.batch; items = r.items; over = r.over; place = record { parts = tt; rises = omega arith; worker = h; entries = tt; gone = refl } }
 step_at-is batch items (place.Opened end) (line.Entry entry) r h = tt
-step_at-is batch items (place.Opened end) (line.Close close) r h = closed-is batch items (place.Opened end) end [] close r.batch r.items r.over tt
+step_at-is batch items (place.Opened end) (line.Close close) r h = with_leg-is batch items (place.Opened end) end [] close r.batch r.items r.over tt
 step_at-is batch items (place.Inside end parts worker entries gone) one r h = step_inside-is batch items end parts worker entries gone one r h
 
 -- a step stays in the grammar

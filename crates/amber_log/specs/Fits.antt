@@ -1,6 +1,6 @@
 -- Which commands a workflow takes.
 use Rattle.std.specs.Prelude.{ℕ, ◌^◌, ◌&&◌, nat_lt, nat_le, not, List, Option, Some, None, Bool, true, false}
-use Rattle.amber_rows.specs.Cond.{numbered}
+use Rattle.amber_rows.specs.Cond.{nth}
 use Rattle.amber_rows.specs.FlowRules.{is_sink, kind_of}
 use Rattle.amber_rows.specs.Suits.{same_kind}
 use Rattle.amber_rows.specs.declared.value.Value.{Value}
@@ -38,30 +38,30 @@ is_cell_of (Some column) value = same_kind column.kind (kind_of value)
 -- the operator is there and not the sink, and the condition speaks of one of its columns
 abbrev pub takes_cond : Option Operator → Cond → Bool
 takes_cond None cond = false
-takes_cond (Some operator) cond = not (is_sink operator.what) && is_cell_of (numbered operator.schema cond.column) cond.constant
+takes_cond (Some operator) cond = not (is_sink operator.what) && is_cell_of (nth operator.schema cond.column) cond.constant
 
 -- the operator is a filter, of whose column the value may be the constant
-abbrev pub constant_of : What → List Column → Value → Bool
-constant_of (what.Scan file) columns value = false
-constant_of (what.Filter input cond) columns value = is_cell_of (numbered columns cond.column) value
-constant_of (what.Project input from) columns value = false
-constant_of (what.Join build probe build_keys probe_keys) columns value = false
-constant_of (what.Group input keys aggs) columns value = false
-constant_of (what.Sink input) columns value = false
+abbrev pub may_be_set_to : What → List Column → Value → Bool
+may_be_set_to (what.Scan file) columns value = false
+may_be_set_to (what.Filter input cond) columns value = is_cell_of (nth columns cond.column) value
+may_be_set_to (what.Project input from) columns value = false
+may_be_set_to (what.Join build probe build_keys probe_keys) columns value = false
+may_be_set_to (what.Group input keys aggs) columns value = false
+may_be_set_to (what.Sink input) columns value = false
 
 abbrev pub takes_constant : Option Operator → Value → Bool
 takes_constant None value = false
-takes_constant (Some operator) value = constant_of operator.what operator.schema value
+takes_constant (Some operator) value = may_be_set_to operator.what operator.schema value
 
 -- whether a workflow takes a command
 unfoldable pub fits_of : List Operator → Command → Bool
 fits_of flow command.Run = true
 fits_of flow command.End = true
-fits_of flow (command.Pause op n) = is_source (numbered flow op) && is_target n
-fits_of flow (command.Count op n) = is_source (numbered flow op) && is_target n
-fits_of flow (command.When op cond) = takes_cond (numbered flow op) cond
-fits_of flow (command.Clear op) = is_there (numbered flow op)
-fits_of flow (command.Set op value) = takes_constant (numbered flow op) value
-fits_of flow (command.Drop op worker) = has_worker (numbered flow op) worker
-fits_of flow (command.Inspect op) = is_there (numbered flow op)
-fits_of flow (command.Lose op worker) = has_worker (numbered flow op) worker
+fits_of flow (command.Pause op n) = is_source (nth flow op) && is_target n
+fits_of flow (command.Count op n) = is_source (nth flow op) && is_target n
+fits_of flow (command.When op cond) = takes_cond (nth flow op) cond
+fits_of flow (command.Clear op) = is_there (nth flow op)
+fits_of flow (command.Set op value) = takes_constant (nth flow op) value
+fits_of flow (command.Drop op worker) = has_worker (nth flow op) worker
+fits_of flow (command.Inspect op) = is_there (nth flow op)
+fits_of flow (command.Lose op worker) = has_worker (nth flow op) worker

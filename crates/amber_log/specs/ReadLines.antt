@@ -29,8 +29,8 @@ behind_item false = place.Outside
 behind_item true = place.Over
 
 -- the reader behind a leg of these parts
-abbrev pub closed : Reading → Bool → List Part → Close → Reading
-closed reading end parts close =
+abbrev pub with_leg : Reading → Bool → List Part → Close → Reading
+with_leg reading end parts close =
     record { batch = reading.batch; items = reading.items ++ leg_item end (record { parts = parts; close = close }) ∷ []; place = behind_item (end || is_long close) }
 
 -- a line behind an item: a command, or the start of a leg
@@ -51,7 +51,7 @@ step_opened reading end line.Run = None
 step_opened reading end line.End = None
 step_opened reading end (line.Worker worker) = Some (at_place reading (place.Inside end [] worker [] false))
 step_opened reading end (line.Entry entry) = None
-step_opened reading end (line.Close close) = Some (closed reading end [] close)
+step_opened reading end (line.Close close) = Some (with_leg reading end [] close)
 
 abbrev pub part_of : ℕ → List Entry → Part
 part_of worker entries = record { worker = worker; entries = entries }
@@ -69,7 +69,7 @@ step_inside reading end parts worker entries gone (line.Worker next) =
 step_inside reading end parts worker entries gone (line.Entry entry) =
     if gone && is_go entry then None else Some (at_place reading (place.Inside end parts worker (entries ++ entry ∷ []) (is_go entry)))
 step_inside reading end parts worker entries gone (line.Close close) =
-    if nat_lt 0 (length entries) then Some (closed reading end (parts ++ part_of worker entries ∷ []) close) else None
+    if nat_lt 0 (length entries) then Some (with_leg reading end (parts ++ part_of worker entries ∷ []) close) else None
 
 abbrev pub step_at : Reading → Place → Line → Option Reading
 step_at reading place.Outside one = step_outside reading one

@@ -18,7 +18,7 @@ pub record BeginsText (lines : List (List ℕ)) : Type 0 where
 -- the lines before this one, numbered from 1, begin a log's, and with it they begin no log's
 pub record IsFirstBadLine (lines : List (List ℕ)) (number : ℕ) : Type 0 where
   pub place : ℕ
-  pub numbered : number ≡ place + 1
+  pub nth : number ≡ place + 1
   pub inside : place < length lines
   pub good : BeginsText (take place lines)
   pub bad : BeginsText (take (place + 1) lines) → ⊥

@@ -1,9 +1,9 @@
 //! Which commands a workflow takes.
 
 ghost use Rattle.std.specs.Prelude.{◌≡◌};
-ghost use Rattle.amber_rows.specs.Cond.{numbered};
+ghost use Rattle.amber_rows.specs.Cond.{nth};
 ghost use Rattle.amber_rows.specs.FlowRules.{is_sink};
-ghost use Rattle.amber_log.specs.Fits.{constant_of, fits_of, has_worker, is_cell_of, is_source, is_target, is_there, takes_cond, takes_constant};
+ghost use Rattle.amber_log.specs.Fits.{may_be_set_to, fits_of, has_worker, is_cell_of, is_source, is_target, is_there, takes_cond, takes_constant};
 
 use crate::command::Command;
 use amber_rows::{Cond, Flow, Schema, Value, What};
@@ -32,7 +32,7 @@ fn is_sink(what: &What) -> bool
 
 // Whether a value may stand in the column with this number.
 fn is_cell_of(schema: &Schema, column: u32, value: &Value) -> bool
-    ensures { result ≡ is_cell_of (numbered schema.now column) value.now }
+    ensures { result ≡ is_cell_of (nth schema.now column) value.now }
 {
     if column == 0 {
         return false;
@@ -45,7 +45,7 @@ fn is_cell_of(schema: &Schema, column: u32, value: &Value) -> bool
 
 // Whether an operator is there, and not the sink.
 fn is_source(flow: &Flow, op: u32) -> bool
-    ensures { result ≡ is_source (numbered flow.now op) }
+    ensures { result ≡ is_source (nth flow.now op) }
 {
     match flow.operator(op) {
         None => false,
@@ -54,13 +54,13 @@ fn is_source(flow: &Flow, op: u32) -> bool
 }
 
 fn is_there(flow: &Flow, op: u32) -> bool
-    ensures { result ≡ is_there (numbered flow.now op) }
+    ensures { result ≡ is_there (nth flow.now op) }
 {
     flow.operator(op).is_some()
 }
 
 fn has_worker(flow: &Flow, op: u32, worker: u32) -> bool
-    ensures { result ≡ has_worker (numbered flow.now op) worker }
+    ensures { result ≡ has_worker (nth flow.now op) worker }
 {
     match flow.operator(op) {
         None => false,
@@ -69,7 +69,7 @@ fn has_worker(flow: &Flow, op: u32, worker: u32) -> bool
 }
 
 fn takes_cond(flow: &Flow, op: u32, cond: &Cond) -> bool
-    ensures { result ≡ takes_cond (numbered flow.now op) cond.now }
+    ensures { result ≡ takes_cond (nth flow.now op) cond.now }
 {
     match flow.operator(op) {
         None => false,
@@ -81,7 +81,7 @@ fn takes_cond(flow: &Flow, op: u32, cond: &Cond) -> bool
 
 // Whether a value may be the constant of an operator, a filter with these columns.
 fn is_constant_of(what: &What, schema: &Schema, value: &Value) -> bool
-    ensures { result ≡ constant_of what.now schema.now value.now }
+    ensures { result ≡ may_be_set_to what.now schema.now value.now }
 {
     match what {
         What::Filter { cond, .. } => is_cell_of(schema, cond.column, value),
@@ -94,7 +94,7 @@ fn is_constant_of(what: &What, schema: &Schema, value: &Value) -> bool
 }
 
 fn takes_constant(flow: &Flow, op: u32, value: &Value) -> bool
-    ensures { result ≡ takes_constant (numbered flow.now op) value.now }
+    ensures { result ≡ takes_constant (nth flow.now op) value.now }
 {
     match flow.operator(op) {
         None => false,

@@ -9,7 +9,7 @@ use Rattle.amber_rows.specs.Order.{row_cmp}
 use Rattle.amber_rows.specs.OrderLaws.{row-total}
 use Rattle.amber_rows.specs.declared.batch.Batch.{Batch}
 use Rattle.amber_rows.specs.declared.value.Value.{Value}
-use Rattle.amber_meaning.specs.Legal.{Begins}
+use Rattle.amber_meaning.specs.Legal.{IsPrefix}
 use Rattle.amber_meaning.specs.LegalTests.{begins, same_batch, same_flag, same_rows}
 
 row-is : (x y : List Value) → same_row x y ≡ true → x ≡ y
@@ -56,10 +56,10 @@ batch-is a b e =
 batch-itself : (a : Batch) → same_batch a a ≡ true
 batch-itself a = and_from _ _ (eq-eqb a.seq a.seq refl) (and_from _ _ (flag-itself a.last) (rows-themselves a.rows))
 
-begins-step : (x y : Batch) (xs ys : List Batch) → x ≡ y → Begins xs ys → Begins (x ∷ xs) (y ∷ ys)
+begins-step : (x y : Batch) (xs ys : List Batch) → x ≡ y → IsPrefix xs ys → IsPrefix (x ∷ xs) (y ∷ ys)
 begins-step x y xs ys e b = (b.0, rw e (ap (λ l. y ∷ l) b.1))
 
-begins-is : (xs ys : List Batch) → begins xs ys ≡ true → Begins xs ys
+begins-is : (xs ys : List Batch) → begins xs ys ≡ true → IsPrefix xs ys
 unfolding begins
 begins-is [] ys e = (ys, refl)
 begins-is (x ∷ xs) [] e = absurd (false≢true e)
@@ -72,5 +72,5 @@ unfolding begins
 begins-from [] more = refl
 begins-from (x ∷ xs) more = and_from _ _ (batch-itself x) (begins-from xs more)
 
-pub begins-so : (xs ys : List Batch) → (begins xs ys ≡ true) ↔ Begins xs ys
+pub begins-so : (xs ys : List Batch) → (begins xs ys ≡ true) ↔ IsPrefix xs ys
 begins-so xs ys = (begins-is xs ys, λ h. rw (← h.1) (begins-from xs h.0))

@@ -3,7 +3,7 @@ use Rattle.std.proofs.Common.{◌≡◌, ℕ, ℤ, pos, negsuc, List, [], ◌∷
 use Rattle.amber_rows.specs.declared.value.Value.{Value}
 use Rattle.amber_rows.specs.declared.value.Value.TheVariants as value
 use Rattle.amber_rows.specs.declared.agg.Agg.TheVariants as agg
-use Rattle.amber_rows.specs.Operators.{grouped, joined, projected, refused_keys}
+use Rattle.amber_rows.specs.Operators.{group_result, join_result, project_result, refused_keys}
 use Rattle.amber_rows.specs.Routing.{fnv_of, key_bytes_of, route_of}
 use Rattle.amber_meaning.specs.Plain.{outputs}
 use Rattle.std.specs.List.{sum_by}
@@ -56,7 +56,7 @@ priced =
     ∷ (order 3 (codes "nut") 7 ++ price (codes "nut") 3)
     ∷ (order 5 (codes "bolt") 1 ++ price (codes "bolt") 4) ∷ (order 5 (codes "bolt") 1 ++ price (codes "bolt") 9) ∷ []
 
-joined_with_prices : joined (1 ∷ []) (2 ∷ []) three five ≡ priced
+joined_with_prices : join_result (1 ∷ []) (2 ∷ []) three five ≡ priced
 unfolding rows_on_literals
 joined_with_prices = refl
 
@@ -74,7 +74,7 @@ abbrev greatest : ℤ
 greatest = pos 9223372036854775807
 
 abbrev sums : List (List Value) → List (List Value)
-sums rows = grouped (1 ∷ []) (agg.Sum 2 ∷ []) rows
+sums rows = group_result (1 ∷ []) (agg.Sum 2 ∷ []) rows
 
 abbrev no_sums : List (List Value) → List (List Value)
 no_sums rows = refused_keys (1 ∷ []) (agg.Sum 2 ∷ []) rows
@@ -100,7 +100,7 @@ unfolding rows_on_literals
 none_refused = refl
 
 -- of no rows there is no group, not even without keys
-no_group : grouped [] (agg.Count ∷ []) [] ≡ []
+no_group : group_result [] (agg.Count ∷ []) [] ≡ []
 unfolding rows_on_literals
 no_group = refl
 
@@ -109,7 +109,7 @@ no_group = refl
 abbrev thing : List ℕ → ℕ → List Value
 thing item qty = value.Text item ∷ value.Int (pos qty) ∷ []
 
-projected_things : projected (2 ∷ 3 ∷ []) five
+projected_things : project_result (2 ∷ 3 ∷ []) five
     ≡ thing (codes "nut") 5 ∷ thing (codes "bolt") 12 ∷ thing (codes "nut") 7 ∷ thing (codes "cog") 12 ∷ thing (codes "bolt") 1 ∷ []
 unfolding rows_on_literals
 projected_things = refl

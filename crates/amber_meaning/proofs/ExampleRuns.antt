@@ -35,7 +35,7 @@ grouped_is_legal : may_reach (query_of by_item 400) (start_of by_item) grouped_l
 unfolding tests_on_literals
 grouped_is_legal = refl
 
-grouped : transcript_of (query_of by_item 400) grouped_log
+group_result : transcript_of (query_of by_item 400) grouped_log
     ≡ lines (codes "stop end" ∷ codes "inspect g group"
     ∷ codes "worker 0 taken 0 rest 0 out 0 pending 0 finished groups 0"
     ∷ codes "worker 1 taken 0 rest 0 out 0 pending 0 finished groups 0"
@@ -43,7 +43,7 @@ grouped : transcript_of (query_of by_item 400) grouped_log
     ∷ codes "worker 3 taken 2 rest 0 out 1 pending 0 finished groups 1"
     ∷ codes "rows 3" ∷ codes "item,count,sum:qty" ∷ codes "bolt,2,13" ∷ codes "cog,1,12" ∷ codes "nut,2,12" ∷ [])
 unfolding texts_on_literals
-grouped = refl
+group_result = refl
 
 -- ---- a count that is never reached: the unit that is left goes back after the end
 

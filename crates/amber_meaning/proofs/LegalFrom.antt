@@ -6,7 +6,7 @@ use Rattle.std.proofs.lemmas.List.{length_push}
 use Rattle.std.proofs.lemmas.List.Folds.{list_all-map}
 use Rattle.std.proofs.lemmas.Option.{slice_get_past}
 use Rattle.amber_rows.specs.Chunks.{numbers_below}
-use Rattle.amber_rows.specs.Cond.{numbered}
+use Rattle.amber_rows.specs.Cond.{nth}
 use Rattle.amber_rows.specs.Crew.{crew_of, op_of}
 use Rattle.amber_rows.specs.declared.batch.Batch.{Batch}
 use Rattle.amber_log.specs.declared.entry.Entry.{Entry}
@@ -21,14 +21,14 @@ use Rattle.amber_meaning.specs.Legal.{AreOffered, ClosesEnd, ClosesRun, IsSettle
 use Rattle.amber_meaning.specs.LegalTests.{are_offered, is_first_of, is_offered, is_settled, is_within, may_close_end, may_close_run, may_do, may_lead, may_make, may_reach, may_work}
 use Rattle.amber_meaning.specs.Plan.{role_of}
 use Rattle.amber_meaning.specs.Position.{Position}
-use Rattle.amber_meaning.specs.Replay.{after_item, after_items, led_by, moved_by, positions_after, took_if, worked}
+use Rattle.amber_meaning.specs.Replay.{after_item, after_items, led_by, moved_by, positions_after, took_if, after_leg}
 use Rattle.amber_meaning.specs.Rules.{Leads, Moves, Orders}
 use Rattle.amber_meaning.specs.RuleTests.{is_empty, may_move}
-use Rattle.amber_meaning.specs.State.{Counting, State, arms_at, begun, begun_to_end, counted_at, no_arms, orders_of, position_at, steps_in}
+use Rattle.amber_meaning.specs.State.{Counting, State, arms_at, begin_leg, begin_last_leg, counted_at, no_arms, orders_of, position_at, steps_in}
 use Rattle.amber_meaning.specs.Task.{Role}
 use Rattle.amber_meaning.proofs.Batches.{begins-so}
 use Rattle.amber_meaning.proofs.LegalTests.{may_reach-is}
-use Rattle.amber_meaning.proofs.Lists.{list_all-at, list_all-member, numbered-next}
+use Rattle.amber_meaning.proofs.Lists.{list_all-at, list_all-member, nth-next}
 use Rattle.amber_meaning.proofs.OneState.{position-before, position-last, same-batches}
 use Rattle.amber_meaning.proofs.RuleTests.{may_move-so, may_take-so, nil_from_empty}
 
@@ -36,7 +36,7 @@ use Rattle.amber_meaning.proofs.RuleTests.{may_move-so, may_take-so, nil_from_em
 
 pub moves-from : (role : Role) (orders : Orders) (offer : ℕ → List Batch) (p : Position) (one : Entry) → may_move role orders p one ≡ true
     → is_offered offer one ≡ true → Moves role orders p one (moved_by offer orders one p)
-moves-from role orders offer p (entry.Take from number) e f = by (numbered (offer from) (number + 1)) f
+moves-from role orders offer p (entry.Take from number) e f = by (nth (offer from) (number + 1)) f
   where
     by : (found : Option Batch) → is_some found ≡ true → Moves role orders p (entry.Take from number) (took_if from found p)
     by None g = absurd (false≢true g)
@@ -132,8 +132,8 @@ are_offered-from query positions e receiver less sender known =
     (list_all-at (λ r. list_all (is_first_of query positions r) (role_in query r).senders) (crew_of query.flow) receiver e less) known)
 
 work-from : (query : Query) (before : State) (parts : List Part) → SendersFirst query.flow → may_work query before parts ≡ true
-    → IsWorked query before parts (worked query before parts)
-unfolding may_work worked role_of
+    → IsWorked query before parts (after_leg query before parts)
+unfolding may_work after_leg role_of
 work-from query before parts first e =
     let known = and_parts (list_all (λ part. ltb part.worker (crew_of query.flow)) parts) _ e in
     let others = and_parts (list_all (may_do query before parts) (numbers_below (crew_of query.flow))) _ known.1 in
@@ -168,7 +168,7 @@ within-from query state op (Some other) counting e f = let same : other ≡ coun
 no_count : (state : State) (op : ℕ) (counting : Counting) → length state.arms < op → (arms_at state op).count ≡ Some counting → ⊥
 no_count state zero counting less e = absurd (omega arith)
 no_count state (suc k) counting less e =
-    let past : numbered state.arms (k + 1) ≡ None = numbered-next state.arms k ∙ slice_get_past state.arms k (omega arith) in
+    let past : nth state.arms (k + 1) ≡ None = nth-next state.arms k ∙ slice_get_past state.arms k (omega arith) in
     let none : (arms_at state (suc k)).count ≡ None = rw (← add-one k) (ap (λ found. (unwrap_or found no_arms).count) past) in
     cc
 
@@ -223,11 +223,11 @@ make-from : (query : Query) (state : State) (one : Item) → SendersFirst query.
 unfolding may_make after_item
 make-from query state (item.Do command) first e = (e, refl)
 make-from query state (item.Run leg) first e =
-    let parts = and_parts (may_work query (begun state) leg.parts) _ e in
-    (worked query (begun state) leg.parts, work-from query (begun state) leg.parts first parts.0, close_run-from query _ leg.close parts.1, refl)
+    let parts = and_parts (may_work query (begin_leg state) leg.parts) _ e in
+    (after_leg query (begin_leg state) leg.parts, work-from query (begin_leg state) leg.parts first parts.0, close_run-from query _ leg.close parts.1, refl)
 make-from query state (item.End leg) first e =
-    let parts = and_parts (may_work query (begun_to_end state) leg.parts) _ e in
-    (worked query (begun_to_end state) leg.parts, work-from query (begun_to_end state) leg.parts first parts.0, close_end-from query _ leg.close parts.1, refl)
+    let parts = and_parts (may_work query (begin_last_leg state) leg.parts) _ e in
+    (after_leg query (begin_last_leg state) leg.parts, work-from query (begin_last_leg state) leg.parts first parts.0, close_end-from query _ leg.close parts.1, refl)
 
 reach-from : (query : Query) (state : State) (items : List Item) → SendersFirst query.flow → may_reach query state items ≡ true
     → Reaches query state items (after_items query state items)

@@ -13,18 +13,18 @@ use Rattle.amber_log.specs.declared.leg.Part.{Part}
 use Rattle.amber_log.specs.declared.log.Item.{Item}
 use Rattle.amber_log.specs.declared.log.Item.TheVariants as item
 use Rattle.amber_meaning.specs.Laws.{RulesAreTested, SendersFirst}
-use Rattle.amber_meaning.specs.Legal.{AreOffered, Begins, ClosesEnd, ClosesRun, IsSettled, IsWorked, Makes, Query, Reaches, batches_for, entries_of, role_in, stops_in}
+use Rattle.amber_meaning.specs.Legal.{AreOffered, IsPrefix, ClosesEnd, ClosesRun, IsSettled, IsWorked, Makes, Query, Reaches, batches_for, entries_of, role_in, stops_in}
 use Rattle.amber_meaning.specs.LegalTests.{are_offered, is_first_of, is_offered, is_settled, is_within, may_close_end, may_close_run, may_do, may_lead, may_make, may_reach, may_work}
 use Rattle.amber_meaning.specs.Plan.{role_of}
 use Rattle.amber_meaning.specs.Position.{Position, taken_from}
-use Rattle.amber_meaning.specs.Replay.{worked}
+use Rattle.amber_meaning.specs.Replay.{after_leg}
 use Rattle.amber_meaning.specs.Rules.{Leads, Moves, Orders}
 use Rattle.amber_meaning.specs.RuleTests.{MayMove, is_empty}
-use Rattle.amber_meaning.specs.State.{Counting, State, arms_at, begun, begun_to_end, counted_at, orders_of, position_at}
+use Rattle.amber_meaning.specs.State.{Counting, State, arms_at, begin_leg, begin_last_leg, counted_at, orders_of, position_at}
 use Rattle.amber_meaning.specs.Task.{Role}
 use Rattle.amber_meaning.proofs.Batches.{begins-so}
-use Rattle.amber_meaning.proofs.Lists.{Begins-trans, list_all-below, list_all-every, list_all-members}
-use Rattle.amber_meaning.proofs.OneState.{Leads-keeps, TookFirst, found-batch, item-is, moved-is, worked-is}
+use Rattle.amber_meaning.proofs.Lists.{IsPrefix-trans, list_all-below, list_all-every, list_all-members}
+use Rattle.amber_meaning.proofs.OneState.{Leads-keeps, TookFirst, found-batch, item-is, moved-is, after_leg-is}
 use Rattle.amber_meaning.proofs.RuleTests.{empty_from_nil, may_move-so}
 
 -- ---- one worker
@@ -55,7 +55,7 @@ leads-may : (role : Role) (orders : Orders) (offer : ℕ → List Batch) (p q : 
 unfolding Leads may_lead
 leads-may role orders offer p q [] h first = refl
 leads-may role orders offer p q (one ∷ more) h first =
-    let sooner : TookFirst role offer h.0 = λ sender known. Begins-trans _ _ _ (Leads-keeps role orders h.0 q more sender h.2) (first sender known) in
+    let sooner : TookFirst role offer h.0 = λ sender known. IsPrefix-trans _ _ _ (Leads-keeps role orders h.0 q more sender h.2) (first sender known) in
     and_from _ _ ((may_move-so role orders p one).1 (rule-of role orders p h.0 one h.1))
     (and_from _ _ (offered-is role orders offer p h.0 one h.1 sooner)
     (rw (moved-is role orders offer p h.0 one h.1 sooner) (leads-may role orders offer h.0 q more h.2 first)))
@@ -64,7 +64,7 @@ leads-may role orders offer p q (one ∷ more) h first =
 
 offers-is : (query : Query) (positions : List Position) (receiver : ℕ) (senders : List ℕ)
     → ((sender : ℕ) → list_any (λ one. eqb one sender) senders ≡ true
-    → Begins (taken_from (position_at positions receiver).taken sender) (batches_for query positions sender receiver))
+    → IsPrefix (taken_from (position_at positions receiver).taken sender) (batches_for query positions sender receiver))
     → list_all (is_first_of query positions receiver) senders ≡ true
 offers-is query positions receiver senders h = list_all-members (is_first_of query positions receiver) senders (λ sender known. (begins-so _ _).1 (h sender known))
 
@@ -85,12 +85,12 @@ may_work-is : (query : Query) (before after : State) (parts : List Part) → Sen
 unfolding may_work AreOffered role_of
 may_work-is query before after parts first h =
     and_from _ _ (known-all (crew_of query.flow) parts h.known) (and_from _ _ (list_all-below (may_do query before parts) (crew_of query.flow) (λ worker less.
-    let offer : ℕ → List Batch = λ sender. batches_for query (worked query before parts).positions sender worker in
+    let offer : ℕ → List Batch = λ sender. batches_for query (after_leg query before parts).positions sender worker in
     let took : TookFirst (role_in query worker) offer (position_at after.positions worker) = λ sender known.
-    rw (worked-is query before after parts first h) (h.offered worker less sender known) in
+    rw (after_leg-is query before after parts first h) (h.offered worker less sender known) in
     leads-may (role_in query worker) (orders_of (arms_at before (op_of query.flow worker))) offer (position_at before.positions worker)
     (position_at after.positions worker) (entries_of parts worker) (h.moved worker less) took))
-    (rw (worked-is query before after parts first h) (are_offered-is query after.positions h.offered)))
+    (rw (after_leg-is query before after parts first h) (are_offered-is query after.positions h.offered)))
 
 is_within-is : (query : Query) (state : State) (op : ℕ) (armed : Option Counting)
     → ((counting : Counting) → armed ≡ Some counting → counted_at query.flow state op counting ≤ counting.target) → is_within query state op armed ≡ true
@@ -123,11 +123,11 @@ may_make-is : (query : Query) (state after : State) (one : Item) → SendersFirs
 unfolding may_make
 may_make-is query state after (item.Do command) first h = h.0
 may_make-is query state after (item.Run leg) first h =
-    and_from _ _ (may_work-is query (begun state) h.0 leg.parts first h.1)
-    (rw (worked-is query (begun state) h.0 leg.parts first h.1) (may_close_run-is query h.0 leg.close h.2))
+    and_from _ _ (may_work-is query (begin_leg state) h.0 leg.parts first h.1)
+    (rw (after_leg-is query (begin_leg state) h.0 leg.parts first h.1) (may_close_run-is query h.0 leg.close h.2))
 may_make-is query state after (item.End leg) first h =
-    and_from _ _ (may_work-is query (begun_to_end state) h.0 leg.parts first h.1)
-    (rw (worked-is query (begun_to_end state) h.0 leg.parts first h.1) (may_close_end-is query h.0 leg.close h.2))
+    and_from _ _ (may_work-is query (begin_last_leg state) h.0 leg.parts first h.1)
+    (rw (after_leg-is query (begin_last_leg state) h.0 leg.parts first h.1) (may_close_end-is query h.0 leg.close h.2))
 
 pub may_reach-is : (query : Query) (state after : State) (items : List Item) → SendersFirst query.flow → Reaches query state items after
     → may_reach query state items ≡ true

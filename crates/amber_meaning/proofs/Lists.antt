@@ -6,18 +6,18 @@ use Rattle.std.proofs.lemmas.List.{append-nil}
 use Rattle.std.proofs.lemmas.List.Folds.{list_all-append}
 use Rattle.std.proofs.lemmas.Option.{unwrap_or-slice_get}
 use Rattle.amber_rows.specs.Chunks.{numbers_below}
-use Rattle.amber_rows.specs.Cond.{numbered}
-use Rattle.amber_meaning.specs.Legal.{Begins}
+use Rattle.amber_rows.specs.Cond.{nth}
+use Rattle.amber_meaning.specs.Legal.{IsPrefix}
 
-pub Begins-refl : {A : Type 0} (xs : List A) → Begins xs xs
-Begins-refl xs = ([], append-nil xs)
+pub IsPrefix-refl : {A : Type 0} (xs : List A) → IsPrefix xs xs
+IsPrefix-refl xs = ([], append-nil xs)
 
-pub Begins-trans : {A : Type 0} (xs ys zs : List A) → Begins xs ys → Begins ys zs → Begins xs zs
-Begins-trans xs ys zs a b = (a.0 ++ b.0, sym (append_assoc xs a.0 b.0) ∙ ap (λ l. l ++ b.0) a.1 ∙ b.1)
+pub IsPrefix-trans : {A : Type 0} (xs ys zs : List A) → IsPrefix xs ys → IsPrefix ys zs → IsPrefix xs zs
+IsPrefix-trans xs ys zs a b = (a.0 ++ b.0, sym (append_assoc xs a.0 b.0) ∙ ap (λ l. l ++ b.0) a.1 ∙ b.1)
 
 -- numbers from 1 on are places from 0 on
-pub numbered-next : {A : Type 0} (xs : List A) (n : ℕ) → numbered xs (n + 1) ≡ slice_get xs n
-numbered-next xs n =
+pub nth-next : {A : Type 0} (xs : List A) (n : ℕ) → nth xs (n + 1) ≡ slice_get xs n
+nth-next xs n =
     let e : n + 1 - 1 ≡ n = omega arith in
     rw (ne_eqb (n + 1) 0 (λ f. omega arith), e)
 
@@ -26,12 +26,12 @@ slice_get-seam [] y ys = refl
 slice_get-seam (x ∷ xs) y ys = slice_get-seam xs y ys
 
 -- what stands behind a beginning
-pub numbered-behind : {A : Type 0} (xs ys : List A) (y : A) (n : ℕ) → n ≡ length xs → Begins (xs ++ y ∷ []) ys → numbered ys (n + 1) ≡ Some y
-numbered-behind xs ys y n e b =
-    numbered-next ys n ∙ rw (e, ← b.1, append_assoc xs (y ∷ []) b.0) (slice_get-seam xs y b.0)
+pub nth-behind : {A : Type 0} (xs ys : List A) (y : A) (n : ℕ) → n ≡ length xs → IsPrefix (xs ++ y ∷ []) ys → nth ys (n + 1) ≡ Some y
+nth-behind xs ys y n e b =
+    nth-next ys n ∙ rw (e, ← b.1, append_assoc xs (y ∷ []) b.0) (slice_get-seam xs y b.0)
 
-pub numbered_or : {A : Type 0} (xs : List A) (n : ℕ) (d : A) → unwrap_or (numbered xs (n + 1)) d ≡ get_or xs n d
-numbered_or xs n d = rw (numbered-next xs n) (unwrap_or-slice_get xs n d)
+pub numbered_or : {A : Type 0} (xs : List A) (n : ℕ) (d : A) → unwrap_or (nth xs (n + 1)) d ≡ get_or xs n d
+numbered_or xs n d = rw (nth-next xs n) (unwrap_or-slice_get xs n d)
 
 -- ---- tests of all elements
 

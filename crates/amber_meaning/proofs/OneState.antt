@@ -4,7 +4,7 @@ use Rattle.std.specs.Prelude.{filter}
 use Rattle.std.specs.List.{list_any}
 use Rattle.std.proofs.lemmas.Bool.{cases_eq, cases_lt, eq-eqb, ne_eqb}
 use Rattle.std.proofs.lemmas.List.{append-nil, ext_get_or, get_or_append_left, get_or_push, length_push}
-use Rattle.amber_rows.specs.Cond.{numbered}
+use Rattle.amber_rows.specs.Cond.{nth}
 use Rattle.amber_rows.specs.Crew.{crew_of, op_of}
 use Rattle.amber_rows.specs.declared.batch.Batch.{Batch}
 use Rattle.amber_log.specs.declared.entry.Entry.{Entry}
@@ -13,14 +13,14 @@ use Rattle.amber_log.specs.declared.leg.Part.{Part}
 use Rattle.amber_log.specs.declared.log.Item.{Item}
 use Rattle.amber_log.specs.declared.log.Item.TheVariants as item
 use Rattle.amber_meaning.specs.Laws.{ItemsHaveOneState, LegalLogsHaveOneState, LegsHaveOneState, SendersFirst}
-use Rattle.amber_meaning.specs.Legal.{AreOffered, Begins, IsWorked, Makes, Query, Reaches, batches_for, entries_of, role_in, stream_of}
+use Rattle.amber_meaning.specs.Legal.{AreOffered, IsPrefix, IsWorked, Makes, Query, Reaches, batches_for, entries_of, role_in, stream_of}
 use Rattle.amber_meaning.specs.Plan.{role_of}
 use Rattle.amber_meaning.specs.Position.{Position, Taken, origin, taken_from}
-use Rattle.amber_meaning.specs.Replay.{after_item, after_items, led_by, moved_by, positions_after, state_after, worked}
+use Rattle.amber_meaning.specs.Replay.{after_item, after_items, led_by, moved_by, positions_after, state_after, after_leg}
 use Rattle.amber_meaning.specs.Rules.{Leads, Moves, Orders}
-use Rattle.amber_meaning.specs.State.{State, arms_at, begun, begun_to_end, orders_of, position_at, start_of}
+use Rattle.amber_meaning.specs.State.{State, arms_at, begin_leg, begin_last_leg, orders_of, position_at, start_of}
 use Rattle.amber_meaning.specs.Task.{Role}
-use Rattle.amber_meaning.proofs.Lists.{Begins-refl, Begins-trans, numbered-behind, numbered_or}
+use Rattle.amber_meaning.proofs.Lists.{IsPrefix-refl, IsPrefix-trans, nth-behind, numbered_or}
 
 -- ---- one worker
 
@@ -55,37 +55,37 @@ taken_from-other (one ∷ more) from sender batch ne = by (eqb one.from sender) 
 
 -- what was taken stays taken
 pub taken-keeps : (role : Role) (orders : Orders) (p q : Position) (one : Entry) (sender : ℕ) → Moves role orders p one q
-    → Begins (taken_from p.taken sender) (taken_from q.taken sender)
+    → IsPrefix (taken_from p.taken sender) (taken_from q.taken sender)
 taken-keeps role orders p q (entry.Take from number) sender h =
     elim (cases_eq from sender) [
       | inl e ↦ (h.0 ∷ [], rw (h.2, ← e) (sym (taken_from-push p.taken from h.0)))
       | inr ne ↦ ([], rw h.2 (append-nil _ ∙ sym (taken_from-other p.taken from sender h.0 ne)))
     ]
-taken-keeps role orders p q (entry.Go rows outs) sender h = rw h.1 (Begins-refl _)
-taken-keeps role orders p q (entry.Grant n) sender h = rw h.1 (Begins-refl _)
-taken-keeps role orders p q (entry.Back n) sender h = rw h.1 (Begins-refl _)
-taken-keeps role orders p q entry.Pause sender h = rw h.1 (Begins-refl _)
-taken-keeps role orders p q entry.Resume sender h = rw h.1 (Begins-refl _)
-taken-keeps role orders p q entry.Hold sender h = rw h.1 (Begins-refl _)
-taken-keeps role orders p q entry.Finish sender h = rw h.1 (Begins-refl _)
+taken-keeps role orders p q (entry.Go rows outs) sender h = rw h.1 (IsPrefix-refl _)
+taken-keeps role orders p q (entry.Grant n) sender h = rw h.1 (IsPrefix-refl _)
+taken-keeps role orders p q (entry.Back n) sender h = rw h.1 (IsPrefix-refl _)
+taken-keeps role orders p q entry.Pause sender h = rw h.1 (IsPrefix-refl _)
+taken-keeps role orders p q entry.Resume sender h = rw h.1 (IsPrefix-refl _)
+taken-keeps role orders p q entry.Hold sender h = rw h.1 (IsPrefix-refl _)
+taken-keeps role orders p q entry.Finish sender h = rw h.1 (IsPrefix-refl _)
 
 pub Leads-keeps : (role : Role) (orders : Orders) (p q : Position) (entries : List Entry) (sender : ℕ) → Leads role orders p entries q
-    → Begins (taken_from p.taken sender) (taken_from q.taken sender)
+    → IsPrefix (taken_from p.taken sender) (taken_from q.taken sender)
 unfolding Leads
-Leads-keeps role orders p q [] sender h = rw h (Begins-refl _)
+Leads-keeps role orders p q [] sender h = rw h (IsPrefix-refl _)
 Leads-keeps role orders p q (one ∷ more) sender h =
-    Begins-trans _ _ _ (taken-keeps role orders p h.0 one sender h.1) (Leads-keeps role orders h.0 q more sender h.2)
+    IsPrefix-trans _ _ _ (taken-keeps role orders p h.0 one sender h.1) (Leads-keeps role orders h.0 q more sender h.2)
 
 -- what a worker took of its senders are the first of these batches
 abbrev pub TookFirst : Role → (ℕ → List Batch) → Position → Type 0
-TookFirst role offer p = (sender : ℕ) → list_any (λ one. eqb one sender) role.senders ≡ true → Begins (taken_from p.taken sender) (offer sender)
+TookFirst role offer p = (sender : ℕ) → list_any (λ one. eqb one sender) role.senders ≡ true → IsPrefix (taken_from p.taken sender) (offer sender)
 
 -- where a batch is taken, it is the one that is looked up
 pub found-batch : (role : Role) (orders : Orders) (offer : ℕ → List Batch) (p q : Position) (from number : ℕ) (h : Moves role orders p (entry.Take from number) q)
-    → TookFirst role offer q → numbered (offer from) (number + 1) ≡ Some h.0
+    → TookFirst role offer q → nth (offer from) (number + 1) ≡ Some h.0
 found-batch role orders offer p q from number h first =
-    let b : Begins (taken_from p.taken from ++ h.0 ∷ []) (offer from) = rw (h.2, taken_from-push p.taken from h.0) at (first from h.1.sender) in
-    numbered-behind (taken_from p.taken from) (offer from) h.0 number h.1.next b
+    let b : IsPrefix (taken_from p.taken from ++ h.0 ∷ []) (offer from) = rw (h.2, taken_from-push p.taken from h.0) at (first from h.1.sender) in
+    nth-behind (taken_from p.taken from) (offer from) h.0 number h.1.next b
 
 pub moved-is : (role : Role) (orders : Orders) (offer : ℕ → List Batch) (p q : Position) (one : Entry) → Moves role orders p one q
     → TookFirst role offer q → moved_by offer orders one p ≡ q
@@ -103,7 +103,7 @@ pub led-is : (role : Role) (orders : Orders) (offer : ℕ → List Batch) (p q :
 unfolding Leads led_by
 led-is role orders offer p q [] h first = h
 led-is role orders offer p q (one ∷ more) h first =
-    let sooner : TookFirst role offer h.0 = λ sender known. Begins-trans _ _ _ (Leads-keeps role orders h.0 q more sender h.2) (first sender known) in
+    let sooner : TookFirst role offer h.0 = λ sender known. IsPrefix-trans _ _ _ (Leads-keeps role orders h.0 q more sender h.2) (first sender known) in
     rw (moved-is role orders offer p h.0 one h.1 sooner) (led-is role orders offer h.0 q more h.2 first)
 
 -- ---- a leg
@@ -156,10 +156,10 @@ State-path : (a b : State) → a.arms ≡ b.arms → a.positions ≡ b.positions
 State-path a b e f = λ i. record { arms = e i; positions = f i }
 
 -- a leg's work leads to the state that is computed
-pub worked-is : (query : Query) (state after : State) (parts : List Part) → SendersFirst query.flow → IsWorked query state parts after
-    → worked query state parts ≡ after
-unfolding worked
-worked-is query state after parts first h =
+pub after_leg-is : (query : Query) (state after : State) (parts : List Part) → SendersFirst query.flow → IsWorked query state parts after
+    → after_leg query state parts ≡ after
+unfolding after_leg
+after_leg-is query state after parts first h =
     let found = are_found query state after parts first h (crew_of query.flow) (omega arith) in
     let ps : List Position = positions_after query state parts (crew_of query.flow) in
     let same : ps ≡ after.positions = ext_get_or origin ps after.positions (found.length ∙ sym h.crew)
@@ -171,8 +171,8 @@ worked-is query state after parts first h =
 pub item-is : (query : Query) (state after : State) (one : Item) → SendersFirst query.flow → Makes query state one after → after_item query state one ≡ after
 unfolding after_item
 item-is query state after (item.Do command) first h = sym h.1
-item-is query state after (item.Run leg) first h = rw (worked-is query (begun state) h.0 leg.parts first h.1) (sym h.3)
-item-is query state after (item.End leg) first h = worked-is query (begun_to_end state) h.0 leg.parts first h.1 ∙ sym h.3
+item-is query state after (item.Run leg) first h = rw (after_leg-is query (begin_leg state) h.0 leg.parts first h.1) (sym h.3)
+item-is query state after (item.End leg) first h = after_leg-is query (begin_last_leg state) h.0 leg.parts first h.1 ∙ sym h.3
 
 pub items_have_one_state : ItemsHaveOneState
 unfolding Reaches after_items
@@ -181,7 +181,7 @@ items_have_one_state query state after (one ∷ more) first h =
     rw (item-is query state h.0 one first h.1) (items_have_one_state query h.0 after more first h.2)
 
 pub legs_have_one_state : LegsHaveOneState
-legs_have_one_state query before after parts first h = worked-is query before after parts first h
+legs_have_one_state query before after parts first h = after_leg-is query before after parts first h
 
 pub legal_logs_have_one_state : LegalLogsHaveOneState
 unfolding state_after

@@ -5,7 +5,7 @@ use Rattle.std.proofs.lemmas.Bool.{ne_eqb, eqb-false}
 use Rattle.std.proofs.lemmas.List.{append-nil, drop_more, drop_all, length-take, get_or_append_left, length_push, take-append-drop, take_more}
 use Rattle.std.proofs.lemmas.List.Sums.{sum_by-cons}
 use Rattle.std.proofs.lemmas.Option.{unwrap_or-slice_get, slice_get-get_or}
-use Rattle.amber_rows.specs.Cond.{numbered}
+use Rattle.amber_rows.specs.Cond.{nth}
 use Rattle.amber_rows.specs.FlowRules.{IsFlow, IsNext}
 use Rattle.amber_rows.specs.Record.{has_header}
 use Rattle.amber_rows.proofs.FlowFacts.{AreNext-at}
@@ -240,11 +240,11 @@ within_by : {A : Type 0} (xs : List A) (n : ℕ) (P : A → Type 0) (b : Bool) �
 within_by xs n P true e h = absurd h
 within_by xs n P false e h = (omega (arith, eqb-false n 0 e), omega (arith, within_get xs (n - 1) P h))
 
-pub numbered-within : {A : Type 0} (xs : List A) (n : ℕ) (P : A → Type 0) → IsSomeAnd (numbered xs n) P → (0 < n) × (n ≤ length xs)
-numbered-within xs n P h = within_by xs n P (eqb n 0) refl h
+pub nth-within : {A : Type 0} (xs : List A) (n : ℕ) (P : A → Type 0) → IsSomeAnd (nth xs n) P → (0 < n) × (n ≤ length xs)
+nth-within xs n P h = within_by xs n P (eqb n 0) refl h
 
-pub numbered-here : {A : Type 0} (xs : List A) (i : ℕ) (x : A) → i < length xs → x ≡ get_or xs i x → numbered xs (i + 1) ≡ Some x
-numbered-here xs i x h e =
+pub nth-here : {A : Type 0} (xs : List A) (i : ℕ) (x : A) → i < length xs → x ≡ get_or xs i x → nth xs (i + 1) ≡ Some x
+nth-here xs i x h e =
     let no : eqb (i + 1) 0 ≡ false = ne_eqb (i + 1) 0 (omega arith) in
     let less : i + 1 - 1 ≡ i = omega arith in
     rw (no, less) (slice_get-get_or xs i x h ∙ ap Some (sym e))

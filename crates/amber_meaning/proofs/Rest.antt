@@ -18,10 +18,10 @@ use Rattle.amber_log.specs.declared.leg.Part.{Part}
 use Rattle.amber_log.specs.declared.log.Item.{Item}
 use Rattle.amber_log.specs.declared.log.Item.TheVariants as item
 use Rattle.amber_meaning.specs.Laws.{EndsClose, IsResting, LegalLogsRest, LegsOpen, RunsClose}
-use Rattle.amber_meaning.specs.Legal.{AreOffered, ClosesEnd, ClosesRun, IsSettled, IsWorked, Makes, Query, Reaches, after_close, batches_for, entries_of, opened, stream_of}
+use Rattle.amber_meaning.specs.Legal.{AreOffered, ClosesEnd, ClosesRun, IsSettled, IsWorked, Makes, Query, Reaches, after_close, batches_for, entries_of, leg_start, stream_of}
 use Rattle.amber_meaning.specs.Position.{Position, emitted_count, is_emitted, kept, origin, steps_of, taken_from}
 use Rattle.amber_meaning.specs.Rules.{Leads}
-use Rattle.amber_meaning.specs.State.{Arms, State, begun, begun_to_end, changed_from, commanded, disarmed, let_go, position_at, start_of, steps_in, with_arms, without_held}
+use Rattle.amber_meaning.specs.State.{Arms, State, begin_leg, begin_last_leg, changed_from, after_command, without_arms, let_go, position_at, start_of, steps_in, with_arms, without_held}
 use Rattle.amber_meaning.specs.Stops.{op_numbers, without_stops}
 use Rattle.amber_meaning.proofs.Fronts.{legal_logs_grow}
 use Rattle.amber_meaning.proofs.OneState.{position-get_or}
@@ -151,18 +151,18 @@ rearmed : (query : Query) (state : State) (change : Arms → Arms) (op : ℕ) �
 rearmed query state change op h =
     resting-like query state (with_arms change op state) (changed-length change op 1 state.arms) (like-itself state.positions) h
 
-commanded-rests : (query : Query) (state : State) (done : Command) → IsResting query state → IsResting query (commanded query.flow done state)
-unfolding commanded
-commanded-rests query state command.Run h = h
-commanded-rests query state command.End h = h
-commanded-rests query state (command.Pause op n) h = rearmed query state _ op h
-commanded-rests query state (command.Count op n) h = rearmed query state _ op h
-commanded-rests query state (command.When op cond) h = rearmed query state _ op h
-commanded-rests query state (command.Clear op) h = rearmed query state _ op h
-commanded-rests query state (command.Set op value) h = rearmed query state _ op h
-commanded-rests query state (command.Drop op worker) h = resting-like query state _ refl (like-changed _ 1 state.positions) h
-commanded-rests query state (command.Inspect op) h = h
-commanded-rests query state (command.Lose op worker) h = h
+after_command-rests : (query : Query) (state : State) (done : Command) → IsResting query state → IsResting query (after_command query.flow done state)
+unfolding after_command
+after_command-rests query state command.Run h = h
+after_command-rests query state command.End h = h
+after_command-rests query state (command.Pause op n) h = rearmed query state _ op h
+after_command-rests query state (command.Count op n) h = rearmed query state _ op h
+after_command-rests query state (command.When op cond) h = rearmed query state _ op h
+after_command-rests query state (command.Clear op) h = rearmed query state _ op h
+after_command-rests query state (command.Set op value) h = rearmed query state _ op h
+after_command-rests query state (command.Drop op worker) h = resting-like query state _ refl (like-changed _ 1 state.positions) h
+after_command-rests query state (command.Inspect op) h = h
+after_command-rests query state (command.Lose op worker) h = h
 
 origin-at : (n worker : ℕ) → position_at (replicate n origin) worker ≡ origin
 origin-at n worker = position-get_or (replicate n origin) worker ∙ by n worker
@@ -192,8 +192,8 @@ ops-length flow = length-map (numbers_below (length flow)) suc ∙ numbers-lengt
 
 closed-rests : (query : Query) (before reached : State) (parts : List Part) → IsWorked query before parts reached → length before.arms ≡ length query.flow
     → IsSettled query reached → steps_in reached ≤ query.most → IsResting query reached
-closed-rests query before reached parts worked arms settled steps =
-    record { arms = ap length worked.same_arms ∙ arms; crew = worked.crew; hands = settled.hands; offered = worked.offered; few = steps }
+closed-rests query before reached parts after_leg arms settled steps =
+    record { arms = ap length after_leg.same_arms ∙ arms; crew = after_leg.crew; hands = settled.hands; offered = after_leg.offered; few = steps }
 
 run-settled : (query : Query) (state : State) (closed : Close) → ClosesRun query state closed → IsSettled query state
 run-settled query state close.Cut h = h.0
@@ -218,21 +218,21 @@ after_close-rests query state close.Cut h =
     (length-map (op_numbers query.flow) _ ∙ ops-length query.flow ∙ sym h.arms) (like-itself state.positions) h
 after_close-rests query state close.Long h = h
 
-begun-arms : (state : State) → length (begun state).arms ≡ length state.arms
-unfolding begun
-begun-arms state = refl
+begin_leg-arms : (state : State) → length (begin_leg state).arms ≡ length state.arms
+unfolding begin_leg
+begin_leg-arms state = refl
 
-ended-arms : (state : State) → length (begun_to_end state).arms ≡ length state.arms
-unfolding begun_to_end
-ended-arms state = length-map state.arms disarmed
+ended-arms : (state : State) → length (begin_last_leg state).arms ≡ length state.arms
+unfolding begin_last_leg
+ended-arms state = length-map state.arms without_arms
 
 made-rests : (query : Query) (state after : State) (one : Item) → Makes query state one after → IsResting query state → IsResting query after
-made-rests query state after (item.Do done) h rests = rw h.1 (commanded-rests query state done rests)
+made-rests query state after (item.Do done) h rests = rw h.1 (after_command-rests query state done rests)
 made-rests query state after (item.Run leg) h rests =
     rw h.3 (after_close-rests query h.0 leg.close
-    (closed-rests query (begun state) h.0 leg.parts h.1 (begun-arms state ∙ rests.arms) (run-settled query h.0 leg.close h.2) (run-few query h.0 leg.close h.2)))
+    (closed-rests query (begin_leg state) h.0 leg.parts h.1 (begin_leg-arms state ∙ rests.arms) (run-settled query h.0 leg.close h.2) (run-few query h.0 leg.close h.2)))
 made-rests query state after (item.End leg) h rests =
-    rw h.3 (closed-rests query (begun_to_end state) h.0 leg.parts h.1 (ended-arms state ∙ rests.arms) (end-settled query h.0 leg.close h.2) (end-few query h.0 leg.close h.2))
+    rw h.3 (closed-rests query (begin_last_leg state) h.0 leg.parts h.1 (ended-arms state ∙ rests.arms) (end-settled query h.0 leg.close h.2) (end-few query h.0 leg.close h.2))
 
 reached-rests : (query : Query) (state after : State) (items : List Item) → Reaches query state items after → IsResting query state → IsResting query after
 unfolding Reaches
@@ -244,14 +244,14 @@ legal_logs_rest query log legal = reached-rests query (start_of query.flow) lega
 
 -- ---- legs
 
-begun-like : (to_end : Bool) (state : State) → AreLike state.positions (opened to_end state).positions
-unfolding begun begun_to_end
-begun-like true state = like-map state.positions
-begun-like false state = like-map state.positions
+begin_leg-like : (to_end : Bool) (state : State) → AreLike state.positions (leg_start to_end state).positions
+unfolding begin_leg begin_last_leg
+begin_leg-like true state = like-map state.positions
+begin_leg-like false state = like-map state.positions
 
 nobody-worked : (query : Query) (state : State) → length state.positions ≡ crew_of query.flow → AreOffered query state.positions → IsWorked query state [] state
 unfolding entries_of Leads
-nobody-worked query state crew offered = record {
+nobody-after_leg query state crew offered = record {
   same_arms = refl;
   crew = crew;
   known = λ worker none. absurd (false≢true none);
@@ -263,14 +263,14 @@ pub legs_open : LegsOpen
 unfolding AreParts steps_in
 legs_open query log to_end legal more =
     let rests = legal_logs_rest query log legal in
-    let like = begun-like to_end legal.after in
-    let now : State = opened to_end legal.after in (
+    let like = begin_leg-like to_end legal.after in
+    let now : State = leg_start to_end legal.after in (
       record {
         legal = legal;
         more = more;
         text = tt;
         now = now;
-        worked = nobody-worked query now (sym (like-length legal.after.positions now.positions like) ∙ rests.crew)
+        worked = nobody-after_leg query now (sym (like-length legal.after.positions now.positions like) ∙ rests.crew)
             (like-offered query legal.after.positions now.positions like rests.offered);
         few = rw (← like-steps legal.after.positions now.positions like) rests.few;
       },

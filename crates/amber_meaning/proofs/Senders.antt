@@ -11,8 +11,8 @@ use Rattle.amber_rows.specs.declared.flow.What.{What}
 use Rattle.amber_rows.specs.declared.flow.What.TheVariants as what
 use Rattle.amber_rows.specs.declared.flow.Operator.{Operator}
 use Rattle.amber_meaning.specs.Laws.{FlowsSendForward, SendersFirst}
-use Rattle.amber_meaning.proofs.Lists.{numbered-next}
-use Rattle.amber_meaning.proofs.Operators.{numbered-within}
+use Rattle.amber_meaning.proofs.Lists.{nth-next}
+use Rattle.amber_meaning.proofs.Operators.{nth-within}
 
 -- each operator, of those from this number on, reads from smaller numbers alone
 abbrev pub read_before : ℕ → List Operator → Bool
@@ -25,7 +25,7 @@ input-before : (before : List Operator) (input : ℕ) → IsEarlier before input
 input-before before input h = lt-ltb input (length before + 1) (omega (arith, h.1))
 
 has-before : (before : List Operator) (input : ℕ) (columns : List Column) → HasInput before input columns → ltb input (length before + 1) ≡ true
-has-before before input columns h = input-before before input (numbered-within before input (λ earlier. earlier.schema ≡ columns) h)
+has-before before input columns h = input-before before input (nth-within before input (λ earlier. earlier.schema ≡ columns) h)
 
 kind-reads : (before : List Operator) (kind : What) (columns : List Column) → IsKind before kind columns
     → list_all (λ input. ltb input (length before + 1)) (inputs_of kind) ≡ true
@@ -69,7 +69,7 @@ read-at (first ∷ more) number (suc place) operator e f =
 -- an operator reads from operators with smaller numbers
 reads-earlier : (flow : List Operator) (op place other : ℕ) → op ≡ place + 1 → read_before 1 flow ≡ true → 0 < other
     → reads (what_at flow op) other ≡ true → other < op
-reads-earlier flow op place other is earlier some e = by (slice_get flow place) refl (rw (is, numbered-next flow place) at e)
+reads-earlier flow op place other is earlier some e = by (slice_get flow place) refl (rw (is, nth-next flow place) at e)
   where
     by : (found : Option Operator) → slice_get flow place ≡ found → reads (kind_at found) other ≡ true → other < op
     by None f e = absurd (omega (arith, below-any (0 ∷ []) other 1 e refl))

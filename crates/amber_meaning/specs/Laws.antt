@@ -11,10 +11,10 @@ use Rattle.amber_log.specs.declared.leg.Close.{Close}
 use Rattle.amber_log.specs.declared.log.Item.{Item}
 use Rattle.amber_log.specs.declared.log.Item.TheVariants as item
 use Rattle.amber_log.specs.declared.log.Log.{Log}
-use Rattle.amber_meaning.specs.Legal.{AreOffered, ClosesEnd, ClosesRun, IsLegal, IsOpen, IsWorked, Makes, Query, Reaches, after_close, opened}
+use Rattle.amber_meaning.specs.Legal.{AreOffered, ClosesEnd, ClosesRun, IsLegal, IsOpen, IsWorked, Makes, Query, Reaches, after_close, leg_start}
 use Rattle.amber_meaning.specs.LegalTests.{may_reach}
 use Rattle.amber_meaning.specs.Position.{Position}
-use Rattle.amber_meaning.specs.Replay.{after_item, after_items, state_after, worked}
+use Rattle.amber_meaning.specs.Replay.{after_item, after_items, state_after, after_leg}
 use Rattle.amber_meaning.specs.Rules.{Orders}
 use Rattle.amber_meaning.specs.RuleTests.{MayMove, may_move}
 use Rattle.amber_meaning.specs.State.{State, position_at, steps_in}
@@ -48,7 +48,7 @@ LegalLogsRest = (query : Query) (log : Log) → (legal : IsLegal query log) → 
 -- a leg may be opened behind a legal log, where one may follow
 abbrev pub LegsOpen : Type 0
 LegsOpen = (query : Query) (log : Log) (to_end : Bool) → (legal : IsLegal query log) → ends_over false log.items ≡ false
-    → (leg : IsOpen query log to_end []) × (leg.now ≡ opened to_end legal.after)
+    → (leg : IsOpen query log to_end []) × (leg.now ≡ leg_start to_end legal.after)
 
 -- an open leg that may be closed so gives a legal log
 abbrev pub RunsClose : Type 0
@@ -77,7 +77,7 @@ ItemsHaveOneState = (query : Query) (state after : State) (items : List Item)
 -- a leg's work leads to the state that is computed from its parts
 abbrev pub LegsHaveOneState : Type 0
 LegsHaveOneState = (query : Query) (before after : State) (parts : List Part)
-    → SendersFirst query.flow → IsWorked query before parts after → worked query before parts ≡ after
+    → SendersFirst query.flow → IsWorked query before parts after → after_leg query before parts ≡ after
 
 -- a legal log leads to the state that is computed from its items
 abbrev pub LegalLogsHaveOneState : Type 0

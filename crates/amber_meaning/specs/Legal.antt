@@ -22,7 +22,7 @@ use Rattle.amber_meaning.specs.Plain.{records_of}
 use Rattle.amber_meaning.specs.Plan.{role_of}
 use Rattle.amber_meaning.specs.Position.{Position, emitted_rows, taken_from}
 use Rattle.amber_meaning.specs.Rules.{Leads}
-use Rattle.amber_meaning.specs.State.{Counting, State, arms_at, begun, begun_to_end, commanded, counted_at, have_finished, orders_of, position_at, start_of, steps_in}
+use Rattle.amber_meaning.specs.State.{Counting, State, arms_at, begin_leg, begin_last_leg, after_command, counted_at, have_finished, orders_of, position_at, start_of, steps_in}
 use Rattle.amber_meaning.specs.Stops.{stops_of, without_stops}
 use Rattle.amber_meaning.specs.Task.{Role}
 
@@ -52,14 +52,14 @@ unfoldable pub batches_for : Query → List Position → ℕ → ℕ → List Ba
 batches_for query positions sender receiver =
     chunks_of query.size (stream_of query positions sender receiver) (position_at positions sender).finished
 
-abbrev pub Begins : {A : Type 0} → List A → List A → Type 0
-Begins {A} xs ys = (more : List A) × (xs ++ more ≡ ys)
+abbrev pub IsPrefix : {A : Type 0} → List A → List A → Type 0
+IsPrefix {A} xs ys = (more : List A) × (xs ++ more ≡ ys)
 
 -- what each worker took of each sender are the first batches that the sender has made for it
 unfoldable pub AreOffered : Query → List Position → Type 0
 AreOffered query positions = (receiver : ℕ) → receiver < crew_of query.flow → (sender : ℕ)
     → list_any (λ one. one == sender) (role_in query receiver).senders ≡ true
-    → Begins (taken_from (position_at positions receiver).taken sender) (batches_for query positions sender receiver)
+    → IsPrefix (taken_from (position_at positions receiver).taken sender) (batches_for query positions sender receiver)
 
 -- ---- a leg
 
@@ -107,9 +107,9 @@ after_close query state close.Long = state
 
 -- an item leads from one state to another
 abbrev pub Makes : Query → State → Item → State → Type 0
-Makes query state (item.Do command) after = (fits_of query.flow command ≡ true) × (after ≡ commanded query.flow command state)
-Makes query state (item.Run leg) after = (reached : State) × IsWorked query (begun state) leg.parts reached × ClosesRun query reached leg.close × (after ≡ after_close query reached leg.close)
-Makes query state (item.End leg) after = (reached : State) × IsWorked query (begun_to_end state) leg.parts reached × ClosesEnd query reached leg.close × (after ≡ reached)
+Makes query state (item.Do command) after = (fits_of query.flow command ≡ true) × (after ≡ after_command query.flow command state)
+Makes query state (item.Run leg) after = (reached : State) × IsWorked query (begin_leg state) leg.parts reached × ClosesRun query reached leg.close × (after ≡ after_close query reached leg.close)
+Makes query state (item.End leg) after = (reached : State) × IsWorked query (begin_last_leg state) leg.parts reached × ClosesEnd query reached leg.close × (after ≡ reached)
 
 -- items lead from one state to another, one after the other
 unfoldable pub Reaches : Query → State → List Item → State → Type 0
@@ -126,8 +126,8 @@ pub record IsLegal (query : Query) (log : Log) : Type 0 where
   pub reached : Reaches query (start_of query.flow) log.items after
 
 -- the state in which a leg begins, up to a stop or to the end
-abbrev pub opened : Bool → State → State
-opened to_end state = if to_end then begun_to_end state else begun state
+abbrev pub leg_start : Bool → State → State
+leg_start to_end state = if to_end then begin_last_leg state else begin_leg state
 
 -- a legal log that more may follow, and behind it a leg that is not closed yet, with what the workers did so far
 pub record IsOpen (query : Query) (log : Log) (to_end : Bool) (parts : List Part) : Type 0 where
@@ -135,7 +135,7 @@ pub record IsOpen (query : Query) (log : Log) (to_end : Bool) (parts : List Part
   pub more : ends_over false log.items ≡ false
   pub text : AreParts 0 parts
   pub now : State
-  pub worked : IsWorked query (opened to_end legal.after) parts now
+  pub worked : IsWorked query (leg_start to_end legal.after) parts now
   pub few : steps_in now ≤ query.most
 
 -- whether an item changes what comes out: a filter's constant, or a row that is dropped

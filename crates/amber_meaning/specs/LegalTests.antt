@@ -2,7 +2,7 @@
 use Rattle.std.specs.Prelude.{ℕ, ◌+◌, ◌==◌, nat_le, nat_lt, ◌&&◌, not, suc, List, [], ◌∷◌, length, map, Option, Some, None, is_some, Bool, true, false}
 use Rattle.std.specs.List.{list_all}
 use Rattle.amber_rows.specs.Chunks.{numbers_below}
-use Rattle.amber_rows.specs.Cond.{numbered}
+use Rattle.amber_rows.specs.Cond.{nth}
 use Rattle.amber_rows.specs.Crew.{crew_of, op_of}
 use Rattle.amber_rows.specs.Operators.{same_row}
 use Rattle.amber_rows.specs.declared.value.Value.{Value}
@@ -17,10 +17,10 @@ use Rattle.amber_log.specs.declared.log.Item.{Item}
 use Rattle.amber_log.specs.declared.log.Item.TheVariants as item
 use Rattle.amber_meaning.specs.Legal.{Query, batches_for, entries_of, role_in, stops_in}
 use Rattle.amber_meaning.specs.Position.{Position, taken_from}
-use Rattle.amber_meaning.specs.Replay.{after_item, moved_by, worked}
+use Rattle.amber_meaning.specs.Replay.{after_item, moved_by, after_leg}
 use Rattle.amber_meaning.specs.Rules.{Orders}
 use Rattle.amber_meaning.specs.RuleTests.{is_empty, may_move}
-use Rattle.amber_meaning.specs.State.{Counting, State, arms_at, begun, begun_to_end, counted_at, have_finished, orders_of, position_at, steps_in}
+use Rattle.amber_meaning.specs.State.{Counting, State, arms_at, begin_leg, begin_last_leg, counted_at, have_finished, orders_of, position_at, steps_in}
 use Rattle.amber_meaning.specs.Task.{Role}
 
 -- ---- batches
@@ -56,7 +56,7 @@ are_offered query positions =
 
 -- the batch that an entry takes is there
 abbrev pub is_offered : (ℕ → List Batch) → Entry → Bool
-is_offered offer (entry.Take from number) = is_some (numbered (offer from) (number + 1))
+is_offered offer (entry.Take from number) = is_some (nth (offer from) (number + 1))
 is_offered offer (entry.Go rows outs) = true
 is_offered offer (entry.Grant n) = true
 is_offered offer (entry.Back n) = true
@@ -73,13 +73,13 @@ may_lead offer role orders p (one ∷ more) = may_move role orders p one && (is_
 -- what a worker did may be what a leg's parts say
 abbrev pub may_do : Query → State → List Part → ℕ → Bool
 may_do query before parts worker =
-    may_lead (λ sender. batches_for query (worked query before parts).positions sender worker) (role_in query worker)
+    may_lead (λ sender. batches_for query (after_leg query before parts).positions sender worker) (role_in query worker)
     (orders_of (arms_at before (op_of query.flow worker))) (position_at before.positions worker) (entries_of parts worker)
 
 unfoldable pub may_work : Query → State → List Part → Bool
 may_work query before parts =
     list_all (λ part. nat_lt part.worker (crew_of query.flow)) parts
-    && (list_all (may_do query before parts) (numbers_below (crew_of query.flow)) && are_offered query (worked query before parts).positions)
+    && (list_all (may_do query before parts) (numbers_below (crew_of query.flow)) && are_offered query (after_leg query before parts).positions)
 
 abbrev pub is_within : Query → State → ℕ → Option Counting → Bool
 is_within query state op None = true
@@ -104,8 +104,8 @@ may_close_end query state close.Long = is_settled query state && ((steps_in stat
 -- whether an item may follow in a state
 unfoldable pub may_make : Query → State → Item → Bool
 may_make query state (item.Do command) = fits_of query.flow command
-may_make query state (item.Run leg) = may_work query (begun state) leg.parts && may_close_run query (worked query (begun state) leg.parts) leg.close
-may_make query state (item.End leg) = may_work query (begun_to_end state) leg.parts && may_close_end query (worked query (begun_to_end state) leg.parts) leg.close
+may_make query state (item.Run leg) = may_work query (begin_leg state) leg.parts && may_close_run query (after_leg query (begin_leg state) leg.parts) leg.close
+may_make query state (item.End leg) = may_work query (begin_last_leg state) leg.parts && may_close_end query (after_leg query (begin_last_leg state) leg.parts) leg.close
 
 -- whether items may follow one another from a state
 unfoldable pub may_reach : Query → State → List Item → Bool

@@ -1,9 +1,9 @@
 -- The sequential answer of a workflow: what each operator gives, as lists over whole files.
 use Rattle.std.specs.Prelude.{◌≡◌, ℕ, ◌+◌, ◌<◌, ◌≤◌, ⊤, List, [], ◌∷◌, ◌++◌, length, filter, map, count_by, sum_by, Option, Some, None, unwrap_or, Result, Ok, Err, Bool, true, false, if◌then◌else◌}
 use Rattle.std.specs.List.{filter_map}
-use Rattle.amber_rows.specs.Cond.{holds_of, numbered}
+use Rattle.amber_rows.specs.Cond.{holds_of, nth}
 use Rattle.amber_rows.specs.FlowRules.{columns_at}
-use Rattle.amber_rows.specs.Operators.{grouped, joined, projected, refused_keys}
+use Rattle.amber_rows.specs.Operators.{group_result, join_result, project_result, refused_keys}
 use Rattle.amber_rows.specs.Order.{sort_rows}
 use Rattle.amber_rows.specs.Record.{has_header, ok_of, typed_records}
 use Rattle.amber_rows.specs.declared.value.Value.{Value}
@@ -55,7 +55,7 @@ records_of files (operator ∷ more) =
 
 -- the list with this number, of lists numbered from 1; none where there is none
 abbrev pub list_at : {A : Type 0} → List (List A) → ℕ → List A
-list_at lists op = unwrap_or (numbered lists op) []
+list_at lists op = unwrap_or (nth lists op) []
 
 -- the rows of one operator, from its typed records and the rows of the operators before it: a scan gives the records that have no
 -- fault, a filter the rows for which its condition holds, a project the named columns, a join the matches of its probe rows in
@@ -63,9 +63,9 @@ list_at lists op = unwrap_or (numbered lists op) []
 abbrev pub rows_of : What → List (Result (List Value) RowFault) → List (List (List Value)) → List (List Value)
 rows_of (what.Scan file) records done = filter_map ok_of records
 rows_of (what.Filter input cond) records done = filter (holds_of cond) (list_at done input)
-rows_of (what.Project input from) records done = projected from (list_at done input)
-rows_of (what.Join build probe build_keys probe_keys) records done = joined build_keys probe_keys (list_at done build) (list_at done probe)
-rows_of (what.Group input keys aggs) records done = grouped keys aggs (list_at done input)
+rows_of (what.Project input from) records done = project_result from (list_at done input)
+rows_of (what.Join build probe build_keys probe_keys) records done = join_result build_keys probe_keys (list_at done build) (list_at done probe)
+rows_of (what.Group input keys aggs) records done = group_result keys aggs (list_at done input)
 rows_of (what.Sink input) records done = sort_rows (list_at done input)
 
 abbrev pub first_list : {A : Type 0} → List (List A) → List A

@@ -1,6 +1,6 @@
 -- The state that a log leads to, computed. Where the log is legal it is the one state that the log reaches.
 use Rattle.std.specs.Prelude.{ℕ, zero, suc, ◌+◌, List, [], ◌∷◌, ◌++◌, Option, Some, None, true, false}
-use Rattle.amber_rows.specs.Cond.{numbered}
+use Rattle.amber_rows.specs.Cond.{nth}
 use Rattle.amber_rows.specs.Crew.{crew_of, op_of}
 use Rattle.amber_rows.specs.declared.batch.Batch.{Batch}
 use Rattle.amber_log.specs.declared.entry.Entry.{Entry}
@@ -11,7 +11,7 @@ use Rattle.amber_log.specs.declared.log.Item.TheVariants as item
 use Rattle.amber_meaning.specs.Legal.{Query, after_close, batches_for, entries_of}
 use Rattle.amber_meaning.specs.Position.{Position}
 use Rattle.amber_meaning.specs.Rules.{Orders, took, went}
-use Rattle.amber_meaning.specs.State.{State, arms_at, begun, begun_to_end, commanded, orders_of, position_at, start_of}
+use Rattle.amber_meaning.specs.State.{State, arms_at, begin_leg, begin_last_leg, after_command, orders_of, position_at, start_of}
 
 -- a batch is taken where it is there
 abbrev pub took_if : ℕ → Option Batch → Position → Position
@@ -20,7 +20,7 @@ took_if from (Some batch) p = took from batch p
 
 -- the position after an entry, where `offer` has the batches of each sender
 abbrev pub moved_by : (ℕ → List Batch) → Orders → Entry → Position → Position
-moved_by offer orders (entry.Take from number) p = took_if from (numbered (offer from) (number + 1)) p
+moved_by offer orders (entry.Take from number) p = took_if from (nth (offer from) (number + 1)) p
 moved_by offer orders (entry.Go rows outs) p = went orders rows outs p
 moved_by offer orders (entry.Grant n) p = record p { hand = p.hand + n }
 moved_by offer orders (entry.Back n) p = record p { hand = 0 }
@@ -43,14 +43,14 @@ positions_after query state parts (suc worker) =
     (entries_of parts worker) (position_at state.positions worker) ∷ []
 
 -- the state at the end of a leg
-unfoldable pub worked : Query → State → List Part → State
-worked query state parts = record state { positions = positions_after query state parts (crew_of query.flow) }
+unfoldable pub after_leg : Query → State → List Part → State
+after_leg query state parts = record state { positions = positions_after query state parts (crew_of query.flow) }
 
 -- the state after an item
 unfoldable pub after_item : Query → State → Item → State
-after_item query state (item.Do command) = commanded query.flow command state
-after_item query state (item.Run leg) = after_close query (worked query (begun state) leg.parts) leg.close
-after_item query state (item.End leg) = worked query (begun_to_end state) leg.parts
+after_item query state (item.Do command) = after_command query.flow command state
+after_item query state (item.Run leg) = after_close query (after_leg query (begin_leg state) leg.parts) leg.close
+after_item query state (item.End leg) = after_leg query (begin_last_leg state) leg.parts
 
 unfoldable pub after_items : Query → State → List Item → State
 after_items query state [] = state

@@ -1,7 +1,7 @@
 -- The state of a run: how far its workers are, and what commands have put in force.
 use Rattle.std.specs.Prelude.{ℕ, suc, ◌+◌, ◌==◌, List, [], ◌∷◌, ◌++◌, length, map, drop, replicate, sum_by, Option, Some, None, is_some, unwrap_or, Bool, true, false, if◌then◌else◌}
 use Rattle.std.specs.List.{list_all}
-use Rattle.amber_rows.specs.Cond.{numbered}
+use Rattle.amber_rows.specs.Cond.{nth}
 use Rattle.amber_rows.specs.Crew.{crew_of, first_worker_of, workers_of}
 use Rattle.amber_rows.specs.declared.value.Value.{Value}
 use Rattle.amber_rows.specs.declared.cond.Cond.{Cond}
@@ -36,11 +36,11 @@ abbrev pub no_arms : Arms
 no_arms = record { pause = None; count = None; watch = None; constants = [] }
 
 abbrev pub arms_at : State → ℕ → Arms
-arms_at state op = unwrap_or (numbered state.arms op) no_arms
+arms_at state op = unwrap_or (nth state.arms op) no_arms
 
 -- the position of a worker
 abbrev pub position_at : List Position → ℕ → Position
-position_at positions worker = unwrap_or (numbered positions (worker + 1)) origin
+position_at positions worker = unwrap_or (nth positions (worker + 1)) origin
 
 -- the orders of an operator's workers for a leg
 abbrev pub orders_of : Arms → Orders
@@ -108,8 +108,8 @@ abbrev pub with_arms : (Arms → Arms) → ℕ → State → State
 with_arms change op state = record state { arms = changed_at change op state.arms }
 
 -- no pause, count or condition
-abbrev pub disarmed : Arms → Arms
-disarmed arms = record arms { pause = None; count = None; watch = None }
+abbrev pub without_arms : Arms → Arms
+without_arms arms = record arms { pause = None; count = None; watch = None }
 
 -- the row before which a worker is held is dropped, neither emitted nor counted
 abbrev pub without_held : Position → Position
@@ -120,29 +120,29 @@ abbrev pub worker_at : List Operator → ℕ → ℕ → ℕ
 worker_at flow op worker = first_worker_of flow op + worker
 
 -- the state after a command that is no leg
-unfoldable pub commanded : List Operator → Command → State → State
-commanded flow command.Run state = state
-commanded flow command.End state = state
-commanded flow (command.Pause op n) state = with_arms (λ arms. record arms { pause = Some n }) op state
-commanded flow (command.Count op n) state =
+unfoldable pub after_command : List Operator → Command → State → State
+after_command flow command.Run state = state
+after_command flow command.End state = state
+after_command flow (command.Pause op n) state = with_arms (λ arms. record arms { pause = Some n }) op state
+after_command flow (command.Count op n) state =
     with_arms (λ arms. record arms { count = Some (record { target = n; base = map (λ p. length p.outcomes) (crew_at flow state op) }) }) op state
-commanded flow (command.When op cond) state = with_arms (λ arms. record arms { watch = Some cond }) op state
-commanded flow (command.Clear op) state = with_arms disarmed op state
-commanded flow (command.Set op value) state = with_arms (λ arms. record arms { constants = value ∷ [] }) op state
-commanded flow (command.Drop op worker) state = record state { positions = changed_at without_held (worker_at flow op worker + 1) state.positions }
-commanded flow (command.Inspect op) state = state
-commanded flow (command.Lose op worker) state = state
+after_command flow (command.When op cond) state = with_arms (λ arms. record arms { watch = Some cond }) op state
+after_command flow (command.Clear op) state = with_arms without_arms op state
+after_command flow (command.Set op value) state = with_arms (λ arms. record arms { constants = value ∷ [] }) op state
+after_command flow (command.Drop op worker) state = record state { positions = changed_at without_held (worker_at flow op worker + 1) state.positions }
+after_command flow (command.Inspect op) state = state
+after_command flow (command.Lose op worker) state = state
 
 -- a leg begins: pauses end, and a held row may go
 abbrev pub let_go : Position → Position
 let_go p = if p.held then record p { paused = false; held = false; waved = true } else record p { paused = false }
 
-unfoldable pub begun : State → State
-begun state = record state { positions = map let_go state.positions }
+unfoldable pub begin_leg : State → State
+begin_leg state = record state { positions = map let_go state.positions }
 
 -- the last leg begins: the same, and nothing is armed any more
-unfoldable pub begun_to_end : State → State
-begun_to_end state = record {
-  arms = map disarmed state.arms;
+unfoldable pub begin_last_leg : State → State
+begin_last_leg state = record {
+  arms = map without_arms state.arms;
   positions = map let_go state.positions;
 }

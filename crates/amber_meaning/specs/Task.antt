@@ -2,7 +2,7 @@
 use Rattle.std.specs.Prelude.{ℕ, ◌==◌, List, [], ◌∷◌, ◌++◌, filter, Option, Some, None, Result, Ok, Err, Bool, if◌then◌else◌}
 use Rattle.std.specs.List.{filter_map, list_any}
 use Rattle.amber_rows.specs.Cond.{holds_of}
-use Rattle.amber_rows.specs.Operators.{grouped, matches_of, picked}
+use Rattle.amber_rows.specs.Operators.{group_result, matches_of, pick_cells}
 use Rattle.amber_rows.specs.Suits.{suits_of}
 use Rattle.amber_rows.specs.declared.value.Value.{Value}
 use Rattle.amber_rows.specs.declared.column.Column.{Column}
@@ -63,7 +63,7 @@ with_constant cond (constant ∷ more) = record cond { constant = constant }
 abbrev pub yields_row : Task → What → List Arrival → ℕ → List Value → List Value → List (List Value)
 yields_row task (what.Scan file) before from constants row = row ∷ []
 yields_row task (what.Filter input cond) before from constants row = if holds_of (with_constant cond constants) row then row ∷ [] else []
-yields_row task (what.Project input columns) before from constants row = picked columns row ∷ []
+yields_row task (what.Project input columns) before from constants row = pick_cells columns row ∷ []
 yields_row task (what.Join build probe build_keys probe_keys) before from constants row =
     if is_builder task from then [] else matches_of build_keys probe_keys (built_of task before) row
 yields_row task (what.Group input keys aggs) before from constants row = []
@@ -88,7 +88,7 @@ closing_rows (what.Scan file) rows = []
 closing_rows (what.Filter input cond) rows = []
 closing_rows (what.Project input columns) rows = []
 closing_rows (what.Join build probe build_keys probe_keys) rows = []
-closing_rows (what.Group input keys aggs) rows = grouped keys aggs rows
+closing_rows (what.Group input keys aggs) rows = group_result keys aggs rows
 closing_rows (what.Sink input) rows = []
 
 -- what a worker produces at the end, once it was handed all of this: the rows of its groups

@@ -3,7 +3,7 @@ use Rattle.std.specs.Prelude.{ℕ, ◌+◌, ◌==◌, ◌&&◌, nat_le, not, Lis
 use Rattle.std.specs.List.{flat_map, list_all}
 use Rattle.std.specs.Fmt.{decimal, signed_decimal}
 use Rattle.amber_rows.specs.Columns.{names_of}
-use Rattle.amber_rows.specs.Cond.{numbered}
+use Rattle.amber_rows.specs.Cond.{nth}
 use Rattle.amber_rows.specs.FlowRules.{columns_at}
 use Rattle.amber_rows.specs.RowText.{fields_text_of, row_text_of, rows_text_of}
 use Rattle.amber_rows.specs.declared.value.Value.{Value}
@@ -79,7 +79,7 @@ id_in (Some operator) = operator.id
 
 -- the id of an operator
 abbrev pub id_at : List Operator → ℕ → List ℕ
-id_at flow op = id_in (numbered flow op)
+id_at flow op = id_in (nth flow op)
 
 abbrev pub name_in : Option Column → List ℕ
 name_in None = []
@@ -87,7 +87,7 @@ name_in (Some column) = column.name
 
 -- the name of an operator's column
 abbrev pub column_name_at : List Operator → ℕ → ℕ → List ℕ
-column_name_at flow op column = name_in (numbered (columns_at flow op) column)
+column_name_at flow op column = name_in (nth (columns_at flow op) column)
 
 -- column, sign and constant
 abbrev pub cond_words : List Operator → ℕ → Cond → List (List ℕ)
@@ -96,21 +96,21 @@ cond_words flow op cond = word_of (column_name_at flow op cond.column) ∷ sign_
 -- ---- replies to commands
 
 -- a command as it stands in a script
-abbrev pub command_words : List Operator → Command → List (List ℕ)
-command_words flow command.Run = codes "run" ∷ []
-command_words flow command.End = codes "end" ∷ []
-command_words flow (command.Pause op n) = codes "pause" ∷ id_at flow op ∷ decimal n ∷ []
-command_words flow (command.Count op n) = codes "break" ∷ codes "count" ∷ id_at flow op ∷ decimal n ∷ []
-command_words flow (command.When op cond) = codes "break" ∷ codes "when" ∷ id_at flow op ∷ cond_words flow op cond
-command_words flow (command.Clear op) = codes "clear" ∷ id_at flow op ∷ []
-command_words flow (command.Set op constant) = codes "set" ∷ id_at flow op ∷ value_word constant ∷ []
-command_words flow (command.Drop op worker) = codes "drop" ∷ id_at flow op ∷ decimal worker ∷ []
-command_words flow (command.Inspect op) = codes "inspect" ∷ id_at flow op ∷ []
-command_words flow (command.Lose op worker) = codes "lose" ∷ id_at flow op ∷ decimal worker ∷ []
+abbrev pub reply_words : List Operator → Command → List (List ℕ)
+reply_words flow command.Run = codes "run" ∷ []
+reply_words flow command.End = codes "end" ∷ []
+reply_words flow (command.Pause op n) = codes "pause" ∷ id_at flow op ∷ decimal n ∷ []
+reply_words flow (command.Count op n) = codes "break" ∷ codes "count" ∷ id_at flow op ∷ decimal n ∷ []
+reply_words flow (command.When op cond) = codes "break" ∷ codes "when" ∷ id_at flow op ∷ cond_words flow op cond
+reply_words flow (command.Clear op) = codes "clear" ∷ id_at flow op ∷ []
+reply_words flow (command.Set op constant) = codes "set" ∷ id_at flow op ∷ value_word constant ∷ []
+reply_words flow (command.Drop op worker) = codes "drop" ∷ id_at flow op ∷ decimal worker ∷ []
+reply_words flow (command.Inspect op) = codes "inspect" ∷ id_at flow op ∷ []
+reply_words flow (command.Lose op worker) = codes "lose" ∷ id_at flow op ∷ decimal worker ∷ []
 
 -- that a command was done
 unfoldable pub ok_text : List Operator → Command → List ℕ
-ok_text flow done = words_line (codes "ok" ∷ command_words flow done)
+ok_text flow done = words_line (codes "ok" ∷ reply_words flow done)
 
 -- the row that was dropped, or that there was none
 unfoldable pub drop_text : List Operator → ℕ → ℕ → Option (List Value) → List ℕ
@@ -188,7 +188,7 @@ kind_in (Some operator) = kind_word operator.what
 -- what an operator shows
 unfoldable pub inspected_text : List Operator → Inspected → List ℕ
 inspected_text flow seen =
-    words_line (codes "inspect" ∷ id_at flow seen.op ∷ kind_in (numbered flow seen.op) ∷ [])
+    words_line (codes "inspect" ∷ id_at flow seen.op ∷ kind_in (nth flow seen.op) ∷ [])
     ++ (constant_text seen.constant ++ (pause_text seen.pause ++ (count_text seen.count ++ (when_text flow seen.op seen.when ++ views_text 0 seen.workers))))
 
 -- ---- the answer

@@ -9,8 +9,8 @@ use Rattle.amber_log.specs.declared.log.Item.{Item}
 use Rattle.amber_log.specs.declared.log.Item.TheVariants as item
 use Rattle.amber_meaning.specs.Legal.{Query, role_in, stops_in}
 use Rattle.amber_meaning.specs.Position.{pending_rows}
-use Rattle.amber_meaning.specs.Replay.{after_item, worked}
-use Rattle.amber_meaning.specs.State.{State, begun, begun_to_end, position_at, start_of, worker_at}
+use Rattle.amber_meaning.specs.Replay.{after_item, after_leg}
+use Rattle.amber_meaning.specs.State.{State, begin_leg, begin_last_leg, position_at, start_of, worker_at}
 use Rattle.amber_meaning.specs.Texts.{answer_text, drop_text, inspected_text, ok_text, stops_text}
 use Rattle.amber_meaning.specs.Views.{answer_in, first_of, inspected_of}
 
@@ -44,8 +44,8 @@ end_reply query reached close.Long = []
 -- the reply to an item, in the state before it
 unfoldable pub reply_of : Query → State → Item → List ℕ
 reply_of query state (item.Do command) = command_reply query state command
-reply_of query state (item.Run leg) = run_reply query (worked query (begun state) leg.parts) leg.close
-reply_of query state (item.End leg) = end_reply query (worked query (begun_to_end state) leg.parts) leg.close
+reply_of query state (item.Run leg) = run_reply query (after_leg query (begin_leg state) leg.parts) leg.close
+reply_of query state (item.End leg) = end_reply query (after_leg query (begin_last_leg state) leg.parts) leg.close
 
 -- the replies to items that begin in this state
 unfoldable pub replies : Query → State → List Item → List ℕ

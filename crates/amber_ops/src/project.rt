@@ -1,5 +1,5 @@
 ghost use Rattle.std.specs.Prelude.{◌≡◌, IfOk};
-ghost use Rattle.amber_rows.specs.Operators.{picked};
+ghost use Rattle.amber_rows.specs.Operators.{pick_cells};
 
 use amber_rows::{Cols, Row};
 use std::alloc::{AllocError, Global};
@@ -32,7 +32,7 @@ impl ProjectState {
 
     /// A row of the cells that a row has in these columns. A column that the row does not have gives no cell.
     pub fn feed(&mut self, row: &Row) -> Result<Row, AllocError>
-        ensures ok { IfOk result (λ cells. cells ≡ picked self.old row.now) }
+        ensures ok { IfOk result (λ cells. cells ≡ pick_cells self.old row.now) }
         ensures same { self.new ≡ self.old }
     {
         self.pick(row)
@@ -40,7 +40,7 @@ impl ProjectState {
 
     /// The same row, where the state is only looked at.
     pub fn pick(&self, row: &Row) -> Result<Row, AllocError>
-        ensures { IfOk result (λ cells. cells ≡ picked self.now row.now) }
+        ensures { IfOk result (λ cells. cells ≡ pick_cells self.now row.now) }
     {
         row.pick(self.alloc, &self.from)
     }

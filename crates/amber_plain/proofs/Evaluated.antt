@@ -4,7 +4,7 @@ use Rattle.std.proofs.lemmas.Bool.{cases_eq, cases_lt, eqb-true, ne_eqb}
 use Rattle.std.proofs.lemmas.List.{append-nil, get_or_append_left, get_or_push, get_or-set_other, length-set, length-take, length_push, take-append-drop, take_all, take_more}
 use Rattle.std.proofs.lemmas.List.Sums.{sum_by-append}
 use Rattle.amber_rows.specs.Cond.{holds_of}
-use Rattle.amber_rows.specs.Operators.{grouped, joined, projected, refused_keys}
+use Rattle.amber_rows.specs.Operators.{group_result, join_result, project_result, refused_keys}
 use Rattle.amber_rows.specs.Order.{sort_rows}
 use Rattle.amber_rows.specs.FlowRules.{IsFlow, IsKind, columns_at, inputs_of, reader_count}
 use Rattle.amber_rows.proofs.FlowFacts.{reader_count-append}
@@ -19,7 +19,7 @@ use Rattle.amber_meaning.specs.ScanFiles.{files_left, records_at}
 use Rattle.amber_plain.specs.Evaluator.{HasInputs, lists_after}
 use Rattle.amber_meaning.specs.declared.answer.Answer.{Answer}
 use Rattle.amber_meaning.specs.declared.answer.Refusal.{Refusal}
-use Rattle.amber_meaning.proofs.Operators.{Lists, Records, list_at-is, next-here, numbered-within, refusals-more, records-here, rows-before, rows-here, length-outputs}
+use Rattle.amber_meaning.proofs.Operators.{Lists, Records, list_at-is, next-here, nth-within, refusals-more, records-here, rows-before, rows-here, length-outputs}
 
 -- how often an operator reads the list with this number
 abbrev pub read_count : What → ℕ → ℕ
@@ -52,7 +52,7 @@ reads_other input op h e = let own = reads_same input op e in absurd (omega (ari
 earlier : (before : List Operator) (kind : What) (columns : List Column) → IsKind before kind columns → (op : ℕ) → 0 < read_count kind op → (0 < op) × (op ≤ length before)
 earlier before (what.Scan file) columns k op h = absurd (omega arith)
 earlier before (what.Filter input test) columns k op h =
-    let e = one_read input op (omega arith) in let w = numbered-within before input (λ earlier. earlier.schema ≡ columns) k.0 in (omega (arith, w.0), omega (arith, w.1))
+    let e = one_read input op (omega arith) in let w = nth-within before input (λ earlier. earlier.schema ≡ columns) k.0 in (omega (arith, w.0), omega (arith, w.1))
 earlier before (what.Project input from) columns k op h = let e = one_read input op (omega arith) in (omega (arith, k.0.0), omega (arith, k.0.1))
 earlier before (what.Join build probe build_keys probe_keys) columns k op h =
     elim (cases_eq build op) [
@@ -63,7 +63,7 @@ earlier before (what.Join build probe build_keys probe_keys) columns k op h =
     ]
 earlier before (what.Group input keys aggs) columns k op h = let e = one_read input op (omega arith) in (omega (arith, k.0.0), omega (arith, k.0.1))
 earlier before (what.Sink input) columns k op h =
-    let e = one_read input op (omega arith) in let w = numbered-within before input (λ earlier. earlier.schema ≡ columns) k in (omega (arith, w.0), omega (arith, w.1))
+    let e = one_read input op (omega arith) in let w = nth-within before input (λ earlier. earlier.schema ≡ columns) k in (omega (arith, w.0), omega (arith, w.1))
 
 -- the list with this number is whole, and read once
 record IsWhole (kind : What) (lists all : Lists) (op : ℕ) : Type 0 where
@@ -94,11 +94,11 @@ pub rows-same : (kind : What) (records : List (Result (List Value) RowFault)) (l
     → rows_of kind records lists ≡ rows_of kind records all
 rows-same (what.Scan file) records lists all w = refl
 rows-same (what.Filter input test) records lists all w = ap (λ rows. filter (holds_of test) rows) (w input (omega (arith, reads_own input)))
-rows-same (what.Project input from) records lists all w = ap (λ rows. projected from rows) (w input (omega (arith, reads_own input)))
+rows-same (what.Project input from) records lists all w = ap (λ rows. project_result from rows) (w input (omega (arith, reads_own input)))
 rows-same (what.Join build probe build_keys probe_keys) records lists all w =
-    ap (λ rows. joined build_keys probe_keys rows (list_at lists probe)) (w build (omega (arith, reads_own build)))
-    ∙ ap (λ rows. joined build_keys probe_keys (list_at all build) rows) (w probe (omega (arith, reads_own probe)))
-rows-same (what.Group input keys aggs) records lists all w = ap (λ rows. grouped keys aggs rows) (w input (omega (arith, reads_own input)))
+    ap (λ rows. join_result build_keys probe_keys rows (list_at lists probe)) (w build (omega (arith, reads_own build)))
+    ∙ ap (λ rows. join_result build_keys probe_keys (list_at all build) rows) (w probe (omega (arith, reads_own probe)))
+rows-same (what.Group input keys aggs) records lists all w = ap (λ rows. group_result keys aggs rows) (w input (omega (arith, reads_own input)))
 rows-same (what.Sink input) records lists all w = ap (λ rows. sort_rows rows) (w input (omega (arith, reads_own input)))
 
 pub refused-same : (op : ℕ) (kind : What) (records : List (Result (List Value) RowFault)) (lists all : Lists) → ((op : ℕ) → 0 < read_count kind op → list_at lists op ≡ list_at all op)

@@ -2,7 +2,7 @@
 ghost use Rattle.std.specs.Prelude.{◌≡◌, ◌<◌, ◌^◌, ◌++◌, ◌∷◌, [], length, filter, map, IfOk, OnOk};
 ghost use Rattle.amber_rows.specs.Cond.{holds_of};
 ghost use Rattle.amber_rows.specs.FlowRules.{columns_at};
-ghost use Rattle.amber_rows.specs.Operators.{grouped, refused_keys};
+ghost use Rattle.amber_rows.specs.Operators.{group_result, refused_keys};
 ghost use Rattle.amber_meaning.specs.Plain.{IsPlain, list_at, refused_by, refused_groups, rows_of, scan_count};
 ghost use Rattle.amber_meaning.specs.ScanFiles.{records_at};
 ghost use Rattle.amber_plain.specs.Evaluator.{HasInputs, HasList, lists_after, without};
@@ -56,7 +56,7 @@ fn group_refused(
     rows: Vec<Row>,
     refused: &mut Vec<Refusal>,
 ) -> Result<Vec<Row>, AllocError>
-    ensures rows { IfOk result (λ made. made.items ≡ grouped keys.now aggs.now rows.items) }
+    ensures rows { IfOk result (λ made. made.items ≡ group_result keys.now aggs.now rows.items) }
     ensures refused { OnOk result (refused.new.items ≡ refused.old.items ++ refused_groups op (refused_keys keys.now aggs.now rows.items)) }
 {
     let Grouped {

@@ -1,6 +1,6 @@
 // The rows of a group, by its state.
 ghost use Rattle.std.specs.Prelude.{◌≡◌, ◌<◌, ◌++◌, ◌∷◌, [], IfOk, List, OnOk};
-ghost use Rattle.amber_rows.specs.Operators.{grouped, refused_keys};
+ghost use Rattle.amber_rows.specs.Operators.{group_result, refused_keys};
 ghost use Rattle.amber_rows.specs.declared.value.Value.{Value as Cell};
 ghost use Rattle.amber_group.specs.Group.{IsFedWith};
 
@@ -48,7 +48,7 @@ pub fn group_rows(
     aggs: &Aggs,
     rows: Vec<Row>,
 ) -> Result<Grouped, AllocError>
-    ensures rows { IfOk result (λ groups. groups.rows ≡ grouped keys.now aggs.now rows.items) }
+    ensures rows { IfOk result (λ groups. groups.rows ≡ group_result keys.now aggs.now rows.items) }
     ensures refused { IfOk result (λ groups. groups.refused ≡ refused_keys keys.now aggs.now rows.items) }
 {
     let state = fed_with(alloc, keys, aggs, rows)?;

@@ -1,6 +1,6 @@
 // The rows of a join, by its state.
 ghost use Rattle.std.specs.Prelude.{◌≡◌, ◌++◌, ◌∷◌, [], IfOk, OnOk, false, true};
-ghost use Rattle.amber_rows.specs.Operators.{joined};
+ghost use Rattle.amber_rows.specs.Operators.{join_result};
 
 use amber_join::JoinState;
 use amber_rows::{Cols, Row};
@@ -46,7 +46,7 @@ fn built(
 // The matches of the probe rows in the build rows of a state.
 fn probed(alloc: Global, state: &JoinState, probe: Vec<Row>) -> Result<Vec<Row>, AllocError>
     requires { state.now.sealed ≡ true }
-    ensures { IfOk result (λ made. made.items ≡ joined state.now.build_keys state.now.probe_keys state.now.rows probe.items) }
+    ensures { IfOk result (λ made. made.items ≡ join_result state.now.build_keys state.now.probe_keys state.now.rows probe.items) }
 {
     let mut made = Vec::new(alloc);
     for row in probe {
@@ -64,7 +64,7 @@ pub fn join_rows(
     build: Vec<Row>,
     probe: Vec<Row>,
 ) -> Result<Vec<Row>, AllocError>
-    ensures { IfOk result (λ made. made.items ≡ joined build_keys.now probe_keys.now build.items probe.items) }
+    ensures { IfOk result (λ made. made.items ≡ join_result build_keys.now probe_keys.now build.items probe.items) }
 {
     let state = built(alloc, build_keys, probe_keys, build)?;
     probed(alloc, &state, probe)

@@ -2,7 +2,7 @@
 ghost use Rattle.std.specs.Prelude.{◌≡◌, ◌≤◌, ◌-◌, if◌then◌else◌, ◌<◌, ◌==◌, ◌↔◌, [], ◌∷◌, All, drop, false, map, not, replicate, slice_index_or, sum};
 ghost use Rattle.std.specs.List.{list_any};
 ghost use Rattle.amber_board.specs.Ledger.{IsExact};
-ghost use Rattle.amber_board.specs.Seats.{IsChiefOf, chief_view, workers_of};
+ghost use Rattle.amber_board.specs.Seats.{IsChiefOf, chief_view, board_workers};
 ghost use Rattle.amber_board.specs.declared.view.Step.TheVariants.{Draw, Grant, Sweep};
 ghost use Rattle.amber_principal.specs.Rounds.{IsRound, grants_after, sweeps_after, watches_after};
 ghost use Rattle.amber_principal.specs.Shares.{is_able, is_starved};
@@ -49,7 +49,7 @@ impl Model for Principal {
 // Watches each worker, in order.
 fn watch_all(seat: &mut ChiefSeat, board: &Board, workers: u32)
     requires own { IsChiefOf board.now seat.old }
-    requires workers { workers ≡ workers_of board.now }
+    requires workers { workers ≡ board_workers board.now }
     ensures own { IsChiefOf board.now seat.new }
     ensures hand { (chief_view seat.new).hand ≡ (chief_view seat.old).hand }
     ensures steps { (chief_view seat.new).done ≡ watches_after (chief_view seat.old).done workers }
@@ -62,7 +62,7 @@ fn watch_all(seat: &mut ChiefSeat, board: &Board, workers: u32)
 // Takes back what a worker has not claimed, but for one that is starved.
 fn sweep_other(seat: &mut ChiefSeat, board: &Board, needs: &[Need; PLACES], worker: u32)
     requires own { IsChiefOf board.now seat.old }
-    requires worker { (worker < workers_of board.now) × (worker < 16) }
+    requires worker { (worker < board_workers board.now) × (worker < 16) }
     ensures own { IsChiefOf board.now seat.new }
     ensures seen { (chief_view seat.new).seen ≡ (chief_view seat.old).seen }
     ensures steps { (chief_view seat.new).done
@@ -77,7 +77,7 @@ fn sweep_other(seat: &mut ChiefSeat, board: &Board, needs: &[Need; PLACES], work
 // Takes the unassigned units, and what those that are not starved have not claimed.
 fn recall(seat: &mut ChiefSeat, board: &Board, needs: &[Need; PLACES], workers: u32)
     requires own { IsChiefOf board.now seat.old }
-    requires workers { (workers ≡ workers_of board.now) × (workers ≤ 16) }
+    requires workers { (workers ≡ board_workers board.now) × (workers ≤ 16) }
     ensures own { IsChiefOf board.now seat.new }
     ensures seen { (chief_view seat.new).seen ≡ (chief_view seat.old).seen }
     ensures steps { (chief_view seat.new).done
@@ -92,7 +92,7 @@ fn recall(seat: &mut ChiefSeat, board: &Board, needs: &[Need; PLACES], workers: 
 // Grants a worker so many units of those in hand, where that is not 0.
 fn grant_share(seat: &mut ChiefSeat, board: &Board, worker: u32, share: u64)
     requires own { IsChiefOf board.now seat.old }
-    requires worker { worker < workers_of board.now }
+    requires worker { worker < board_workers board.now }
     requires has { share ≤ (chief_view seat.old).hand }
     ensures own { IsChiefOf board.now seat.new }
     ensures seen { (chief_view seat.new).seen ≡ (chief_view seat.old).seen }
@@ -108,7 +108,7 @@ fn grant_share(seat: &mut ChiefSeat, board: &Board, worker: u32, share: u64)
 // Grants each worker its share of the units in hand.
 fn grant_all(seat: &mut ChiefSeat, board: &Board, shares: &[u64; PLACES], workers: u32)
     requires own { IsChiefOf board.now seat.old }
-    requires workers { (workers ≡ workers_of board.now) × (workers ≤ 16) }
+    requires workers { (workers ≡ board_workers board.now) × (workers ≤ 16) }
     requires all { sum shares.now ≡ (chief_view seat.old).hand }
     requires none { sum (drop workers shares.now) ≡ 0 }
     ensures own { IsChiefOf board.now seat.new }
@@ -169,7 +169,7 @@ impl Principal {
     /// Takes no memory.
     pub fn round(&mut self, seat: &mut ChiefSeat, board: &Board, needs: &[Need; PLACES]) -> Order
         requires own { IsChiefOf board.now seat.old }
-        requires workers { self.old ≡ workers_of board.now }
+        requires workers { self.old ≡ board_workers board.now }
         requires empty { (chief_view seat.old).hand ≡ 0 }
         requires absent { All (λ need. need ≡ Need.Absent) (drop self.old needs.now) }
         ensures own { IsChiefOf board.now seat.new }

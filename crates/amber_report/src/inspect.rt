@@ -1,7 +1,7 @@
 //! What an operator shows of its workers and of what is armed for it.
 ghost use Rattle.std.specs.Prelude.{◌≡◌, ◌+◌, [], ◌∷◌, ◌++◌, codes, decimal, IfOk, OnOk};
 ghost use Rattle.std.specs.List.{flat_map};
-ghost use Rattle.amber_rows.specs.Cond.{numbered};
+ghost use Rattle.amber_rows.specs.Cond.{nth};
 ghost use Rattle.amber_meaning.specs.Texts.{after_blank, constant_text, count_text, extra_words, inspected_text};
 ghost use Rattle.amber_meaning.specs.Texts.{kind_in, kind_word, next_text, pause_text, stand_word, views_text, view_words};
 ghost use Rattle.amber_meaning.specs.Texts.{id_at, when_text, words_line};
@@ -28,7 +28,7 @@ fn kind_word(what: &What) -> &'static [u8]
 
 // The word of an operator's kind; none where there is no such operator.
 fn kind_of(flow: &Flow, op: u32) -> &'static [u8]
-    ensures { result.now ≡ kind_in (numbered flow.now op) }
+    ensures { result.now ≡ kind_in (nth flow.now op) }
 {
     match flow.operator(op) {
         Some(operator) => kind_word(&operator.what),
@@ -40,7 +40,7 @@ fn kind_of(flow: &Flow, op: u32) -> &'static [u8]
 #[tactic(auto, unfolding(amber_meaning::specs::Texts::words_line))]
 fn push_title(text: &mut Vec<u8>, flow: &Flow, op: u32) -> Result<(), AllocError>
     ensures { OnOk result (text.new.items ≡ text.old.items
-        ++ words_line (codes "inspect" ∷ id_at flow.now op ∷ kind_in (numbered flow.now op) ∷ [])) }
+        ++ words_line (codes "inspect" ∷ id_at flow.now op ∷ kind_in (nth flow.now op) ∷ [])) }
 {
     text.extend_from_slice(b"inspect")?;
     push_word(text, id_of(flow, op))?;

@@ -2,7 +2,7 @@
 ghost use Rattle.std.specs.Prelude.{◌≡◌, [], ◌∷◌, ◌++◌, decimal, IfOk, OnOk};
 ghost use Rattle.std.specs.List.{flat_map};
 ghost use Rattle.std.specs.Option.{option_copied};
-ghost use Rattle.amber_meaning.specs.Texts.{after_blank, command_words, drop_text, id_at};
+ghost use Rattle.amber_meaning.specs.Texts.{after_blank, reply_words, drop_text, id_at};
 ghost use Rattle.amber_report.specs.Replies.{done_text};
 
 use crate::conditions::push_cond;
@@ -38,7 +38,7 @@ fn push_numbered(
 // The command that stops at rows for which a condition holds.
 fn push_when(text: &mut Vec<u8>, flow: &Flow, op: u32, cond: &Cond) -> Result<(), AllocError>
     ensures { OnOk result (text.new.items
-        ≡ text.old.items ++ flat_map after_blank (command_words flow.now (Command.When op cond.now))) }
+        ≡ text.old.items ++ flat_map after_blank (reply_words flow.now (Command.When op cond.now))) }
 {
     push_word(text, b"break")?;
     push_op(text, b"when", flow, op)?;
@@ -48,7 +48,7 @@ fn push_when(text: &mut Vec<u8>, flow: &Flow, op: u32, cond: &Cond) -> Result<()
 // The command that stops after so many rows.
 fn push_count(text: &mut Vec<u8>, flow: &Flow, op: u32, n: u64) -> Result<(), AllocError>
     ensures { OnOk result (text.new.items
-        ≡ text.old.items ++ flat_map after_blank (command_words flow.now (Command.Count op n))) }
+        ≡ text.old.items ++ flat_map after_blank (reply_words flow.now (Command.Count op n))) }
 {
     push_word(text, b"break")?;
     push_numbered(text, b"count", flow, op, n)
@@ -57,7 +57,7 @@ fn push_count(text: &mut Vec<u8>, flow: &Flow, op: u32, n: u64) -> Result<(), Al
 // The command that changes a filter's constant.
 fn push_set(text: &mut Vec<u8>, flow: &Flow, op: u32, value: &Value) -> Result<(), AllocError>
     ensures { OnOk result (text.new.items
-        ≡ text.old.items ++ flat_map after_blank (command_words flow.now (Command.Set op value.now))) }
+        ≡ text.old.items ++ flat_map after_blank (reply_words flow.now (Command.Set op value.now))) }
 {
     push_op(text, b"set", flow, op)?;
     push_value(text, value)
@@ -66,7 +66,7 @@ fn push_set(text: &mut Vec<u8>, flow: &Flow, op: u32, value: &Value) -> Result<(
 // The words of a command, as it stands in a script.
 fn push_command(text: &mut Vec<u8>, flow: &Flow, command: &Command) -> Result<(), AllocError>
     ensures { OnOk result (text.new.items
-        ≡ text.old.items ++ flat_map after_blank (command_words flow.now command.now)) }
+        ≡ text.old.items ++ flat_map after_blank (reply_words flow.now command.now)) }
 {
     match command {
         Command::Run => push_word(text, b"run"),

@@ -9,8 +9,8 @@ use Rattle.amber_rows.specs.declared.cond.Cmp.TheVariants.{Eq, Ne, Lt, Le, Gt, G
 use Rattle.amber_rows.specs.declared.cond.Cond.{Cond}
 
 -- the element with a number that counts from 1
-abbrev pub numbered : {A : Type 0} → List A → ℕ → Option A
-numbered xs n = if n == 0 then None else slice_get xs (n - 1)
+abbrev pub nth : {A : Type 0} → List A → ℕ → Option A
+nth xs n = if n == 0 then None else slice_get xs (n - 1)
 
 -- whether a sign is met where a cell compares so with the constant
 abbrev pub meets : Cmp → Ordering → Bool
@@ -27,4 +27,4 @@ cell_holds cond (Some cell) = meets cond.op (value_cmp cell cond.constant)
 
 -- whether the cell of the condition's column compares with the constant as the sign says; false where there is no such column
 unfoldable pub holds_of : Cond → List Value → Bool
-holds_of cond row = cell_holds cond (numbered row cond.column)
+holds_of cond row = cell_holds cond (nth row cond.column)

@@ -2,7 +2,7 @@
 use Rattle.std.specs.Prelude.{ℕ, suc, ◌+◌, ◌-◌, ◌%◌, ◌==◌, ◌&&◌, ◌||◌, nat_lt, List, [], ◌∷◌, map, filter, take, sum_by, Option, Some, None, Bool, true, false, if◌then◌else◌}
 use Rattle.std.specs.List.{list_any}
 use Rattle.amber_rows.specs.Chunks.{numbers_below}
-use Rattle.amber_rows.specs.Cond.{numbered}
+use Rattle.amber_rows.specs.Cond.{nth}
 use Rattle.amber_rows.specs.FlowRules.{inputs_of}
 use Rattle.amber_rows.specs.Routing.{key_bytes_of, route_of}
 use Rattle.amber_rows.specs.declared.value.Value.{Value}
@@ -26,7 +26,7 @@ workers_in (Some operator) = operator.workers
 
 -- how many workers an operator has
 abbrev pub worker_count : List Operator → ℕ → ℕ
-worker_count flow op = workers_in (numbered flow op)
+worker_count flow op = workers_in (nth flow op)
 
 -- the workers of an operator
 unfoldable pub workers_of : List Operator → ℕ → List ℕ
@@ -76,7 +76,7 @@ kind_at None = what.Sink 0
 kind_at (Some operator) = operator.what
 
 abbrev pub what_at : List Operator → ℕ → What
-what_at flow op = kind_at (numbered flow op)
+what_at flow op = kind_at (nth flow op)
 
 -- the worker of this many that follows the sender with this place
 unfoldable pub follower_of : List Operator → ℕ → ℕ

@@ -1,7 +1,7 @@
 -- When a list of operators is a workflow.
 use Rattle.std.specs.Prelude.{◌≡◌, ℕ, ◌<◌, ◌≤◌, ◌==◌, ◌&&◌, ◌||◌, not, nat_lt, nat_le, List, [], ◌∷◌, ◌++◌, length, map, sum_by, count_by, Bool, true, false, IsSomeAnd, All, bytes_eq, codes, Option, Some, None, option_map, unwrap_or}
 use Rattle.std.specs.List.{list_all, list_any, flat_map, filter_map}
-use Rattle.amber_rows.specs.Cond.{numbered}
+use Rattle.amber_rows.specs.Cond.{nth}
 use Rattle.amber_rows.specs.Columns.{names_of}
 use Rattle.amber_rows.specs.declared.value.Value.{Value}
 use Rattle.amber_rows.specs.declared.value.Value.TheVariants as value
@@ -58,7 +58,7 @@ is_column_name name = nat_lt 0 (length name) && nat_le (length name) 64
 
 -- the condition's column is there and of the constant's kind
 abbrev pub IsCondOn : List Column → Cond → Type 0
-IsCondOn columns cond = IsSomeAnd (numbered columns cond.column) (λ column. column.kind ≡ kind_of cond.constant)
+IsCondOn columns cond = IsSomeAnd (nth columns cond.column) (λ column. column.kind ≡ kind_of cond.constant)
 
 -- ---- operators
 
@@ -85,11 +85,11 @@ schema_of (Some operator) = operator.schema
 
 -- the columns of an earlier operator
 abbrev pub columns_at : List Operator → ℕ → List Column
-columns_at before op = schema_of (numbered before op)
+columns_at before op = schema_of (nth before op)
 
 -- the input is one of the earlier operators, and has these columns
 abbrev pub HasInput : List Operator → ℕ → List Column → Type 0
-HasInput before input columns = IsSomeAnd (numbered before input) (λ earlier. earlier.schema ≡ columns)
+HasInput before input columns = IsSomeAnd (nth before input) (λ earlier. earlier.schema ≡ columns)
 
 -- the input is one of the earlier operators
 abbrev pub IsEarlier : List Operator → ℕ → Type 0
@@ -101,27 +101,27 @@ AreIn columns numbers = All (λ number. (0 < number) × (number ≤ length colum
 
 -- the kinds of the columns with these numbers
 abbrev pub kinds_at : List Column → List ℕ → List ColKind
-kinds_at columns numbers = map (λ column. column.kind) (filter_map (numbered columns) numbers)
+kinds_at columns numbers = map (λ column. column.kind) (filter_map (nth columns) numbers)
 
 -- the names of the columns with these numbers
 abbrev pub names_at : List Column → List ℕ → List (List ℕ)
-names_at columns numbers = map (λ column. column.name) (filter_map (numbered columns) numbers)
+names_at columns numbers = map (λ column. column.name) (filter_map (nth columns) numbers)
 
 -- the kind of an aggregate's column, where the aggregate may stand over these columns
 abbrev pub agg_kind : List Column → Agg → Option ColKind
 agg_kind columns agg.Count = Some kind.Int
-agg_kind columns (agg.Sum column) = int_kind (option_map (λ c. c.kind) (numbered columns column))
+agg_kind columns (agg.Sum column) = int_kind (option_map (λ c. c.kind) (nth columns column))
   where
     int_kind : Option ColKind → Option ColKind
     int_kind None = None
     int_kind (Some kind.Int) = Some kind.Int
     int_kind (Some kind.Text) = None
-agg_kind columns (agg.Min column) = option_map (λ c. c.kind) (numbered columns column)
-agg_kind columns (agg.Max column) = option_map (λ c. c.kind) (numbered columns column)
+agg_kind columns (agg.Min column) = option_map (λ c. c.kind) (nth columns column)
+agg_kind columns (agg.Max column) = option_map (λ c. c.kind) (nth columns column)
 
 -- the name of the column with a number
 abbrev pub name_at : List Column → ℕ → List ℕ
-name_at columns number = unwrap_or (option_map (λ column. column.name) (numbered columns number)) []
+name_at columns number = unwrap_or (option_map (λ column. column.name) (nth columns number)) []
 
 -- the text of an aggregate, which is the name of its column: `count`, or what it takes of a column, a colon and the column's name
 abbrev pub agg_name : List Column → Agg → List ℕ

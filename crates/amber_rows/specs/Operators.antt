@@ -2,7 +2,7 @@
 use Rattle.std.specs.Prelude.{ℕ, ◌+ℤ◌, ℤ, pos, not, List, [], ◌∷◌, ◌++◌, length, map, filter, Option, Some, None, option_map, option_and_then, Bool, if◌then◌else◌}
 use Rattle.std.specs.List.{filter_map, flat_map}
 use Rattle.std.specs.Ordering.{is_eq, is_gt, is_lt}
-use Rattle.amber_rows.specs.Cond.{numbered}
+use Rattle.amber_rows.specs.Cond.{nth}
 use Rattle.amber_rows.specs.Number.{fits_i64}
 use Rattle.amber_rows.specs.Order.{row_cmp, value_cmp}
 use Rattle.amber_rows.specs.declared.value.Value.{Value}
@@ -13,8 +13,8 @@ use Rattle.amber_rows.specs.declared.agg.Agg.TheVariants.{Count, Sum, Min, Max}
 -- ---- columns of a row
 
 -- the cells of these columns, in this order
-unfoldable pub picked : List ℕ → List Value → List Value
-picked columns row = filter_map (numbered row) columns
+unfoldable pub pick_cells : List ℕ → List Value → List Value
+pick_cells columns row = filter_map (nth row) columns
 
 -- whether two rows are equal
 abbrev pub same_row : List Value → List Value → Bool
@@ -23,32 +23,32 @@ same_row a b = is_eq (row_cmp a b)
 -- ---- project, join
 
 -- each row with these columns alone
-unfoldable pub projected : List ℕ → List (List Value) → List (List Value)
-projected columns rows = map (picked columns) rows
+unfoldable pub project_result : List ℕ → List (List Value) → List (List Value)
+project_result columns rows = map (pick_cells columns) rows
 
 -- a probe row before each build row whose keys equal its own, in the order of the build rows
 unfoldable pub matches_of : List ℕ → List ℕ → List (List Value) → List Value → List (List Value)
 matches_of build_keys probe_keys build row =
-    map (λ other. row ++ other) (filter (λ other. same_row (picked build_keys other) (picked probe_keys row)) build)
+    map (λ other. row ++ other) (filter (λ other. same_row (pick_cells build_keys other) (pick_cells probe_keys row)) build)
 
 -- the matches of the probe rows, in their order
-unfoldable pub joined : List ℕ → List ℕ → List (List Value) → List (List Value) → List (List Value)
-joined build_keys probe_keys build probe = flat_map (matches_of build_keys probe_keys build) probe
+unfoldable pub join_result : List ℕ → List ℕ → List (List Value) → List (List Value) → List (List Value)
+join_result build_keys probe_keys build probe = flat_map (matches_of build_keys probe_keys build) probe
 
 -- ---- group
 
 -- the keys of rows, each where it stands first
 unfoldable pub first_keys : List ℕ → List (List Value) → List (List Value)
 first_keys keys [] = []
-first_keys keys (row ∷ rows) = picked keys row ∷ filter (λ key. not (same_row key (picked keys row))) (first_keys keys rows)
+first_keys keys (row ∷ rows) = pick_cells keys row ∷ filter (λ key. not (same_row key (pick_cells keys row))) (first_keys keys rows)
 
 -- the rows with a key
 abbrev pub rows_with : List ℕ → List (List Value) → List Value → List (List Value)
-rows_with keys rows key = filter (λ row. same_row (picked keys row) key) rows
+rows_with keys rows key = filter (λ row. same_row (pick_cells keys row) key) rows
 
 -- the cells of a column
 abbrev pub cells_at : ℕ → List (List Value) → List Value
-cells_at column rows = filter_map (λ row. numbered row column) rows
+cells_at column rows = filter_map (λ row. nth row column) rows
 
 -- a value as a number; texts are never summed
 abbrev pub number_of : Value → ℤ
@@ -102,8 +102,8 @@ key_if_none key None = Some key
 key_if_none key (Some x) = None
 
 -- each key with its aggregates, in the order in which the keys stand first
-unfoldable pub grouped : List ℕ → List Agg → List (List Value) → List (List Value)
-grouped keys aggs rows = filter_map (group_row keys aggs rows) (first_keys keys rows)
+unfoldable pub group_result : List ℕ → List Agg → List (List Value) → List (List Value)
+group_result keys aggs rows = filter_map (group_row keys aggs rows) (first_keys keys rows)
 
 -- the keys with a sum that leaves 64 bits, in the same order
 unfoldable pub refused_keys : List ℕ → List Agg → List (List Value) → List (List Value)

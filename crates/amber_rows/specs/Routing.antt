@@ -2,7 +2,7 @@
 use Rattle.std.specs.Prelude.{ℕ, ◌*◌, ◌%◌, ◌^◌, List, [], ◌∷◌, ◌++◌, length, bit_xor, fold}
 use Rattle.std.specs.List.{flat_map}
 use Rattle.std.specs.Fmt.{decimal, signed_decimal}
-use Rattle.amber_rows.specs.Operators.{picked}
+use Rattle.amber_rows.specs.Operators.{pick_cells}
 use Rattle.amber_rows.specs.declared.value.Value.{Value}
 use Rattle.amber_rows.specs.declared.value.Value.TheVariants.{Int, Text}
 
@@ -13,7 +13,7 @@ key_piece (Text t) = 116 ∷ (decimal (length t) ++ 58 ∷ (t ++ 59 ∷ []))
 
 -- the bytes of a row's key
 unfoldable pub key_bytes_of : List ℕ → List Value → List ℕ
-key_bytes_of keys row = flat_map key_piece (picked keys row)
+key_bytes_of keys row = flat_map key_piece (pick_cells keys row)
 
 -- one byte more of FNV-1a with 64 bits, by Fowler, Noll and Vo
 abbrev pub fnv_step : ℕ → ℕ → ℕ

@@ -1,5 +1,5 @@
 ghost use Rattle.std.specs.Prelude.{◌≡◌, length, option_map};
-ghost use Rattle.amber_rows.specs.Cond.{numbered};
+ghost use Rattle.amber_rows.specs.Cond.{nth};
 ghost use Rattle.amber_rows.specs.FlowRules.{IsFlow};
 
 use crate::agg::Aggs;
@@ -90,7 +90,7 @@ impl Flow {
 
     /// The operator with this number, if there is one.
     pub fn operator(&self, op: u32) -> Option<&Operator>
-        ensures { option_map (λ operator. operator.now) result ≡ numbered self.now op }
+        ensures { option_map (λ operator. operator.now) result ≡ nth self.now op }
     {
         if op == 0 {
             return None;

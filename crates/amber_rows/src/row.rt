@@ -1,7 +1,7 @@
 ghost use Rattle.std.specs.Prelude.{◌≡◌, ◌==◌, ◌++◌, ◌∷◌, [], IfOk, OnOk, length, option_map};
 ghost use Rattle.std.specs.List.{filter_map};
-ghost use Rattle.amber_rows.specs.Cond.{numbered};
-ghost use Rattle.amber_rows.specs.Operators.{picked};
+ghost use Rattle.amber_rows.specs.Cond.{nth};
+ghost use Rattle.amber_rows.specs.Operators.{pick_cells};
 ghost use Rattle.amber_rows.specs.Order.{row_cmp};
 ghost use Rattle.std.specs.Ordering.{as_partial_cmp, eq_by_cmp};
 ghost use Rattle.std.specs.Cmp.{eq_by_cmp_equiv, partial_equiv_from_equiv, partial_order_from_total};
@@ -75,7 +75,7 @@ impl Row {
 
     /// The cell of the column with this number, if there is one. Columns are numbered from 1.
     pub fn cell(&self, column: u32) -> Option<&Value>
-        ensures { option_map (λ cell. cell.now) result ≡ numbered self.now column }
+        ensures { option_map (λ cell. cell.now) result ≡ nth self.now column }
     {
         if column == 0 {
             return None;
@@ -85,7 +85,7 @@ impl Row {
 
     // Puts the cell of a column behind the others, if there is one.
     fn add_cell(&self, column: u32, cells: &mut Vec<Value>) -> Result<(), AllocError>
-        ensures { OnOk result (cells.new.items ≡ cells.old.items ++ filter_map (numbered self.now) (column ∷ [])) }
+        ensures { OnOk result (cells.new.items ≡ cells.old.items ++ filter_map (nth self.now) (column ∷ [])) }
     {
         let found = self.cell(column);
         if let Some(cell) = found {
@@ -96,7 +96,7 @@ impl Row {
 
     /// A row of the cells of these columns, in the order of `columns`. A column that the row does not have gives no cell.
     pub fn pick(&self, alloc: Global, columns: &Cols) -> Result<Self, AllocError>
-        ensures { IfOk result (λ row. row ≡ picked columns.now self.now) }
+        ensures { IfOk result (λ row. row ≡ pick_cells columns.now self.now) }
     {
         let numbers = columns.get();
         let mut cells = Vec::with_capacity(alloc, numbers.len())?;

@@ -6,12 +6,12 @@ use Rattle.amber_meaning.specs.Legal.{query_over}
 use Rattle.amber_meaning.specs.Total.{step_total}
 use Rattle.amber_run.specs.Answering.{BreaksOff, IsUntouched}
 use Rattle.amber_course.specs.Course.{course_of}
-use Rattle.amber_run.specs.Outcome.{Answers, Breaks, Counts, IsOpen, IsRunStatus, IsSinkStatus, IsWithin, Runs, Succeeds, Worded}
+use Rattle.amber_run.specs.Outcome.{Answers, Breaks, Counts, IsJobStatus, IsRunStatus, IsSinkStatus, MeetsLimit, Runs, Succeeds, Worded}
 use Rattle.amber_run.specs.UnderWay.{Leaves}
 use Rattle.amber_course.specs.Steps.{Tells}
 use Rattle.amber_course.specs.Failure.{status_of}
-use Rattle.amber_run.specs.Task.{Task, most_steps}
-use Rattle.amber_course.specs.Words.{words_of}
+use Rattle.amber_run.specs.RunTask.{RunTask, most_steps}
+use Rattle.amber_course.specs.Words.{call_words_of}
 use Rattle.amber_run.specs.Writing.{CountsWrites}
 use Rattle.amber_course.specs.declared.job.Job.{Job}
 use Rattle.amber_course.specs.declared.job.Job.TheVariants as job
@@ -24,15 +24,15 @@ use Rattle.amber_course.proofs.Following.{tells-map, told-all, told-map}
 
 -- ---- the course decides
 
-open-none : (j : Job) (result : Status) → result ≡ status.NoMemory → IsOpen j result
+open-none : (j : Job) (result : Status) → result ≡ status.NoMemory → IsJobStatus j result
 open-none (job.Plain flow files) result e = rw e tt
 open-none (job.Run flow files log threads batch) result e = rw e tt
 
-open-ok : (j : Job) → IsOpen j status.Ok
+open-ok : (j : Job) → IsJobStatus j status.Ok
 open-ok (job.Plain flow files) = tt
 open-ok (job.Run flow files log threads batch) = tt
 
-run-status : (t : Task) (s : Failure) (line : List ℕ) (now : Option Named) (got : Option (List ℕ)) (result : Status) → Leaves t s line now got → result ≡ status_of s → IsRunStatus result
+run-status : (t : RunTask) (s : Failure) (line : List ℕ) (now : Option Named) (got : Option (List ℕ)) (result : Status) → Leaves t s line now got → result ≡ status_of s → IsRunStatus result
 run-status t failure.LogFault line now got result h e = rw e tt
 run-status t failure.OutFault line now got result h e = rw e tt
 run-status t failure.Long line now got result h e = rw e tt
@@ -41,7 +41,7 @@ run-status t other line now got result h e = absurd h
 
 -- the status of a job that was broken off
 open-broken : (j : Job) (s : Failure) (line : List ℕ) (told now : Option Named) (before got : Option (List ℕ)) (result : Status) → BreaksOff j s line told now before got
-    → result ≡ status_of s → IsOpen j result
+    → result ≡ status_of s → IsJobStatus j result
 open-broken (job.Plain flow files) failure.OutFault line told now before got result h e = rw e tt
 open-broken (job.Plain flow files) other line told now before got result h e = absurd h
 open-broken (job.Run flow files log threads batch) s line told now before got result h e = run-status _ s line now got result h e
@@ -57,7 +57,7 @@ answers-rose (Err s) result a b rose e = inr (inr (e, rose))
 answers-failure : (r : Result Job Failure) (s : Failure) (result : Status) (a b : ℕ) → r ≡ Err s → result ≡ status_of s → Answers r result a b
 answers-failure r s result a b e is = rw e (inl is)
 
-answers-open : (r : Result Job Failure) (j : Job) (result : Status) (a b : ℕ) → r ≡ Ok j → IsOpen j result → Answers r result a b
+answers-open : (r : Result Job Failure) (j : Job) (result : Status) (a b : ℕ) → r ≡ Ok j → IsJobStatus j result → Answers r result a b
 answers-open r j result a b e is = rw e (inl is)
 
 pub answers-ok : (words : List (List ℕ)) (told now : Option Named) (before got : Option (List ℕ)) (a b : ℕ) → Told told (λ files. Succeeds words files told now before got)
@@ -163,17 +163,17 @@ lates other words told now before mid a b w x c d e result r m n le (inl is) =
     told-map told (λ files. course_of words files ≡ Err other) (λ files. IsOk (course_of words files) → ¬ (Rose a b) → IsLate (course_of words files) result w x c e)
     (λ files p ok quiet. absurd (not-both (course_of words files) other ok p)) r.0.1
 
-within-ok : (r : Result Job Failure) → IsWithin r → IsOk r
+within-ok : (r : Result Job Failure) → MeetsLimit r → IsOk r
 within-ok (Ok j) h = refl
 within-ok (Err s) h = absurd h
 
-within-over : (r : Result Job Failure) → IsWithin r → IsOver r → ⊥
+within-over : (r : Result Job Failure) → MeetsLimit r → IsOver r → ⊥
 within-over (Ok (job.Plain flow files)) h over = over
 within-over (Ok (job.Run flow files log threads batch)) h over = omega (arith, h, over)
 within-over (Err s) h over = over
 
 -- with no count risen, and steps within the limit, only memory can be wanting
-late-none : (r : Result Job Failure) (result : Status) (w x c e : ℕ) → IsLate r result w x c e → IsWithin r → ¬ (Rose w x) → ¬ (Rose c e) → (result ≡ status.Ok) ⊎ (result ≡ status.NoMemory)
+late-none : (r : Result Job Failure) (result : Status) (w x c e : ℕ) → IsLate r result w x c e → MeetsLimit r → ¬ (Rose w x) → ¬ (Rose c e) → (result ≡ status.Ok) ⊎ (result ≡ status.NoMemory)
 late-none r result w x c e (inl none) within kept quiet = inr none
 late-none r result w x c e (inr (inl log)) within kept quiet = absurd (kept log.1)
 late-none r result w x c e (inr (inr (inl out))) within kept quiet = absurd (quiet out.1)
@@ -195,10 +195,10 @@ late-sink (Ok (job.Run flow files log threads batch)) result w x c e late kept =
 
 pub complete : (words : List (List ℕ)) (told : Option Named) (a b w x c e : ℕ) (result : Status)
     → Told told (λ files. IsOk (course_of words files) → ¬ (Rose a b) → IsLate (course_of words files) result w x c e)
-    → Told told (λ files. IsWithin (course_of words files) → ¬ (Rose a b) → ¬ (Rose w x) → ¬ (Rose c e) → (result ≡ status.Ok) ⊎ (result ≡ status.NoMemory))
+    → Told told (λ files. MeetsLimit (course_of words files) → ¬ (Rose a b) → ¬ (Rose w x) → ¬ (Rose c e) → (result ≡ status.Ok) ⊎ (result ≡ status.NoMemory))
 complete words told a b w x c e result =
     told-map told (λ files. IsOk (course_of words files) → ¬ (Rose a b) → IsLate (course_of words files) result w x c e)
-    (λ files. IsWithin (course_of words files) → ¬ (Rose a b) → ¬ (Rose w x) → ¬ (Rose c e) → (result ≡ status.Ok) ⊎ (result ≡ status.NoMemory))
+    (λ files. MeetsLimit (course_of words files) → ¬ (Rose a b) → ¬ (Rose w x) → ¬ (Rose c e) → (result ≡ status.Ok) ⊎ (result ≡ status.NoMemory))
     (λ files late within read kept quiet. late-none (course_of words files) result w x c e (late (within-ok (course_of words files) within) read) within kept quiet)
 
 pub puts-grow : (words : List (List ℕ)) (told : Option Named) (a b w x c e : ℕ) (result : Status)
@@ -212,22 +212,22 @@ puts-grow words told a b w x c e result =
 -- ---- the status over any files
 
 pub usage-is : (s : Failure) (words : List (List ℕ)) (told now : Option Named) (before mid : Option (List ℕ)) (a b : ℕ) (result : Status)
-    → Runs {A = Unit {0}} (Err s) words told now before mid a b → (result ≡ status_of s) ⊎ (result ≡ status.NoMemory) → result ≡ status.Usage → words_of words ≡ None
+    → Runs {A = Unit {0}} (Err s) words told now before mid a b → (result ≡ status_of s) ⊎ (result ≡ status.NoMemory) → result ≡ status.Usage → call_words_of words ≡ None
 usage-is s words told now before mid a b result r (inr none) e = cc
 usage-is failure.Usage words told now before mid a b result r (inl is) e = r.1
 usage-is other words told now before mid a b result r (inl is) e = cc
 
-no-word : (words : List (List ℕ)) → IsSome (words_of words) → words_of words ≡ None → ⊥
+no-word : (words : List (List ℕ)) → IsSome (call_words_of words) → call_words_of words ≡ None → ⊥
 no-word words h e = let none = rw e at h in cc
 
 pub words-bad : (s : Failure) (words : List (List ℕ)) (result : Status) → Worded {A = Unit {0}} (Err s) words → (result ≡ status_of s) ⊎ (result ≡ status.NoMemory)
-    → words_of words ≡ None → (result ≡ status.Usage) ⊎ (result ≡ status.NoMemory)
+    → call_words_of words ≡ None → (result ≡ status.Usage) ⊎ (result ≡ status.NoMemory)
 words-bad s words result h (inr none) e = inr none
 words-bad failure.Usage words result h (inl is) e = inl is
 words-bad failure.NoMemory words result h (inl is) e = inr is
 words-bad other words result h (inl is) e = absurd (no-word words h e)
 
-pub words-ok : (words : List (List ℕ)) (P : Type 0) → IsSome (words_of words) → words_of words ≡ None → P
+pub words-ok : (words : List (List ℕ)) (P : Type 0) → IsSome (call_words_of words) → call_words_of words ≡ None → P
 words-ok words P h e = absurd (no-word words h e)
 
 pub read-is : (s : Failure) (words : List (List ℕ)) (told now : Option Named) (before mid : Option (List ℕ)) (a b : ℕ) (result : Status)

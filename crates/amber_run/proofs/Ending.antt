@@ -10,14 +10,14 @@ use Rattle.amber_io.specs.Sink.{Begins}
 use Rattle.amber_meaning.specs.Transcript.{transcript_of}
 use Rattle.amber_run.specs.Answering.{BreaksOff, IsUntouched, Works}
 use Rattle.amber_course.specs.Ready.{IsAskedBy, WritesNothing}
-use Rattle.amber_course.specs.Course.{IsLoaded, IsReached, course_of, job_of, limited, then_on}
+use Rattle.amber_course.specs.Course.{IsLoaded, IsReached, course_of, job_of, require_limit, then_on}
 use Rattle.amber_run.specs.Outcome.{AsksNoRun, Breaks, Counts, Ended, IsCause, Runs, Stops, Succeeds, Worded}
 use Rattle.amber_course.specs.Told.{Refuses}
 use Rattle.amber_run.specs.UnderWay.{IsBare, IsLeft, Leaves}
 use Rattle.amber_course.specs.Steps.{AreRead, Follows, Names, Tells}
-use Rattle.amber_course.specs.Failure.{IsToldAs, line_of, status_of}
-use Rattle.amber_run.specs.Task.{Task, query_at}
-use Rattle.amber_course.specs.Words.{words_of}
+use Rattle.amber_course.specs.Failure.{IsToldAs, error_line_of, status_of}
+use Rattle.amber_run.specs.RunTask.{RunTask, query_at}
+use Rattle.amber_course.specs.Words.{call_words_of}
 use Rattle.amber_run.specs.Writing.{CountsWrites}
 use Rattle.amber_course.specs.declared.job.Job.{Job}
 use Rattle.amber_course.specs.declared.job.Job.TheVariants as job
@@ -32,31 +32,31 @@ use Rattle.amber_course.proofs.Following.{names-map, stopped-map, tells-map, the
 
 -- ---- the run
 
-course-read : (words : List (List ℕ)) (read : Words) (files : Named) → words_of words ≡ Some read → course_of words files ≡ then_on (job_of read files) limited
+course-read : (words : List (List ℕ)) (read : Words) (files : Named) → call_words_of words ≡ Some read → course_of words files ≡ then_on (job_of read files) require_limit
 unfolding course_of
 course-read words read files e = rw e refl
 
-pub course-none : (words : List (List ℕ)) (files : Named) → words_of words ≡ None → course_of words files ≡ Err failure.Usage
+pub course-none : (words : List (List ℕ)) (files : Named) → call_words_of words ≡ None → course_of words files ≡ Err failure.Usage
 unfolding course_of
 course-none words files e = rw e refl
 
 -- a job was prepared, and this is said of it
-pub course-job : (words : List (List ℕ)) (read : Words) (files : Named) (job : Job) (said : Result Job Failure) → words_of words ≡ Some read → job_of read files ≡ Ok job → limited job ≡ said
+pub course-job : (words : List (List ℕ)) (read : Words) (files : Named) (job : Job) (said : Result Job Failure) → call_words_of words ≡ Some read → job_of read files ≡ Ok job → require_limit job ≡ said
     → course_of words files ≡ said
-course-job words read files job said e j l = course-read words read files e ∙ then-ok (job_of read files) job limited said j l
+course-job words read files job said e j l = course-read words read files e ∙ then-ok (job_of read files) job require_limit said j l
 
 -- no job was prepared
-course-failure : (words : List (List ℕ)) (read : Words) (files : Named) (s : Failure) → words_of words ≡ Some read → job_of read files ≡ Err s → course_of words files ≡ Err s
-course-failure words read files s e j = course-read words read files e ∙ then-err (job_of read files) s limited j
+course-failure : (words : List (List ℕ)) (read : Words) (files : Named) (s : Failure) → call_words_of words ≡ Some read → job_of read files ≡ Err s → course_of words files ≡ Err s
+course-failure words read files s e j = course-read words read files e ∙ then-err (job_of read files) s require_limit j
 
 -- the words were refused
-pub run-words : (s : Failure) (words : List (List ℕ)) (told : Option Named) (got : Option (List ℕ)) (loads : ℕ) → AreRead (Err s) (words_of words)
+pub run-words : (s : Failure) (words : List (List ℕ)) (told : Option Named) (got : Option (List ℕ)) (loads : ℕ) → AreRead (Err s) (call_words_of words)
     → Runs {A = Unit {0}} (Err s) words told told got got loads loads
 run-words failure.Usage words told got loads e = (refl, e, (refl, appends-same got))
 run-words failure.NoMemory words told got loads e = inl (refl, appends-same got)
 run-words other words told got loads e = absurd e
 
-cause-of : (words : List (List ℕ)) (read : Words) (told : Option Named) (s : Failure) (a b : ℕ) → words_of words ≡ Some read
+cause-of : (words : List (List ℕ)) (read : Words) (told : Option Named) (s : Failure) (a b : ℕ) → call_words_of words ≡ Some read
     → Follows {A = Job} (Err s) told (job_of read) a b → IsCause words told s a b
 cause-of words read told s a b e h =
     stopped-map s a b (Told told (λ files. job_of read files ≡ Err s)) (Told told (λ files. course_of words files ≡ Err s))
@@ -66,7 +66,7 @@ cause-of words read told s a b e h =
     h
 
 -- there was no job
-pub run-failure : (words : List (List ℕ)) (read : Words) (told : Option Named) (got : Option (List ℕ)) (s : Failure) (a b : ℕ) → words_of words ≡ Some read
+pub run-failure : (words : List (List ℕ)) (read : Words) (told : Option Named) (got : Option (List ℕ)) (s : Failure) (a b : ℕ) → call_words_of words ≡ Some read
     → Follows {A = Job} (Err s) told (job_of read) a b → Runs {A = Unit {0}} (Err s) words told told got got a b
 run-failure words read told got failure.Usage a b e h = absurd h
 run-failure words read told got failure.LogFault a b e h = absurd h
@@ -77,14 +77,14 @@ run-failure words read told got failure.Long a b e h =
 run-failure words read told got failure.NoMemory a b e h = inl (refl, appends-same got)
 run-failure words read told got other a b e h = (cause-of words read told other a b e h, (refl, appends-same got))
 
-broken : (words : List (List ℕ)) (read : Words) (told now : Option Named) (job : Job) (s : Failure) (before got : Option (List ℕ)) (a b : ℕ) → words_of words ≡ Some read
-    → Follows (Ok job) told (job_of read) a b → limited job ≡ Ok job → BreaksOff job s [] told now before got → Breaks words s [] told now before got
+broken : (words : List (List ℕ)) (read : Words) (told now : Option Named) (job : Job) (s : Failure) (before got : Option (List ℕ)) (a b : ℕ) → call_words_of words ≡ Some read
+    → Follows (Ok job) told (job_of read) a b → require_limit job ≡ Ok job → BreaksOff job s [] told now before got → Breaks words s [] told now before got
 broken words read told now job s before got a b e h l breaks =
     told-map told (λ files. job_of read files ≡ Ok job) (λ files. (one : Job) × (course_of words files ≡ Ok one) × BreaksOff one s [] told now before got)
     (λ files j. (job, course-job words read files job (Ok job) e j l, breaks)) h.1
 
 -- the job was done, or not
-pub run-works : (r : Result (Unit {0}) Failure) (words : List (List ℕ)) (read : Words) (told now : Option Named) (job : Job) (before got : Option (List ℕ)) (a b : ℕ) → words_of words ≡ Some read
+pub run-works : (r : Result (Unit {0}) Failure) (words : List (List ℕ)) (read : Words) (told now : Option Named) (job : Job) (before got : Option (List ℕ)) (a b : ℕ) → call_words_of words ≡ Some read
     → Follows (Ok job) told (job_of read) a b → Works r job told now before got → Runs r words told now before got a b
 run-works (Ok u) words read told now job before got a b e h done = (
   h.0,
@@ -104,11 +104,11 @@ run-works (Err failure.NoMemory) words read told now job before got a b e h (inl
 run-works (Err failure.NoMemory) words read told now job before got a b e h (inr done) = inr (h.0, broken words read told now job failure.NoMemory before got a b e h done.0 done.1)
 run-works (Err other) words read told now job before got a b e h done = absurd done
 
-pub words-counts : (s : Failure) (words : List (List ℕ)) (n : ℕ) → AreRead (Err s) (words_of words) → Counts {A = Unit {0}} (Err s) n n
+pub words-counts : (s : Failure) (words : List (List ℕ)) (n : ℕ) → AreRead (Err s) (call_words_of words) → Counts {A = Unit {0}} (Err s) n n
 words-counts failure.OutFault words n h = absurd h
 words-counts other words n h = refl
 
-pub words-writes : (s : Failure) (words : List (List ℕ)) (n : ℕ) → AreRead (Err s) (words_of words) → CountsWrites {A = Unit {0}} (Err s) n n
+pub words-writes : (s : Failure) (words : List (List ℕ)) (n : ℕ) → AreRead (Err s) (call_words_of words) → CountsWrites {A = Unit {0}} (Err s) n n
 words-writes failure.LogFault words n h = absurd h
 words-writes other words n h = refl
 
@@ -120,14 +120,14 @@ pub failure-writes : (s : Failure) (told : Option Named) (meant : Named → Resu
 failure-writes failure.LogFault told meant a b n m h e = absurd h
 failure-writes other told meant a b n m h e = e
 
-pub reached-failure : (s : Failure) (words : List (List ℕ)) (read : Words) (told : Option Named) → words_of words ≡ Some read
+pub reached-failure : (s : Failure) (words : List (List ℕ)) (read : Words) (told : Option Named) → call_words_of words ≡ Some read
     → Told told (λ files. Names s (IsLoaded read files)) → Told told (λ files. Names s (IsReached words files))
 reached-failure s words read told e h =
     told-map told (λ files. Names s (IsLoaded read files)) (λ files. Names s (IsReached words files))
     (λ files one. names-map s (IsLoaded read files) (IsReached words files) (λ file is. (read, e, is)) one) h
 
 -- words that were refused name no file
-pub reached-words : (s : Failure) (words : List (List ℕ)) (told : Option Named) → AreRead (Err s) (words_of words) → Told told (λ files. Names s (IsReached words files))
+pub reached-words : (s : Failure) (words : List (List ℕ)) (told : Option Named) → AreRead (Err s) (call_words_of words) → Told told (λ files. Names s (IsReached words files))
 reached-words (failure.ReadFault file) words told h = absurd h
 reached-words other words told h = told-all told (λ files. ⊤) (λ files. tt)
 
@@ -139,7 +139,7 @@ reached-works (Err (failure.ReadFault file)) words told now job before got h = a
 reached-works (Err other) words told now job before got h = told-all told (λ files. ⊤) (λ files. tt)
 
 -- words that were refused, and no job, have nothing to do with the log
-pub words-unlogged : (s : Failure) (words : List (List ℕ)) → AreRead (Err s) (words_of words) → s ≢ failure.LogFault
+pub words-unlogged : (s : Failure) (words : List (List ℕ)) → AreRead (Err s) (call_words_of words) → s ≢ failure.LogFault
 words-unlogged failure.LogFault words h e = h
 words-unlogged failure.Usage words h e = cc
 words-unlogged failure.NoMemory words h e = cc
@@ -149,17 +149,17 @@ pub failure-unlogged : (s : Failure) (told : Option Named) (meant : Named → Re
 failure-unlogged failure.LogFault told meant a b h e = h
 failure-unlogged other told meant a b h e = cc
 
-pub worded-words : (s : Failure) (words : List (List ℕ)) → AreRead (Err s) (words_of words) → Worded {A = Unit {0}} (Err s) words
+pub worded-words : (s : Failure) (words : List (List ℕ)) → AreRead (Err s) (call_words_of words) → Worded {A = Unit {0}} (Err s) words
 worded-words failure.Usage words h = h
 worded-words failure.NoMemory words h = h
 worded-words other words h = absurd h
 
-pub worded-failure : (s : Failure) (words : List (List ℕ)) (read : Words) (told : Option Named) (meant : Named → Result Job Failure) (a b : ℕ) → words_of words ≡ Some read
+pub worded-failure : (s : Failure) (words : List (List ℕ)) (read : Words) (told : Option Named) (meant : Named → Result Job Failure) (a b : ℕ) → call_words_of words ≡ Some read
     → Follows (Err s) told meant a b → Worded {A = Unit {0}} (Err s) words
 worded-failure failure.Usage words read told meant a b e h = absurd h
 worded-failure other words read told meant a b e h = rw e refl
 
-pub worded-works : (r : Result (Unit {0}) Failure) (words : List (List ℕ)) (read : Words) (told now : Option Named) (job : Job) (before got : Option (List ℕ)) → words_of words ≡ Some read
+pub worded-works : (r : Result (Unit {0}) Failure) (words : List (List ℕ)) (read : Words) (told now : Option Named) (job : Job) (before got : Option (List ℕ)) → call_words_of words ≡ Some read
     → Works r job told now before got → Worded r words
 worded-works (Ok u) words read told now job before got e h = rw e refl
 worded-works (Err failure.Usage) words read told now job before got e h = absurd h
@@ -186,7 +186,7 @@ untouched-on line told now before mid got p h = (h.0, appends-on before mid got 
 behind : (xs part line : List ℕ) → (xs ++ (part ++ [])) ++ line ≡ xs ++ (part ++ line)
 behind xs part line = append_assoc xs (part ++ []) line ∙ ap (λ p. xs ++ (p ++ line)) (append-nil part)
 
-left-on : (t : Task) (s : Failure) (line : List ℕ) (files : Option Named) (mid got : Option (List ℕ)) → Appends mid got line → IsLeft t s [] files mid → IsLeft t s line files got
+left-on : (t : RunTask) (s : Failure) (line : List ℕ) (files : Option Named) (mid got : Option (List ℕ)) → Appends mid got line → IsLeft t s [] files mid → IsLeft t s line files got
 left-on t s line files mid got p h = record {
   bytes = h.bytes;
   batch = h.batch;
@@ -208,10 +208,10 @@ left-on t s line files mid got p h = record {
   closed = h.closed;
 }
 
-bare-on : (t : Task) (line : List ℕ) (files : Option Named) (mid got : Option (List ℕ)) → Appends mid got line → IsBare t [] files mid → IsBare t line files got
+bare-on : (t : RunTask) (line : List ℕ) (files : Option Named) (mid got : Option (List ℕ)) → Appends mid got line → IsBare t [] files mid → IsBare t line files got
 bare-on t line files mid got p h = (h.0, appends-on t.before mid got [] line h.1 p)
 
-leaves-on : (t : Task) (s : Failure) (line : List ℕ) (files : Option Named) (mid got : Option (List ℕ)) → Appends mid got line → Leaves t s [] files mid → Leaves t s line files got
+leaves-on : (t : RunTask) (s : Failure) (line : List ℕ) (files : Option Named) (mid got : Option (List ℕ)) → Appends mid got line → Leaves t s [] files mid → Leaves t s line files got
 leaves-on t failure.LogFault line files mid got p (inl h) = inl (bare-on t line files mid got p h)
 leaves-on t failure.LogFault line files mid got p (inr h) = inr (left-on t failure.LogFault line files mid got p h)
 leaves-on t failure.OutFault line files mid got p h = left-on t failure.OutFault line files mid got p h
@@ -225,13 +225,13 @@ begins-nil before mid got x line rest e p h =
     let whole = appends-on before mid got h.0 line h.3 p in
     (h.0, h.1, h.2, rw (no-front line rest e, append-nil h.0) at whole)
 
-job-on : (j : Job) (s : Failure) (line rest : List ℕ) (told now : Option Named) (before mid got : Option (List ℕ)) → line ++ rest ≡ line_of s → Appends mid got line
+job-on : (j : Job) (s : Failure) (line rest : List ℕ) (told now : Option Named) (before mid got : Option (List ℕ)) → line ++ rest ≡ error_line_of s → Appends mid got line
     → BreaksOff j s [] told now before mid → BreaksOff j s line told now before got
 job-on (job.Plain flow files) failure.OutFault line rest told now before mid got e p h = (h.0, begins-nil before mid got _ line rest e p h.1)
 job-on (job.Plain flow files) other line rest told now before mid got e p h = absurd h
 job-on (job.Run flow files log threads batch) s line rest told now before mid got e p h = leaves-on _ s line now mid got p h
 
-breaks-on : (words : List (List ℕ)) (s : Failure) (line rest : List ℕ) (told now : Option Named) (before mid got : Option (List ℕ)) → line ++ rest ≡ line_of s → Appends mid got line
+breaks-on : (words : List (List ℕ)) (s : Failure) (line rest : List ℕ) (told now : Option Named) (before mid got : Option (List ℕ)) → line ++ rest ≡ error_line_of s → Appends mid got line
     → Breaks words s [] told now before mid → Breaks words s line told now before got
 breaks-on words s line rest told now before mid got e p h =
     told-map told (λ files. (one : Job) × (course_of words files ≡ Ok one) × BreaksOff one s [] told now before mid)
@@ -239,7 +239,7 @@ breaks-on words s line rest told now before mid got e p h =
     (λ files one. (one.0, one.1, job-on one.0 s line rest told now before mid got e p one.2)) h
 
 -- what was left, with the line
-stops-on : (s : Failure) (words : List (List ℕ)) (line rest : List ℕ) (told now : Option Named) (before mid got : Option (List ℕ)) (a b : ℕ) → line ++ rest ≡ line_of s → Appends mid got line
+stops-on : (s : Failure) (words : List (List ℕ)) (line rest : List ℕ) (told now : Option Named) (before mid got : Option (List ℕ)) (a b : ℕ) → line ++ rest ≡ error_line_of s → Appends mid got line
     → Stops words s [] told now before mid a b → Stops words s line told now before got a b
 stops-on failure.Usage words line rest told now before mid got a b e p h = (h.0, h.1, untouched-on line told now before mid got p h.2)
 stops-on failure.LogFault words line rest told now before mid got a b e p h = (h.0, breaks-on words failure.LogFault line rest told now before mid got e p h.1)
@@ -263,7 +263,7 @@ unrisen : (c d e : ℕ) → d ≡ c → e ≡ c → c < 2 ^ 64 - 1 → Rose d e 
 unrisen c d e p q small rose = omega (arith, p, q, small, rose)
 
 -- where a put was refused, a count shows it
-line-whole : (s : Failure) (line rest : List ℕ) (c d e : ℕ) → Counts {A = Unit {0}} (Err s) c d → line ++ rest ≡ line_of s → Rose d e → e ≡ c → c < 2 ^ 64 - 1 → line ≡ line_of s
+line-whole : (s : Failure) (line rest : List ℕ) (c d e : ℕ) → Counts {A = Unit {0}} (Err s) c d → line ++ rest ≡ error_line_of s → Rose d e → e ≡ c → c < 2 ^ 64 - 1 → line ≡ error_line_of s
 line-whole failure.OutFault line rest c d e n split rose quiet small = no-front line rest split
 line-whole other line rest c d e n split rose quiet small = absurd (unrisen c d e n quiet small rose)
 
@@ -274,11 +274,11 @@ pub ended : (s : Failure) (words : List (List ℕ)) (told now : Option Named) (b
 ended s words told now before mid got a b w x c d e result r n (le, begun, inl (same, all, is)) tells named = record {
   cause = s;
   answer = tells;
-  line = line_of s;
+  line = error_line_of s;
   rest = [];
-  split = append-nil (line_of s);
+  split = append-nil (error_line_of s);
   whole = λ some quiet small. refl;
-  left = stops-on s words (line_of s) [] told now before mid got a b (append-nil (line_of s)) all r;
+  left = stops-on s words (error_line_of s) [] told now before mid got a b (append-nil (error_line_of s)) all r;
   named = named;
 }
 ended s words told now before mid got a b w x c d e result r n (le, begun, inr (inl (same, none))) tells named = record {

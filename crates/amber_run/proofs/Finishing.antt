@@ -22,7 +22,7 @@ use Rattle.amber_laws.proofs.Schedules.{ends_reply_the_answer}
 use Rattle.amber_debug.specs.Session.{Session, command_of, is_long_item}
 use Rattle.amber_run.specs.Outcome.{Counts}
 use Rattle.amber_run.specs.UnderWay.{Did, Halts, HasAnswer, IsBare, IsDone, IsLeft, Leaves, Opens, IsUnderWay}
-use Rattle.amber_run.specs.Task.{IsSession, Task, end_alone, ends_long, most_steps, query_at}
+use Rattle.amber_run.specs.RunTask.{IsSession, RunTask, end_alone, ends_long, most_steps, query_at}
 use Rattle.amber_course.specs.declared.failure.Failure.{Failure}
 use Rattle.amber_course.specs.declared.failure.Failure.TheVariants as failure
 use Rattle.amber_course.proofs.Lines.{appends-same}
@@ -63,7 +63,7 @@ is-long close.Long h = refl
 
 -- ---- the answer
 
-pub has-answer : (t : Task) (log : Log) (files : Option Named) (written : Option (List ℕ)) → IsFlow t.flow → t.commands ≡ end_alone → IsUnderWay t [] log files written → HasAnswer t log
+pub has-answer : (t : RunTask) (log : Log) (files : Option Named) (written : Option (List ℕ)) → IsFlow t.flow → t.commands ≡ end_alone → IsUnderWay t [] log files written → HasAnswer t log
 has-answer t log files written flow alone h unaltered done last is =
     let commands = rw is at (h.commands ∙ alone) in
     by-last last is (last-end done last [] commands)
@@ -114,37 +114,37 @@ total-of query batch one flow legal e long =
     unfinished b pending over = cc
 
 sized : (a b : ℕ) (one : Item) → (a ≡ b) ⊎ (one ∷ [] ≡ []) → a ≡ b
-sized a b one (inl e) = e
-sized a b one (inr e) = cc
+require_size a b one (inl e) = e
+require_size a b one (inr e) = cc
 
-long-items : (t : Task) (batch : ℕ) (items : List Item) (left : List Command) → IsFlow t.flow → IsLegal (query_at t batch) (record { batch = batch; items = items })
+long-items : (t : RunTask) (batch : ℕ) (items : List Item) (left : List Command) → IsFlow t.flow → IsLegal (query_at t batch) (record { batch = batch; items = items })
     → (batch ≡ t.batch) ⊎ (items ≡ []) → map command_of items ++ left ≡ end_alone → ends_long false items ≡ true → most_steps < step_total (query_at t t.batch)
 long-items t batch [] left flow legal size commands long = cc
 long-items t batch (one ∷ []) left flow legal size commands long =
-    rw (sized batch t.batch one size) at (total-of (query_at t batch) batch one flow legal (last-end [] one left commands) long)
+    rw (require_size batch t.batch one size) at (total-of (query_at t batch) batch one flow legal (last-end [] one left commands) long)
 long-items t batch (one ∷ two ∷ more) left flow legal size commands long = cc
 
-pub too-long : (t : Task) (line : List ℕ) (files : Option Named) (written : Option (List ℕ)) → IsFlow t.flow → t.commands ≡ end_alone
+pub too-long : (t : RunTask) (line : List ℕ) (files : Option Named) (written : Option (List ℕ)) → IsFlow t.flow → t.commands ≡ end_alone
     → (h : IsLeft t failure.Long line files written) → most_steps < step_total (query_at t t.batch)
 too-long t line files written flow alone h = long-items t h.batch (h.done ++ h.last) h.left flow h.legal h.size (h.commands ∙ alone) h.closed
 
 -- ---- the run
 
-pub bare-none : (t : Task) → IsBare t [] t.told t.before
+pub bare-none : (t : RunTask) → IsBare t [] t.told t.before
 bare-none t = (inl refl, appends-same t.before)
 
 -- it has not begun, for want of memory
-pub begin-failure : (s : Failure) (t : Task) → s ≡ failure.NoMemory → Leaves t s [] t.told t.before
+pub begin-failure : (s : Failure) (t : RunTask) → s ≡ failure.NoMemory → Leaves t s [] t.told t.before
 begin-failure s t e = rw e (inl (bare-none t))
 
 -- the log was not made
-pub opens-failure : (s : Failure) (t : Task) (log : Log) (files : Option Named) (written : Option (List ℕ)) → Opens {A = Unit {0}} (Err s) t log files written → Leaves t s [] files written
+pub opens-failure : (s : Failure) (t : RunTask) (log : Log) (files : Option Named) (written : Option (List ℕ)) → Opens {A = Unit {0}} (Err s) t log files written → Leaves t s [] files written
 opens-failure failure.LogFault t log files written h = h
 opens-failure failure.NoMemory t log files written h = inl h
 opens-failure other t log files written h = absurd h
 
 -- a command was not done
-pub command-failure : (s : Failure) (t : Task) (files : Option Named) (written : Option (List ℕ)) → IsFlow t.flow → t.commands ≡ end_alone → Halts t s files written → Leaves t s [] files written
+pub command-failure : (s : Failure) (t : RunTask) (files : Option Named) (written : Option (List ℕ)) → IsFlow t.flow → t.commands ≡ end_alone → Halts t s files written → Leaves t s [] files written
 command-failure failure.LogFault t files written flow alone h = inr h
 command-failure failure.OutFault t files written flow alone h = h
 command-failure failure.Long t files written flow alone h = (h, too-long t [] files written flow alone h)
@@ -152,21 +152,21 @@ command-failure failure.NoMemory t files written flow alone h = inr h
 command-failure other t files written flow alone h = absurd h
 
 -- all was done
-pub all-done : (t : Task) (log : Log) (files : Option Named) (written : Option (List ℕ)) → IsFlow t.flow → t.commands ≡ end_alone → IsUnderWay t [] log files written → IsDone t files written
+pub all-done : (t : RunTask) (log : Log) (files : Option Named) (written : Option (List ℕ)) → IsFlow t.flow → t.commands ≡ end_alone → IsUnderWay t [] log files written → IsDone t files written
 all-done t log files written flow alone h = (log, h, has-answer t log files written flow alone h)
 
 -- the session of a run that begins
-pub session-begun : (t : Task) (d : Session) (threads : ℕ) (log : Log) → d ≡ record { flow = t.flow; files = t.inputs; most = most_steps; threads = threads; log = log; spent = false }
+pub session-begun : (t : RunTask) (d : Session) (threads : ℕ) (log : Log) → d ≡ record { flow = t.flow; files = t.inputs; most = most_steps; threads = threads; log = log; spent = false }
     → IsSession t d
 session-begun t d threads log e = rw e (record { flow = refl; inputs = refl; most = refl })
 
 -- where the log was not made, the sink did not fail
-pub opens-counts : (s : Failure) (t : Task) (log : Log) (files : Option Named) (written : Option (List ℕ)) (n : ℕ) → Opens {A = Unit {0}} (Err s) t log files written → Counts {A = Unit {0}} (Err s) n n
+pub opens-counts : (s : Failure) (t : RunTask) (log : Log) (files : Option Named) (written : Option (List ℕ)) (n : ℕ) → Opens {A = Unit {0}} (Err s) t log files written → Counts {A = Unit {0}} (Err s) n n
 opens-counts failure.OutFault t log files written n h = absurd h
 opens-counts other t log files written n h = refl
 
 -- the one command of a run that begins
-pub run-command : (r : Result (Unit {0}) Failure) (t : Task) (d new : Session) (threads : ℕ) (log : Log) (mid files : Option Named) (written got : Option (List ℕ))
+pub run-command : (r : Result (Unit {0}) Failure) (t : RunTask) (d new : Session) (threads : ℕ) (log : Log) (mid files : Option Named) (written got : Option (List ℕ))
     → d ≡ record { flow = t.flow; files = t.inputs; most = most_steps; threads = threads; log = log; spent = false } → IsUnderWay t end_alone log mid written
     → ((left : List Command) → IsSession t d → IsUnderWay t (command.End ∷ left) d.log mid written → Did r t left new files got) → Did r t [] new files got
 run-command r t d new threads log mid files written got e h did = did [] (session-begun t d threads log e) (rw e h)

@@ -8,11 +8,11 @@ use Rattle.amber_log.specs.LogText.{log_text}
 use Rattle.amber_log.proofs.Torn.{reads-whole}
 use Rattle.amber_meaning.specs.Plain.{row_total}
 use Rattle.amber_run.specs.Answering.{BreaksOff, Fulfils, IsUntouched}
-use Rattle.amber_course.specs.Course.{course_of, limited, most_rows}
+use Rattle.amber_course.specs.Course.{course_of, require_limit, most_rows}
 use Rattle.amber_run.specs.Outcome.{Answers, AsksFor, Breaks, IsLongWhere, IsPrintStatus, Runs, RunsLong, Succeeds, TellsLong}
 use Rattle.amber_run.specs.UnderWay.{IsDone, IsLeft}
 use Rattle.amber_course.specs.Failure.{status_of}
-use Rattle.amber_run.specs.Task.{task_of}
+use Rattle.amber_run.specs.RunTask.{run_task_of}
 use Rattle.amber_run.specs.Writing.{CountsWrites}
 use Rattle.amber_course.specs.declared.job.Job.{Job}
 use Rattle.amber_course.specs.declared.job.Job.TheVariants as job
@@ -39,7 +39,7 @@ many-rows rows most e = grind (arith, nat_tests)
 
 -- a printed answer, by whether there are too many rows
 long-print : (flow : List Operator) (files : List (List ℕ)) (result : Status) (a b : ℕ) (few : Bool) → nat_le (row_total flow files) most_rows ≡ few
-    → Answers (limited (job.Plain flow files)) result a b → ¬ (Rose a b) → IsLongWhere result (most_rows < row_total flow files)
+    → Answers (require_limit (job.Plain flow files)) result a b → ¬ (Rose a b) → IsLongWhere result (most_rows < row_total flow files)
 long-print flow files result a b true is h quiet =
     elim (rw is at h) [
       | inl print ↦ inr ((λ e. absurd (print-short result print e)), (λ over. absurd (few-rows (row_total flow files) most_rows is over)))
@@ -55,12 +55,12 @@ long-print flow files result a b false is h quiet =
 
 -- a run that stopped, where its log is read
 left-long : (told now : Option Named) (before got : Option (List ℕ)) (flow : List Operator) (files : List (List ℕ)) (log : List ℕ) (batch : ℕ) (result : Status)
-    → IsLeft (task_of told before flow files log batch) failure.Long [] now got → result ≡ status.Long → RunsLong result told now log
+    → IsLeft (run_task_of told before flow files log batch) failure.Long [] now got → result ≡ status.Long → RunsLong result told now log
 left-long told now before got flow files log batch result h is =
     inr (record { batch = h.batch; items = h.done ++ h.last }, (h.bytes, h.place, h.read), ((λ e. h.closed), (λ long. is)))
 
 left-short : (told now : Option Named) (before got : Option (List ℕ)) (flow : List Operator) (files : List (List ℕ)) (log : List ℕ) (batch : ℕ) (result : Status)
-    → IsLeft (task_of told before flow files log batch) failure.OutFault [] now got → result ≡ status.OutFault → RunsLong result told now log
+    → IsLeft (run_task_of told before flow files log batch) failure.OutFault [] now got → result ≡ status.OutFault → RunsLong result told now log
 left-short told now before got flow files log batch result h is =
     inr (
       record { batch = h.batch; items = h.done ++ h.last },
@@ -69,7 +69,7 @@ left-short told now before got flow files log batch result h is =
     )
 
 done-short : (told now : Option Named) (before got : Option (List ℕ)) (flow : List Operator) (files : List (List ℕ)) (log : List ℕ) (batch : ℕ)
-    → IsDone (task_of told before flow files log batch) now got → RunsLong status.Ok told now log
+    → IsDone (run_task_of told before flow files log batch) now got → RunsLong status.Ok told now log
 done-short told now before got flow files log batch h =
     inr (
       h.0,
@@ -166,7 +166,7 @@ long-job : (words : List (List ℕ)) (told now : Option Named) (result : Status)
     → IsRunLong words told now result a b w x files → AsksFor words files one → ¬ (Rose a b) → ¬ (Rose w x) → TellsLong one result told now
 long-job words told now result a b w x files (job.Plain flow inputs) h run asks read kept =
     long-print flow inputs result a b (nat_le (row_total flow inputs) most_rows) refl
-    (subst (λ r. Answers r result a b) (course-job words asks.0 files (job.Plain flow inputs) (limited (job.Plain flow inputs)) asks.1 asks.2 refl) h) read
+    (subst (λ r. Answers r result a b) (course-job words asks.0 files (job.Plain flow inputs) (require_limit (job.Plain flow inputs)) asks.1 asks.2 refl) h) read
 long-job words told now result a b w x files (job.Run flow inputs log threads batch) h run asks read kept =
     run flow inputs log threads batch
     (course-job words asks.0 files (job.Run flow inputs log threads batch) (Ok (job.Run flow inputs log threads batch)) asks.1 asks.2 refl) read kept

@@ -11,7 +11,7 @@ use Rattle.amber_course.specs.Course.{most_rows}
 use Rattle.amber_run.specs.Outcome.{Counts}
 use Rattle.amber_run.specs.UnderWay.{Worked}
 use Rattle.amber_course.specs.Steps.{Judges, Sent}
-use Rattle.amber_run.specs.Task.{task_of}
+use Rattle.amber_run.specs.RunTask.{run_task_of}
 use Rattle.amber_run.specs.Writing.{CountsWrites}
 use Rattle.amber_course.specs.declared.job.Job.TheVariants as job
 use Rattle.amber_course.specs.declared.failure.Failure.{Failure}
@@ -96,7 +96,7 @@ sent-writes (Err other) text before got a b n h = refl
 
 -- a run
 pub works-run : (r : Result (Unit {0}) Failure) (flow : List Operator) (files : List (List ℕ)) (log : List ℕ) (threads batch : ℕ) (told now : Option Named) (before got : Option (List ℕ))
-    → Worked r (task_of told before flow files log batch) now got → Works r (job.Run flow files log threads batch) told now before got
+    → Worked r (run_task_of told before flow files log batch) now got → Works r (job.Run flow files log threads batch) told now before got
 works-run (Ok u) flow files log threads batch told now before got h = (refl, h)
 works-run (Err failure.LogFault) flow files log threads batch told now before got h = (refl, h)
 works-run (Err failure.OutFault) flow files log threads batch told now before got h = (refl, h)

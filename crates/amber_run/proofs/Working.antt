@@ -26,7 +26,7 @@ use Rattle.amber_debug.specs.declared.done.DebugErr.TheVariants as debug_err
 use Rattle.amber_debug.specs.declared.done.Done.{Done}
 use Rattle.amber_run.specs.UnderWay.{ClosesAs, Halts, IsBare, IsLeft, Opens, IsUnderWay}
 use Rattle.amber_course.specs.Steps.{Sent}
-use Rattle.amber_run.specs.Task.{IsSession, Task, ends_long, query_at}
+use Rattle.amber_run.specs.RunTask.{IsSession, RunTask, ends_long, query_at}
 use Rattle.amber_run.specs.Writing.{Made, Wrote}
 use Rattle.amber_course.specs.declared.failure.Failure.{Failure}
 use Rattle.amber_course.specs.declared.failure.Failure.TheVariants as failure
@@ -51,11 +51,11 @@ one-few one = omega arith
 
 -- ---- the log's head
 
-legal-start : (t : Task) (batch : ℕ) → IsBatch batch → IsLegal (query_at t batch) (record { batch = batch; items = [] })
+legal-start : (t : RunTask) (batch : ℕ) → IsBatch batch → IsLegal (query_at t batch) (record { batch = batch; items = [] })
 unfolding AreItems Reaches
 legal-start t batch h = record { text = record { batch = h; items = tt }; batch = refl; after = start_of t.flow; reached = refl }
 
-pub stands-start : (t : Task) (batch : ℕ) (files : Option Named) (written : Option (List ℕ)) → IsBatch batch → batch ≡ t.batch
+pub stands-start : (t : RunTask) (batch : ℕ) (files : Option Named) (written : Option (List ℕ)) → IsBatch batch → batch ≡ t.batch
     → files ≡ with_file t.told t.name (head_text batch) → Appends t.before written [] → IsUnderWay t t.commands (record { batch = batch; items = [] }) files written
 unfolding log_text transcript_of replies
 stands-start t batch files written h is place sent = record {
@@ -68,7 +68,7 @@ stands-start t batch files written h is place sent = record {
 }
 
 -- a log of no item
-left-head : (t : Task) (bytes : List ℕ) (batch : ℕ) (files : Option Named) (written : Option (List ℕ)) → IsBatch batch → IsReadAs bytes (record { batch = batch; items = [] })
+left-head : (t : RunTask) (bytes : List ℕ) (batch : ℕ) (files : Option Named) (written : Option (List ℕ)) → IsBatch batch → IsReadAs bytes (record { batch = batch; items = [] })
     → files ≡ with_file t.told t.name bytes → Appends t.before written [] → IsLeft t failure.LogFault [] files written
 unfolding transcript_of replies
 left-head t bytes batch files written h read place sent = record {
@@ -103,18 +103,18 @@ empty-batch : IsBatch 400
 empty-batch = (omega arith, omega arith)
 
 -- the log was not made
-pub exit-create : (s : Failure) (t : Task) (log : Log) (files : Option Named) (written : Option (List ℕ)) → Made {A = Unit {0}} (Err s) t.told files t.name → Appends t.before written []
+pub exit-create : (s : Failure) (t : RunTask) (log : Log) (files : Option Named) (written : Option (List ℕ)) → Made {A = Unit {0}} (Err s) t.told files t.name → Appends t.before written []
     → Opens {A = Unit {0}} (Err s) t log files written
 exit-create failure.LogFault t log files written h sent = inl (h, sent)
 exit-create failure.NoMemory t log files written h sent = (inl h, sent)
 exit-create other t log files written h sent = absurd h
 
 -- there was no memory for its head
-pub exit-bare : (t : Task) (files : Option Named) (written : Option (List ℕ)) → files ≡ with_file t.told t.name [] → Appends t.before written [] → IsBare t [] files written
+pub exit-bare : (t : RunTask) (files : Option Named) (written : Option (List ℕ)) → files ≡ with_file t.told t.name [] → Appends t.before written [] → IsBare t [] files written
 exit-bare t files written h sent = (inr (inr h), sent)
 
 -- its head was not written
-pub exit-head : (s : Failure) (t : Task) (log : Log) (batch : ℕ) (head : List ℕ) (mid files : Option Named) (written : Option (List ℕ)) → IsBatch batch → head ≡ head_text batch
+pub exit-head : (s : Failure) (t : RunTask) (log : Log) (batch : ℕ) (head : List ℕ) (mid files : Option Named) (written : Option (List ℕ)) → IsBatch batch → head ≡ head_text batch
     → mid ≡ with_file t.told t.name [] → Wrote {A = Unit {0}} (Err s) mid files t.name head → Appends t.before written [] → Opens {A = Unit {0}} (Err s) t log files written
 exit-head failure.LogFault t log batch head mid files written h text made (part, rest, split, new) sent =
     let place : files ≡ with_file t.told t.name part = new ∙ ap (λ m. with_more m t.name part) made ∙ with_more-with_file t.told t.name [] part in
@@ -128,7 +128,7 @@ exit-head failure.NoMemory t log batch head mid files written h text made new se
 exit-head other t log batch head mid files written h text made new sent = absurd new
 
 -- its head was written
-pub stands-head : (t : Task) (batch : ℕ) (head : List ℕ) (mid files : Option Named) (written : Option (List ℕ)) → IsBatch batch → batch ≡ t.batch → head ≡ head_text batch
+pub stands-head : (t : RunTask) (batch : ℕ) (head : List ℕ) (mid files : Option Named) (written : Option (List ℕ)) → IsBatch batch → batch ≡ t.batch → head ≡ head_text batch
     → mid ≡ with_file t.told t.name [] → files ≡ with_more mid t.name head → Appends t.before written [] → IsUnderWay t t.commands (record { batch = batch; items = [] }) files written
 stands-head t batch head mid files written h is text made new sent =
     stands-start t batch files written h is
@@ -137,7 +137,7 @@ stands-head t batch head mid files written h is text made new sent =
 -- ---- a command
 
 -- the log is as it was, and perhaps a torn item behind it
-left-log : (t : Task) (s : Failure) (left : List Command) (log : Log) (bytes : List ℕ) (mid files : Option Named) (written : Option (List ℕ)) → IsUnderWay t left log mid written
+left-log : (t : RunTask) (s : Failure) (left : List Command) (log : Log) (bytes : List ℕ) (mid files : Option Named) (written : Option (List ℕ)) → IsUnderWay t left log mid written
     → files ≡ with_file t.told t.name bytes → IsReadAs bytes log → ClosesAs s false → IsLeft t s [] files written
 unfolding replies
 left-log t s left log bytes mid files written h place read closed = record {
@@ -161,7 +161,7 @@ left-log t s left log bytes mid files written h place read closed = record {
 }
 
 -- the log has an item more, and a part of its reply was put
-left-item : (t : Task) (s : Failure) (left : List Command) (command : Command) (log : Log) (one : Item) (part rest : List ℕ) (mid files : Option Named) (written got : Option (List ℕ))
+left-item : (t : RunTask) (s : Failure) (left : List Command) (command : Command) (log : Log) (one : Item) (part rest : List ℕ) (mid files : Option Named) (written got : Option (List ℕ))
     → IsUnderWay t (command ∷ left) log mid written → command_of one ≡ command → IsLegal (query_at t log.batch) (one_more log one)
     → files ≡ with_file t.told t.name (log_text (one_more log one)) → part ++ rest ≡ reply_of (query_at t log.batch) (state_after (query_at t log.batch) log.items) one
     → (s ≢ failure.OutFault → part ≡ []) → Appends written got part → ClosesAs s (is_long_item one) → IsLeft t s [] files got
@@ -190,18 +190,18 @@ left-item t s left command log one part rest mid files written got h is legal pl
     }
 
 -- where an item more was written
-item-place : (t : Task) (log : Log) (one : Item) (mid files : Option Named) (piece : List ℕ) → mid ≡ with_file t.told t.name (log_text log) → piece ≡ item_text one
+item-place : (t : RunTask) (log : Log) (one : Item) (mid files : Option Named) (piece : List ℕ) → mid ≡ with_file t.told t.name (log_text log) → piece ≡ item_text one
     → files ≡ with_more mid t.name piece → files ≡ with_file t.told t.name (log_text (one_more log one))
 item-place t log one mid files piece place text new =
     new ∙ ap (λ m. with_more m t.name piece) place ∙ with_more-with_file t.told t.name (log_text log) piece
     ∙ ap (λ b. with_file t.told t.name (log_text log ++ b)) text ∙ ap (λ b. with_file t.told t.name b) (sym (log_text-push log one))
 
 -- there was no item, for want of memory
-pub exit-memory : (t : Task) (left : List Command) (log : Log) (files : Option Named) (written : Option (List ℕ)) → IsUnderWay t left log files written → IsLeft t failure.NoMemory [] files written
+pub exit-memory : (t : RunTask) (left : List Command) (log : Log) (files : Option Named) (written : Option (List ℕ)) → IsUnderWay t left log files written → IsLeft t failure.NoMemory [] files written
 exit-memory t left log files written h = left-log t failure.NoMemory left log (log_text log) files files written h h.place (reads-whole log h.legal.text) tt
 
 -- the item was not written
-pub exit-write : (s : Failure) (t : Task) (left : List Command) (command : Command) (log : Log) (one : Item) (piece : List ℕ) (mid files : Option Named) (written : Option (List ℕ))
+pub exit-write : (s : Failure) (t : RunTask) (left : List Command) (command : Command) (log : Log) (one : Item) (piece : List ℕ) (mid files : Option Named) (written : Option (List ℕ))
     → IsUnderWay t (command ∷ left) log mid written → command_of one ≡ command → IsLegal (query_at t log.batch) (one_more log one) → piece ≡ item_text one
     → Wrote {A = Unit {0}} (Err s) mid files t.name piece → Halts t s files written
 exit-write failure.LogFault t left command log one piece mid files written h is legal text (part, rest, split, new) =
@@ -219,7 +219,7 @@ exit-write failure.NoMemory t left command log one piece mid files written h is 
 exit-write other t left command log one piece mid files written h is legal text new = absurd new
 
 -- the reply was not put
-pub exit-send : (s : Failure) (t : Task) (left : List Command) (command : Command) (log : Log) (one : Item) (piece reply : List ℕ) (mid files : Option Named) (written got : Option (List ℕ)) (a b : ℕ)
+pub exit-send : (s : Failure) (t : RunTask) (left : List Command) (command : Command) (log : Log) (one : Item) (piece reply : List ℕ) (mid files : Option Named) (written got : Option (List ℕ)) (a b : ℕ)
     → IsUnderWay t (command ∷ left) log mid written → command_of one ≡ command → IsLegal (query_at t log.batch) (one_more log one) → piece ≡ item_text one
     → is_long_item one ≡ false → files ≡ with_more mid t.name piece → reply ≡ reply_of (query_at t log.batch) (state_after (query_at t log.batch) log.items) one
     → Sent {A = Unit {0}} (Err s) written got a b reply → Halts t s files got
@@ -232,7 +232,7 @@ exit-send failure.NoMemory t left command log one piece reply mid files written 
 exit-send other t left command log one piece reply mid files written got a b h is legal text short new answer sent = absurd sent
 
 -- the steps were as many as may be
-pub exit-long : (t : Task) (left : List Command) (command : Command) (log : Log) (one : Item) (piece : List ℕ) (mid files : Option Named) (written : Option (List ℕ))
+pub exit-long : (t : RunTask) (left : List Command) (command : Command) (log : Log) (one : Item) (piece : List ℕ) (mid files : Option Named) (written : Option (List ℕ))
     → IsUnderWay t (command ∷ left) log mid written → command_of one ≡ command → IsLegal (query_at t log.batch) (one_more log one) → piece ≡ item_text one
     → is_long_item one ≡ true → files ≡ with_more mid t.name piece → IsLeft t failure.Long [] files written
 exit-long t left command log one piece mid files written h is legal text long new =
@@ -240,7 +240,7 @@ exit-long t left command log one piece mid files written h is legal text long ne
     (item-place t log one mid files piece h.place text new) refl (λ n. refl) (appends-same written) long
 
 -- the command was done
-pub stands-next : (t : Task) (left : List Command) (command : Command) (log : Log) (one : Item) (piece reply : List ℕ) (mid files : Option Named) (written got : Option (List ℕ))
+pub stands-next : (t : RunTask) (left : List Command) (command : Command) (log : Log) (one : Item) (piece reply : List ℕ) (mid files : Option Named) (written got : Option (List ℕ))
     → IsUnderWay t (command ∷ left) log mid written → command_of one ≡ command → IsLegal (query_at t log.batch) (one_more log one) → piece ≡ item_text one
     → is_long_item one ≡ false → files ≡ with_more mid t.name piece → reply ≡ reply_of (query_at t log.batch) (state_after (query_at t log.batch) log.items) one
     → Appends written got reply → IsUnderWay t left (one_more log one) files got
@@ -259,11 +259,11 @@ stands-next t left command log one piece reply mid files written got h is legal 
 -- ---- the session
 
 -- what the session runs
-pub session-query : (t : Task) (d : Session) → IsSession t d → query_in d ≡ query_at t d.log.batch
+pub session-query : (t : RunTask) (d : Session) → IsSession t d → query_in d ≡ query_at t d.log.batch
 session-query t d h = rw (h.flow, h.inputs, h.most) refl
 
 -- a session that grew
-pub session-grown : (t : Task) (old new : Session) (command : Command) (one : Item) → IsSession t old → Grew old new command one → IsLegal (query_in new) new.log
+pub session-grown : (t : RunTask) (old new : Session) (command : Command) (one : Item) → IsSession t old → Grew old new command one → IsLegal (query_in new) new.log
     → IsLegal (query_at t old.log.batch) (one_more old.log one)
 session-grown t old new command one h grew legal = rw (grew.flow, grew.files, grew.most, grew.log, h.flow, h.inputs, h.most) at legal
 
@@ -274,19 +274,19 @@ unfolding fits_of
 fits-end flow done e = rw e refl
 
 -- a command was done, and its item was not written
-pub done-write : (s : Failure) (t : Task) (left : List Command) (old new : Session) (command : Command) (told : Done) (piece : List ℕ) (mid files : Option Named) (written : Option (List ℕ))
+pub done-write : (s : Failure) (t : RunTask) (left : List Command) (old new : Session) (command : Command) (told : Done) (piece : List ℕ) (mid files : Option Named) (written : Option (List ℕ))
     → IsSession t old → IsUnderWay t (command ∷ left) old.log mid written → Does (Ok told) old new command → IsLegal (query_in new) new.log → piece ≡ told.item
     → Wrote {A = Unit {0}} (Err s) mid files t.name piece → Halts t s files written
 done-write s t left old new command told piece mid files written session h does legal is wrote =
     exit-write s t left command old.log does.0 piece mid files written h does.1.command (session-grown t old new command does.0 session does.1 legal) (is ∙ does.3) wrote
 
-reply-is : (t : Task) (old new : Session) (command : Command) (told : Done) (reply : List ℕ) → IsSession t old → (does : Does (Ok told) old new command) → reply ≡ told.reply
+reply-is : (t : RunTask) (old new : Session) (command : Command) (told : Done) (reply : List ℕ) → IsSession t old → (does : Does (Ok told) old new command) → reply ≡ told.reply
     → reply ≡ reply_of (query_at t old.log.batch) (state_after (query_at t old.log.batch) old.log.items) does.0
 reply-is t old new command told reply session does is =
     is ∙ does.4 ∙ ap (λ query. reply_of query (state_after query old.log.items) does.0) (session-query t old session)
 
 -- its reply was not put
-pub done-send : (s : Failure) (t : Task) (left : List Command) (old new : Session) (command : Command) (told : Done) (piece reply : List ℕ) (mid files : Option Named) (written got : Option (List ℕ)) (a b : ℕ)
+pub done-send : (s : Failure) (t : RunTask) (left : List Command) (old new : Session) (command : Command) (told : Done) (piece reply : List ℕ) (mid files : Option Named) (written got : Option (List ℕ)) (a b : ℕ)
     → IsSession t old → IsUnderWay t (command ∷ left) old.log mid written → Does (Ok told) old new command → IsLegal (query_in new) new.log → piece ≡ told.item → reply ≡ told.reply
     → files ≡ with_more mid t.name piece → Sent {A = Unit {0}} (Err s) written got a b reply → Halts t s files got
 done-send s t left old new command told piece reply mid files written got a b session h does legal is answer wrote sent =
@@ -294,7 +294,7 @@ done-send s t left old new command told piece reply mid files written got a b se
     (reply-is t old new command told reply session does answer) sent
 
 -- all was written and put
-pub done-next : (t : Task) (left : List Command) (old new : Session) (command : Command) (told : Done) (piece reply : List ℕ) (mid files : Option Named) (written got : Option (List ℕ))
+pub done-next : (t : RunTask) (left : List Command) (old new : Session) (command : Command) (told : Done) (piece reply : List ℕ) (mid files : Option Named) (written got : Option (List ℕ))
     → IsSession t old → IsUnderWay t (command ∷ left) old.log mid written → Does (Ok told) old new command → IsLegal (query_in new) new.log → piece ≡ told.item → reply ≡ told.reply
     → files ≡ with_more mid t.name piece → Appends written got reply → IsUnderWay t left new.log files got
 done-next t left old new command told piece reply mid files written got session h does legal is answer wrote sent =
@@ -303,14 +303,14 @@ done-next t left old new command told piece reply mid files written got session 
     (reply-is t old new command told reply session does answer) sent)
 
 -- a leg was too long, and was not written
-pub long-write : (s : Failure) (t : Task) (left : List Command) (old new : Session) (command : Command) (text piece : List ℕ) (mid files : Option Named) (written : Option (List ℕ))
+pub long-write : (s : Failure) (t : RunTask) (left : List Command) (old new : Session) (command : Command) (text piece : List ℕ) (mid files : Option Named) (written : Option (List ℕ))
     → IsSession t old → IsUnderWay t (command ∷ left) old.log mid written → Does (Err (debug_err.Long text)) old new command → IsLegal (query_in new) new.log → piece ≡ text
     → Wrote {A = Unit {0}} (Err s) mid files t.name piece → Halts t s files written
 long-write s t left old new command text piece mid files written session h does legal is wrote =
     exit-write s t left command old.log does.0 piece mid files written h does.1.command (session-grown t old new command does.0 session does.1 legal) (is ∙ does.3) wrote
 
 -- it was written
-pub long-next : (t : Task) (left : List Command) (old new : Session) (command : Command) (text piece : List ℕ) (mid files : Option Named) (written : Option (List ℕ))
+pub long-next : (t : RunTask) (left : List Command) (old new : Session) (command : Command) (text piece : List ℕ) (mid files : Option Named) (written : Option (List ℕ))
     → IsSession t old → IsUnderWay t (command ∷ left) old.log mid written → Does (Err (debug_err.Long text)) old new command → IsLegal (query_in new) new.log → piece ≡ text
     → files ≡ with_more mid t.name piece → IsLeft t failure.Long [] files written
 long-next t left old new command text piece mid files written session h does legal is wrote =

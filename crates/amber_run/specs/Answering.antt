@@ -7,9 +7,9 @@ use Rattle.amber_rows.specs.declared.flow.Operator.{Operator}
 use Rattle.amber_meaning.specs.Plain.{answer_of, row_total}
 use Rattle.amber_meaning.specs.Texts.{answer_text}
 use Rattle.amber_meaning.specs.declared.answer.Answer.{Answer}
-use Rattle.amber_course.specs.Course.{limited, most_rows}
+use Rattle.amber_course.specs.Course.{require_limit, most_rows}
 use Rattle.amber_run.specs.UnderWay.{IsDone, Leaves}
-use Rattle.amber_run.specs.Task.{task_of}
+use Rattle.amber_run.specs.RunTask.{run_task_of}
 use Rattle.amber_course.specs.declared.job.Job.{Job}
 use Rattle.amber_course.specs.declared.job.Job.TheVariants as job
 use Rattle.amber_course.specs.declared.failure.Failure.{Failure}
@@ -35,20 +35,20 @@ IsUntouched line told now before got = (now ≡ told) × Appends before got line
 -- the job is done: for `plain` no file has changed, and the sink got the text of the sequential answer
 abbrev pub Fulfils : Job → Option Named → Option Named → Option (List ℕ) → Option (List ℕ) → Type 0
 Fulfils (job.Plain flow files) told now before got = IsUntouched (answer_text flow (answer_of flow files)) told now before got
-Fulfils (job.Run flow files log threads batch) told now before got = IsDone (task_of told before flow files log batch) now got
+Fulfils (job.Run flow files log threads batch) told now before got = IsDone (run_task_of told before flow files log batch) now got
 
 -- the job was broken off, and a line was put behind: for `plain` the sink failed, which got a front part of that text alone
 abbrev pub BreaksOff : Job → Failure → List ℕ → Option Named → Option Named → Option (List ℕ) → Option (List ℕ) → Type 0
 BreaksOff (job.Plain flow files) failure.OutFault line told now before got = (now ≡ told) × Begins before got (answer_text flow (answer_of flow files))
 BreaksOff (job.Plain flow files) other line told now before got = ⊥
-BreaksOff (job.Run flow files log threads batch) s line told now before got = Leaves (task_of told before flow files log batch) s line now got
+BreaksOff (job.Run flow files log threads batch) s line told now before got = Leaves (run_task_of told before flow files log batch) s line now got
 
 -- a job was done, or broken off, or nothing was done: for want of memory, or since the query gives too many rows
 abbrev pub Works : {A : Type 0} → Result A Failure → Job → Option Named → Option Named → Option (List ℕ) → Option (List ℕ) → Type 0
-Works (Ok x) done told now before got = (limited done ≡ Ok done) × Fulfils done told now before got
-Works (Err failure.LogFault) done told now before got = (limited done ≡ Ok done) × BreaksOff done failure.LogFault [] told now before got
-Works (Err failure.OutFault) done told now before got = (limited done ≡ Ok done) × BreaksOff done failure.OutFault [] told now before got
+Works (Ok x) done told now before got = (require_limit done ≡ Ok done) × Fulfils done told now before got
+Works (Err failure.LogFault) done told now before got = (require_limit done ≡ Ok done) × BreaksOff done failure.LogFault [] told now before got
+Works (Err failure.OutFault) done told now before got = (require_limit done ≡ Ok done) × BreaksOff done failure.OutFault [] told now before got
 Works (Err failure.Long) done told now before got =
-    ((limited done ≡ Err failure.Long) × IsUntouched [] told now before got) ⊎ ((limited done ≡ Ok done) × BreaksOff done failure.Long [] told now before got)
-Works (Err failure.NoMemory) done told now before got = IsUntouched [] told now before got ⊎ ((limited done ≡ Ok done) × BreaksOff done failure.NoMemory [] told now before got)
+    ((require_limit done ≡ Err failure.Long) × IsUntouched [] told now before got) ⊎ ((require_limit done ≡ Ok done) × BreaksOff done failure.Long [] told now before got)
+Works (Err failure.NoMemory) done told now before got = IsUntouched [] told now before got ⊎ ((require_limit done ≡ Ok done) × BreaksOff done failure.NoMemory [] told now before got)
 Works (Err other) done told now before got = ⊥

@@ -1,5 +1,5 @@
 pub mod Answering
 pub mod Outcome
-pub mod Task
+pub mod RunTask
 pub mod UnderWay
 pub mod Writing

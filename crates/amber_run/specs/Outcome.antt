@@ -9,12 +9,12 @@ use Rattle.amber_meaning.specs.Plain.{row_total}
 use Rattle.amber_meaning.specs.Total.{step_total}
 use Rattle.amber_run.specs.Answering.{BreaksOff, Fulfils, IsUntouched}
 use Rattle.amber_course.specs.Course.{IsReached, course_of, job_of, most_rows}
-use Rattle.amber_run.specs.Task.{ends_long, most_steps}
-use Rattle.amber_course.specs.Words.{words_of}
+use Rattle.amber_run.specs.RunTask.{ends_long, most_steps}
+use Rattle.amber_course.specs.Words.{call_words_of}
 use Rattle.amber_course.specs.declared.job.Job.{Job}
 use Rattle.amber_course.specs.declared.job.Job.TheVariants as job
 use Rattle.amber_course.specs.Steps.{Names, Stopped, Tells}
-use Rattle.amber_course.specs.Failure.{IsToldAs, line_of, status_of}
+use Rattle.amber_course.specs.Failure.{IsToldAs, error_line_of, status_of}
 use Rattle.amber_course.specs.declared.status.Status.{Status}
 use Rattle.amber_course.specs.declared.status.Status.TheVariants as status
 use Rattle.amber_course.specs.declared.failure.Failure.{Failure}
@@ -41,20 +41,20 @@ IsRunStatus status.NoMemory = ⊤
 IsRunStatus other = ⊥
 
 -- the statuses that are left where the course has a job
-abbrev pub IsOpen : Job → Status → Type 0
-IsOpen (job.Plain flow files) result = IsPrintStatus result
-IsOpen (job.Run flow files log threads batch) result = IsRunStatus result
+abbrev pub IsJobStatus : Job → Status → Type 0
+IsJobStatus (job.Plain flow files) result = IsPrintStatus result
+IsJobStatus (job.Run flow files log threads batch) result = IsRunStatus result
 
 -- the course decides the status, but for want of memory and for reads that failed, which raise the count of failed loads
 abbrev pub Answers : Result Job Failure → Status → ℕ → ℕ → Type 0
-Answers (Ok job) result old new = IsOpen job result ⊎ ((result ≡ status.ReadFault) × Rose old new)
+Answers (Ok job) result old new = IsJobStatus job result ⊎ ((result ≡ status.ReadFault) × Rose old new)
 Answers (Err s) result old new = (result ≡ status_of s) ⊎ (result ≡ status.NoMemory) ⊎ ((result ≡ status.ReadFault) × Rose old new)
 
 -- the course has a job, which meets the limit on its steps
-abbrev pub IsWithin : Result Job Failure → Type 0
-IsWithin (Ok (job.Plain flow files)) = ⊤
-IsWithin (Ok (job.Run flow files log threads batch)) = step_total (query_over flow files batch most_steps) ≤ most_steps
-IsWithin (Err s) = ⊥
+abbrev pub MeetsLimit : Result Job Failure → Type 0
+MeetsLimit (Ok (job.Plain flow files)) = ⊤
+MeetsLimit (Ok (job.Run flow files log threads batch)) = step_total (query_over flow files batch most_steps) ≤ most_steps
+MeetsLimit (Err s) = ⊥
 
 -- the statuses where the course has a job and only the sink has failed
 abbrev pub IsSinkStatus : Result Job Failure → Status → Type 0
@@ -70,7 +70,7 @@ AsksNoRun (Some (form.Run words)) = ⊥
 
 -- the words ask for this job, and all that is loaded for it is there and right
 abbrev pub AsksFor : List (List ℕ) → Named → Job → Type 0
-AsksFor words files job = (read : Words) × (words_of words ≡ Some read) × (job_of read files ≡ Ok job)
+AsksFor words files job = (read : Words) × (call_words_of words ≡ Some read) × (job_of read files ≡ Ok job)
 
 -- ---- `Long`
 
@@ -108,7 +108,7 @@ IsCause words told s old new = Stopped s old new (Told told (λ files. course_of
 
 -- what a call that stopped leaves, with this part of the failure's line. `old` and `new` count the failed loads
 abbrev pub Stops : List (List ℕ) → Failure → List ℕ → Option Named → Option Named → Option (List ℕ) → Option (List ℕ) → ℕ → ℕ → Type 0
-Stops words failure.Usage line told now before got old new = (new ≡ old) × (words_of words ≡ None) × IsUntouched line told now before got
+Stops words failure.Usage line told now before got old new = (new ≡ old) × (call_words_of words ≡ None) × IsUntouched line told now before got
 Stops words failure.LogFault line told now before got old new = (new ≡ old) × Breaks words failure.LogFault line told now before got
 Stops words failure.OutFault line told now before got old new = (new ≡ old) × Breaks words failure.OutFault line told now before got
 Stops words failure.Long line told now before got old new =
@@ -132,8 +132,8 @@ pub record Ended (words : List (List ℕ)) (result : Status) (old new : World) :
   -- what was put of the cause's line, and what was not
   pub line : List ℕ
   pub rest : List ℕ
-  pub split : line ++ rest ≡ line_of cause
-  pub whole : result ≢ status.NoMemory → new.puts ≡ old.puts → old.puts < 2 ^ 64 - 1 → line ≡ line_of cause
+  pub split : line ++ rest ≡ error_line_of cause
+  pub whole : result ≢ status.NoMemory → new.puts ≡ old.puts → old.puts < 2 ^ 64 - 1 → line ≡ error_line_of cause
   pub left : Stops words cause line old.files new.files old.got new.got old.loads new.loads
   pub named : Told old.files (λ files. Names cause (IsReached words files))
 
@@ -152,6 +152,6 @@ Counts (Err other) old new = new ≡ old
 
 -- the words are refused where they ask for nothing, and only there
 abbrev pub Worded : {A : Type 0} → Result A Failure → List (List ℕ) → Type 0
-Worded (Ok x) words = IsSome (words_of words)
-Worded (Err failure.Usage) words = words_of words ≡ None
-Worded (Err other) words = IsSome (words_of words)
+Worded (Ok x) words = IsSome (call_words_of words)
+Worded (Err failure.Usage) words = call_words_of words ≡ None
+Worded (Err other) words = IsSome (call_words_of words)

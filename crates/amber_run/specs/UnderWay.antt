@@ -14,7 +14,7 @@ use Rattle.amber_meaning.specs.Texts.{answer_text}
 use Rattle.amber_meaning.specs.Total.{step_total}
 use Rattle.amber_meaning.specs.Transcript.{replies, reply_of, transcript_of}
 use Rattle.amber_debug.specs.Session.{Session, command_of}
-use Rattle.amber_run.specs.Task.{Task, ends_long, most_steps, query_at}
+use Rattle.amber_run.specs.RunTask.{RunTask, ends_long, most_steps, query_at}
 use Rattle.amber_course.specs.declared.failure.Failure.{Failure}
 use Rattle.amber_course.specs.declared.failure.Failure.TheVariants as failure
 
@@ -22,7 +22,7 @@ use Rattle.amber_course.specs.declared.failure.Failure.TheVariants as failure
 
 -- the log's file holds the text of a legal log, all other files are as before, and the sink got the log's transcript; `left` are
 -- the commands that are still to be done
-pub record IsUnderWay (t : Task) (left : List Command) (log : Log) (files : Option Named) (written : Option (List ℕ)) : Type 0 where
+pub record IsUnderWay (t : RunTask) (left : List Command) (log : Log) (files : Option Named) (written : Option (List ℕ)) : Type 0 where
   pub batch : log.batch ≡ t.batch
   pub legal : IsLegal (query_at t log.batch) log
   pub commands : map command_of log.items ++ left ≡ t.commands
@@ -31,13 +31,13 @@ pub record IsUnderWay (t : Task) (left : List Command) (log : Log) (files : Opti
   pub short : ends_long false log.items ≡ false
 
 -- where no item sets a constant or drops a row, the reply to the last item is the text of the sequential answer
-abbrev pub HasAnswer : Task → Log → Type 0
+abbrev pub HasAnswer : RunTask → Log → Type 0
 HasAnswer t log =
     IsUnaltered log.items → (done : List Item) (last : Item) → log.items ≡ done ++ last ∷ []
     → reply_of (query_at t log.batch) (state_after (query_at t log.batch) done) last ≡ answer_text t.flow (answer_of t.flow t.inputs)
 
 -- a run that has done all
-abbrev pub IsDone : Task → Option Named → Option (List ℕ) → Type 0
+abbrev pub IsDone : RunTask → Option Named → Option (List ℕ) → Type 0
 IsDone t files written = (log : Log) × IsUnderWay t [] log files written × HasAnswer t log
 
 -- ---- a run that ended early
@@ -50,7 +50,7 @@ ClosesAs other long = ⊤
 
 -- the log's file reads as a legal log, whose commands are the first of those to be done, and all other files are as before. The sink
 -- got the replies to all items, where that to the last may be wanting, or cut if the sink failed; then a line
-pub record IsLeft (t : Task) (s : Failure) (line : List ℕ) (files : Option Named) (written : Option (List ℕ)) : Type 0 where
+pub record IsLeft (t : RunTask) (s : Failure) (line : List ℕ) (files : Option Named) (written : Option (List ℕ)) : Type 0 where
   -- the file's bytes
   pub bytes : List ℕ
   -- the log that is read of them: its batch size, the items that were replied to, and perhaps one more
@@ -74,12 +74,12 @@ pub record IsLeft (t : Task) (s : Failure) (line : List ℕ) (files : Option Nam
   pub closed : ClosesAs s (ends_long false (done ++ last))
 
 -- the log's file is as before, absent or empty, all other files are as before, and the sink got a line alone
-abbrev pub IsBare : Task → List ℕ → Option Named → Option (List ℕ) → Type 0
+abbrev pub IsBare : RunTask → List ℕ → Option Named → Option (List ℕ) → Type 0
 IsBare t line files written =
     ((files ≡ t.told) ⊎ (files ≡ without_file t.told t.name) ⊎ (files ≡ with_file t.told t.name [])) × Appends t.before written line
 
 -- what each failure of a run that was begun leaves
-abbrev pub Leaves : Task → Failure → List ℕ → Option Named → Option (List ℕ) → Type 0
+abbrev pub Leaves : RunTask → Failure → List ℕ → Option Named → Option (List ℕ) → Type 0
 Leaves t failure.LogFault line files written = IsBare t line files written ⊎ IsLeft t failure.LogFault line files written
 Leaves t failure.OutFault line files written = IsLeft t failure.OutFault line files written
 Leaves t failure.Long line files written = IsLeft t failure.Long line files written × (most_steps < step_total (query_at t t.batch))
@@ -89,14 +89,14 @@ Leaves t other line files written = ⊥
 -- ---- the steps of a run
 
 -- the log was made
-abbrev pub Opens : {A : Type 0} → Result A Failure → Task → Log → Option Named → Option (List ℕ) → Type 0
+abbrev pub Opens : {A : Type 0} → Result A Failure → RunTask → Log → Option Named → Option (List ℕ) → Type 0
 Opens (Ok x) t log files written = IsUnderWay t t.commands log files written
 Opens (Err failure.LogFault) t log files written = IsBare t [] files written ⊎ IsLeft t failure.LogFault [] files written
 Opens (Err failure.NoMemory) t log files written = IsBare t [] files written
 Opens (Err other) t log files written = ⊥
 
 -- what a failure at a command leaves
-abbrev pub Halts : Task → Failure → Option Named → Option (List ℕ) → Type 0
+abbrev pub Halts : RunTask → Failure → Option Named → Option (List ℕ) → Type 0
 Halts t failure.LogFault files written = IsLeft t failure.LogFault [] files written
 Halts t failure.OutFault files written = IsLeft t failure.OutFault [] files written
 Halts t failure.Long files written = IsLeft t failure.Long [] files written
@@ -104,11 +104,11 @@ Halts t failure.NoMemory files written = IsLeft t failure.NoMemory [] files writ
 Halts t other files written = ⊥
 
 -- a command was done
-abbrev pub Did : {A : Type 0} → Result A Failure → Task → List Command → Session → Option Named → Option (List ℕ) → Type 0
+abbrev pub Did : {A : Type 0} → Result A Failure → RunTask → List Command → Session → Option Named → Option (List ℕ) → Type 0
 Did (Ok x) t left d files written = IsUnderWay t left d.log files written
 Did (Err s) t left d files written = Halts t s files written
 
 -- the run was done
-abbrev pub Worked : {A : Type 0} → Result A Failure → Task → Option Named → Option (List ℕ) → Type 0
+abbrev pub Worked : {A : Type 0} → Result A Failure → RunTask → Option Named → Option (List ℕ) → Type 0
 Worked (Ok x) t files written = IsDone t files written
 Worked (Err s) t files written = Leaves t s [] files written

@@ -8,7 +8,7 @@ ghost use Rattle.amber_run.specs.Writing.{CountsWrites};
 
 use crate::printed::Printed;
 use crate::work::work;
-use amber_course::{Job, Failure, put_output};
+use amber_course::{Failure, Job, put_output};
 use amber_io::{Folder, Sink};
 use amber_meaning::{Answer, PlainErr};
 use amber_plain::plain;

@@ -2,14 +2,14 @@ ghost use Rattle.std.specs.Prelude.{◌≡◌, ◌≢◌, ◌<◌, ◌⊎◌, ma
 ghost use Rattle.amber_io.specs.Counts.{Rose};
 ghost use Rattle.amber_io.specs.Folder.{Told};
 ghost use Rattle.amber_course.specs.Course.{IsReached, course_of};
-ghost use Rattle.amber_run.specs.Outcome.{Answers, AsksFor, AsksNoRun, Counts, Ended, IsSinkStatus, IsWithin, Runs, Succeeds, TellsLong, Worded};
+ghost use Rattle.amber_run.specs.Outcome.{Answers, AsksFor, AsksNoRun, Counts, Ended, IsSinkStatus, MeetsLimit, Runs, Succeeds, TellsLong, Worded};
 ghost use Rattle.amber_course.specs.Steps.{Names, Tells};
-ghost use Rattle.amber_course.specs.Words.{words_of};
+ghost use Rattle.amber_course.specs.Words.{call_words_of};
 ghost use Rattle.amber_run.specs.Writing.{CountsWrites};
 
 use crate::answer::do_job;
 use crate::printed::Printed;
-use amber_course::{Job, Status, Failure, prepare, read_words, refuse};
+use amber_course::{Failure, Job, Status, prepare, read_words, refuse};
 use amber_io::{Folder, Sink};
 use std::alloc::Global;
 
@@ -26,10 +26,10 @@ fn run<F: Folder, O: Sink>(
     ensures puts { Counts result (O.faults out.old) (O.faults out.new) }
     ensures writes { CountsWrites result (F.write_faults folder.old) (F.write_faults folder.new) }
     ensures words { Worded result (map string_bytes words.now) }
-    ensures same { AsksNoRun (words_of (map string_bytes words.now)) → F.files folder.new ≡ F.files folder.old }
-    ensures unlogged { AsksNoRun (words_of (map string_bytes words.now))
+    ensures same { AsksNoRun (call_words_of (map string_bytes words.now)) → F.files folder.new ≡ F.files folder.old }
+    ensures unlogged { AsksNoRun (call_words_of (map string_bytes words.now))
         → IfErr result (λ failure. failure ≢ Failure.LogFault) }
-    ensures idle { AsksNoRun (words_of (map string_bytes words.now)) → F.write_faults folder.new ≡ F.write_faults folder.old }
+    ensures idle { AsksNoRun (call_words_of (map string_bytes words.now)) → F.write_faults folder.new ≡ F.write_faults folder.old }
 {
     let words = read_words(alloc, words)?;
     let job = prepare(alloc, words, folder)?;
@@ -87,7 +87,7 @@ pub fn amber<F: Folder, O: Sink>(
     // Which status it is, over files that are told.
     ensures course { Told (F.files folder.old) (λ files. Answers (course_of (map string_bytes words.now) files) result
         (F.load_faults folder.old) (F.load_faults folder.new)) }
-    ensures complete { Told (F.files folder.old) (λ files. IsWithin (course_of (map string_bytes words.now) files)
+    ensures complete { Told (F.files folder.old) (λ files. MeetsLimit (course_of (map string_bytes words.now) files)
         → ¬ (Rose (F.load_faults folder.old) (F.load_faults folder.new)) → ¬ (Rose (F.write_faults folder.old) (F.write_faults folder.new))
         → ¬ (Rose (O.faults out.old) (O.faults out.new)) → (result ≡ Status.Ok) ⊎ (result ≡ Status.NoMemory)) }
     ensures puts_grew { Told (F.files folder.old) (λ files. ¬ (Rose (F.load_faults folder.old) (F.load_faults folder.new))
@@ -100,8 +100,8 @@ pub fn amber<F: Folder, O: Sink>(
         → TellsLong job result (F.files folder.old) (F.files folder.new)) }
 
     // Which status it is, over any files.
-    ensures usage { result ≡ Status.Usage → words_of (map string_bytes words.now) ≡ None }
-    ensures bad_words { words_of (map string_bytes words.now) ≡ None → (result ≡ Status.Usage) ⊎ (result ≡ Status.NoMemory) }
+    ensures usage { result ≡ Status.Usage → call_words_of (map string_bytes words.now) ≡ None }
+    ensures bad_words { call_words_of (map string_bytes words.now) ≡ None → (result ≡ Status.Usage) ⊎ (result ≡ Status.NoMemory) }
     ensures read_fault { result ≡ Status.ReadFault → Rose (F.load_faults folder.old) (F.load_faults folder.new)
         ⊎ Tells (F.files folder.old) (λ files. (name : List ℕ) × (course_of (map string_bytes words.now) files ≡ Err (Failure.ReadFault name))) }
     ensures loads_grew { F.load_faults folder.old < F.load_faults folder.new → (result ≡ Status.ReadFault) ⊎ (result ≡ Status.NoMemory) }
@@ -112,9 +112,9 @@ pub fn amber<F: Folder, O: Sink>(
         × (F.write_faults folder.new ≡ F.write_faults folder.old) × (O.faults out.new ≡ O.faults out.old) }
 
     // What stays where no run is asked for, whatever the status is.
-    ensures same { AsksNoRun (words_of (map string_bytes words.now)) → F.files folder.new ≡ F.files folder.old }
-    ensures writes { AsksNoRun (words_of (map string_bytes words.now)) → F.write_faults folder.new ≡ F.write_faults folder.old }
-    ensures unlogged { AsksNoRun (words_of (map string_bytes words.now)) → result ≢ Status.LogFault }
+    ensures same { AsksNoRun (call_words_of (map string_bytes words.now)) → F.files folder.new ≡ F.files folder.old }
+    ensures writes { AsksNoRun (call_words_of (map string_bytes words.now)) → F.write_faults folder.new ≡ F.write_faults folder.old }
+    ensures unlogged { AsksNoRun (call_words_of (map string_bytes words.now)) → result ≢ Status.LogFault }
 {
     match run(alloc, words, folder, out, printed) {
         Ok(()) => Status::Ok,

@@ -5,7 +5,7 @@
 //! says and leaves.
 #![tactic(auto)]
 
-pub use amber_course::{Job, Reason, RunWords, ScriptWhy, Status, Failure, Words};
+pub use amber_course::{Failure, Job, Reason, RunWords, ScriptWhy, Status, Words};
 pub use call::amber;
 pub use printed::Printed;
 

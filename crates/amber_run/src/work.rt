@@ -7,7 +7,7 @@ ghost use Rattle.amber_worker.specs.AtPosition.{AreAlone};
 ghost use Rattle.amber_course.specs.Ready.{AreInputs};
 ghost use Rattle.amber_run.specs.Outcome.{Counts};
 ghost use Rattle.amber_run.specs.UnderWay.{Did, Opens, IsUnderWay, Worked};
-ghost use Rattle.amber_run.specs.Task.{IsSession, Task, most_steps, task_of};
+ghost use Rattle.amber_run.specs.RunTask.{IsSession, RunTask, most_steps, run_task_of};
 ghost use Rattle.amber_course.specs.Words.{AreSizes};
 ghost use Rattle.amber_run.specs.Writing.{CountsWrites, Made, Wrote};
 
@@ -75,7 +75,7 @@ fn append_piece<F: Folder>(name: &str, piece: &[u8], folder: &mut F) -> Result<(
 // Makes the log, with its head.
 fn make_log<F: Folder>(alloc: Global, batch: u32, name: &str, folder: &mut F) -> Result<(), Failure>
     requires { IsBatch batch }
-    ensures made { (t : Task) (written : Option (List ℕ)) → t.name ≡ name.now → batch ≡ t.batch → F.files folder.old ≡ t.told → Appends t.before written []
+    ensures made { (t : RunTask) (written : Option (List ℕ)) → t.name ≡ name.now → batch ≡ t.batch → F.files folder.old ≡ t.told → Appends t.before written []
         → Opens result t (record { batch = batch; items = [] }) (F.files folder.new) written }
     ensures there { IfOk result (λ made. IsThere (F.files folder.new) name.now) }
     ensures writes { CountsWrites result (F.write_faults folder.old) (F.write_faults folder.new) }
@@ -100,7 +100,7 @@ fn do_command<F: Folder, O: Sink>(
     requires to_end { command.now ≡ Command.End }
     requires there { IsThere (F.files folder.old) name.now }
     requires open { ends_over false debugger.old.log.items ≡ false }
-    ensures did { (t : Task) (left : List Command) → t.name ≡ name.now → IsSession t debugger.old
+    ensures did { (t : RunTask) (left : List Command) → t.name ≡ name.now → IsSession t debugger.old
         → IsUnderWay t (command.now ∷ left) debugger.old.log (F.files folder.old) (O.written out.old)
         → Did result t left debugger.new (F.files folder.new) (O.written out.new) }
     ensures writes { CountsWrites result (F.write_faults folder.old) (F.write_faults folder.new) }
@@ -140,7 +140,7 @@ pub(crate) fn work<F: Folder, O: Sink>(
     requires sizes { AreSizes threads batch }
     requires alone { AreAlone flow }
     requires flow { IsFlow flow }
-    ensures worked { Worked result (task_of (F.files folder.old) (O.written out.old) flow files name.now batch) (F.files folder.new) (O.written out.new) }
+    ensures worked { Worked result (run_task_of (F.files folder.old) (O.written out.old) flow files name.now batch) (F.files folder.new) (O.written out.new) }
     ensures writes { CountsWrites result (F.write_faults folder.old) (F.write_faults folder.new) }
     ensures puts { Counts result (O.faults out.old) (O.faults out.new) }
     ensures loads { F.load_faults folder.new ≡ F.load_faults folder.old }

@@ -40,7 +40,7 @@ fn empty_shares(alloc: Global, workers: u32) -> Result<Vec<Share>, AllocError>
 fn give(shares: &mut [Share], workers: u32, one: Scanned) -> Result<(), AllocError>
     requires some { 0 < workers }
     requires one_each { length shares.old ≡ workers }
-    requires numbered { 0 < one.number }
+    requires nth { 0 < one.number }
     ensures { let turn = turn_of workers one.number in
         OnOk result (shares.new ≡ slice_set shares.old turn (slice_index_or shares.old turn [] ++ one ∷ [])) }
 {

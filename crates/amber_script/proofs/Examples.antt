@@ -14,15 +14,15 @@ use Rattle.amber_rows.specs.declared.flow.Operator.{Operator}
 use Rattle.amber_log.specs.ReadWords.{comparison_of}
 use Rattle.amber_log.specs.declared.command.Command.{Command}
 use Rattle.amber_log.specs.declared.command.Command.TheVariants as command
-use Rattle.amber_script.specs.Commands.{any_command_of, built_command_of, command_of, is_unbuilt, target_of}
+use Rattle.amber_script.specs.Commands.{any_command_of, built_command_of, read_command, is_unbuilt, row_count_of}
 use Rattle.amber_script.specs.Script.{commands_from, says, script_of}
-use Rattle.amber_script.specs.Words.{words_from, words_of}
+use Rattle.amber_script.specs.Words.{words_from, script_words_of}
 use Rattle.amber_script.specs.declared.error.ScriptWhy.{ScriptWhy}
 use Rattle.amber_script.specs.declared.error.ScriptWhy.TheVariants as why
 
 -- what unfolds
 unfoldable pub scripts_on_literals : ⊤
-unfolding any_command_of built_command_of command_of is_unbuilt target_of commands_from says script_of words_from read_int_of comparison_of digits is_utf8 chars lib.Utf8.encode
+unfolding any_command_of built_command_of read_command is_unbuilt row_count_of commands_from says script_of words_from read_int_of comparison_of digits is_utf8 chars lib.Utf8.encode
 scripts_on_literals = tt
 
 -- ---- a workflow: orders, those of some quantity by two workers, the sink
@@ -51,10 +51,10 @@ meant None = Err why.Word
 meant (Some words) = any_command_of flow words
 
 abbrev pub Means : List ℕ → Command → Type 0
-Means line one = meant (words_of line) ≡ Ok one
+Means line one = meant (script_words_of line) ≡ Ok one
 
 abbrev pub Lacks : List ℕ → ScriptWhy → Type 0
-Lacks line reason = meant (words_of line) ≡ Err reason
+Lacks line reason = meant (script_words_of line) ≡ Err reason
 
 -- lines that end with a line feed
 abbrev pub lines : List (List ℕ) → List ℕ
@@ -62,43 +62,43 @@ lines texts = flat_map (λ text. text ++ 10 ∷ []) texts
 
 -- ---- words
 
-words_apart : words_of (9 ∷ codes " pause   f" ++ 9 ∷ codes "2 ") ≡ Some (codes "pause" ∷ codes "f" ∷ codes "2" ∷ [])
+words_apart : script_words_of (9 ∷ codes " pause   f" ++ 9 ∷ codes "2 ") ≡ Some (codes "pause" ∷ codes "f" ∷ codes "2" ∷ [])
 unfolding scripts_on_literals
 words_apart = refl
 
-no_words : words_of (32 ∷ 9 ∷ []) ≡ Some []
+no_words : script_words_of (32 ∷ 9 ∷ []) ≡ Some []
 unfolding scripts_on_literals
 no_words = refl
 
-quoted : words_of (codes "\"run\" \"\" \"a b\"") ≡ Some (codes "run" ∷ [] ∷ codes "a b" ∷ [])
+quotation_of : script_words_of (codes "\"run\" \"\" \"a b\"") ≡ Some (codes "run" ∷ [] ∷ codes "a b" ∷ [])
 unfolding scripts_on_literals
-quoted = refl
+quotation_of = refl
 
-escapes : words_of (codes "\"\\\"\\\\\\n\\r\"") ≡ Some ((34 ∷ 92 ∷ 10 ∷ 13 ∷ []) ∷ [])
+escapes : script_words_of (codes "\"\\\"\\\\\\n\\r\"") ≡ Some ((34 ∷ 92 ∷ 10 ∷ 13 ∷ []) ∷ [])
 unfolding scripts_on_literals
 escapes = refl
 
-other_escape : words_of (codes "\"\\t\"") ≡ None
+other_escape : script_words_of (codes "\"\\t\"") ≡ None
 unfolding scripts_on_literals
 other_escape = refl
 
-quote_not_closed : words_of (codes "\"run") ≡ None
+quote_not_closed : script_words_of (codes "\"run") ≡ None
 unfolding scripts_on_literals
 quote_not_closed = refl
 
-escape_not_closed : words_of (codes "\"run\\") ≡ None
+escape_not_closed : script_words_of (codes "\"run\\") ≡ None
 unfolding scripts_on_literals
 escape_not_closed = refl
 
-quote_in_bare_word : words_of (codes "ru\"n") ≡ None
+quote_in_bare_word : script_words_of (codes "ru\"n") ≡ None
 unfolding scripts_on_literals
 quote_in_bare_word = refl
 
-word_behind_quote : words_of (codes "\"run\"x") ≡ None
+word_behind_quote : script_words_of (codes "\"run\"x") ≡ None
 unfolding scripts_on_literals
 word_behind_quote = refl
 
-backslash_in_bare_word : words_of (codes "a\\n") ≡ Some (codes "a\\n" ∷ [])
+backslash_in_bare_word : script_words_of (codes "a\\n") ≡ Some (codes "a\\n" ∷ [])
 unfolding scripts_on_literals
 backslash_in_bare_word = refl
 

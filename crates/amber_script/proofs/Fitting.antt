@@ -4,7 +4,7 @@ use Rattle.std.specs.Prelude.{◌&&◌, slice_get}
 use Rattle.std.specs.List.{list_all}
 use Rattle.std.proofs.lemmas.Bool.{and_from, ne_eqb}
 use Rattle.std.proofs.lemmas.List.Folds.{list_all-append}
-use Rattle.amber_rows.specs.Cond.{numbered}
+use Rattle.amber_rows.specs.Cond.{nth}
 use Rattle.amber_rows.specs.FlowRules.{kind_of}
 use Rattle.amber_rows.specs.Suits.{same_kind}
 use Rattle.amber_rows.specs.declared.value.Value.{Value}
@@ -13,7 +13,7 @@ use Rattle.amber_rows.specs.declared.column.Column.{Column}
 use Rattle.amber_rows.specs.declared.flow.What.{What}
 use Rattle.amber_rows.specs.declared.flow.What.TheVariants as what
 use Rattle.amber_rows.specs.declared.flow.Operator.{Operator}
-use Rattle.amber_log.specs.Fits.{constant_of, fits_of, is_cell_of, is_there, takes_constant}
+use Rattle.amber_log.specs.Fits.{script_constant, fits_of, is_cell_of, is_there, takes_constant}
 use Rattle.amber_log.specs.declared.command.Command.{Command}
 use Rattle.amber_script.specs.Commands.{filtered_kind, settable_kind}
 
@@ -25,7 +25,7 @@ is_at (operator ∷ flow) zero inside = refl
 is_at (operator ∷ flow) (suc place) inside = is_at flow place (omega (arith, inside))
 
 -- the operator at a place has the number behind it
-pub is_found : (flow : List Operator) (place : ℕ) → place < length flow → is_there (numbered flow (place + 1)) ≡ true
+pub is_found : (flow : List Operator) (place : ℕ) → place < length flow → is_there (nth flow (place + 1)) ≡ true
 is_found flow place inside =
     let no : (place + 1 == 0) ≡ false = ne_eqb (place + 1) 0 (omega arith) in
     let less : place + 1 - 1 ≡ place = omega arith in
@@ -39,9 +39,9 @@ of_cell (Some column) kind one is fits =
     let same : column.kind ≡ kind = cc in
     subst (λ (k : ColKind). same_kind k (kind_of one) ≡ true) (sym same) fits
 
-of_filter : (what : What) (columns : List Column) (kind : ColKind) (one : Value) → filtered_kind what columns ≡ Some kind → same_kind kind (kind_of one) ≡ true → constant_of what columns one ≡ true
+of_filter : (what : What) (columns : List Column) (kind : ColKind) (one : Value) → filtered_kind what columns ≡ Some kind → same_kind kind (kind_of one) ≡ true → script_constant what columns one ≡ true
 of_filter (what.Scan file) columns kind one is fits = absurd (cc)
-of_filter (what.Filter input cond) columns kind one is fits = of_cell (numbered columns cond.column) kind one is fits
+of_filter (what.Filter input cond) columns kind one is fits = of_cell (nth columns cond.column) kind one is fits
 of_filter (what.Project input from) columns kind one is fits = absurd (cc)
 of_filter (what.Join build probe build_keys probe_keys) columns kind one is fits = absurd (cc)
 of_filter (what.Group input keys aggs) columns kind one is fits = absurd (cc)

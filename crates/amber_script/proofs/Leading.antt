@@ -3,9 +3,9 @@ use Rattle.std.proofs.Common.{◌≡◌, ◌+◌, ℕ, true, false, List, [], �
 use Rattle.amber_rows.specs.declared.flow.Operator.{Operator}
 use Rattle.amber_log.specs.declared.command.Command.{Command}
 use Rattle.amber_script.specs.Answers.{after}
-use Rattle.amber_script.specs.Commands.{command_of}
+use Rattle.amber_script.specs.Commands.{read_command}
 use Rattle.amber_script.specs.Script.{BadLine, before, commands_from, says}
-use Rattle.amber_script.specs.Words.{words_of}
+use Rattle.amber_script.specs.Words.{script_words_of}
 use Rattle.amber_script.specs.declared.error.ScriptWhy.{ScriptWhy}
 
 -- a command after those before it
@@ -15,14 +15,14 @@ after_command commands number one (Ok more) = ap Ok (sym (append_assoc commands 
 after_command commands number one (Err bad) = refl
 
 pub reads_command : (commands : List Command) (number : ℕ) (flow : List Operator) (line : List ℕ) (more : List (List ℕ)) (one : Command)
-    → says line ≡ true → command_of flow (words_of line) ≡ Ok one
+    → says line ≡ true → read_command flow (script_words_of line) ≡ Ok one
     → after commands (commands_from number flow (line ∷ more)) ≡ after (commands ++ one ∷ []) (commands_from (number + 1) flow more)
 unfolding commands_from
 reads_command commands number flow line more one said is =
     rw (said, is) (after_command commands number one (commands_from (number + 1) flow more))
 
 pub reads_none : (commands : List Command) (number : ℕ) (flow : List Operator) (line : List ℕ) (more : List (List ℕ)) (reason : ScriptWhy)
-    → says line ≡ true → command_of flow (words_of line) ≡ Err reason
+    → says line ≡ true → read_command flow (script_words_of line) ≡ Err reason
     → after commands (commands_from number flow (line ∷ more)) ≡ Err (record { line = number; why = reason })
 unfolding commands_from
 reads_none commands number flow line more reason said is = rw (said, is) refl

@@ -5,7 +5,7 @@ use Rattle.std.specs.Str.Lines.{strip_carriage_return}
 use Rattle.std.proofs.lemmas.List.{take_all}
 use Rattle.std.proofs.lemmas.List.Splits.{slice_split-cons_no}
 use Rattle.std.proofs.lemmas.Bool.{and_from, and_parts, not-true, not_from_false}
-use Rattle.amber_script.specs.Script.{lines_of}
+use Rattle.amber_script.specs.Script.{script_lines}
 
 -- whether a byte does not stand in a text
 abbrev pub lacks : ℕ → List ℕ → Bool
@@ -29,7 +29,7 @@ one_piece (b ∷ bytes) h =
     slice_split-cons_no (λ b. b == 10) b bytes other ∙ ap (onto_first b) (one_piece bytes parts.1)
 
 -- a text without a line feed
-pub one_line : (bytes : List ℕ) → lacks 10 bytes ≡ true → lines_of bytes ≡ strip_carriage_return bytes ∷ []
+pub one_line : (bytes : List ℕ) → lacks 10 bytes ≡ true → script_lines bytes ≡ strip_carriage_return bytes ∷ []
 one_line bytes h = ap (map strip_carriage_return) (one_piece bytes h)
 
 first_piece : (bytes : List ℕ) (place : ℕ) → place < length bytes → lacks 10 (take place bytes) ≡ true → get_or bytes place 0 ≡ 10
@@ -44,11 +44,11 @@ first_piece (b ∷ bytes) (suc place) inside h is =
 
 -- a text with a line feed at this place, and none before
 pub first_line : (bytes : List ℕ) (place : ℕ) → place < length bytes → lacks 10 (take place bytes) ≡ true → get_or bytes place 0 ≡ 10
-    → lines_of bytes ≡ strip_carriage_return (take place bytes) ∷ lines_of (take (length bytes - (place + 1)) (drop (place + 1) bytes))
+    → script_lines bytes ≡ strip_carriage_return (take place bytes) ∷ script_lines (take (length bytes - (place + 1)) (drop (place + 1) bytes))
 first_line bytes place inside h is =
     ap (map strip_carriage_return) (first_piece bytes place inside h is)
-    ∙ ap (λ (rest : List ℕ). strip_carriage_return (take place bytes) ∷ lines_of rest) (sym (take_all (length bytes - (place + 1)) (drop (place + 1) bytes) (rw (length-drop (place + 1) bytes) (omega arith))))
+    ∙ ap (λ (rest : List ℕ). strip_carriage_return (take place bytes) ∷ script_lines rest) (sym (take_all (length bytes - (place + 1)) (drop (place + 1) bytes) (rw (length-drop (place + 1) bytes) (omega arith))))
 
 -- the same, where no place up to the end has one
-pub no_feed : (bytes : List ℕ) (place : ℕ) → length bytes ≤ place → lacks 10 (take place bytes) ≡ true → lines_of bytes ≡ strip_carriage_return bytes ∷ []
+pub no_feed : (bytes : List ℕ) (place : ℕ) → length bytes ≤ place → lacks 10 (take place bytes) ≡ true → script_lines bytes ≡ strip_carriage_return bytes ∷ []
 no_feed bytes place past h = one_line bytes (subst (λ (t : List ℕ). lacks 10 t ≡ true) (take_all place bytes past) h)

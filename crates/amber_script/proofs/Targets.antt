@@ -8,7 +8,7 @@ use Rattle.std.proofs.lemmas.Bool.Decides.{nat_tests}
 use Rattle.std.proofs.lemmas.Fmt.{decimal_is_IsNumeral, parse-decimal}
 use Rattle.std.proofs.lemmas.Slice.Eq.{bytes_eq-Decides}
 use Rattle.amber_log.specs.Fits.{is_target}
-use Rattle.amber_script.specs.Commands.{target_of, target_where}
+use Rattle.amber_script.specs.Commands.{row_count_of, target_where}
 
 is-le : (m n : ℕ) → nat_le m n ≡ true → m ≤ n
 is-le m n e = grind (arith, nat_tests)
@@ -20,8 +20,8 @@ fits-target n h =
     omega (arith, few)
 
 -- a word is no such number
-no-target : (word : List ℕ) → ((n : ℕ) → n < 2 ^ 64 → word ≡ decimal n → ⊥) → target_of word ≡ None
-unfolding target_of
+no-target : (word : List ℕ) → ((n : ℕ) → n < 2 ^ 64 → word ≡ decimal n → ⊥) → row_count_of word ≡ None
+unfolding row_count_of
 no-target word none =
     let v = digits_value 10 word in
     let no : (bytes_eq (decimal v) word && is_target v) ≡ false =
@@ -30,8 +30,8 @@ no-target word none =
     none v (fits-target v parts.1) (sym ((bytes_eq-Decides (decimal v) word).0 parts.0))) in
     rw no refl
 
-canonical : (number : ℕ) (word : List ℕ) → number < 2 ^ 64 → decimal number ≡ word → target_where word number ≡ target_of word
-unfolding target_of
+canonical : (number : ℕ) (word : List ℕ) → number < 2 ^ 64 → decimal number ≡ word → target_where word number ≡ row_count_of word
+unfolding row_count_of
 canonical number word fits e =
     let value : digits_value 10 word ≡ number = ap (digits_value 10) (sym e) ∙ (decimal_is_IsNumeral number (omega arith)).1 in
     rw value refl
@@ -42,7 +42,7 @@ Parsed = Result ℕ (Unit {0})
 
 -- a word that std reads as a number
 pub target-read : (number : ℕ) (word : List ℕ) → number < 2 ^ 64 → ParsesUnsigned {E = Unit {0}} 64 10 word (Ok number)
-    → target_where word number ≡ target_of word
+    → target_where word number ≡ row_count_of word
 target-read number word fits h =
     elim (cases_Bool (bytes_eq (decimal number) word)) [
       | inl same ↦ canonical number word fits ((bytes_eq-Decides (decimal number) word).0 same)
@@ -54,7 +54,7 @@ target-read number word fits h =
     ]
 
 -- a word that std reads as none
-pub target-unread : (word : List ℕ) → ParsesUnsigned {E = Unit {0}} 64 10 word (Err tt) → None ≡ target_of word
+pub target-unread : (word : List ℕ) → ParsesUnsigned {E = Unit {0}} 64 10 word (Err tt) → None ≡ row_count_of word
 target-unread word h =
     sym (no-target word (λ n fit is.
     let read : ◌≡◌ {A = Parsed} (Err tt) (Ok n) = parse-decimal 64 n word (Err tt) fit (omega arith) is h in

@@ -4,14 +4,14 @@ use Rattle.std.specs.Prelude.{not}
 use Rattle.std.specs.List.{filter, flat_map, list_all, onto_first, slice_split}
 use Rattle.std.proofs.lemmas.Bool.{and_parts, cases_Bool, not-true}
 use Rattle.amber_script.proofs.Joining.{onto_end}
-use Rattle.amber_script.specs.Laws.{QuotesReadBack, WordsStandBetweenBlanks, escaped, has_bytes, quoted}
+use Rattle.amber_script.specs.Laws.{QuotesReadBack, WordsStandBetweenBlanks, escape_of, has_bytes, quotation_of}
 use Rattle.amber_script.specs.Lexing.{onto_word}
-use Rattle.amber_script.specs.Words.{is_blank, words_from, words_of}
+use Rattle.amber_script.specs.Words.{is_blank, words_from, script_words_of}
 use Rattle.amber_script.specs.declared.place.Place.TheVariants.{Between, Bare, Quoted, Closed}
 
 -- ---- quotes
 
-one_escaped : (byte : ℕ) (rest : List ℕ) → words_from Quoted (escaped byte ++ rest) ≡ option_map (onto_first byte) (words_from Quoted rest)
+one_escaped : (byte : ℕ) (rest : List ℕ) → words_from Quoted (escape_of byte ++ rest) ≡ option_map (onto_first byte) (words_from Quoted rest)
 unfolding words_from
 one_escaped byte rest =
     elim (cases_Bool (byte == 34)) [
@@ -36,16 +36,16 @@ onto_one : (byte : ℕ) (bytes : List ℕ) (more : Option (List (List ℕ))) →
 onto_one byte bytes None = refl
 onto_one byte bytes (Some words) = refl
 
-text_escaped : (text rest : List ℕ) → words_from Quoted (flat_map escaped text ++ 34 ∷ rest) ≡ option_map (onto_word text) (words_from Closed rest)
+text_escaped : (text rest : List ℕ) → words_from Quoted (flat_map escape_of text ++ 34 ∷ rest) ≡ option_map (onto_word text) (words_from Closed rest)
 unfolding words_from
 text_escaped [] rest = onto_none (words_from Closed rest)
 text_escaped (byte ∷ text) rest =
-    ap (words_from Quoted) (append_assoc (escaped byte) (flat_map escaped text) (34 ∷ rest))
-    ∙ one_escaped byte (flat_map escaped text ++ 34 ∷ rest)
+    ap (words_from Quoted) (append_assoc (escape_of byte) (flat_map escape_of text) (34 ∷ rest))
+    ∙ one_escaped byte (flat_map escape_of text ++ 34 ∷ rest)
     ∙ ap (option_map (onto_first byte)) (text_escaped text rest)
     ∙ onto_one byte text (words_from Closed rest)
 
-closed : (texts : List (List ℕ)) → words_of (flat_map quoted texts) ≡ Some texts → words_from Closed (flat_map quoted texts) ≡ Some ([] ∷ texts)
+closed : (texts : List (List ℕ)) → script_words_of (flat_map quotation_of texts) ≡ Some texts → words_from Closed (flat_map quotation_of texts) ≡ Some ([] ∷ texts)
 unfolding words_from
 closed [] h = refl
 closed (text ∷ texts) h = ap (option_map (λ words. [] ∷ words)) h
@@ -54,8 +54,8 @@ pub quotes_read_back : QuotesReadBack
 unfolding words_from
 quotes_read_back [] = refl
 quotes_read_back (text ∷ texts) =
-    ap (words_from Quoted) (append_assoc (flat_map escaped text) (34 ∷ []) (flat_map quoted texts))
-    ∙ text_escaped text (flat_map quoted texts)
+    ap (words_from Quoted) (append_assoc (flat_map escape_of text) (34 ∷ []) (flat_map quotation_of texts))
+    ∙ text_escaped text (flat_map quotation_of texts)
     ∙ ap (option_map (onto_word text)) (closed texts (quotes_read_back texts))
     ∙ ap Some (onto_end text texts)
 

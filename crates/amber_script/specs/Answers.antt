@@ -1,15 +1,15 @@
 -- What the reader answers.
 use Rattle.std.specs.Prelude.{◌≡◌, ◌++◌, ℕ, List, [], Bool, true, false, Result, Ok, Err, ⊤}
 use Rattle.amber_log.specs.declared.command.Command.{Command}
-use Rattle.amber_script.specs.Script.{BadLine, lines_of}
+use Rattle.amber_script.specs.Script.{BadLine, script_lines}
 use Rattle.amber_script.specs.declared.error.ScriptErr.{ScriptErr}
 use Rattle.amber_script.specs.declared.error.ScriptErr.TheVariants.{Bad, NoMemory}
 
 -- the commands that were meant; the first bad line and its first reason; or nothing, for want of memory
-abbrev pub Answers : Result (List Command) ScriptErr → Result (List Command) BadLine → Type 0
-Answers (Ok commands) meant = meant ≡ Ok commands
-Answers (Err (Bad line why)) meant = meant ≡ Err (record { line = line; why = why })
-Answers (Err NoMemory) meant = ⊤
+abbrev pub AnswersScript : Result (List Command) ScriptErr → Result (List Command) BadLine → Type 0
+AnswersScript (Ok commands) meant = meant ≡ Ok commands
+AnswersScript (Err (Bad line why)) meant = meant ≡ Err (record { line = line; why = why })
+AnswersScript (Err NoMemory) meant = ⊤
 
 -- ---- line by line
 
@@ -19,12 +19,12 @@ after commands (Ok more) = Ok (commands ++ more)
 after commands (Err bad) = Err bad
 
 -- reading one line either leads from what a script means with it to what it means behind it, or refuses the script
-abbrev pub Leads : Result (Unit {0}) ScriptErr → Result (List Command) BadLine → Result (List Command) BadLine → Type 0
-Leads (Ok _) meant behind = meant ≡ behind
-Leads (Err (Bad line why)) meant behind = meant ≡ Err (record { line = line; why = why })
-Leads (Err NoMemory) meant behind = ⊤
+abbrev pub LeadsBehind : Result (Unit {0}) ScriptErr → Result (List Command) BadLine → Result (List Command) BadLine → Type 0
+LeadsBehind (Ok _) meant behind = meant ≡ behind
+LeadsBehind (Err (Bad line why)) meant behind = meant ≡ Err (record { line = line; why = why })
+LeadsBehind (Err NoMemory) meant behind = ⊤
 
 -- the lines that are left, where any are
 abbrev pub lines_left : Bool → List ℕ → List (List ℕ)
-lines_left true rest = lines_of rest
+lines_left true rest = script_lines rest
 lines_left false rest = []

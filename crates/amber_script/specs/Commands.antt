@@ -3,7 +3,7 @@ use Rattle.std.specs.Prelude.{ℕ, ◌+◌, ◌||◌, ◌&&◌, List, [], ◌∷
 use Rattle.std.specs.List.{list_all}
 use Rattle.std.specs.Str.{is_utf8}
 use Rattle.std.specs.Str.Parse.{digits_value}
-use Rattle.amber_rows.specs.Cond.{numbered}
+use Rattle.amber_rows.specs.Cond.{nth}
 use Rattle.amber_rows.specs.FlowRules.{schema_of}
 use Rattle.amber_rows.specs.Number.{read_int_of}
 use Rattle.amber_rows.specs.declared.value.Value.{Value}
@@ -29,8 +29,8 @@ abbrev pub operator_named : List Operator → List ℕ → Result ℕ ScriptWhy
 operator_named flow id = ok_or (option_map (λ place. place + 1) (position (λ operator. bytes_eq operator.id id) flow)) why.Operator
 
 -- the number of the column with this name, from 1
-abbrev pub column_named : List Column → List ℕ → Result ℕ ScriptWhy
-column_named columns name = ok_or (option_map (λ place. place + 1) (position (λ column. bytes_eq column.name name) columns)) why.Column
+abbrev pub named_column : List Column → List ℕ → Result ℕ ScriptWhy
+named_column columns name = ok_or (option_map (λ place. place + 1) (position (λ column. bytes_eq column.name name) columns)) why.Column
 
 -- the number of which a word is the decimal, without leading zeros
 abbrev pub canonical : List ℕ → Result ℕ ScriptWhy
@@ -41,21 +41,21 @@ abbrev pub target_where : List ℕ → ℕ → Option ℕ
 target_where word n = if bytes_eq (decimal n) word && is_target n then Some n else None
 
 -- the number of rows that a word is
-unfoldable pub target_of : List ℕ → Option ℕ
-target_of word = target_where word (digits_value 10 word)
+unfoldable pub row_count_of : List ℕ → Option ℕ
+row_count_of word = target_where word (digits_value 10 word)
 
 -- the number of one of an operator's workers
-abbrev pub worker_of : Option Operator → List ℕ → Result ℕ ScriptWhy
-worker_of operator word = canonical word >>= (λ worker. if has_worker operator worker then Ok worker else Err why.Worker)
+abbrev pub one_worker : Option Operator → List ℕ → Result ℕ ScriptWhy
+one_worker operator word = canonical word >>= (λ worker. if has_worker operator worker then Ok worker else Err why.Worker)
 
 -- the kind of the column with this number
-abbrev pub kind_at : List Column → ℕ → Option ColKind
-kind_at columns column = option_map (λ one. one.kind) (numbered columns column)
+abbrev pub column_kind_at : List Column → ℕ → Option ColKind
+column_kind_at columns column = option_map (λ one. one.kind) (nth columns column)
 
 -- the kind of the column on which a filter's condition stands. Nothing else has a constant that can be set
 abbrev pub filtered_kind : What → List Column → Option ColKind
 filtered_kind (what.Scan file) columns = None
-filtered_kind (what.Filter input cond) columns = kind_at columns cond.column
+filtered_kind (what.Filter input cond) columns = column_kind_at columns cond.column
 filtered_kind (what.Project input from) columns = None
 filtered_kind (what.Join build probe build_keys probe_keys) columns = None
 filtered_kind (what.Group input keys aggs) columns = None
@@ -66,9 +66,9 @@ settable_kind None = None
 settable_kind (Some operator) = filtered_kind operator.what operator.schema
 
 -- a constant for a column of this kind: a whole number as in a scan's fields, or the word itself
-abbrev pub constant_of : ColKind → List ℕ → Result Value ScriptWhy
-constant_of kind.Int word = ok_or (option_map (λ n. value.Int n) (read_int_of word)) why.Mismatch
-constant_of kind.Text word = Ok (value.Text word)
+abbrev pub script_constant : ColKind → List ℕ → Result Value ScriptWhy
+script_constant kind.Int word = ok_or (option_map (λ n. value.Int n) (read_int_of word)) why.Mismatch
+script_constant kind.Text word = Ok (value.Text word)
 
 -- ---- commands
 
@@ -82,23 +82,23 @@ on_operator make flow id = do
 abbrev pub on_rows : (ℕ → ℕ → Command) → List Operator → List ℕ → List ℕ → Result Command ScriptWhy
 on_rows make flow id word = do
   op ← operator_named flow id
-  emits ← require (is_source (numbered flow op)) why.Kind
-  n ← ok_or (target_of word) why.Number
+  emits ← require (is_source (nth flow op)) why.Kind
+  n ← ok_or (row_count_of word) why.Number
   Ok (make op n)
 
 -- a command on one of an operator's workers
 abbrev pub on_worker : (ℕ → ℕ → Command) → List Operator → List ℕ → List ℕ → Result Command ScriptWhy
 on_worker make flow id word = do
   op ← operator_named flow id
-  worker ← worker_of (numbered flow op) word
+  worker ← one_worker (nth flow op) word
   Ok (make op worker)
 
 -- another constant for a filter
 abbrev pub set_of : List Operator → List ℕ → List ℕ → Result Command ScriptWhy
 set_of flow id word = do
   op ← operator_named flow id
-  column ← ok_or (settable_kind (numbered flow op)) why.Kind
-  constant ← constant_of column word
+  column ← ok_or (settable_kind (nth flow op)) why.Kind
+  constant ← script_constant column word
   Ok (command.Set op constant)
 
 -- a stop at each row for which a condition holds: the operator's id, and the condition's column, sign and constant
@@ -106,10 +106,10 @@ abbrev pub when_of : List Operator → List ℕ → List ℕ → List ℕ → Li
 when_of flow id name sign word = do
   comparison ← ok_or (comparison_of sign) why.Word
   op ← operator_named flow id
-  emits ← require (is_source (numbered flow op)) why.Kind
-  column ← column_named (schema_of (numbered flow op)) name
-  kind ← ok_or (kind_at (schema_of (numbered flow op)) column) why.Column
-  constant ← constant_of kind word
+  emits ← require (is_source (nth flow op)) why.Kind
+  column ← named_column (schema_of (nth flow op)) name
+  kind ← ok_or (column_kind_at (schema_of (nth flow op)) column) why.Column
+  constant ← script_constant kind word
   Ok (command.When op (record { column = column; op = comparison; constant = constant }))
 
 -- a command of two words
@@ -157,5 +157,5 @@ abbrev pub texts_of : List (List ℕ) → Option (List (List ℕ))
 texts_of words = if list_all is_utf8 words then Some words else None
 
 -- the command of a line's words, which are UTF-8. There are none where a quote or a backslash stands wrong
-unfoldable pub command_of : List Operator → Option (List (List ℕ)) → Result Command ScriptWhy
-command_of flow words = ok_or (option_and_then texts_of words) why.Word >>= built_command_of flow
+unfoldable pub read_command : List Operator → Option (List (List ℕ)) → Result Command ScriptWhy
+read_command flow words = ok_or (option_and_then texts_of words) why.Word >>= built_command_of flow

@@ -1,11 +1,11 @@
 -- Laws of the words of a line.
 use Rattle.std.specs.Prelude.{◌≡◌, ℕ, ◌==◌, not, List, [], ◌∷◌, ◌++◌, Some, Bool, true, false, if◌then◌else◌}
 use Rattle.std.specs.List.{filter, flat_map, list_all, slice_split}
-use Rattle.amber_script.specs.Words.{is_blank, words_of}
+use Rattle.amber_script.specs.Words.{is_blank, script_words_of}
 
 -- a byte as it stands between quotes
-abbrev pub escaped : ℕ → List ℕ
-escaped byte =
+abbrev pub escape_of : ℕ → List ℕ
+escape_of byte =
     if byte == 34 then 92 ∷ 34 ∷ []
     else if byte == 92 then 92 ∷ 92 ∷ []
     else if byte == 10 then 92 ∷ 110 ∷ []
@@ -13,12 +13,12 @@ escaped byte =
     else byte ∷ []
 
 -- a text in quotes, behind a space
-abbrev pub quoted : List ℕ → List ℕ
-quoted text = 32 ∷ 34 ∷ (flat_map escaped text ++ 34 ∷ [])
+abbrev pub quotation_of : List ℕ → List ℕ
+quotation_of text = 32 ∷ 34 ∷ (flat_map escape_of text ++ 34 ∷ [])
 
 -- texts in quotes are the words of their line, whatever stands in them
 abbrev pub QuotesReadBack : Type 0
-QuotesReadBack = (texts : List (List ℕ)) → words_of (flat_map quoted texts) ≡ Some texts
+QuotesReadBack = (texts : List (List ℕ)) → script_words_of (flat_map quotation_of texts) ≡ Some texts
 
 abbrev pub has_bytes : List ℕ → Bool
 has_bytes [] = false
@@ -26,4 +26,4 @@ has_bytes (byte ∷ bytes) = true
 
 -- the words of a line without quotes are what stands between its blanks
 abbrev pub WordsStandBetweenBlanks : Type 0
-WordsStandBetweenBlanks = (line : List ℕ) → list_all (λ byte. not (byte == 34)) line ≡ true → words_of line ≡ Some (filter has_bytes (slice_split is_blank line))
+WordsStandBetweenBlanks = (line : List ℕ) → list_all (λ byte. not (byte == 34)) line ≡ true → script_words_of line ≡ Some (filter has_bytes (slice_split is_blank line))

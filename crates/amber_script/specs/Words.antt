@@ -9,8 +9,8 @@ abbrev pub is_blank : ℕ → Bool
 is_blank byte = (byte == 32) || (byte == 9)
 
 -- what stands for itself or for another byte behind a backslash: a quote, a backslash, a line feed as `n`, a carriage return as `r`
-abbrev pub unescaped : ℕ → Option ℕ
-unescaped byte =
+abbrev pub byte_of_escape : ℕ → Option ℕ
+byte_of_escape byte =
     if byte == 34 then Some 34
     else if byte == 92 then Some 92
     else if byte == 110 then Some 10
@@ -37,10 +37,10 @@ words_from Quoted (byte ∷ bytes) =
     else if byte == 92 then words_from Escape bytes
     else option_map (onto_first byte) (words_from Quoted bytes)
 words_from Escape [] = None
-words_from Escape (byte ∷ bytes) = option_and_then (λ meant. option_map (onto_first meant) (words_from Quoted bytes)) (unescaped byte)
+words_from Escape (byte ∷ bytes) = option_and_then (λ meant. option_map (onto_first meant) (words_from Quoted bytes)) (byte_of_escape byte)
 words_from Closed [] = Some ([] ∷ [])
 words_from Closed (byte ∷ bytes) = if is_blank byte then option_map (λ words. [] ∷ words) (words_from Between bytes) else None
 
 -- the words of a line
-abbrev pub words_of : List ℕ → Option (List (List ℕ))
-words_of line = words_from Between line
+abbrev pub script_words_of : List ℕ → Option (List (List ℕ))
+script_words_of line = words_from Between line

@@ -1,6 +1,6 @@
 //! Why a script is refused.
 ghost use Rattle.std.specs.Prelude.{◌≡◌, Some, codes};
-ghost use Rattle.amber_script.specs.Reasons.{why_word};
+ghost use Rattle.amber_script.specs.Reasons.{script_reason_word};
 
 use std::fmt;
 use thiserror::Error;
@@ -27,7 +27,7 @@ pub enum ScriptWhy {
 impl ScriptWhy {
     /// The reason's word, as error lines have it.
     pub fn word(self) -> &'static str
-        ensures { result.now ≡ why_word self }
+        ensures { result.now ≡ script_reason_word self }
     {
         match self {
             ScriptWhy::Word => "Word",
@@ -42,7 +42,7 @@ impl ScriptWhy {
 }
 
 impl fmt::Display for ScriptWhy {
-    ghost output = { λ why. Some (why_word why) };
+    ghost output = { λ why. Some (script_reason_word why) };
 
     fn fmt<W: fmt::Write>(&self, f: &mut fmt::Formatter<W>) -> fmt::Result {
         f.write_str(self.word())

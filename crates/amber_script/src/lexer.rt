@@ -2,7 +2,7 @@
 ghost use Rattle.std.specs.Prelude.{◌≡◌, ◌∷◌, ◌++◌, [], IfOk, OnOk, option_map, true};
 ghost use Rattle.amber_script.specs.Commands.{texts_of};
 ghost use Rattle.amber_script.specs.Lexing.{IsClear, Reads, words_with};
-ghost use Rattle.amber_script.specs.Words.{words_of};
+ghost use Rattle.amber_script.specs.Words.{script_words_of};
 
 use crate::place::{Place, Turn, turn_at};
 use amber_rows::{Bytes, Text};
@@ -90,7 +90,7 @@ impl Lexer {
 
 /// The words of a line; none where a quote or a backslash stands wrong.
 pub fn read_words(alloc: Global, line: &[u8]) -> Result<Option<Vec<Bytes>>, AllocError>
-    ensures { IfOk result (λ read. option_map (λ words. words.items) read ≡ words_of line.now) }
+    ensures { IfOk result (λ read. option_map (λ words. words.items) read ≡ script_words_of line.now) }
 {
     let mut lexer = Lexer::new(alloc);
     for &byte in line {

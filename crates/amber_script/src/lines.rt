@@ -2,7 +2,7 @@
 ghost use Rattle.std.specs.Prelude.{◌≡◌, ◌+◌, ◌∷◌, ◌==◌, [], length, IfSome, MatchOption};
 ghost use Rattle.std.specs.List.{slice_split};
 ghost use Rattle.std.specs.Str.Lines.{strip_carriage_return};
-ghost use Rattle.amber_script.specs.Script.{lines_of, says};
+ghost use Rattle.amber_script.specs.Script.{script_lines, says};
 
 use crate::place::is_blank;
 
@@ -10,8 +10,8 @@ use crate::place::is_blank;
 #[tactic(auto, using(crate::proofs::Pieces::first_line, crate::proofs::Pieces::one_line, crate::proofs::Pieces::lacks_more))]
 pub fn next_line(bytes: &[u8]) -> (&[u8], Option<&[u8]>)
     ensures line { MatchOption result.1
-        (lines_of bytes.now ≡ strip_carriage_return result.0.now ∷ [])
-        (λ rest. lines_of bytes.now ≡ strip_carriage_return result.0.now ∷ lines_of rest.now) }
+        (script_lines bytes.now ≡ strip_carriage_return result.0.now ∷ [])
+        (λ rest. script_lines bytes.now ≡ strip_carriage_return result.0.now ∷ script_lines rest.now) }
     ensures shorter { IfSome result.1
         (λ rest. length bytes.now ≡ length result.0.now + (length rest.now + 1)) }
 {

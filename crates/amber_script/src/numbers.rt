@@ -1,7 +1,7 @@
 //! Numbers of rows.
 ghost use Rattle.std.specs.Prelude.{◌≡◌, true, IfSome};
 ghost use Rattle.amber_log.specs.Fits.{is_target};
-ghost use Rattle.amber_script.specs.Commands.{target_of, target_where};
+ghost use Rattle.amber_script.specs.Commands.{row_count_of, target_where};
 
 use itoa::Buffer;
 
@@ -22,7 +22,7 @@ fn target_where(word: &str, number: u64) -> Option<u64>
 
 /// The number of rows that a word is: 1 to 2^40, without leading zeros.
 pub fn read_target(word: &str) -> Option<u64>
-    ensures number { result ≡ target_of word.now }
+    ensures number { result ≡ row_count_of word.now }
     ensures range { IfSome result (λ n. is_target n ≡ true) }
 {
     match word.parse::<u64>() {

@@ -1,10 +1,10 @@
 //! Operators and constants that a command names.
 ghost use Rattle.std.specs.Prelude.{◌≡◌, ◌<◌, bytes_eq, length, position, true, IfOk, IfSome};
-ghost use Rattle.amber_rows.specs.Cond.{numbered};
+ghost use Rattle.amber_rows.specs.Cond.{nth};
 ghost use Rattle.amber_rows.specs.FlowRules.{is_sink, kind_of};
 ghost use Rattle.amber_rows.specs.Suits.{same_kind};
 ghost use Rattle.amber_log.specs.Fits.{is_source, is_there};
-ghost use Rattle.amber_script.specs.Commands.{constant_of, filtered_kind, kind_at, operator_named, settable_kind};
+ghost use Rattle.amber_script.specs.Commands.{script_constant, filtered_kind, column_kind_at, operator_named, settable_kind};
 
 use crate::error::ScriptWhy;
 use amber_rows::{ColKind, Flow, Schema, Text, Value, What, read_int};
@@ -23,7 +23,7 @@ fn place_of(flow: &Flow, id: &str) -> Option<usize>
 #[tactic(auto, using(crate::proofs::Fitting::is_found))]
 pub fn find_operator(flow: &Flow, id: &str) -> Result<u32, ScriptWhy>
     ensures number { result ≡ operator_named flow.now id.now }
-    ensures there { IfOk result (λ op. is_there (numbered flow.now op) ≡ true) }
+    ensures there { IfOk result (λ op. is_there (nth flow.now op) ≡ true) }
 {
     let _operators = flow.get();
     match place_of(flow, id) {
@@ -47,7 +47,7 @@ fn is_sink(what: &What) -> bool
 
 /// Whether an operator is there, and not the sink.
 pub fn is_source(flow: &Flow, op: u32) -> bool
-    ensures { result ≡ is_source (numbered flow.now op) }
+    ensures { result ≡ is_source (nth flow.now op) }
 {
     match flow.operator(op) {
         None => false,
@@ -55,8 +55,8 @@ pub fn is_source(flow: &Flow, op: u32) -> bool
     }
 }
 
-fn kind_at(schema: &Schema, column: u32) -> Option<ColKind>
-    ensures { result ≡ kind_at schema.now column }
+fn column_kind_at(schema: &Schema, column: u32) -> Option<ColKind>
+    ensures { result ≡ column_kind_at schema.now column }
 {
     if column == 0 {
         return None;
@@ -71,7 +71,7 @@ fn filtered_kind(what: &What, schema: &Schema) -> Option<ColKind>
     ensures { result ≡ filtered_kind what.now schema.now }
 {
     match what {
-        What::Filter { cond, .. } => kind_at(schema, cond.column),
+        What::Filter { cond, .. } => column_kind_at(schema, cond.column),
         What::Scan { .. }
         | What::Project { .. }
         | What::Join { .. }
@@ -82,7 +82,7 @@ fn filtered_kind(what: &What, schema: &Schema) -> Option<ColKind>
 
 /// The kind of the column on whose cells a filter looks; none of another operator.
 pub fn settable_kind(flow: &Flow, op: u32) -> Option<ColKind>
-    ensures { result ≡ settable_kind (numbered flow.now op) }
+    ensures { result ≡ settable_kind (nth flow.now op) }
 {
     match flow.operator(op) {
         None => None,
@@ -92,7 +92,7 @@ pub fn settable_kind(flow: &Flow, op: u32) -> Option<ColKind>
 
 /// The constant that a word is in a column of this kind.
 pub fn read_constant(kind: ColKind, word: &Text) -> Result<Result<Value, ScriptWhy>, AllocError>
-    ensures constant { IfOk result (λ read. read ≡ constant_of kind word.now) }
+    ensures constant { IfOk result (λ read. read ≡ script_constant kind word.now) }
     ensures kind { IfOk result (λ read.
         IfOk read (λ constant. same_kind kind (kind_of constant) ≡ true)) }
 {

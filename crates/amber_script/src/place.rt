@@ -1,7 +1,7 @@
 //! Where in a line a byte stands, and what it does there.
 ghost use Rattle.std.specs.Prelude.{◌≡◌, ◌∷◌, ℕ, List};
 ghost use Rattle.amber_script.specs.Lexing.{KeepsClear, words_behind};
-ghost use Rattle.amber_script.specs.Words.{is_blank, unescaped, words_from};
+ghost use Rattle.amber_script.specs.Words.{is_blank, byte_of_escape, words_from};
 
 /// Where a byte of a line stands.
 #[derive(Clone, Copy, Debug, PartialEq, Eq)]
@@ -39,8 +39,8 @@ pub fn is_blank(byte: u8) -> bool
 }
 
 // The byte that stands for itself or another behind a backslash.
-fn unescaped(byte: u8) -> Option<u8>
-    ensures { result ≡ unescaped byte }
+fn byte_of_escape(byte: u8) -> Option<u8>
+    ensures { result ≡ byte_of_escape byte }
 {
     match byte {
         b'"' => Some(b'"'),
@@ -67,7 +67,7 @@ pub fn turn_at(place: Place, byte: u8) -> Turn
         Place::Quoted if byte == b'"' => Turn::Go(Place::Closed),
         Place::Quoted if byte == b'\\' => Turn::Go(Place::Escape),
         Place::Quoted => Turn::Add(byte, Place::Quoted),
-        Place::Escape => match unescaped(byte) {
+        Place::Escape => match byte_of_escape(byte) {
             Some(meant) => Turn::Add(meant, Place::Quoted),
             None => Turn::Wrong,
         },

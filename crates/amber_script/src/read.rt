@@ -3,10 +3,10 @@ ghost use Rattle.std.specs.Prelude.{◌≡◌, ◌+◌, ◌∷◌, List, ℕ, If
 ghost use Rattle.std.specs.List.{list_all};
 ghost use Rattle.amber_log.specs.Fits.{fits_of};
 ghost use Rattle.std.specs.Str.Lines.{strip_carriage_return};
-ghost use Rattle.amber_script.specs.Answers.{Answers, Leads, after};
-ghost use Rattle.amber_script.specs.Commands.{command_of};
+ghost use Rattle.amber_script.specs.Answers.{AnswersScript, LeadsBehind, after};
+ghost use Rattle.amber_script.specs.Commands.{read_command};
 ghost use Rattle.amber_script.specs.Script.{commands_from, script_of};
-ghost use Rattle.amber_script.specs.Words.{words_of};
+ghost use Rattle.amber_script.specs.Words.{script_words_of};
 
 use crate::commands::read_command;
 use crate::error::{ScriptErr, ScriptWhy};
@@ -17,13 +17,13 @@ use amber_rows::Flow;
 use std::alloc::{AllocError, Global};
 
 // The command of a line, or the first reason why it has none.
-#[tactic(auto, unfolding(crate::specs::Commands::command_of))]
+#[tactic(auto, unfolding(crate::specs::Commands::read_command))]
 fn read_line(
     alloc: Global,
     line: &[u8],
     flow: &Flow,
 ) -> Result<Result<Command, ScriptWhy>, AllocError>
-    ensures command { IfOk result (λ read. read ≡ command_of flow.now (words_of line.now)) }
+    ensures command { IfOk result (λ read. read ≡ read_command flow.now (script_words_of line.now)) }
     ensures fits { IfOk result (λ read. IfOk read (λ command. fits_of flow.now command ≡ true)) }
 {
     let Some(words) = read_words(alloc, line)? else {
@@ -45,7 +45,7 @@ fn add_line(
     commands: &mut Vec<Command>,
 ) -> Result<(), ScriptErr>
     requires { list_all (fits_of flow.now) commands.old.items ≡ true }
-    ensures leads { (more : List (List ℕ)) → Leads result
+    ensures leads { (more : List (List ℕ)) → LeadsBehind result
         (after commands.old.items (commands_from number flow.now (line.now ∷ more)))
         (after commands.new.items (commands_from (number + 1) flow.now more)) }
     ensures fits { list_all (fits_of flow.now) commands.new.items ≡ true }
@@ -67,7 +67,7 @@ fn add_line(
 /// a workflow, or which is the first bad line and why.
 #[tactic(auto, unfolding(crate::specs::Script::script_of), using(crate::proofs::Leading::after_none))]
 pub fn read_script(alloc: Global, bytes: &[u8], flow: &Flow) -> Result<Commands, ScriptErr>
-    ensures answer { Answers result (script_of bytes.now flow.now) }
+    ensures answer { AnswersScript result (script_of bytes.now flow.now) }
     ensures fits { IfOk result (λ commands. list_all (fits_of flow.now) commands ≡ true) }
 {
     let mut commands = Vec::new(alloc);

@@ -9,7 +9,7 @@ use Rattle.amber_rows.specs.declared.record.RowFault.TheVariants as fault
 use Rattle.amber_rows.specs.Chunks.{chunks_of, numbers_below}
 use Rattle.amber_rows.specs.Cond.{holds_of}
 use Rattle.amber_rows.specs.Crew.{crew_of, first_worker_of, follower_of, op_of, reader_from, receiver_of, senders_of, sends_to, workers_of}
-use Rattle.amber_rows.specs.Operators.{grouped, picked}
+use Rattle.amber_rows.specs.Operators.{group_result, pick_cells}
 use Rattle.amber_rows.specs.Order.{insert_row, sort_rows}
 use Rattle.amber_rows.specs.Suits.{suits_of}
 use Rattle.amber_log.specs.Fits.{fits_of}
@@ -24,7 +24,7 @@ use Rattle.amber_meaning.specs.Plan.{role_of, share_of, task_of, with_numbers}
 use Rattle.amber_meaning.specs.Position.{Position, fed, have_ended, kept, origin, product, taken_from}
 use Rattle.amber_meaning.specs.Replay.{after_item, after_items, led_by, positions_after, state_after, worked}
 use Rattle.amber_meaning.specs.RuleTests.{may_finish, may_go, may_take}
-use Rattle.amber_meaning.specs.State.{begun, begun_to_end, start_of, steps_in}
+use Rattle.amber_meaning.specs.State.{begin_leg, begin_last_leg, start_of, steps_in}
 use Rattle.amber_meaning.specs.Stops.{without_stops}
 use Rattle.amber_meaning.specs.Task.{built_of, closing, produce, yields}
 use Rattle.amber_meaning.specs.Views.{answer_in, by_number, insert_numbered, taken_by, view_of}
@@ -39,11 +39,11 @@ use Rattle.amber_worker.proofs.ExampleFlow.{from_two, numbers}
 -- ---- what unfolds
 
 workers_on_literals : ⊤
-unfolding holds_of suits_of picked grouped sort_rows insert_row numbers_below chunks_of crew_of first_worker_of workers_of op_of reader_from follower_of receiver_of sends_to senders_of role_of task_of share_of with_numbers fed product produce yields closing built_of kept have_ended taken_from view_of
+unfolding holds_of suits_of pick_cells group_result sort_rows insert_row numbers_below chunks_of crew_of first_worker_of workers_of op_of reader_from follower_of receiver_of sends_to senders_of role_of task_of share_of with_numbers fed product produce yields closing built_of kept have_ended taken_from view_of
 workers_on_literals = tt
 
 logs_on_literals : ⊤
-unfolding workers_on_literals fits_of entries_of batches_for stream_of steps_in state_after after_items after_item worked positions_after led_by start_of begun begun_to_end without_stops are_offered begins same_rows is_settled may_close_end may_lead may_make may_reach may_work may_finish may_go may_take answer_in by_number insert_numbered taken_by
+unfolding workers_on_literals fits_of entries_of batches_for stream_of steps_in state_after after_items after_item worked positions_after led_by start_of begin_leg begin_last_leg without_stops are_offered begins same_rows is_settled may_close_end may_lead may_make may_reach may_work may_finish may_go may_take answer_in by_number insert_numbered taken_by
 logs_on_literals = tt
 
 -- ---- records, logs and answers

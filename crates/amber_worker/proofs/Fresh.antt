@@ -7,9 +7,9 @@ use Rattle.std.proofs.lemmas.Bool.{eq-eqb, eqb-true, false≢true, or_cases, or_
 use Rattle.std.proofs.lemmas.List.Elements.{All-cons, All-nil}
 use Rattle.std.proofs.Math.Nat.{zero-div}
 use Rattle.amber_rows.specs.Chunks.{chunks_of, numbers_below}
-use Rattle.amber_rows.specs.Cond.{numbered}
+use Rattle.amber_rows.specs.Cond.{nth}
 use Rattle.amber_rows.specs.Crew.{crew_of, kind_at, op_of, receiver_of, receivers_of, senders_of, what_at}
-use Rattle.amber_rows.specs.Operators.{first_keys, grouped}
+use Rattle.amber_rows.specs.Operators.{first_keys, group_result}
 use Rattle.amber_rows.specs.FlowRules.{IsFlow, columns_at, inputs_of}
 use Rattle.amber_rows.specs.declared.value.Value.{Value}
 use Rattle.amber_rows.specs.declared.record.RowFault.{RowFault}
@@ -23,14 +23,14 @@ use Rattle.amber_meaning.specs.Position.{fed, is_complete, kept, origin, product
 use Rattle.amber_meaning.specs.Rules.{Leads}
 use Rattle.amber_meaning.specs.State.{first_constants}
 use Rattle.amber_meaning.specs.Task.{Arrival, Role, Task, built_of, closing, closing_rows, suiting}
-use Rattle.amber_meaning.proofs.Lists.{numbered-next}
+use Rattle.amber_meaning.proofs.Lists.{nth-next}
 use Rattle.amber_scan.specs.declared.share.Scanned.{Scanned}
 use Rattle.amber_join.specs.Join.{Join}
 use Rattle.amber_link.specs.Incoming.{Incoming}
 use Rattle.amber_link.specs.Outgoing.{Outgoing}
 use Rattle.amber_worker.specs.Fields.{AreFew, IsInOrder, rest_in}
 use Rattle.amber_worker.specs.Made.{IsOperatorStateOf, IsFresh, IsReceiver, fresh_inbox, fresh_inboxes, fresh_outbox, handing_operator, is_join}
-use Rattle.amber_worker.specs.AtPosition.{AreAlone, DoesKind, HasShare, HasTaken, Placement, ReceiveAll, Receives, SendAll, Sends, Shows, IsAtPosition, first_orders, is_scan, kept_of, placement_of}
+use Rattle.amber_worker.specs.AtPosition.{AreAlone, DoesKind, HasShare, HasTaken, Placement, ReceiveAll, Receives, SendAll, Sends, Shows, IsAtPosition, first_orders, is_scan, kept_rows, placement_of}
 use Rattle.amber_worker.specs.WorkerState.{WorkerState}
 use Rattle.amber_worker.specs.declared.operator_state.OperatorState.{OperatorState}
 use Rattle.amber_worker.specs.declared.operator_state.OperatorState.TheVariants as operator_state
@@ -85,7 +85,7 @@ rest-first (what.Group input keys aggs) (Some records) role some has = absurd (f
 rest-first (what.Sink input) None role some has = refl
 rest-first (what.Sink input) (Some records) role some has = absurd (false≢true (sym some))
 
-kept-first : (kind : What) (task : Task) → kept_of kind task [] ≡ []
+kept-first : (kind : What) (task : Task) → kept_rows kind task [] ≡ []
 kept-first (what.Scan file) task = refl
 kept-first (what.Filter input cond) task = refl
 kept-first (what.Project input from) task = refl
@@ -105,7 +105,7 @@ product-first role none =
 
 -- nothing is closing before anything was handed
 closing-first : (kind : What) (task : Task) (share : List Arrival) → closing_rows kind (filter_map (suiting task) (share_or kind share [])) ≡ []
-unfolding grouped first_keys
+unfolding group_result first_keys
 closing-first (what.Scan file) task share = refl
 closing-first (what.Filter input cond) task share = refl
 closing-first (what.Project input from) task share = refl
@@ -393,7 +393,7 @@ kind-here flow operators worker op d alone below same own =
     let place : op_of flow worker - 1 < length flow = omega arith in
     let back : op_of flow worker ≡ op_of flow worker - 1 + 1 = omega arith in
     rw (same, own)
-    (sym (ap kind_at (ap (numbered flow) back ∙ numbered-next flow (op_of flow worker - 1) ∙ slice-here flow (op_of flow worker - 1) d place)))
+    (sym (ap kind_at (ap (nth flow) back ∙ nth-next flow (op_of flow worker - 1) ∙ slice-here flow (op_of flow worker - 1) d place)))
 
 scan-operator_state : (d : OperatorState) (kind : What) → IsOperatorStateOf d kind → is_scan kind ≡ true → d ≡ operator_state.Scan
 scan-operator_state operator_state.Scan kind is scans = refl

@@ -20,9 +20,9 @@ use Rattle.amber_meaning.specs.Views.{refusal_in, refused_in, rows_in, taken_of}
 use Rattle.amber_link.specs.Incoming.{Incoming, have_all_ended}
 use Rattle.amber_link.specs.Outgoing.{Outgoing, with_end, with_row}
 use Rattle.amber_worker.specs.Fields.{rows_moved}
-use Rattle.amber_worker.specs.AtPosition.{DoesKind, HasTaken, Keeps, Placement, ReceiveAll, SendAll, Sends, Shows, kept_of, stream_to}
+use Rattle.amber_worker.specs.AtPosition.{DoesKind, HasTaken, Keeps, Placement, ReceiveAll, SendAll, Sends, Shows, kept_rows, stream_to}
 use Rattle.amber_worker.specs.WorkerState.{WorkerState}
-use Rattle.amber_worker.specs.Steps.{Becomes, Closes, all_done, columns_at_hand, gives, gives_if, keeps, keeps_if, row_emitted, row_taken}
+use Rattle.amber_worker.specs.Steps.{Becomes, Closes, all_done, columns_at_hand, row_yield, gives_if, keeps, keeps_if, row_emitted, row_taken}
 use Rattle.amber_worker.specs.declared.operator_state.OperatorState.{OperatorState}
 use Rattle.amber_worker.specs.declared.operator_state.OperatorState.TheVariants as operator_state
 use Rattle.amber_worker.proofs.Chunked.{chunks-end, chunks-full, chunks-more, left_over, left_over-few}
@@ -49,7 +49,7 @@ free-shown placement orders w p sent shows works = record {
 
 -- a row that suits yields what the worker gives of it
 yields-given : (d : OperatorState) (task : Task) (kind : What) (constants : List Value) (role : Role) (before : List Arrival) (from : ℕ) (row : List Value)
-    → DoesKind d kind constants role → HasTaken d task before → yields_row task kind before from constants row ≡ gives d (is_builder task from) row
+    → DoesKind d kind constants role → HasTaken d task before → yields_row task kind before from constants row ≡ row_yield d (is_builder task from) row
 yields-given operator_state.Scan task (what.Scan file) constants role before from row does has = refl
 yields-given (operator_state.Filter cond) task (what.Filter input own) constants role before from row does has = rw does refl
 yields-given (operator_state.Project columns) task (what.Project input own) constants role before from row does has = rw does refl
@@ -78,7 +78,7 @@ sink-keeps (Some row) = refl
 
 -- what is kept for the answer, with one more that was taken
 kept-more : (d : OperatorState) (task : Task) (kind : What) (constants : List Value) (role : Role) (taken : List Arrival) (one : Arrival) → DoesKind d kind constants role
-    → kept_of kind task (taken ++ one ∷ []) ≡ kept_of kind task taken ++ keeps_if d (suiting task one)
+    → kept_rows kind task (taken ++ one ∷ []) ≡ kept_rows kind task taken ++ keeps_if d (suiting task one)
 kept-more operator_state.Scan task (what.Scan file) constants role taken one does = sym (nothing_kept operator_state.Scan (suiting task one) (λ row. refl))
 kept-more (operator_state.Filter cond) task (what.Filter input own) constants role taken one does = sym (nothing_kept (operator_state.Filter cond) (suiting task one) (λ row. refl))
 kept-more (operator_state.Project columns) task (what.Project input own) constants role taken one does = sym (nothing_kept (operator_state.Project columns) (suiting task one) (λ row. refl))
@@ -199,7 +199,7 @@ product-one placement orders w p sent one later now last takes =
     let before : produce task [] (fed placement.role p.taken) p.constants ≡ product placement.role p.taken p.constants =
     sym (product-open placement.role p.taken p.constants (not-complete placement.role p.taken (length p.constants) (omega arith))) in
     product-is placement.role p.taken (p.constants ++ orders.constants ∷ [])
-    ∙ rw (more, produce-next task [] (fed placement.role p.taken) p.constants one later orders.constants left, gives, before, ← last-is placement orders w p sent one later now last takes)
+    ∙ rw (more, produce-next task [] (fed placement.role p.taken) p.constants one later orders.constants left, row_yield, before, ← last-is placement orders w p sent one later now last takes)
     (append_assoc (product placement.role p.taken p.constants) (gives_if w.operator_state w.building (row_in (columns_at_hand w) one.what)) last)
 
 -- all that was produced is gone

@@ -16,10 +16,10 @@ use Rattle.amber_link.specs.Incoming.{Incoming}
 use Rattle.amber_link.specs.Outgoing.{Outgoing}
 use Rattle.amber_worker.specs.Links.{waiting_for, waiting_from, with_batches, without_batches}
 use Rattle.amber_worker.specs.AtPosition.{Placement, ReceiveAll, SendAll, Sends, Shows, IsAtPosition, stream_to}
-use Rattle.amber_worker.specs.WorkerState.{WorkerState, steps_in}
+use Rattle.amber_worker.specs.WorkerState.{WorkerState, steps_made}
 
 -- the steps of a worker are those of its position
-pub steps-shown : (placement : Placement) (orders : Orders) (w : WorkerState) (p : Position) (sent : ℕ → List Batch) → Shows placement orders w p sent → steps_in w ≡ steps_of p
+pub steps-shown : (placement : Placement) (orders : Orders) (w : WorkerState) (p : Position) (sent : ℕ → List Batch) → Shows placement orders w p sent → steps_made w ≡ steps_of p
 steps-shown placement orders w p sent shows = rw (shows.taken, shows.emitted, shows.batches, shows.finished)
 
 -- the same position is shown with other links that suit it, and another journal

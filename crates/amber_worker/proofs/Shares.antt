@@ -57,10 +57,10 @@ by_number-share flow records worker n =
 
 -- ---- the share that is dealt
 
-numbered-so : (number : ℕ) (records : List (Result (List Value) RowFault)) → map arrival_of (with_record_numbers number records) ≡ with_numbers number records
+nth-so : (number : ℕ) (records : List (Result (List Value) RowFault)) → map arrival_of (with_record_numbers number records) ≡ with_numbers number records
 unfolding with_numbers with_record_numbers
-numbered-so number [] = refl
-numbered-so number (one ∷ more) = ap (λ l. record { from = number; what = one } ∷ l) (numbered-so (number + 1) more)
+nth-so number [] = refl
+nth-so number (one ∷ more) = ap (λ l. record { from = number; what = one } ∷ l) (nth-so (number + 1) more)
 
 filter-map_so : (workers place : ℕ) (scanned : List Scanned)
     → map arrival_of (filter (λ one. eqb (dealt_turn workers one.number) place) scanned) ≡ filter (λ arrivals. eqb (turn_of workers arrivals.from) place) (map arrival_of scanned)
@@ -79,4 +79,4 @@ pub share-dealt : (records : List (Result (List Value) RowFault)) (workers place
     → map arrival_of (dealt_share workers place (with_record_numbers 1 records)) ≡ share_of records workers place
 unfolding share_of dealt_share
 share-dealt records workers place =
-    filter-map_so workers place (with_record_numbers 1 records) ∙ ap (λ l. filter (λ arrivals. eqb (turn_of workers arrivals.from) place) l) (numbered-so 1 records)
+    filter-map_so workers place (with_record_numbers 1 records) ∙ ap (λ l. filter (λ arrivals. eqb (turn_of workers arrivals.from) place) l) (nth-so 1 records)

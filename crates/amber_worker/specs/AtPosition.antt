@@ -25,7 +25,7 @@ use Rattle.amber_link.specs.Incoming.{Incoming}
 use Rattle.amber_link.specs.Outgoing.{Outgoing}
 use Rattle.amber_worker.specs.Fields.{arrival_of}
 use Rattle.amber_worker.specs.Links.{waiting_from}
-use Rattle.amber_worker.specs.WorkerState.{WorkerState, steps_in}
+use Rattle.amber_worker.specs.WorkerState.{WorkerState, steps_made}
 use Rattle.amber_worker.specs.declared.operator_state.OperatorState.{OperatorState}
 use Rattle.amber_worker.specs.declared.operator_state.OperatorState.TheVariants as operator_state
 use Rattle.amber_worker.specs.declared.given.Given.{Given}
@@ -102,13 +102,13 @@ HasTaken (operator_state.Group state) task arrivals = IsFedWith state (rows_in t
 HasTaken operator_state.Sink task arrivals = Unit {0}
 
 -- the rows that a worker keeps for the answer, of those that it took
-abbrev pub kept_of : What → Task → List Arrival → List (List Value)
-kept_of (what.Scan file) task arrivals = []
-kept_of (what.Filter input cond) task arrivals = []
-kept_of (what.Project input columns) task arrivals = []
-kept_of (what.Join build probe build_keys probe_keys) task arrivals = []
-kept_of (what.Group input keys aggs) task arrivals = []
-kept_of (what.Sink input) task arrivals = rows_in task arrivals
+abbrev pub kept_rows : What → Task → List Arrival → List (List Value)
+kept_rows (what.Scan file) task arrivals = []
+kept_rows (what.Filter input cond) task arrivals = []
+kept_rows (what.Project input columns) task arrivals = []
+kept_rows (what.Join build probe build_keys probe_keys) task arrivals = []
+kept_rows (what.Group input keys aggs) task arrivals = []
+kept_rows (what.Sink input) task arrivals = rows_in task arrivals
 
 -- what is kept of a sender: how many of its batches were taken, and whether the last was
 pub record Receives (sender : ℕ) (batches : List Taken) (one : Incoming) : Type 0 where
@@ -169,7 +169,7 @@ pub record Shows (placement : Placement) (orders : Orders) (w : WorkerState) (p 
   pub within : length p.constants ≤ length (fed placement.role p.taken)
   pub produced : length p.outcomes ≤ length (produced_rows placement.role p)
   pub refused : w.refused ≡ refused_in placement.op (taken_of placement.role p)
-  pub kept : w.kept ≡ kept_of placement.role.task.kind placement.role.task (taken_of placement.role p)
+  pub kept : w.kept ≡ kept_rows placement.role.task.kind placement.role.task (taken_of placement.role p)
   pub hand : w.hand ≡ p.hand
   pub held : w.held ≡ p.held
   pub waved : w.waved ≡ p.waved
@@ -195,7 +195,7 @@ Keeps old new = (placement : Placement) (orders : Orders) (start p : Position) (
 
 -- what a turn has done: one step more, or nothing
 abbrev pub HasTurned : Turn → WorkerState → WorkerState → Type 0
-HasTurned turn.Moved old new = steps_in new ≡ steps_in old + 1
+HasTurned turn.Moved old new = steps_made new ≡ steps_made old + 1
 HasTurned turn.Idle old new = new ≡ old
 HasTurned turn.Ended old new = new ≡ old
 
@@ -209,4 +209,4 @@ IsViewOf w view = (placement : Placement) (orders : Orders) (p : Position) (sent
 unfoldable pub IsGivenOf : WorkerState → Given → Type 0
 IsGivenOf w given = (placement : Placement) (orders : Orders) (p : Position) (sent : ℕ → List Batch) → Shows placement orders w p sent
     → (given.refused ≡ refused_in placement.op (taken_of placement.role p) ++ refused_groups placement.op (worker_refuses placement.role p))
-    × (given.rows ≡ sort_rows (kept_of placement.role.task.kind placement.role.task (taken_of placement.role p)))
+    × (given.rows ≡ sort_rows (kept_rows placement.role.task.kind placement.role.task (taken_of placement.role p)))

@@ -1,7 +1,7 @@
 -- What each single step of a worker changes.
 use Rattle.std.specs.Prelude.{◌≡◌, ℕ, ◌+◌, ◌^◌, ◌<◌, ◌≤◌, ◌==◌, ◌&&◌, option_to_list, not, Bool, All, List, [], ◌∷◌, ◌++◌, length, map, Ok, Option, Some, None, true, false, if◌then◌else◌}
 use Rattle.amber_rows.specs.Cond.{holds_of}
-use Rattle.amber_rows.specs.Operators.{first_keys, grouped, matches_of, picked, refused_keys}
+use Rattle.amber_rows.specs.Operators.{first_keys, group_result, matches_of, pick_cells, refused_keys}
 use Rattle.amber_rows.specs.declared.value.Value.{Value}
 use Rattle.amber_rows.specs.declared.column.Column.{Column}
 use Rattle.amber_rows.specs.declared.batch.Batch.{Batch}
@@ -29,17 +29,17 @@ use Rattle.amber_worker.specs.declared.taking.Fate.TheVariants as fate
 -- ---- rows
 
 -- the rows that go on of a row that suits, of the build side or not
-abbrev pub gives : OperatorState → Bool → List Value → List (List Value)
-gives operator_state.Scan builds row = row ∷ []
-gives (operator_state.Filter cond) builds row = if holds_of cond row then row ∷ [] else []
-gives (operator_state.Project from) builds row = picked from row ∷ []
-gives (operator_state.Join state) builds row = if builds then [] else matches_of state.build_keys state.probe_keys state.rows row
-gives (operator_state.Group state) builds row = []
-gives operator_state.Sink builds row = []
+abbrev pub row_yield : OperatorState → Bool → List Value → List (List Value)
+row_yield operator_state.Scan builds row = row ∷ []
+row_yield (operator_state.Filter cond) builds row = if holds_of cond row then row ∷ [] else []
+row_yield (operator_state.Project from) builds row = pick_cells from row ∷ []
+row_yield (operator_state.Join state) builds row = if builds then [] else matches_of state.build_keys state.probe_keys state.rows row
+row_yield (operator_state.Group state) builds row = []
+row_yield operator_state.Sink builds row = []
 
 abbrev pub gives_if : OperatorState → Bool → Option (List Value) → List (List Value)
 gives_if operator_state builds None = []
-gives_if operator_state builds (Some row) = gives operator_state builds row
+gives_if operator_state builds (Some row) = row_yield operator_state builds row
 
 -- the rows that are kept of a row that suits
 abbrev pub keeps : OperatorState → List Value → List (List Value)
@@ -78,7 +78,7 @@ Becomes operator_state.Sink builds found new = new ≡ operator_state.Sink
 
 -- the rows of the groups, once nothing more can come
 abbrev pub GivesGroups : Group → Bool → List (List Value) → Type 0
-GivesGroups state true rows = (fed : List (List Value)) → IsFedWith state fed → rows ≡ grouped state.keys state.aggs fed
+GivesGroups state true rows = (fed : List (List Value)) → IsFedWith state fed → rows ≡ group_result state.keys state.aggs fed
 GivesGroups state false rows = rows ≡ []
 
 -- the rows that a worker gives at the end, once nothing more can come

@@ -45,8 +45,8 @@ pub record WorkerState : Type 0 where
   pub journal : List Entry
 
 -- its steps so far
-abbrev pub steps_in : WorkerState → ℕ
-steps_in w = w.taken + w.emitted + w.batches + one_if w.finished
+abbrev pub steps_made : WorkerState → ℕ
+steps_made w = w.taken + w.emitted + w.batches + one_if w.finished
 
 -- ---- which turn comes
 

@@ -14,17 +14,22 @@ pub struct Given {
 }
 
 // The keys that a worker has refused: of a group those that have no row.
-pub(crate) fn refused_keys(alloc: Global, operator_state: &OperatorState) -> Result<Vec<Row>, AllocError>
+pub(crate) fn refused_keys(
+    alloc: Global,
+    operator_state: &OperatorState,
+) -> Result<Vec<Row>, AllocError>
     ensures { IfOk result (λ keys. IsRefused operator_state.now keys.items) }
 {
     match operator_state {
         OperatorState::Group(state) => {
-            let grouped = state.finish()?;
-            Ok(grouped.refused.into_inner())
+            let group_result = state.finish()?;
+            Ok(group_result.refused.into_inner())
         }
-        OperatorState::Scan | OperatorState::Filter(_) | OperatorState::Project(_) | OperatorState::Join(_) | OperatorState::Sink => {
-            Ok(Vec::new(alloc))
-        }
+        OperatorState::Scan
+        | OperatorState::Filter(_)
+        | OperatorState::Project(_)
+        | OperatorState::Join(_)
+        | OperatorState::Sink => { Ok(Vec::new(alloc)) }
     }
 }
 

@@ -27,8 +27,8 @@ fn feed(state: &mut GroupState, columns: &Schema, row: &Row) -> Result<(), Alloc
 pub(crate) fn rows_of_groups(state: &GroupState) -> Result<VecDeque<Row>, AllocError>
     ensures { IfOk result (λ rows. GivesGroups state.now true rows.items) }
 {
-    let grouped = state.finish()?;
-    Ok(VecDeque::from_vec(grouped.rows.into_inner()))
+    let group_result = state.finish()?;
+    Ok(VecDeque::from_vec(group_result.rows.into_inner()))
 }
 
 // Feeds the last row: the rows of the groups are pending. What is fed is a copy, so that want of memory changes nothing.

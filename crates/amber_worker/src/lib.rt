@@ -11,20 +11,20 @@
 //! leads there by the rules of a run: `specs/AtPosition.antt` says what it is for a worker to stand at a position.
 #![tactic(auto)]
 
-pub mod operator_state;
 pub mod given;
 mod grouping;
 mod joining;
 mod journal;
 mod links;
 mod making;
+pub mod operator_state;
 mod shown;
 mod taking;
 pub mod turn;
 pub mod worker;
 
-pub use operator_state::OperatorState;
 pub use given::Given;
+pub use operator_state::OperatorState;
 pub use std::alloc::AllocError as NoMemory;
 pub use turn::Turn;
 pub use worker::{Worker, settle_workers};

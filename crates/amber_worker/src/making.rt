@@ -73,7 +73,9 @@ pub(crate) fn operator_state_of(alloc: Global, what: &What) -> Result<OperatorSt
 {
     match what {
         What::Scan { .. } => Ok(OperatorState::Scan),
-        What::Filter { cond, .. } => Ok(OperatorState::Filter(FilterState::new(condition_of(cond)?))),
+        What::Filter { cond, .. } => Ok(OperatorState::Filter(FilterState::new(condition_of(
+            cond,
+        )?))),
         What::Project { from, .. } => {
             let columns = copied_cols(alloc, from)?;
             Ok(OperatorState::Project(ProjectState::new(alloc, columns)))

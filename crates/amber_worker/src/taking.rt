@@ -8,9 +8,9 @@ ghost use Rattle.amber_link.specs.Incoming.{has_some, have_all_ended};
 ghost use Rattle.amber_worker.specs.Fields.{arrivals_in};
 ghost use Rattle.amber_worker.specs.Steps.{AreSame, Closes, GainsAny, GainsNext, GainsRecord, GainsRow, MayTakeRow, gives_if, has_state, held_back_of, keeps_if, passed_of, turned_to};
 
-use crate::operator_state::OperatorState;
 use crate::grouping::{rows_of_groups, take_grouped};
 use crate::joining::take_joined;
+use crate::operator_state::OperatorState;
 use amber_link::{Inbox, have_ended};
 use amber_meaning::Refusal;
 use amber_rows::{Row, Schema, suits};
@@ -87,7 +87,11 @@ fn suited_fate(operator_state: &OperatorState, row: &Row) -> Result<Fate, AllocE
 }
 
 // What becomes of a row; one that does not suit the columns is dropped.
-pub(crate) fn fate_of(operator_state: &OperatorState, columns: &Schema, row: &Row) -> Result<Fate, AllocError>
+pub(crate) fn fate_of(
+    operator_state: &OperatorState,
+    columns: &Schema,
+    row: &Row,
+) -> Result<Fate, AllocError>
     requires plain { has_state operator_state.now ≡ false }
     ensures goes_on { IfOk result (λ fate. passed_of fate row.now ≡ gives_if operator_state.now false (row_in columns.now (Ok row.now))) }
     ensures stays { IfOk result (λ fate. held_back_of fate row.now ≡ keeps_if operator_state.now (row_in columns.now (Ok row.now))) }
@@ -213,7 +217,10 @@ fn take_any(
             take_grouped(rows, columns, over, state, &mut gains.pending)?;
             Ok(())
         }
-        OperatorState::Scan | OperatorState::Filter(_) | OperatorState::Project(_) | OperatorState::Sink => {
+        OperatorState::Scan
+        | OperatorState::Filter(_)
+        | OperatorState::Project(_)
+        | OperatorState::Sink => {
             take_arrival(rows, operator_state, columns, gains)?;
             Ok(())
         }
@@ -285,9 +292,11 @@ pub(crate) fn closing_of(
             let last = rows_of_groups(state)?;
             Ok(last)
         }
-        OperatorState::Scan | OperatorState::Filter(_) | OperatorState::Project(_) | OperatorState::Join(_) | OperatorState::Sink => {
-            Ok(VecDeque::new(alloc))
-        }
+        OperatorState::Scan
+        | OperatorState::Filter(_)
+        | OperatorState::Project(_)
+        | OperatorState::Join(_)
+        | OperatorState::Sink => { Ok(VecDeque::new(alloc)) }
     }
 }
 
@@ -311,6 +320,10 @@ pub(crate) fn turn_to(operator_state: &mut OperatorState, builds: bool)
                 state.seal();
             }
         }
-        OperatorState::Scan | OperatorState::Filter(_) | OperatorState::Project(_) | OperatorState::Group(_) | OperatorState::Sink => {}
+        OperatorState::Scan
+        | OperatorState::Filter(_)
+        | OperatorState::Project(_)
+        | OperatorState::Group(_)
+        | OperatorState::Sink => {}
     }
 }

@@ -7,18 +7,18 @@ ghost use Rattle.amber_meaning.specs.Position.{origin};
 ghost use Rattle.amber_meaning.specs.Plan.{role_of};
 ghost use Rattle.amber_link.specs.Incoming.{has_some, have_all_ended};
 ghost use Rattle.amber_worker.specs.Links.{waiting_for, with_batches, without_batches};
-ghost use Rattle.amber_worker.specs.WorkerState.{next_turn, has_ready, steps_in};
+ghost use Rattle.amber_worker.specs.WorkerState.{next_turn, has_ready, steps_made};
 ghost use Rattle.amber_worker.specs.Steps.{IsCalm, IsShown, TakesBatch, TakesRow, all_done, row_emitted_from};
 ghost use Rattle.amber_worker.specs.Made.{IsFresh};
 ghost use Rattle.amber_worker.specs.AtPosition.{AreAlone, HasShare, HasTurned, IsGivenOf, IsViewOf, Keeps, IsAtPosition, first_orders, is_scan, placement_of};
 
-use crate::operator_state::OperatorState;
 use crate::given::{Given, add_keys, refused_keys};
 use crate::journal::note_go;
 use crate::links::{emit_first, end, has_receiver, settle_into, waiting_receiver};
 use crate::making::{
-    build_columns_of, columns_of, operator_state_of, inboxes_of, is_join, outbox_of, receiver_of,
+    build_columns_of, columns_of, inboxes_of, is_join, operator_state_of, outbox_of, receiver_of,
 };
+use crate::operator_state::OperatorState;
 use crate::shown::{extra_of, first_copy, stand_of};
 use crate::taking::{Gains, Rest, close, closing_of, is_last, side_columns, take_next, turn_to};
 use crate::turn::Turn;
@@ -194,7 +194,7 @@ impl Worker {
 
     // Takes the next of what is left.
     fn take_row(&mut self) -> Result<(), AllocError>
-        requires few { steps_in self.old < 2 ^ 40 }
+        requires few { steps_made self.old < 2 ^ 40 }
         requires some { has_some self.old.rest ≡ true }
         ensures ok { OnOk result (TakesRow self.old self.new) }
         ensures err { OnErr result (self.new ≡ self.old) }
@@ -218,7 +218,7 @@ impl Worker {
 
     // Emits the first pending row.
     fn emit_row(&mut self) -> Result<(), AllocError>
-        requires few { steps_in self.old < 2 ^ 40 }
+        requires few { steps_made self.old < 2 ^ 40 }
         requires some { has_some self.old.pending ≡ true }
         ensures ok { OnOk result (self.new ≡ row_emitted_from self.old.pending self.old) }
         ensures err { OnErr result (self.new ≡ self.old) }
@@ -232,7 +232,7 @@ impl Worker {
 
     // Takes a batch of the first sender of whom one may be taken, and says whether there was one.
     fn take_batch(&mut self) -> Result<bool, AllocError>
-        requires few { steps_in self.old < 2 ^ 40 }
+        requires few { steps_made self.old < 2 ^ 40 }
         requires none { has_some self.old.pending ≡ false }
         ensures found { IfOk result (λ found. found ≡ has_ready self.old.ins) }
         ensures taken { IfOk result (λ found. MatchBool found (TakesBatch self.old self.new) (self.new ≡ self.old)) }
@@ -267,7 +267,7 @@ impl Worker {
 
     // Finishes where the last batches of all senders were taken, and says whether they were.
     fn finish(&mut self) -> Result<bool, AllocError>
-        requires few { steps_in self.old < 2 ^ 40 }
+        requires few { steps_made self.old < 2 ^ 40 }
         requires unfinished { self.old.finished ≡ false }
         ensures ended { IfOk result (λ ended. ended ≡ have_all_ended self.old.ins) }
         ensures done { IfOk result (λ ended. self.new ≡ (if ended then all_done self.old else self.old)) }
@@ -285,7 +285,7 @@ impl Worker {
 
     /// Makes one step, if there is one to make. The journal says which.
     pub fn turn(&mut self) -> Result<Turn, AllocError>
-        requires { steps_in self.old < 2 ^ 40 }
+        requires { steps_made self.old < 2 ^ 40 }
         ensures keeps { Keeps self.old self.new }
         ensures answer { IfOk result (λ turn. turn ≡ next_turn self.old) }
         ensures moved { IfOk result (λ turn. HasTurned turn self.old self.new) }
@@ -315,7 +315,7 @@ impl Worker {
 
     /// How many steps the worker has made: rows and batches taken, rows emitted, and the end.
     pub fn steps(&self) -> u64
-        ensures { result ≡ steps_in self.now }
+        ensures { result ≡ steps_made self.now }
     {
         self.taken + self.emitted + self.batches + u64::from(self.finished)
     }

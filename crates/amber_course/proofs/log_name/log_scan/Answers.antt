@@ -1,17 +1,17 @@
 -- From each operator to the next.
 use Rattle.std.proofs.Common.{◌≡◌, ◌<◌, ◌≤◌, length, get_or, true, false, sym, rules}
-use Rattle.amber_course.specs.Course.{reads}
+use Rattle.amber_course.specs.Course.{is_scan_of}
 use Rattle.amber_course.proofs.Scripts.{log-end, log-here, log-more}
 use Rattle.amber_course.proofs.log_name.log_scan.Goals as goal
 
-pub returns-then-reads : goal.returns-then-reads
-returns-then-reads c =
+pub returns-then-reads : goal.returns-then-is_scan_of
+returns-then-is_scan_of c =
     let flow = c.args.flow.now in
     let i = c.loop-i.i in
     let o = c.index-operators-i.result in
     let h : i < length flow = rw c.get-operators.ensures.operators at c.loop-i-test.true in
     let is : o ≡ get_or flow i o = rw c.get-operators.ensures.operators at c.index-operators-i.is in
-    let same : reads c.args.log.now o.what ≡ true = search rules in
+    let same : is_scan_of c.args.log.now o.what ≡ true = search rules in
     sym (log-here c.args.log.now flow i o h is same c.loop-i.invariant)
 
 pub loop-i-preserved : goal.loop-i-preserved
@@ -21,7 +21,7 @@ loop-i-preserved c =
     let o = c.index-operators-i.result in
     let h : i < length flow = rw c.get-operators.ensures.operators at c.loop-i-test.true in
     let is : o ≡ get_or flow i o = rw c.get-operators.ensures.operators at c.index-operators-i.is in
-    let other : reads c.args.log.now o.what ≡ false = search rules in
+    let other : is_scan_of c.args.log.now o.what ≡ false = search rules in
     log-more c.args.log.now flow i o h is other c.loop-i.invariant
 
 pub returns : goal.returns

@@ -79,8 +79,8 @@ returns-in_err-load_script-clause-named g c =
     let e : c.from_residual-in_err-load_script.result ≡ Err c.in_err-load_script.field-0.0 = search rules in
     let flow-ok = (rw (workflow, log) at c.in_ok-flow.ensures.course) in
     rw e (told-map (g.F.Folder.files c.args.folder.now) (λ files. run_flow c.args.words.workflow c.args.words.log files ≡ Ok c.in_ok-flow.flow) (λ files. Names c.in_err-load_script.field-0.0 (IsLoaded (form.Run c.args.words) files))
-    (λ files reads. names-map c.in_err-load_script.field-0.0 (λ file. file ≡ c.get-3.result.now) (IsLoaded (form.Run c.args.words) files)
-    (λ file is. inr (c.in_ok-flow.flow, reads, inl (is ∙ script))) c.in_err-load_script.ensures.named) flow-ok.1)
+    (λ files is_scan_of. names-map c.in_err-load_script.field-0.0 (λ file. file ≡ c.get-3.result.now) (IsLoaded (form.Run c.args.words) files)
+    (λ file is. inr (c.in_ok-flow.flow, is_scan_of, inl (is ∙ script))) c.in_err-load_script.ensures.named) flow-ok.1)
 
 pub returns-in_err-files-clause-named : goal.returns-in_err-files-clause-named
 returns-in_err-files-clause-named g c =
@@ -94,5 +94,5 @@ returns-in_err-files-clause-named g c =
     rw e (told-three (g.F.Folder.files c.args.folder.now) (λ files. run_flow c.args.words.workflow c.args.words.log files ≡ Ok c.in_ok-flow.flow)
     (λ files. script_in c.args.words.script files ≡ Ok c.in_ok-load_script.field-0) (λ files. Names c.in_err-files.field-0.0 (IsScanFile c.in_ok-flow.flow files))
     (λ files. Names c.in_err-files.field-0.0 (IsLoaded (form.Run c.args.words) files))
-    (λ files reads said one. names-map c.in_err-files.field-0.0 (IsScanFile c.in_ok-flow.flow files) (IsLoaded (form.Run c.args.words) files)
-    (λ file is. inr (c.in_ok-flow.flow, reads, inr (said, is))) one) flow-ok.1 script-ok.1 names)
+    (λ files is_scan_of said one. names-map c.in_err-files.field-0.0 (IsScanFile c.in_ok-flow.flow files) (IsLoaded (form.Run c.args.words) files)
+    (λ file is. inr (c.in_ok-flow.flow, is_scan_of, inr (said, is))) one) flow-ok.1 script-ok.1 names)

@@ -2,8 +2,8 @@
 use Rattle.std.proofs.Common.{◌≡◌, ◌∙◌, ◌+◌, ◌<◌, ◌≤◌, Option, ap, arith, get_or, length, map, refl, rules, set, subst, sym, take_all}
 use Rattle.std.proofs.lemmas.List.{length-map, length-set}
 use Rattle.amber_rows.specs.declared.value.Value.{Value}
-use Rattle.amber_group.specs.Steps.{AreWithin, change_of, step}
-use Rattle.amber_group.proofs.Settling.{Settled, settled-next}
+use Rattle.amber_group.specs.Steps.{AreWithin, change_of, running_after}
+use Rattle.amber_group.proofs.Settling.{Settled, with_best-next}
 use Rattle.amber_group.proofs.Within.{within-at, within-more}
 use Rattle.amber_group.proofs.totals.settle_all.Goals as goal
 
@@ -11,7 +11,7 @@ pub loop-i-init : goal.loop-i-init
 loop-i-init c = record {
   count = refl;
   room = ap length c.requires.changes ∙ length-map c.args.runnings.now.items (change_of c.args.row.now);
-  settled = record { done = refl; rest = refl; left = c.requires.changes };
+  with_best = record { done = refl; rest = refl; left = c.requires.changes };
   within = λ rows h. tt;
 }
 
@@ -21,7 +21,7 @@ settle-requires c =
     let less : c.loop-i.i < length c.loop-i.runnings.items = search rules in (
       c.requires.within.0,
       c.requires.within.1,
-      within-at c.requires.within.0 c.loop-i.i c.args.runnings.now.items c.loop-i.runnings.items c.index_mut-in-loop-i.result.now c.requires.within.2 inv.settled.rest less
+      within-at c.requires.within.0 c.loop-i.i c.args.runnings.now.items c.loop-i.runnings.items c.index_mut-in-loop-i.result.now c.requires.within.2 inv.with_best.rest less
           c.index_mut-in-loop-i.ensures.value,
     )
 
@@ -43,12 +43,12 @@ loop-i-preserved c =
     record {
       count = length-set runnings i new ∙ inv.count;
       room = length-set changes i c.take-change.new.self ∙ inv.room;
-      settled =
+      with_best =
           subst (λ (cell : Option Value). Settled c.args.row.now (i + 1) first (set runnings i new) (set changes i cell)) (sym c.take-change.ensures.after)
-          (settled-next c.args.row.now i first runnings changes running new change in_first less in_changes c.index_mut-in-loop-i.ensures.value change_is inv.settled c.settle.ensures.value);
+          (with_best-next c.args.row.now i first runnings changes running new change in_first less in_changes c.index_mut-in-loop-i.ensures.value change_is inv.with_best c.settle.ensures.value);
       within = λ rows h.
           within-more (rows + 1) i runnings new less (inv.within rows h)
-          (c.settle.ensures.within rows (within-at rows i first runnings running h inv.settled.rest less c.index_mut-in-loop-i.ensures.value));
+          (c.settle.ensures.within rows (within-at rows i first runnings running h inv.with_best.rest less c.index_mut-in-loop-i.ensures.value));
     }
 
 pub returns : goal.returns
@@ -60,6 +60,6 @@ returns c =
     let all : length first ≤ i = search rules in
     let done : length runnings ≤ i = omega (arith, inv.count, all) in
     record {
-      value = sym (take_all i runnings done) ∙ inv.settled.done ∙ ap (map (step c.args.row.now)) (take_all i first all);
+      value = sym (take_all i runnings done) ∙ inv.with_best.done ∙ ap (map (running_after c.args.row.now)) (take_all i first all);
       within = λ rows h. subst (AreWithin (rows + 1)) (take_all i runnings done) (inv.within rows h);
     }

@@ -8,6 +8,6 @@ abbrev pub invariant-loop-i : goal.invariant-loop-i
 invariant-loop-i l = record {
   count : length l.runnings.items ≡ length l.fn.runnings.items;
   room : length l.changes.items ≡ length l.fn.runnings.items;
-  settled : Settled l.row l.i l.fn.runnings.items l.runnings.items l.changes.items;
+  with_best : Settled l.row l.i l.fn.runnings.items l.runnings.items l.changes.items;
   within : (rows : ℕ) → AreWithin rows l.fn.runnings.items → AreWithin (rows + 1) (take l.i l.runnings.items);
 }

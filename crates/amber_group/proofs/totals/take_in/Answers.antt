@@ -5,7 +5,7 @@ use Rattle.indexmap.specs.IndexMap.{set_value_at}
 use Rattle.indexmap.proofs.CallerLemmas.{insert_entry-new}
 use Rattle.amber_rows.specs.Operators.{same_row}
 use Rattle.amber_group.specs.Running.{running_of}
-use Rattle.amber_group.specs.Steps.{GroupsWithin, step}
+use Rattle.amber_group.specs.Steps.{GroupsWithin, running_after}
 use Rattle.amber_group.proofs.Answers.{none_is, on_err, on_ok}
 use Rattle.amber_group.proofs.GroupTables.{groups-known, groups-new, set-same}
 use Rattle.amber_group.proofs.Within.{are_within-up, groups_within-at, groups_within-push, groups_within-set, groups_within-up}
@@ -46,7 +46,7 @@ returns-in_ok-insert-in-None-clause-ok c = λ keys rows is key.
     ∙ insert_entry-new same_row c.args.groups.now c.args.key new none
     ∙ ap (λ k. entries ++ (k, new) ∷ []) key
     ∙ groups-new keys c.args.aggs.now rows c.args.row.now entries new is (ap (λ k. lookup (same_row k) entries) (sym key) ∙ none)
-    (c.in_ok-totals-in-None.ensures.value ∙ ap (λ aggs. map (step c.args.row.now) (map (running_of []) aggs)) c.get.ensures)
+    (c.in_ok-totals-in-None.ensures.value ∙ ap (λ aggs. map (running_after c.args.row.now) (map (running_of []) aggs)) c.get.ensures)
 
 pub returns-in_ok-insert-in-None-clause-within : goal.returns-in_ok-insert-in-None-clause-within
 returns-in_ok-insert-in-None-clause-within c = λ fed h.

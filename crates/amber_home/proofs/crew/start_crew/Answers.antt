@@ -3,7 +3,7 @@ use Rattle.std.proofs.Common.{◌≡◌, ◌<◌, ◌≤◌, ◌+◌, [], ◌∷
 use Rattle.std.proofs.lemmas.List.{length_push}
 use Rattle.amber_meaning.proofs.Operators.{wrong_header-end}
 use Rattle.amber_meaning.specs.Plain.{records_of, wrong_header}
-use Rattle.amber_home.proofs.Begin.{HaveBegun, all-begun, begun-more, empty-more, empty-none, header-more, header-names, header-start}
+use Rattle.amber_home.proofs.Begin.{HaveBegun, all-begin_leg, begin_leg-more, empty-more, empty-none, header-more, header-names, header-start}
 use Rattle.amber_home.proofs.crew.start_crew.Goals as goal
 
 pub workers-init : goal.workers-init
@@ -29,7 +29,7 @@ workers-preserved c =
       header = header-more c.args.flow.now c.args.files.now c.workers.before inside c.workers.invariant.header c.file_behind-file.result.now c.file_behind-file.ensures
           c.in_ok-worker.ensures.header;
       empty = empty-more c.workers.crew.items c.push.new.self.items c.in_ok-worker.worker longer c.workers.invariant.empty c.in_ok-worker.ensures.empty;
-      stands = begun-more c.args.flow.now c.args.files.now c.args.batch c.workers.before c.workers.crew.items c.push.new.self.items c.in_ok-worker.worker c.file_behind-file.result.now
+      stands = begin_leg-more c.args.flow.now c.args.files.now c.args.batch c.workers.before c.workers.crew.items c.push.new.self.items c.in_ok-worker.worker c.file_behind-file.result.now
           longer c.workers.invariant.made inside c.file_behind-file.ensures c.workers.invariant.stands c.in_ok-worker.ensures.stands;
     }
 
@@ -45,7 +45,7 @@ returns-clause-start c most =
     let count : c.workers.before ≡ length c.args.flow.now = omega arith in record {
       flow = c.get-count.ensures.flow;
       alone = c.requires.alone;
-      at_positions = all-begun c.args.flow.now c.args.files.now c.args.batch most c.workers.crew.items c.requires.alone (c.workers.invariant.made ∙ count) c.workers.invariant.empty
+      at_positions = all-begin_leg c.args.flow.now c.args.files.now c.args.batch most c.workers.crew.items c.requires.alone (c.workers.invariant.made ∙ count) c.workers.invariant.empty
           (subst (HaveBegun c.args.flow.now (records_of c.args.files.now c.args.flow.now) c.args.batch c.workers.crew.items) count c.workers.invariant.stands);
       moved = λ worker. (c.workers.invariant.empty worker).1;
     }

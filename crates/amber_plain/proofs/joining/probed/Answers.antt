@@ -3,15 +3,15 @@ use Rattle.std.proofs.Common.{◌≡◌, ◌++◌, ◌∷◌, [], ap, rules, sym
 use Rattle.std.specs.List.{flat_map}
 use Rattle.std.proofs.lemmas.Grind.{flat_map-append}
 use Rattle.std.proofs.lemmas.List.{append-nil}
-use Rattle.amber_rows.specs.Operators.{joined, matches_of}
+use Rattle.amber_rows.specs.Operators.{join_result, matches_of}
 use Rattle.amber_plain.proofs.joining.probed.Goals as goal
 
 pub loop-row-init : goal.loop-row-init
-unfolding joined
+unfolding join_result
 loop-row-init c = c.new-made.ensures.items
 
 pub loop-row-preserved : goal.loop-row-preserved
-unfolding joined
+unfolding join_result
 loop-row-preserved c =
     let matches = matches_of c.args.state.now.build_keys c.args.state.now.probe_keys c.args.state.now.rows in
     let row = c.in-Some.row in

@@ -2,7 +2,7 @@
 use Rattle.std.proofs.Common.{◌≡◌, ◌<◌, ◌⊎◌, inl, map, string_bytes, refl, arith}
 use Rattle.amber_io.specs.Counts.{Rose}
 use Rattle.amber_course.specs.Course.{course_of}
-use Rattle.amber_run.specs.Outcome.{IsSinkStatus, IsWithin}
+use Rattle.amber_run.specs.Outcome.{IsSinkStatus, MeetsLimit}
 use Rattle.amber_course.specs.declared.status.Status.TheVariants as status
 use Rattle.amber_run.proofs.Deciding.{answers, answers-ok, complete, lates, loads-grow, log-rose, log-unasked, out-rose, puts-grow, read-is, usage-is, words-bad, words-ok, writes-grow}
 use Rattle.amber_run.proofs.Ending.{ended, not-ok, refused-as}
@@ -70,7 +70,7 @@ returns-in-Ok-clause-course g c =
 
 pub returns-in-Ok-clause-complete : goal.returns-in-Ok-clause-complete
 returns-in-Ok-clause-complete g c =
-    told-all (g.F.Folder.files c.args.folder.now) (λ files. IsWithin (course_of (map string_bytes c.args.words.now) files) → ¬ (Rose (g.F.Folder.load_faults c.args.folder.now) (g.F.Folder.load_faults c.run.new.folder)) → ¬ (Rose (g.F.Folder.write_faults c.args.folder.now) (g.F.Folder.write_faults c.run.new.folder)) → ¬ (Rose (g.O.Sink.faults c.args.out.now) (g.O.Sink.faults c.run.new.out)) → (status.Ok ≡ status.Ok) ⊎ (status.Ok ≡ status.NoMemory))
+    told-all (g.F.Folder.files c.args.folder.now) (λ files. MeetsLimit (course_of (map string_bytes c.args.words.now) files) → ¬ (Rose (g.F.Folder.load_faults c.args.folder.now) (g.F.Folder.load_faults c.run.new.folder)) → ¬ (Rose (g.F.Folder.write_faults c.args.folder.now) (g.F.Folder.write_faults c.run.new.folder)) → ¬ (Rose (g.O.Sink.faults c.args.out.now) (g.O.Sink.faults c.run.new.out)) → (status.Ok ≡ status.Ok) ⊎ (status.Ok ≡ status.NoMemory))
     (λ files within read kept quiet. inl refl)
 
 pub returns-in-Ok-clause-puts_grew : goal.returns-in-Ok-clause-puts_grew

@@ -2,7 +2,7 @@
 use Rattle.std.proofs.Common.{◌≡◌, map, string_bytes, Err, ◌∙◌, rules}
 use Rattle.amber_run.proofs.Ending.{plain-job, reached-failure, reached-words, reached-works, run-failure, run-words, run-works, failure-counts, failure-unlogged, failure-writes, words-counts, words-unlogged, words-writes, worded-failure, worded-words, worded-works}
 use Rattle.amber_course.specs.Course.{job_of}
-use Rattle.amber_course.specs.Words.{words_of}
+use Rattle.amber_course.specs.Words.{call_words_of}
 use Rattle.amber_run.proofs.call.run.Goals as goal
 
 pub returns-in_err-words-clause-ran : goal.returns-in_err-words-clause-ran
@@ -91,12 +91,12 @@ returns-clause-words g c =
 
 pub returns-clause-same : goal.returns-clause-same
 returns-clause-same g c =
-    λ none. c.do_job.ensures.same (plain-job (words_of (map string_bytes c.args.words.now)) c.in_ok-words.words c.in_ok-job.job c.in_ok-words.ensures.read none c.in_ok-job.ensures.form) ∙ c.in_ok-job.ensures.same
+    λ none. c.do_job.ensures.same (plain-job (call_words_of (map string_bytes c.args.words.now)) c.in_ok-words.words c.in_ok-job.job c.in_ok-words.ensures.read none c.in_ok-job.ensures.form) ∙ c.in_ok-job.ensures.same
 
 pub returns-clause-idle : goal.returns-clause-idle
 returns-clause-idle g c =
-    λ none. c.do_job.ensures.idle (plain-job (words_of (map string_bytes c.args.words.now)) c.in_ok-words.words c.in_ok-job.job c.in_ok-words.ensures.read none c.in_ok-job.ensures.form) ∙ c.in_ok-job.ensures.writes
+    λ none. c.do_job.ensures.idle (plain-job (call_words_of (map string_bytes c.args.words.now)) c.in_ok-words.words c.in_ok-job.job c.in_ok-words.ensures.read none c.in_ok-job.ensures.form) ∙ c.in_ok-job.ensures.writes
 
 pub returns-clause-unlogged : goal.returns-clause-unlogged
 returns-clause-unlogged g c =
-    λ none. c.do_job.ensures.unlogged (plain-job (words_of (map string_bytes c.args.words.now)) c.in_ok-words.words c.in_ok-job.job c.in_ok-words.ensures.read none c.in_ok-job.ensures.form)
+    λ none. c.do_job.ensures.unlogged (plain-job (call_words_of (map string_bytes c.args.words.now)) c.in_ok-words.words c.in_ok-job.job c.in_ok-words.ensures.read none c.in_ok-job.ensures.form)

@@ -10,7 +10,7 @@ abbrev pub invariant-loop-more : goal.invariant-loop-more
 invariant-loop-more l = record {
   meant : script_of l.fn.bytes l.fn.flow ≡ after l.commands.items (commands_from l.number l.fn.flow (lines_left l.more l.rest));
   fit : list_all (fits_of l.fn.flow) l.commands.items ≡ true;
-  numbered : l.number + length l.rest ≤ length l.fn.bytes + 1;
+  nth : l.number + length l.rest ≤ length l.fn.bytes + 1;
 }
 
 abbrev pub decreases-loop-more : goal.decreases-loop-more

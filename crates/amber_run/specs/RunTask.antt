@@ -9,7 +9,7 @@ use Rattle.amber_meaning.specs.Legal.{Query, query_over}
 use Rattle.amber_debug.specs.Session.{Session, is_long_item}
 
 -- what is fixed once nothing is left that refuses a run
-pub record Task : Type 0 where
+pub record RunTask : Type 0 where
   -- the folder's files before the log is made, and what the sink has got before
   pub told : Option Named
   pub before : Option (List ℕ)
@@ -28,7 +28,7 @@ abbrev pub most_steps : ℕ
 most_steps = 2 ^ 40
 
 -- what is run, in batches of this size
-abbrev pub query_at : Task → ℕ → Query
+abbrev pub query_at : RunTask → ℕ → Query
 query_at t batch = query_over t.flow t.inputs batch most_steps
 
 -- the commands of a script that has none
@@ -36,7 +36,7 @@ abbrev pub end_alone : List Command
 end_alone = command.End ∷ []
 
 -- the session runs what the task asks for
-pub record IsSession (t : Task) (d : Session) : Type 0 where
+pub record IsSession (t : RunTask) (d : Session) : Type 0 where
   pub flow : d.flow ≡ t.flow
   pub inputs : d.files ≡ t.inputs
   pub most : d.most ≡ most_steps
@@ -47,6 +47,6 @@ ends_long long [] = long
 ends_long long (one ∷ more) = ends_long (is_long_item one) more
 
 -- a run of a workflow over the files of its scans, by a script without commands
-abbrev pub task_of : Option Named → Option (List ℕ) → List Operator → List (List ℕ) → List ℕ → ℕ → Task
-task_of told before flow inputs name batch =
+abbrev pub run_task_of : Option Named → Option (List ℕ) → List Operator → List (List ℕ) → List ℕ → ℕ → RunTask
+run_task_of told before flow inputs name batch =
     record { told = told; before = before; name = name; flow = flow; inputs = inputs; batch = batch; commands = end_alone }
