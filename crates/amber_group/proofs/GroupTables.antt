@@ -1,7 +1,7 @@
 -- The groups of rows, as a row is added.
 use Rattle.std.proofs.Common.{◌≡◌, ℕ, zero, suc, false, cond, List, [], ◌∷◌, ◌++◌, length, map, Some, None, position, slice_get, refl, sym, ap, ◌∙◌}
 use Rattle.std.specs.List.{IsDistinct}
-use Rattle.std.specs.Map.{keys_of, lookup, aggregate_values}
+use Rattle.std.specs.Map.{keys_of, lookup, values_of}
 use Rattle.std.proofs.lemmas.List.{append-nil, length-map}
 use Rattle.std.proofs.lemmas.List.Elements.{filter-append}
 use Rattle.indexmap.specs.IndexMap.{set_value_at}
@@ -39,7 +39,7 @@ module _ (keys : List ℕ) (aggs : List Agg) (rows : List Row) (row : Row) where
   agree x e = ap (λ some. map (running_of some) aggs) (with-other x e)
 
   pub groups-known : (entries : List (Row × List Running)) (i : ℕ) (old new : List Running) → entries ≡ groups_of keys aggs rows
-      → position (same_row (pick_cells keys row)) (keys_of entries) ≡ Some i → IsDistinct same_row (keys_of entries) → slice_get (aggregate_values entries) i ≡ Some old
+      → position (same_row (pick_cells keys row)) (keys_of entries) ≡ Some i → IsDistinct same_row (keys_of entries) → slice_get (values_of entries) i ≡ Some old
       → new ≡ map (running_after row) old → set_value_at entries i new ≡ groups_of keys aggs (rows ++ row ∷ [])
   unfolding groups_of of_rows
   groups-known entries i old new is at distinct found more =
@@ -64,7 +64,7 @@ unfolding groups_of first_keys
 no-groups keys aggs = refl
 
 -- a value that is written where it stands changes nothing
-pub set-same : {A : Type 0} (entries : List (Row × A)) (i : ℕ) (v : A) → slice_get (aggregate_values entries) i ≡ Some v → set_value_at entries i v ≡ entries
+pub set-same : {A : Type 0} (entries : List (Row × A)) (i : ℕ) (v : A) → slice_get (values_of entries) i ≡ Some v → set_value_at entries i v ≡ entries
 set-same [] i v e = absurd (cc)
 set-same (x ∷ xs) zero v e = let same : v ≡ x.1 = cc in ap (λ w. (x.0, w) ∷ xs) same
 set-same (x ∷ xs) (suc i) v e = ap (λ es. x ∷ es) (set-same xs i v e)

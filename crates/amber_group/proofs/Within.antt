@@ -1,6 +1,6 @@
 -- How large the numbers of groups can be.
 use Rattle.std.proofs.Common.{◌≡◌, ℕ, zero, suc, ◌+◌, ◌<◌, ◌≤◌, List, [], ◌∷◌, ◌++◌, length, get_or, map, take, drop, set, Some, slice_get, sym, subst, ◌∙◌, arith, ℤ}
-use Rattle.std.specs.Map.{aggregate_values}
+use Rattle.std.specs.Map.{values_of}
 use Rattle.std.proofs.lemmas.Int.{ints}
 use Rattle.std.proofs.lemmas.List.{drop_more, take_more_set}
 use Rattle.indexmap.specs.IndexMap.{set_value_at}
@@ -43,7 +43,7 @@ pub groups_within-push : (n : ℕ) (groups : List Group) (key : List Value) (new
 groups_within-push n [] key new h w = (w, tt)
 groups_within-push n (group ∷ groups) key new h w = (h.0, groups_within-push n groups key new h.1 w)
 
-pub groups_within-at : (n : ℕ) (groups : List Group) (i : ℕ) (runnings : List Running) → GroupsWithin n groups → slice_get (aggregate_values groups) i ≡ Some runnings → AreWithin n runnings
+pub groups_within-at : (n : ℕ) (groups : List Group) (i : ℕ) (runnings : List Running) → GroupsWithin n groups → slice_get (values_of groups) i ≡ Some runnings → AreWithin n runnings
 groups_within-at n [] i runnings h e = absurd (cc)
 groups_within-at n (group ∷ groups) zero runnings h e = let same : group.1 ≡ runnings = cc in subst (AreWithin n) same h.0
 groups_within-at n (group ∷ groups) (suc i) runnings h e = groups_within-at n groups i runnings h.1 e

@@ -120,7 +120,7 @@ none-sent : (crew : List WorkerState) (sender receiver : ℕ) → ((k : ℕ) →
 unfolding taken_from
 none-sent crew sender receiver empty = none-waits sender (worker_state_at crew receiver).ins (empty receiver).0
 
-pub all-begun : (flow : List Operator) (files : List (List ℕ)) (size most : ℕ) (crew : List WorkerState) → AreAlone flow → length crew ≡ length flow
+pub all-begin_leg : (flow : List Operator) (files : List (List ℕ)) (size most : ℕ) (crew : List WorkerState) → AreAlone flow → length crew ≡ length flow
     → ((k : ℕ) → AreEmpty (worker_state_at crew k)) → HaveBegun flow (records_of files flow) size crew (length flow)
     → AreAtPositions (query_over flow files size most) crew (λ _. origin)
 all-begin_leg flow files size most crew alone long empty begun = record {

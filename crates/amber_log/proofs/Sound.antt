@@ -82,7 +82,7 @@ item_lines-leg false leg = refl
 item_lines-leg true leg = refl
 
 -- the lines behind a leg of these parts
-lines_read-closed : (batch : ℕ) (items : List Item) (place : Place) (end : Bool) (parts : List Part) (close : Close)
+lines_read-with_leg : (batch : ℕ) (items : List Item) (place : Place) (end : Bool) (parts : List Part) (close : Close)
     → lines_read (with_leg (at batch items place) end parts close)
     ≡ line.Head batch ∷ ((flat_map item_lines items ++ opening end ∷ flat_map part_lines parts) ++ line.Close close ∷ [])
 lines_read-with_leg batch items place end parts close =

@@ -249,7 +249,7 @@ unfolding begin_leg begin_last_leg
 begin_leg-like true state = like-map state.positions
 begin_leg-like false state = like-map state.positions
 
-nobody-worked : (query : Query) (state : State) → length state.positions ≡ crew_of query.flow → AreOffered query state.positions → IsWorked query state [] state
+nobody-after_leg : (query : Query) (state : State) → length state.positions ≡ crew_of query.flow → AreOffered query state.positions → IsWorked query state [] state
 unfolding entries_of Leads
 nobody-after_leg query state crew offered = record {
   same_arms = refl;

@@ -4,7 +4,7 @@ use Rattle.amber_course.specs.Course.{is_scan_of}
 use Rattle.amber_course.proofs.Scripts.{log-end, log-here, log-more}
 use Rattle.amber_course.proofs.log_name.log_scan.Goals as goal
 
-pub returns-then-reads : goal.returns-then-is_scan_of
+pub returns-then-is_scan_of : goal.returns-then-is_scan_of
 returns-then-is_scan_of c =
     let flow = c.args.flow.now in
     let i = c.loop-i.i in

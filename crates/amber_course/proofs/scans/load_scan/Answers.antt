@@ -23,8 +23,8 @@ returns-clause-course g c =
 pub returns-clause-few : goal.returns-clause-few
 returns-clause-few g c = require_header-few c.with_header.result c.args.op c.args.most c.args.columns.now c.in_ok-bytes.bytes c.with_header.ensures c.in_ok-bytes.ensures.few
 
-pub returns-clause-headed : goal.returns-clause-require_header
-returns-clause-require_header g c = require_header-right c.with_header.result c.args.op c.args.columns.now c.in_ok-bytes.bytes c.with_header.ensures
+pub returns-clause-headed : goal.returns-clause-headed
+returns-clause-headed g c = require_header-right c.with_header.result c.args.op c.args.columns.now c.in_ok-bytes.bytes c.with_header.ensures
 
 pub returns-in_err-bytes-clause-named : goal.returns-in_err-bytes-clause-named
 returns-in_err-bytes-clause-named g c =
