@@ -34,7 +34,7 @@ fn claim_and_count(board: &Board, seats: &mut [WorkSeat], worker: usize) -> u64
     let claimed = seat.claim(board);
     let all = seat.hand();
     count_times(board, seat, all);
-    after_claim
+    claimed
 }
 
 fn all_empty(seats: &[WorkSeat]) -> bool

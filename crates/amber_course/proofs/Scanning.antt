@@ -214,7 +214,7 @@ inputs-end ops i done h sofar =
     let none = drop_all i ops h in
     let count : scan_count (drop i ops) ≡ 0 = rw none refl in
     let headed : wrong_header (i + 1) [] (drop i ops) ≡ None = rw none refl in
-    record { count = omega (arith, count, sofar.count); headed = rw append-nil at (sofar.headed [] require_header) }
+    record { count = omega (arith, count, sofar.count); headed = rw append-nil at (sofar.headed [] headed) }
 
 -- ---- headers
 

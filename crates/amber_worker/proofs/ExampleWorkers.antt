@@ -22,7 +22,7 @@ use Rattle.amber_meaning.specs.Legal.{Query, batches_for, entries_of, role_in, s
 use Rattle.amber_meaning.specs.LegalTests.{are_offered, begins, is_settled, may_close_end, may_lead, may_make, may_reach, may_work, same_rows}
 use Rattle.amber_meaning.specs.Plan.{role_of, share_of, task_of, with_numbers}
 use Rattle.amber_meaning.specs.Position.{Position, fed, have_ended, kept, origin, product, taken_from}
-use Rattle.amber_meaning.specs.Replay.{after_item, after_items, led_by, positions_after, state_after, worked}
+use Rattle.amber_meaning.specs.Replay.{after_item, after_items, led_by, positions_after, state_after, after_leg}
 use Rattle.amber_meaning.specs.RuleTests.{may_finish, may_go, may_take}
 use Rattle.amber_meaning.specs.State.{begin_leg, begin_last_leg, start_of, steps_in}
 use Rattle.amber_meaning.specs.Stops.{without_stops}
@@ -43,7 +43,7 @@ unfolding holds_of suits_of pick_cells group_result sort_rows insert_row numbers
 workers_on_literals = tt
 
 logs_on_literals : ⊤
-unfolding workers_on_literals fits_of entries_of batches_for stream_of steps_in state_after after_items after_item worked positions_after led_by start_of begin_leg begin_last_leg without_stops are_offered begins same_rows is_settled may_close_end may_lead may_make may_reach may_work may_finish may_go may_take answer_in by_number insert_numbered taken_by
+unfolding workers_on_literals fits_of entries_of batches_for stream_of steps_in state_after after_items after_item after_leg positions_after led_by start_of begin_leg begin_last_leg without_stops are_offered begins same_rows is_settled may_close_end may_lead may_make may_reach may_work may_finish may_go may_take answer_in by_number insert_numbered taken_by
 logs_on_literals = tt
 
 -- ---- records, logs and answers

@@ -192,14 +192,14 @@ product-one placement orders w p sent one later now last takes =
     let within = left-within (length p.constants) (fed placement.role p.taken) one later left in
     let more : length (p.constants ++ orders.constants ∷ []) ≡ length p.constants + 1 = omega (arith, length-append p.constants (orders.constants ∷ [])) in
     let builds : is_builder task one.from ≡ w.building = side-is placement orders w p sent one later now last takes 0 one (omega arith) in
-    let gives : yields task (take (length p.constants) (fed placement.role p.taken)) one orders.constants ≡ gives_if w.operator_state w.building (row_in (columns_at_hand w) one.what) =
+    let yielded : yields task (take (length p.constants) (fed placement.role p.taken)) one orders.constants ≡ gives_if w.operator_state w.building (row_in (columns_at_hand w) one.what) =
     yields-all w.operator_state task orders.constants placement.role (taken_of placement.role p) one shows.operator_state shows.state
     ∙ ap (λ b. gives_if w.operator_state b (suiting task one)) builds
     ∙ ap (λ found. gives_if w.operator_state w.building found) (sym (found-is placement orders w p sent one later now last takes)) in
     let before : produce task [] (fed placement.role p.taken) p.constants ≡ product placement.role p.taken p.constants =
     sym (product-open placement.role p.taken p.constants (not-complete placement.role p.taken (length p.constants) (omega arith))) in
     product-is placement.role p.taken (p.constants ++ orders.constants ∷ [])
-    ∙ rw (more, produce-next task [] (fed placement.role p.taken) p.constants one later orders.constants left, row_yield, before, ← last-is placement orders w p sent one later now last takes)
+    ∙ rw (more, produce-next task [] (fed placement.role p.taken) p.constants one later orders.constants left, yielded, before, ← last-is placement orders w p sent one later now last takes)
     (append_assoc (product placement.role p.taken p.constants) (gives_if w.operator_state w.building (row_in (columns_at_hand w) one.what)) last)
 
 -- all that was produced is gone
