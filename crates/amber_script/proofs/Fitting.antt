@@ -13,7 +13,7 @@ use Rattle.amber_rows.specs.declared.column.Column.{Column}
 use Rattle.amber_rows.specs.declared.flow.What.{What}
 use Rattle.amber_rows.specs.declared.flow.What.TheVariants as what
 use Rattle.amber_rows.specs.declared.flow.Operator.{Operator}
-use Rattle.amber_log.specs.Fits.{script_constant, fits_of, is_cell_of, is_there, takes_constant}
+use Rattle.amber_log.specs.Fits.{may_be_set_to, fits_of, is_cell_of, is_there, takes_constant}
 use Rattle.amber_log.specs.declared.command.Command.{Command}
 use Rattle.amber_script.specs.Commands.{filtered_kind, settable_kind}
 
@@ -39,7 +39,7 @@ of_cell (Some column) kind one is fits =
     let same : column.kind ≡ kind = cc in
     subst (λ (k : ColKind). same_kind k (kind_of one) ≡ true) (sym same) fits
 
-of_filter : (what : What) (columns : List Column) (kind : ColKind) (one : Value) → filtered_kind what columns ≡ Some kind → same_kind kind (kind_of one) ≡ true → script_constant what columns one ≡ true
+of_filter : (what : What) (columns : List Column) (kind : ColKind) (one : Value) → filtered_kind what columns ≡ Some kind → same_kind kind (kind_of one) ≡ true → may_be_set_to what columns one ≡ true
 of_filter (what.Scan file) columns kind one is fits = absurd (cc)
 of_filter (what.Filter input cond) columns kind one is fits = of_cell (nth columns cond.column) kind one is fits
 of_filter (what.Project input from) columns kind one is fits = absurd (cc)
