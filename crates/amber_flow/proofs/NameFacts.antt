@@ -10,7 +10,7 @@ use Rattle.serde_json.specs.Data.{Data}
 use Rattle.serde_json.specs.Find.{at}
 use Rattle.amber_rows.specs.Columns.{names_of}
 use Rattle.amber_rows.specs.Cond.{nth}
-use Rattle.amber_rows.specs.FlowRules.{AreIn, HasInput, IsEarlier, IsKind, column_kinds, operator_columns, is_column_name, kinds_at, schema_of}
+use Rattle.amber_rows.specs.FlowRules.{AreIn, HasInput, IsEarlier, IsKind, column_kinds, columns_at, is_column_name, kinds_at, schema_of}
 use Rattle.amber_rows.specs.declared.column.Column.{Column}
 use Rattle.amber_rows.specs.declared.flow.Operator.{Operator}
 use Rattle.amber_rows.specs.declared.flow.What.TheVariants as what
@@ -99,7 +99,7 @@ here_of : (found : Option Operator) (columns : List Column) → IsSomeAnd found 
 here_of None columns has = absurd has
 here_of (Some operator) columns has = has
 
-pub columns-here : (before : List Operator) (input : ℕ) (columns : List Column) → HasInput before input columns → operator_columns before input ≡ columns
+pub columns-here : (before : List Operator) (input : ℕ) (columns : List Column) → HasInput before input columns → columns_at before input ≡ columns
 columns-here before input columns has = here_of (nth before input) columns has
 
 -- what a projection is, where its reader has given these
