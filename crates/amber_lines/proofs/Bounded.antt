@@ -8,7 +8,7 @@ use Rattle.amber_rows.specs.declared.batch.Batch.{Batch}
 use Rattle.amber_rows.specs.declared.cond.Cond.{Cond}
 use Rattle.amber_log.specs.declared.entry.Entry.{Entry}
 use Rattle.amber_log.specs.declared.entry.Entry.TheVariants as entry
-use Rattle.amber_meaning.specs.Legal.{IsPrefix}
+use Rattle.amber_rows.specs.Lists.{IsPrefix}
 use Rattle.amber_meaning.specs.Position.{Position, Taken, fed, has_last, have_ended, is_complete, origin, pending_rows, produced_rows, product}
 use Rattle.amber_meaning.specs.Rules.{Leads, MayGo, MayHold, MayTake, Moves, Orders, first_is_watched, took, went}
 use Rattle.amber_meaning.specs.State.{let_go, without_held}

@@ -1,7 +1,7 @@
 -- The test of an entry, and what the state behind it is.
 use Rattle.std.proofs.Common.{◌≡◌, ℕ, zero, suc, ◌+◌, ◌<◌, List, [], ◌∷◌, length, get_or, Option, Some, None, is_some, true, refl, sym, ap, ◌∙◌, arith}
 use Rattle.std.proofs.lemmas.Bool.{and_from, and_parts, eq-eqb, false≢true, ne_eqb}
-use Rattle.amber_rows.specs.Cond.{nth}
+use Rattle.amber_rows.specs.Lists.{nth, changed_from}
 use Rattle.amber_rows.specs.declared.batch.Batch.{Batch}
 use Rattle.amber_log.specs.declared.entry.Entry.{Entry}
 use Rattle.amber_log.specs.declared.entry.Entry.TheVariants as entry
@@ -11,7 +11,7 @@ use Rattle.amber_meaning.specs.Position.{Position, origin}
 use Rattle.amber_meaning.specs.Replay.{moved_by, took_if}
 use Rattle.amber_meaning.specs.Rules.{Moves, Orders, took}
 use Rattle.amber_meaning.specs.RuleTests.{may_move}
-use Rattle.amber_meaning.specs.State.{State, changed_from, position_at}
+use Rattle.amber_meaning.specs.State.{State, position_at}
 use Rattle.amber_meaning.proofs.LegalFrom.{moves-from}
 use Rattle.amber_meaning.proofs.LegalTests.{rule-of}
 use Rattle.amber_meaning.proofs.OneState.{position-get_or}

@@ -8,8 +8,8 @@ use Rattle.std.proofs.lemmas.List.{append-nil, map-append}
 use Rattle.std.proofs.lemmas.List.Elements.{filter-append}
 use Rattle.std.proofs.lemmas.Nat.{le-div}
 use Rattle.std.proofs.lemmas.Option.{slice_get_within}
-use Rattle.amber_rows.specs.Chunks.{chunks_of, numbers_below}
-use Rattle.amber_rows.specs.Cond.{nth}
+use Rattle.amber_rows.specs.Chunks.{chunks_of}
+use Rattle.amber_rows.specs.Lists.{numbers_below, nth, IsPrefix}
 use Rattle.amber_rows.specs.Crew.{crew_of, receiver_of}
 use Rattle.amber_rows.specs.declared.value.Value.{Value}
 use Rattle.amber_rows.specs.declared.batch.Batch.{Batch}
@@ -17,7 +17,7 @@ use Rattle.amber_log.specs.Grammar.{IsBatch}
 use Rattle.amber_log.specs.declared.entry.Entry.{Entry}
 use Rattle.amber_log.specs.declared.entry.Entry.TheVariants as entry
 use Rattle.amber_log.specs.declared.log.Log.{Log}
-use Rattle.amber_meaning.specs.Legal.{AreOffered, IsPrefix, IsLegal, Query, batches_for, entries_of, leg_start, role_in, stream_of}
+use Rattle.amber_meaning.specs.Legal.{AreOffered, IsLegal, Query, batches_for, entries_of, leg_start, role_in, stream_of}
 use Rattle.amber_meaning.specs.Plan.{role_of}
 use Rattle.amber_meaning.specs.Position.{Position, emitted_rows, kept, produced_rows, taken_from}
 use Rattle.amber_meaning.specs.Rules.{Leads, MayGo, MayTake, Moves, Orders, took, went}

@@ -13,7 +13,8 @@ use Rattle.amber_rows.specs.declared.cond.Cmp.TheVariants as cmp
 use Rattle.amber_rows.specs.declared.flow.What.TheVariants as what
 use Rattle.amber_rows.specs.declared.flow.Operator.{Operator}
 use Rattle.amber_rows.specs.declared.record.RowFault.{RowFault}
-use Rattle.amber_rows.specs.Chunks.{chunks_of, numbers_below}
+use Rattle.amber_rows.specs.Chunks.{chunks_of}
+use Rattle.amber_rows.specs.Lists.{numbers_below}
 use Rattle.amber_rows.specs.Cond.{holds_of}
 use Rattle.amber_rows.specs.Crew.{crew_of, first_worker_of, follower_of, keyed_receiver_of, op_of, reader_from, receiver_of, senders_of, sends_to, workers_of}
 use Rattle.amber_rows.specs.Operators.{agg_value, agg_values, first_keys, greatest_of, group_result, join_result, least_of, matches_of, pick_cells, project_result, refused_keys, total_of}

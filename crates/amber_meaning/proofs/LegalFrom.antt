@@ -5,8 +5,7 @@ use Rattle.std.proofs.lemmas.Bool.{and_parts, cases_lt, eqb-true, false≢true, 
 use Rattle.std.proofs.lemmas.List.{length_push}
 use Rattle.std.proofs.lemmas.List.Folds.{list_all-map}
 use Rattle.std.proofs.lemmas.Option.{slice_get_past}
-use Rattle.amber_rows.specs.Chunks.{numbers_below}
-use Rattle.amber_rows.specs.Cond.{nth}
+use Rattle.amber_rows.specs.Lists.{numbers_below, nth, is_empty}
 use Rattle.amber_rows.specs.Crew.{crew_of, op_of}
 use Rattle.amber_rows.specs.declared.batch.Batch.{Batch}
 use Rattle.amber_log.specs.declared.entry.Entry.{Entry}
@@ -23,7 +22,7 @@ use Rattle.amber_meaning.specs.Plan.{role_of}
 use Rattle.amber_meaning.specs.Position.{Position}
 use Rattle.amber_meaning.specs.Replay.{after_item, after_items, led_by, moved_by, positions_after, took_if, after_leg}
 use Rattle.amber_meaning.specs.Rules.{Leads, Moves, Orders}
-use Rattle.amber_meaning.specs.RuleTests.{is_empty, may_move}
+use Rattle.amber_meaning.specs.RuleTests.{may_move}
 use Rattle.amber_meaning.specs.State.{Counting, State, arms_at, begin_leg, begin_last_leg, counted_at, no_arms, orders_of, position_at, steps_in}
 use Rattle.amber_meaning.specs.Task.{Role}
 use Rattle.amber_meaning.proofs.Batches.{begins-so}

@@ -2,7 +2,7 @@
 use Rattle.std.proofs.Common.{◌≡◌, ◌≢◌, ℕ, suc, ◌<◌, ◌≤◌, eqb, ltb, List, [], ◌∷◌, length, map, Option, Some, None, is_some, true, not, refl, ap}
 use Rattle.std.specs.List.{list_all, list_any}
 use Rattle.std.proofs.lemmas.Bool.{and_from, eq-eqb, le-leb, lt-ltb, not_from_false, or_left, or_right}
-use Rattle.amber_rows.specs.Chunks.{numbers_below}
+use Rattle.amber_rows.specs.Lists.{numbers_below, IsPrefix, is_empty}
 use Rattle.amber_rows.specs.Crew.{crew_of, op_of}
 use Rattle.amber_rows.specs.declared.batch.Batch.{Batch}
 use Rattle.amber_log.specs.declared.entry.Entry.{Entry}
@@ -13,13 +13,13 @@ use Rattle.amber_log.specs.declared.leg.Part.{Part}
 use Rattle.amber_log.specs.declared.log.Item.{Item}
 use Rattle.amber_log.specs.declared.log.Item.TheVariants as item
 use Rattle.amber_meaning.specs.Laws.{RulesAreTested, SendersFirst}
-use Rattle.amber_meaning.specs.Legal.{AreOffered, IsPrefix, ClosesEnd, ClosesRun, IsSettled, IsWorked, Makes, Query, Reaches, batches_for, entries_of, role_in, stops_in}
+use Rattle.amber_meaning.specs.Legal.{AreOffered, ClosesEnd, ClosesRun, IsSettled, IsWorked, Makes, Query, Reaches, batches_for, entries_of, role_in, stops_in}
 use Rattle.amber_meaning.specs.LegalTests.{are_offered, is_first_of, is_offered, is_settled, is_within, may_close_end, may_close_run, may_do, may_lead, may_make, may_reach, may_work}
 use Rattle.amber_meaning.specs.Plan.{role_of}
 use Rattle.amber_meaning.specs.Position.{Position, taken_from}
 use Rattle.amber_meaning.specs.Replay.{after_leg}
 use Rattle.amber_meaning.specs.Rules.{Leads, Moves, Orders}
-use Rattle.amber_meaning.specs.RuleTests.{MayMove, is_empty}
+use Rattle.amber_meaning.specs.RuleTests.{MayMove}
 use Rattle.amber_meaning.specs.State.{Counting, State, arms_at, begin_leg, begin_last_leg, counted_at, orders_of, position_at}
 use Rattle.amber_meaning.specs.Task.{Role}
 use Rattle.amber_meaning.proofs.Batches.{begins-so}

@@ -4,7 +4,7 @@ use Rattle.std.specs.Prelude.{filter}
 use Rattle.std.specs.List.{list_any}
 use Rattle.std.proofs.lemmas.Bool.{cases_eq, cases_lt, eq-eqb, ne_eqb}
 use Rattle.std.proofs.lemmas.List.{append-nil, ext_get_or, get_or_append_left, get_or_push, length_push}
-use Rattle.amber_rows.specs.Cond.{nth}
+use Rattle.amber_rows.specs.Lists.{nth, IsPrefix}
 use Rattle.amber_rows.specs.Crew.{crew_of, op_of}
 use Rattle.amber_rows.specs.declared.batch.Batch.{Batch}
 use Rattle.amber_log.specs.declared.entry.Entry.{Entry}
@@ -13,7 +13,7 @@ use Rattle.amber_log.specs.declared.leg.Part.{Part}
 use Rattle.amber_log.specs.declared.log.Item.{Item}
 use Rattle.amber_log.specs.declared.log.Item.TheVariants as item
 use Rattle.amber_meaning.specs.Laws.{ItemsHaveOneState, LegalLogsHaveOneState, LegsHaveOneState, SendersFirst}
-use Rattle.amber_meaning.specs.Legal.{AreOffered, IsPrefix, IsWorked, Makes, Query, Reaches, batches_for, entries_of, role_in, stream_of}
+use Rattle.amber_meaning.specs.Legal.{AreOffered, IsWorked, Makes, Query, Reaches, batches_for, entries_of, role_in, stream_of}
 use Rattle.amber_meaning.specs.Plan.{role_of}
 use Rattle.amber_meaning.specs.Position.{Position, Taken, origin, taken_from}
 use Rattle.amber_meaning.specs.Replay.{after_item, after_items, led_by, moved_by, positions_after, state_after, after_leg}

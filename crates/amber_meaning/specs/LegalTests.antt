@@ -1,8 +1,7 @@
 -- Tests for legs and logs: they are true exactly of what leads on.
 use Rattle.std.specs.Prelude.{ℕ, ◌+◌, ◌==◌, nat_le, nat_lt, ◌&&◌, not, suc, List, [], ◌∷◌, length, map, Option, Some, None, is_some, Bool, true, false}
 use Rattle.std.specs.List.{list_all}
-use Rattle.amber_rows.specs.Chunks.{numbers_below}
-use Rattle.amber_rows.specs.Cond.{nth}
+use Rattle.amber_rows.specs.Lists.{numbers_below, nth, is_empty}
 use Rattle.amber_rows.specs.Crew.{crew_of, op_of}
 use Rattle.amber_rows.specs.Operators.{same_row}
 use Rattle.amber_rows.specs.declared.value.Value.{Value}
@@ -19,7 +18,7 @@ use Rattle.amber_meaning.specs.Legal.{Query, batches_for, entries_of, role_in, s
 use Rattle.amber_meaning.specs.Position.{Position, taken_from}
 use Rattle.amber_meaning.specs.Replay.{after_item, moved_by, after_leg}
 use Rattle.amber_meaning.specs.Rules.{Orders}
-use Rattle.amber_meaning.specs.RuleTests.{is_empty, may_move}
+use Rattle.amber_meaning.specs.RuleTests.{may_move}
 use Rattle.amber_meaning.specs.State.{Counting, State, arms_at, begin_leg, begin_last_leg, counted_at, have_finished, orders_of, position_at, steps_in}
 use Rattle.amber_meaning.specs.Task.{Role}
 

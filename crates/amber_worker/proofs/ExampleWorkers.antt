@@ -6,7 +6,8 @@ use Rattle.amber_rows.specs.declared.value.Value.TheVariants as value
 use Rattle.amber_rows.specs.declared.batch.Batch.{Batch}
 use Rattle.amber_rows.specs.declared.record.RowFault.{RowFault}
 use Rattle.amber_rows.specs.declared.record.RowFault.TheVariants as fault
-use Rattle.amber_rows.specs.Chunks.{chunks_of, numbers_below}
+use Rattle.amber_rows.specs.Chunks.{chunks_of}
+use Rattle.amber_rows.specs.Lists.{numbers_below}
 use Rattle.amber_rows.specs.Cond.{holds_of}
 use Rattle.amber_rows.specs.Crew.{crew_of, first_worker_of, follower_of, op_of, reader_from, receiver_of, senders_of, sends_to, workers_of}
 use Rattle.amber_rows.specs.Operators.{group_result, pick_cells}
