@@ -15,8 +15,8 @@ use Rattle.amber_meaning.specs.Legal.{AreOffered, ClosesEnd, ClosesRun, IsLegal,
 use Rattle.amber_meaning.specs.LegalTests.{may_reach}
 use Rattle.amber_meaning.specs.Position.{Position}
 use Rattle.amber_meaning.specs.Replay.{after_item, after_items, state_after, after_leg}
-use Rattle.amber_meaning.specs.Rules.{Orders}
-use Rattle.amber_meaning.specs.RuleTests.{MayMove, may_move}
+use Rattle.amber_meaning.specs.Rules.{Orders, May}
+use Rattle.amber_meaning.specs.RuleTests.{may_move}
 use Rattle.amber_meaning.specs.State.{State, position_at, steps_in}
 use Rattle.amber_meaning.specs.Task.{Role}
 use Rattle.amber_meaning.specs.Transcript.{reply_of, transcript_of}
@@ -91,7 +91,7 @@ TranscriptsGrow = (query : Query) (items : List Item) (one : Item)
 
 -- the test of an entry's rule is true exactly where the rule holds
 abbrev pub RulesAreTested : Type 0
-RulesAreTested = (role : Role) (orders : Orders) (p : Position) (one : Entry) → (may_move role orders p one ≡ true) ↔ MayMove role orders p one
+RulesAreTested = (role : Role) (orders : Orders) (p : Position) (one : Entry) → (may_move role orders p one ≡ true) ↔ May role orders p one
 
 -- the test of items is true exactly where they lead to a state
 abbrev pub LogsAreTested : Type 0

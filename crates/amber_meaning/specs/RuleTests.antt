@@ -55,14 +55,3 @@ may_move role orders p entry.Pause = may_pause p
 may_move role orders p entry.Resume = may_resume p
 may_move role orders p entry.Hold = may_hold role orders p
 may_move role orders p entry.Finish = may_finish role p
-
--- the rule of an entry
-abbrev pub MayMove : Role → Orders → Position → Entry → Type 0
-MayMove role orders p (entry.Take from number) = MayTake role p from number
-MayMove role orders p (entry.Go rows outs) = MayGo role orders p rows outs
-MayMove role orders p (entry.Grant n) = MayGrant orders p
-MayMove role orders p (entry.Back n) = MayGiveBack orders p n
-MayMove role orders p entry.Pause = MayPause p
-MayMove role orders p entry.Resume = MayResume p
-MayMove role orders p entry.Hold = MayHold role orders p
-MayMove role orders p entry.Finish = MayFinish role p
