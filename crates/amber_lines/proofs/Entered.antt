@@ -7,15 +7,15 @@ use Rattle.amber_rows.specs.declared.batch.Batch.{Batch}
 use Rattle.amber_log.specs.declared.entry.Entry.{Entry}
 use Rattle.amber_log.specs.declared.entry.Entry.TheVariants as entry
 use Rattle.amber_meaning.specs.Legal.{Query, role_in}
-use Rattle.amber_meaning.specs.LegalTests.{is_offered}
+use Rattle.amber_judge.specs.LegalTests.{is_offered}
 use Rattle.amber_meaning.specs.Position.{Position, origin}
 use Rattle.amber_meaning.specs.Rules.{Moves, Orders, position_after, with_offered, with_batch}
-use Rattle.amber_meaning.specs.RuleTests.{may_move}
+use Rattle.amber_judge.specs.RuleTests.{may_move}
 use Rattle.amber_meaning.specs.State.{State, position_at}
-use Rattle.amber_meaning.proofs.LegalFrom.{moves-from}
-use Rattle.amber_meaning.proofs.LegalTests.{rule-of}
+use Rattle.amber_judge.proofs.LegalFrom.{moves-from}
+use Rattle.amber_judge.proofs.LegalTests.{rule-of}
 use Rattle.amber_meaning.proofs.OneState.{position-get_or}
-use Rattle.amber_meaning.proofs.RuleTests.{may_move-so}
+use Rattle.amber_judge.proofs.RuleTests.{may_move-so}
 use Rattle.amber_lines.specs.LineLaws.{EntriesAreTested}
 use Rattle.amber_lines.specs.Lines.{may_enter, offers_in, position_behind, with_position}
 use Rattle.amber_lines.specs.Moving.{TakesOffered, orders_in}

@@ -15,10 +15,10 @@ use Rattle.amber_log.specs.declared.line.Line.TheVariants as line
 use Rattle.amber_log.specs.declared.log.Log.{Log}
 use Rattle.amber_meaning.specs.Legal.{Query, after_close, batches_for, leg_start, role_in}
 use Rattle.amber_rows.specs.Lists.{IsPrefix, changed_at}
-use Rattle.amber_meaning.specs.LegalTests.{is_offered, may_close_end, may_close_run}
+use Rattle.amber_judge.specs.LegalTests.{is_offered, may_close_end, may_close_run}
 use Rattle.amber_meaning.specs.Position.{Position}
 use Rattle.amber_meaning.specs.Rules.{position_after}
-use Rattle.amber_meaning.specs.RuleTests.{may_move}
+use Rattle.amber_judge.specs.RuleTests.{may_move}
 use Rattle.amber_meaning.specs.State.{State, after_command, position_at, start_of, steps_in}
 use Rattle.amber_lines.specs.Moving.{orders_in}
 

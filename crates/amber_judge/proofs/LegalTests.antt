@@ -12,19 +12,20 @@ use Rattle.amber_log.specs.declared.leg.Close.TheVariants as close
 use Rattle.amber_log.specs.declared.leg.Part.{Part}
 use Rattle.amber_log.specs.declared.log.Item.{Item}
 use Rattle.amber_log.specs.declared.log.Item.TheVariants as item
-use Rattle.amber_meaning.specs.Laws.{RulesAreTested, SendersFirst}
+use Rattle.amber_meaning.specs.Laws.{SendersFirst}
+use Rattle.amber_judge.specs.TestLaws.{RulesAreTested}
 use Rattle.amber_meaning.specs.Legal.{AreOffered, ClosesEnd, ClosesRun, IsSettled, IsWorked, Makes, Query, Reaches, batches_for, entries_of, role_in, stops_in}
-use Rattle.amber_meaning.specs.LegalTests.{are_offered, is_first_of, is_offered, is_settled, is_within, may_close_end, may_close_run, may_do, may_lead, may_make, may_reach, may_work}
+use Rattle.amber_judge.specs.LegalTests.{are_offered, is_first_of, is_offered, is_settled, is_within, may_close_end, may_close_run, may_do, may_lead, may_make, may_reach, may_work}
 use Rattle.amber_meaning.specs.Plan.{role_of}
 use Rattle.amber_meaning.specs.Position.{Position, taken_from}
 use Rattle.amber_meaning.specs.Replay.{after_leg}
 use Rattle.amber_meaning.specs.Rules.{Leads, Moves, Orders, May}
 use Rattle.amber_meaning.specs.State.{Counting, State, arms_at, begin_leg, begin_last_leg, counted_at, orders_of, position_at}
 use Rattle.amber_meaning.specs.Task.{Role}
-use Rattle.amber_meaning.proofs.Batches.{begins-so}
+use Rattle.amber_judge.proofs.Batches.{begins-so}
 use Rattle.amber_meaning.proofs.Lists.{IsPrefix-trans, list_all-below, list_all-every, list_all-members}
 use Rattle.amber_meaning.proofs.OneState.{Leads-keeps, TookFirst, found-batch, item-is, moved-is, after_leg-is}
-use Rattle.amber_meaning.proofs.RuleTests.{empty_from_nil, may_move-so}
+use Rattle.amber_judge.proofs.RuleTests.{empty_from_nil, may_move-so}
 
 -- ---- one worker
 

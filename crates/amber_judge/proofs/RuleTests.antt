@@ -6,7 +6,7 @@ use Rattle.amber_log.specs.declared.entry.Entry.TheVariants as entry
 use Rattle.amber_meaning.specs.Task.{Role}
 use Rattle.amber_meaning.specs.Position.{Position}
 use Rattle.amber_meaning.specs.Rules.{IsFree, MayFinish, MayGiveBack, MayGo, MayGrant, MayHold, MayPause, MayResume, MayTake, Orders, May}
-use Rattle.amber_meaning.specs.RuleTests.{is_free, may_finish, may_give_back, may_go, may_grant, may_hold, may_move, may_pause, may_resume, may_take}
+use Rattle.amber_judge.specs.RuleTests.{is_free, may_finish, may_give_back, may_go, may_grant, may_hold, may_move, may_pause, may_resume, may_take}
 use Rattle.amber_rows.specs.Lists.{is_empty}
 
 pub nil_from_empty : {A : Type 0} (xs : List A) → is_empty xs ≡ true → xs ≡ []

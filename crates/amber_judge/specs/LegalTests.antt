@@ -18,7 +18,7 @@ use Rattle.amber_meaning.specs.Legal.{Query, batches_for, entries_of, role_in, s
 use Rattle.amber_meaning.specs.Position.{Position, taken_from}
 use Rattle.amber_meaning.specs.Replay.{after_item, after_leg, batch_for}
 use Rattle.amber_meaning.specs.Rules.{Orders, position_after}
-use Rattle.amber_meaning.specs.RuleTests.{may_move}
+use Rattle.amber_judge.specs.RuleTests.{may_move}
 use Rattle.amber_meaning.specs.State.{Counting, State, arms_at, begin_leg, begin_last_leg, counted_at, have_finished, orders_of, position_at, steps_in}
 use Rattle.amber_meaning.specs.Task.{Role}
 

@@ -16,21 +16,22 @@ use Rattle.amber_log.specs.declared.leg.Close.TheVariants as close
 use Rattle.amber_log.specs.declared.leg.Part.{Part}
 use Rattle.amber_log.specs.declared.log.Item.{Item}
 use Rattle.amber_log.specs.declared.log.Item.TheVariants as item
-use Rattle.amber_meaning.specs.Laws.{LogsAreTested, SendersFirst}
+use Rattle.amber_meaning.specs.Laws.{SendersFirst}
+use Rattle.amber_judge.specs.TestLaws.{LogsAreTested}
 use Rattle.amber_meaning.specs.Legal.{AreOffered, ClosesEnd, ClosesRun, IsSettled, IsWorked, Makes, Query, Reaches, batches_for, entries_of, role_in, stops_in}
-use Rattle.amber_meaning.specs.LegalTests.{are_offered, is_first_of, is_offered, is_settled, is_within, may_close_end, may_close_run, may_do, may_lead, may_make, may_reach, may_work}
+use Rattle.amber_judge.specs.LegalTests.{are_offered, is_first_of, is_offered, is_settled, is_within, may_close_end, may_close_run, may_do, may_lead, may_make, may_reach, may_work}
 use Rattle.amber_meaning.specs.Plan.{role_of}
 use Rattle.amber_meaning.specs.Position.{Position}
 use Rattle.amber_meaning.specs.Replay.{after_item, after_items, led_by, positions_after, after_leg, batch_for}
 use Rattle.amber_meaning.specs.Rules.{Leads, Moves, Orders, position_after, with_offered}
-use Rattle.amber_meaning.specs.RuleTests.{may_move}
+use Rattle.amber_judge.specs.RuleTests.{may_move}
 use Rattle.amber_meaning.specs.State.{Counting, State, arms_at, begin_leg, begin_last_leg, counted_at, no_arms, orders_of, position_at, steps_in}
 use Rattle.amber_meaning.specs.Task.{Role}
-use Rattle.amber_meaning.proofs.Batches.{begins-so}
-use Rattle.amber_meaning.proofs.LegalTests.{may_reach-is}
+use Rattle.amber_judge.proofs.Batches.{begins-so}
+use Rattle.amber_judge.proofs.LegalTests.{may_reach-is}
 use Rattle.amber_meaning.proofs.Lists.{list_all-at, list_all-member, nth-next}
 use Rattle.amber_meaning.proofs.OneState.{position-before, position-last, same-batches}
-use Rattle.amber_meaning.proofs.RuleTests.{may_move-so, may_take-so, nil_from_empty}
+use Rattle.amber_judge.proofs.RuleTests.{may_move-so, may_take-so, nil_from_empty}
 
 -- ---- one worker
 
