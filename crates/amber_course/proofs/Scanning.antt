@@ -9,7 +9,8 @@ use Rattle.amber_rows.specs.declared.column.Column.{Column}
 use Rattle.amber_rows.specs.declared.flow.What.{What}
 use Rattle.amber_rows.specs.declared.flow.What.TheVariants as what
 use Rattle.amber_rows.specs.declared.flow.Operator.{Operator}
-use Rattle.amber_meaning.specs.Plain.{is_scan, scan_count, wrong_header}
+use Rattle.amber_meaning.specs.Plain.{scan_count, wrong_header}
+use Rattle.amber_rows.specs.Kinds.{is_scan}
 use Rattle.amber_course.specs.Ready.{AreInputs}
 use Rattle.amber_course.specs.Course.{IsScanFile, file_before, require_header, most_scanned, scan_before, scan_file, scans_from, scans_of, then_on}
 use Rattle.amber_course.specs.Steps.{Follows, Judges, Names, Tells}

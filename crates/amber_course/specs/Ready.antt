@@ -1,6 +1,6 @@
 -- What a job is made of, and which words ask for it.
 use Rattle.std.specs.Prelude.{◌≡◌, ⊤, List, None, length, ℕ}
-use Rattle.amber_flow.specs.Alone.{AreAlone}
+use Rattle.amber_rows.specs.Crew.{AreAlone}
 use Rattle.amber_rows.specs.FlowRules.{IsFlow}
 use Rattle.amber_rows.specs.declared.flow.Operator.{Operator}
 use Rattle.amber_meaning.specs.Plain.{scan_count, wrong_header}

@@ -1,5 +1,5 @@
 ghost use Rattle.std.specs.Prelude.{◌≡◌, ◌<◌, ◌≤◌, ◌^◌, length, IfErr, IfOk};
-ghost use Rattle.amber_flow.specs.Alone.{AreAlone};
+ghost use Rattle.amber_rows.specs.Crew.{AreAlone};
 ghost use Rattle.amber_flow.specs.Workflow.{workflow_of};
 ghost use Rattle.amber_course.specs.Course.{flow_read, load_of, workflow_in};
 ghost use Rattle.amber_course.specs.Steps.{Follows, IsBounded, IsMissing, IsOversized, Judges, Names};

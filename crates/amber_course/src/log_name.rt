@@ -1,5 +1,5 @@
 ghost use Rattle.std.specs.Prelude.{◌≡◌, IfErr, IfOk};
-ghost use Rattle.amber_flow.specs.Alone.{AreAlone};
+ghost use Rattle.amber_rows.specs.Crew.{AreAlone};
 ghost use Rattle.amber_course.specs.Course.{apart_from, log_scan, is_scan_of, run_flow};
 ghost use Rattle.amber_course.specs.Steps.{Follows, Judges, Names};
 

@@ -3,7 +3,7 @@ ghost use Rattle.amber_log.specs.Fits.{fits_of};
 ghost use Rattle.amber_log.specs.Grammar.{IsLog, ends_over};
 ghost use Rattle.amber_meaning.specs.Legal.{IsLegal};
 ghost use Rattle.amber_meaning.specs.Plain.{scan_count};
-ghost use Rattle.amber_worker.specs.AtPosition.{AreAlone};
+ghost use Rattle.amber_rows.specs.Crew.{AreAlone};
 ghost use Rattle.amber_home.specs.HomeState.{BeginsOrNames, is_spent, query_of};
 ghost use Rattle.amber_debug.specs.Ending.{EndsAs, IsLastText};
 ghost use Rattle.amber_debug.specs.Session.{Does, query_in};

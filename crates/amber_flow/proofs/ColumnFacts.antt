@@ -7,7 +7,7 @@ use Rattle.serde_json.specs.declared.value.Value.{Value}
 use Rattle.amber_rows.specs.Columns.{names_of}
 use Rattle.amber_rows.specs.FlowRules.{are_apart, is_among, is_column_name}
 use Rattle.amber_rows.specs.declared.column.Column.{Column}
-use Rattle.amber_flow.specs.Chain.{◌>>=◌}
+use Rattle.amber_rows.specs.Chain.{◌>>=◌}
 use Rattle.amber_flow.specs.Columns.{column_of, columns_of}
 use Rattle.amber_flow.specs.declared.error.FlowWhy.{FlowWhy}
 use Rattle.amber_flow.proofs.ListFacts.{and-true}

@@ -5,7 +5,7 @@ use Rattle.serde_json.specs.Data.{Data}
 use Rattle.serde_json.specs.View.{view}
 use Rattle.serde_json.specs.declared.value.Value.{Value}
 use Rattle.amber_rows.specs.declared.flow.Operator.{Operator}
-use Rattle.amber_flow.specs.Chain.{◌>>=◌}
+use Rattle.amber_rows.specs.Chain.{◌>>=◌}
 use Rattle.amber_flow.specs.Fields.{array_at}
 use Rattle.amber_flow.specs.Workflow.{check_whole, fault_at, flow_of, is_flow_length, operators_from}
 use Rattle.amber_flow.specs.declared.error.Fault.{Fault}

@@ -3,16 +3,17 @@ use Rattle.std.proofs.Common.{◌≡◌, ℕ, suc, ◌+◌, ◌<◌, ◌≤◌, 
 use Rattle.std.proofs.lemmas.List.{drop_all}
 use Rattle.std.proofs.lemmas.List.Elements.{All-cons, All-nil}
 use Rattle.std.specs.List.{cons_option, filter_map}
-use Rattle.amber_rows.specs.Cond.{nth}
-use Rattle.amber_rows.specs.FlowRules.{AreIn, HasInput, IsEarlier, IsKind, kinds_at}
+use Rattle.amber_rows.specs.Lists.{nth}
+use Rattle.amber_rows.specs.FlowRules.{AreIn, HasInput, IsEarlier, IsKind, kinds_at, column_kind_at}
 use Rattle.amber_rows.specs.declared.column.ColKind.{ColKind}
 use Rattle.amber_rows.specs.declared.column.ColKind.TheVariants.{Int, Text}
 use Rattle.amber_rows.specs.declared.column.Column.{Column}
 use Rattle.amber_rows.specs.declared.flow.Operator.{Operator}
 use Rattle.amber_rows.specs.declared.flow.What.TheVariants as what
-use Rattle.amber_flow.specs.Chain.{each}
-use Rattle.amber_flow.specs.Columns.{column_number, column_kind_at}
-use Rattle.amber_flow.specs.Joins.{AreKeys, are_alike, same_kind}
+use Rattle.amber_rows.specs.Chain.{each}
+use Rattle.amber_flow.specs.Columns.{column_number}
+use Rattle.amber_flow.specs.Joins.{AreKeys, are_alike}
+use Rattle.amber_rows.specs.Suits.{same_kind}
 use Rattle.amber_flow.specs.declared.join.JoinKeys.{JoinKeys}
 use Rattle.amber_flow.proofs.ListFacts.{Gives, and-true, each-gives, gives-length}
 use Rattle.amber_flow.proofs.NameFacts.{columns-here, number-named}

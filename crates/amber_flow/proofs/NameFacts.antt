@@ -9,13 +9,13 @@ use Rattle.std.specs.List.{filter_map, list_all}
 use Rattle.serde_json.specs.Data.{Data}
 use Rattle.serde_json.specs.Find.{at}
 use Rattle.amber_rows.specs.Columns.{names_of}
-use Rattle.amber_rows.specs.Cond.{nth}
+use Rattle.amber_rows.specs.Lists.{nth}
 use Rattle.amber_rows.specs.FlowRules.{AreIn, HasInput, IsEarlier, IsKind, column_kinds, columns_at, is_column_name, kinds_at, schema_of}
 use Rattle.amber_rows.specs.declared.column.Column.{Column}
 use Rattle.amber_rows.specs.declared.flow.Operator.{Operator}
 use Rattle.amber_rows.specs.declared.flow.What.TheVariants as what
 use Rattle.amber_rows.specs.declared.column.ColKind.TheVariants.{Int}
-use Rattle.amber_flow.specs.Chain.{each}
+use Rattle.amber_rows.specs.Chain.{each}
 use Rattle.amber_flow.specs.Columns.{column_number, is_new_name, renaming_of, source_of, under}
 use Rattle.amber_flow.specs.Fields.{text_in}
 use Rattle.amber_flow.proofs.ListFacts.{Gives, each-gives}

@@ -6,9 +6,10 @@ use Rattle.std.proofs.lemmas.List.Elements.{All-push}
 use Rattle.std.specs.List.{list_any}
 use Rattle.serde_json.specs.View.{view}
 use Rattle.serde_json.specs.declared.value.Value.{Value}
-use Rattle.amber_rows.specs.FlowRules.{AreNext, IsNext, ends_in_sink, is_among, is_sink}
+use Rattle.amber_rows.specs.FlowRules.{AreNext, IsNext, ends_in_sink, is_among}
+use Rattle.amber_rows.specs.Kinds.{is_sink}
 use Rattle.amber_rows.specs.declared.flow.Operator.{Operator}
-use Rattle.amber_flow.specs.Alone.{AreAlone}
+use Rattle.amber_rows.specs.Crew.{AreAlone}
 use Rattle.amber_flow.specs.Inputs.{IsNarrow}
 use Rattle.amber_flow.specs.Operators.{ids_of, operator_of}
 use Rattle.amber_flow.specs.Workflow.{fault_at, operators_from}

@@ -4,7 +4,8 @@ use Rattle.std.proofs.Math.Seq.{take-suc}
 use Rattle.std.proofs.lemmas.Grind.{flat_map-append}
 use Rattle.std.proofs.lemmas.List.Sums.{sum_by-append}
 use Rattle.std.specs.List.{flat_map}
-use Rattle.amber_rows.specs.FlowRules.{inputs_of, reader_count}
+use Rattle.amber_rows.specs.FlowRules.{reader_count}
+use Rattle.amber_rows.specs.Kinds.{inputs_of}
 use Rattle.amber_rows.specs.declared.flow.Operator.{Operator}
 
 pub readers-none : (op : ℕ) → reader_count [] op ≡ 0

@@ -2,11 +2,11 @@
 use Rattle.std.specs.Prelude.{ℕ, ◌+◌, ◌&&◌, List, [], ◌∷◌, Option, Some, None, ok_or, is_none, if◌then◌else◌, option_map, option_and_then, position, Result, Ok, Bool, false, bytes_eq}
 use Rattle.serde_json.specs.Data.{Data}
 use Rattle.serde_json.specs.Find.{at}
-use Rattle.amber_rows.specs.Cond.{nth}
-use Rattle.amber_rows.specs.FlowRules.{is_column_name}
+use Rattle.amber_rows.specs.Lists.{nth}
+use Rattle.amber_rows.specs.FlowRules.{is_column_name, column_kind_at}
 use Rattle.amber_rows.specs.declared.column.ColKind.{ColKind}
 use Rattle.amber_rows.specs.declared.column.Column.{Column}
-use Rattle.amber_flow.specs.Chain.{◌>>=◌, require}
+use Rattle.amber_rows.specs.Chain.{◌>>=◌, require}
 use Rattle.amber_flow.specs.Fields.{text_in}
 use Rattle.amber_flow.specs.Names.{column_kind_named}
 use Rattle.amber_flow.specs.declared.error.FlowWhy.{FlowWhy}
@@ -34,10 +34,6 @@ column_number columns name = option_map (λ index. index + 1) (position (λ colu
 -- the column with this name
 abbrev pub column_named : List Column → List ℕ → Option Column
 column_named columns name = option_and_then (nth columns) (column_number columns name)
-
--- the kind of the column with a number
-abbrev pub column_kind_at : List Column → ℕ → Option ColKind
-column_kind_at columns number = option_map (λ column. column.kind) (nth columns number)
 
 -- whether there is a text, and it may name a column
 abbrev pub is_new_name : Option (List ℕ) → Bool

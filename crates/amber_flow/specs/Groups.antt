@@ -7,7 +7,7 @@ use Rattle.amber_rows.specs.declared.column.Column.{Column}
 use Rattle.amber_rows.specs.declared.flow.What.TheVariants.{Group}
 use Rattle.amber_rows.specs.declared.flow.Operator.{Operator}
 use Rattle.amber_flow.specs.Aggregates.{agg_column, agg_of, is_agg_text}
-use Rattle.amber_flow.specs.Chain.{◌>>=◌, each, require}
+use Rattle.amber_rows.specs.Chain.{◌>>=◌, each, require}
 use Rattle.amber_flow.specs.Columns.{column_named, column_number}
 use Rattle.amber_flow.specs.Fields.{text_at, texts_at}
 use Rattle.amber_flow.specs.Inputs.{operator_columns, operator_number}

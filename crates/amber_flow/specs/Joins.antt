@@ -2,14 +2,15 @@
 use Rattle.std.specs.Prelude.{◌≡◌, ℕ, ◌==◌, ◌&&◌, nat_lt, List, [], ◌∷◌, ◌++◌, length, codes, ok_or, Result, Ok, Bool, true, false}
 use Rattle.std.specs.List.{filter_map}
 use Rattle.serde_json.specs.Data.{Data}
-use Rattle.amber_rows.specs.FlowRules.{AreIn, kinds_at}
+use Rattle.amber_rows.specs.Suits.{same_kind}
+use Rattle.amber_rows.specs.FlowRules.{AreIn, kinds_at, column_kind_at}
 use Rattle.amber_rows.specs.declared.column.ColKind.{ColKind}
 use Rattle.amber_rows.specs.declared.column.ColKind.TheVariants.{Int, Text}
 use Rattle.amber_rows.specs.declared.column.Column.{Column}
 use Rattle.amber_rows.specs.declared.flow.What.TheVariants.{Join}
 use Rattle.amber_rows.specs.declared.flow.Operator.{Operator}
-use Rattle.amber_flow.specs.Chain.{◌>>=◌, each, require}
-use Rattle.amber_flow.specs.Columns.{column_number, column_kind_at}
+use Rattle.amber_rows.specs.Chain.{◌>>=◌, each, require}
+use Rattle.amber_flow.specs.Columns.{column_number}
 use Rattle.amber_flow.specs.Fields.{text_at, texts_at}
 use Rattle.amber_flow.specs.Inputs.{operator_columns, operator_number}
 use Rattle.amber_flow.specs.declared.error.FlowWhy.{FlowWhy}
@@ -20,12 +21,6 @@ use Rattle.amber_flow.specs.declared.parts.Parts.{Parts}
 -- at least one key, and as many on each side
 abbrev pub are_paired : List (List ℕ) → List (List ℕ) → Bool
 are_paired build probe = nat_lt 0 (length build) && (length build == length probe)
-
-abbrev pub same_kind : ColKind → ColKind → Bool
-same_kind Int Int = true
-same_kind Int Text = false
-same_kind Text Int = false
-same_kind Text Text = true
 
 -- the same kinds at the same places
 abbrev pub are_alike : List ColKind → List ColKind → Bool

@@ -1,7 +1,5 @@
 pub mod Aggregates
-pub mod Alone
 pub mod Answers
-pub mod Chain
 pub mod Columns
 pub mod Fields
 pub mod Groups

@@ -4,7 +4,7 @@ use Rattle.std.specs.List.{filter_map}
 use Rattle.serde_json.specs.Data.{Data}
 use Rattle.serde_json.specs.Find.{as_i64, as_number, as_str, as_u64, get}
 use Rattle.amber_rows.specs.Columns.{names_of}
-use Rattle.amber_rows.specs.Cond.{nth}
+use Rattle.amber_rows.specs.Lists.{nth}
 use Rattle.amber_rows.specs.FlowRules.{are_apart, is_among, is_id}
 use Rattle.amber_rows.specs.declared.value.Value.{Value}
 use Rattle.amber_rows.specs.declared.value.Value.TheVariants as value
@@ -15,7 +15,7 @@ use Rattle.amber_rows.specs.declared.cond.Cmp.{Cmp}
 use Rattle.amber_rows.specs.declared.cond.Cond.{Cond}
 use Rattle.amber_rows.specs.declared.flow.What.TheVariants as what
 use Rattle.amber_rows.specs.declared.flow.Operator.{Operator}
-use Rattle.amber_flow.specs.Chain.{◌>>=◌, each, require}
+use Rattle.amber_rows.specs.Chain.{◌>>=◌, each, require}
 use Rattle.amber_flow.specs.Columns.{column_number, columns_of, renaming_of, source_of}
 use Rattle.amber_flow.specs.Inputs.{operator_columns, operator_number}
 use Rattle.amber_flow.specs.Groups.{group_of}

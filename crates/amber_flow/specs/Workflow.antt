@@ -5,7 +5,7 @@ use Rattle.serde_json.specs.Data.{Data}
 use Rattle.serde_json.specs.Read.{read}
 use Rattle.amber_rows.specs.FlowRules.{reader_count}
 use Rattle.amber_rows.specs.declared.flow.Operator.{Operator}
-use Rattle.amber_flow.specs.Chain.{◌>>=◌, require}
+use Rattle.amber_rows.specs.Chain.{◌>>=◌, require}
 use Rattle.amber_flow.specs.Fields.{array_at}
 use Rattle.amber_flow.specs.Operators.{operator_of}
 use Rattle.amber_flow.specs.declared.error.Fault.{Fault}

@@ -2,7 +2,7 @@ ghost use Rattle.std.specs.Prelude.{◌≡◌, ◌++◌, ◌≤◌, IfOk, OnOk, 
 ghost use Rattle.std.specs.List.{filter_map, list_all};
 ghost use Rattle.amber_rows.specs.FlowRules.{agg_kind};
 ghost use Rattle.amber_flow.specs.Aggregates.{agg_column, agg_of, behind, is_agg_text};
-ghost use Rattle.amber_flow.specs.Chain.{each};
+ghost use Rattle.amber_rows.specs.Chain.{each};
 
 use crate::columns::{add_column, find_column, kind_of_column};
 use amber_rows::{Agg, ColKind, Column, Text};

@@ -2,9 +2,9 @@ ghost use Rattle.std.specs.Prelude.{◌≡◌, ◌++◌, [], OnOk, ◌+◌, ◌^
 ghost use Rattle.std.specs.List.{cons_option, filter_map, list_all, list_any};
 ghost use Rattle.serde_json.specs.View.{view};
 ghost use Rattle.amber_rows.specs.Columns.{names_of};
-ghost use Rattle.amber_rows.specs.FlowRules.{are_apart, is_among, is_column_name};
-ghost use Rattle.amber_flow.specs.Chain.{each};
-ghost use Rattle.amber_flow.specs.Columns.{column_named, column_number, column_of, columns_of, column_kind_at};
+ghost use Rattle.amber_rows.specs.FlowRules.{are_apart, is_among, is_column_name, column_kind_at};
+ghost use Rattle.amber_rows.specs.Chain.{each};
+ghost use Rattle.amber_flow.specs.Columns.{column_named, column_number, column_of, columns_of};
 
 use crate::error::FlowWhy;
 use crate::fields::text_item;

@@ -1,7 +1,7 @@
 ghost use Rattle.std.specs.Prelude.{◌≡◌, IfOk, map, option_and_then, option_map};
 ghost use Rattle.serde_json.specs.Find.{as_array, as_str, get};
 ghost use Rattle.serde_json.specs.View.{items_view, view};
-ghost use Rattle.amber_flow.specs.Chain.{each};
+ghost use Rattle.amber_rows.specs.Chain.{each};
 ghost use Rattle.amber_flow.specs.Fields.{array_at, text_at, text_in, texts_at};
 
 use serde_json::Value;

@@ -1,6 +1,7 @@
 ghost use Rattle.std.specs.Prelude.{All, true, ◌≡◌, ◌+◌, ◌<◌, ◌≤◌, ◌==◌, length, IfOk};
 ghost use Rattle.serde_json.specs.View.{view};
-ghost use Rattle.amber_rows.specs.FlowRules.{IsNext, is_sink};
+ghost use Rattle.amber_rows.specs.FlowRules.{IsNext};
+ghost use Rattle.amber_rows.specs.Kinds.{is_sink};
 ghost use Rattle.amber_flow.specs.Inputs.{IsNarrow};
 ghost use Rattle.amber_flow.specs.Operators.{operator_of};
 

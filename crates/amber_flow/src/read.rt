@@ -1,7 +1,7 @@
 ghost use Rattle.std.specs.Prelude.{◌≡◌, ◌==◌, ◌<◌, ◌≤◌, ◌⊎◌, [], true, length, map, MatchResult, IfOk, Ok, Err};
 ghost use Rattle.serde_json.specs.View.{view};
 ghost use Rattle.amber_rows.specs.FlowRules.{AreNext, ends_in_sink};
-ghost use Rattle.amber_flow.specs.Alone.{AreAlone};
+ghost use Rattle.amber_rows.specs.Crew.{AreAlone};
 ghost use Rattle.amber_flow.specs.Answers.{AnswersFlow, AnswersTree};
 ghost use Rattle.amber_flow.specs.Workflow.{check_whole, flow_of, is_flow_length, operators_from, tree_of, workflow_of};
 

@@ -1,5 +1,6 @@
 ghost use Rattle.std.specs.Prelude.{◌≡◌, ◌==◌, ◌<◌, ◌≤◌, ℕ, length, sum_by, count_by, IfNone};
-ghost use Rattle.amber_rows.specs.FlowRules.{inputs_of, reader_count};
+ghost use Rattle.amber_rows.specs.FlowRules.{reader_count};
+ghost use Rattle.amber_rows.specs.Kinds.{inputs_of};
 ghost use Rattle.amber_flow.specs.Workflow.{first_unread, workers_in_all};
 
 use amber_rows::{Operator, What};

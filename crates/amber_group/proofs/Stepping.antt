@@ -6,7 +6,7 @@ use Rattle.std.specs.Ordering.{is_gt, is_lt}
 use Rattle.std.proofs.lemmas.Int.{ints}
 use Rattle.std.proofs.lemmas.List.{append-nil}
 use Rattle.std.proofs.lemmas.List.Elements.{filter_map-append}
-use Rattle.amber_rows.specs.Cond.{nth}
+use Rattle.amber_rows.specs.Lists.{nth}
 use Rattle.amber_rows.specs.Operators.{cells_at, greatest_of, greatest_value, least_of, least_value, number_of, total_of}
 use Rattle.amber_rows.specs.Order.{value_cmp}
 use Rattle.amber_rows.specs.declared.value.Value.{Value}

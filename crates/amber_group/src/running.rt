@@ -1,6 +1,6 @@
 ghost use Rattle.std.specs.Prelude.{◌≡◌, ◌+◌, ◌+ℤ◌, ◌^◌, ◌<◌, [], IfOk, ℕ, option_map};
 ghost use Rattle.std.specs.Ordering.{is_gt, is_lt};
-ghost use Rattle.amber_rows.specs.Cond.{nth};
+ghost use Rattle.amber_rows.specs.Lists.{nth};
 ghost use Rattle.amber_rows.specs.Operators.{int_value, number_of};
 ghost use Rattle.amber_group.specs.Finished.{value_of};
 ghost use Rattle.amber_group.specs.Running.{running_of};

@@ -6,10 +6,9 @@ use Rattle.std.specs.Prelude.{◌==◌}
 use Rattle.std.proofs.lemmas.List.{get_or_default, length-take-le}
 use Rattle.std.proofs.lemmas.List.Elements.{All-take}
 use Rattle.std.proofs.lemmas.List.Sums.{sum_by-cons}
-use Rattle.amber_rows.specs.Chunks.{numbers_below}
-use Rattle.amber_rows.specs.Cond.{nth}
+use Rattle.amber_rows.specs.Lists.{numbers_below, nth}
 use Rattle.amber_rows.specs.Crew as crew
-use Rattle.amber_rows.specs.Crew.{crew_of, first_worker_of, op_of, what_at, worker_count, workers_in, workers_of}
+use Rattle.amber_rows.specs.Crew.{crew_of, first_worker_of, op_of, what_at, worker_count, workers_in, workers_of, AreAlone}
 use Rattle.amber_rows.specs.FlowRules.{IsFlow, schema_of}
 use Rattle.amber_rows.specs.declared.flow.Operator.{Operator}
 use Rattle.amber_rows.specs.declared.flow.What.{What}
@@ -24,7 +23,6 @@ use Rattle.amber_scan.specs.Shares as shares
 use Rattle.amber_scan.specs.declared.share.Scanned.{Scanned}
 use Rattle.amber_worker.specs.Fields.{arrival_of}
 use Rattle.amber_worker.specs.AtPosition as at_position
-use Rattle.amber_worker.specs.AtPosition.{AreAlone}
 use Rattle.amber_worker.specs.AtPosition.{HasShare, IsAtPosition, first_orders, placement_of}
 use Rattle.amber_worker.specs.WorkerState.{WorkerState}
 use Rattle.amber_meaning.specs.ScanFiles.{is_headed, records_at}

@@ -4,9 +4,10 @@ use Rattle.std.specs.List.{flat_map}
 use Rattle.std.proofs.lemmas.Bool.{and_parts, false≢true}
 use Rattle.std.proofs.lemmas.Grind.{flat_map-append}
 use Rattle.std.proofs.lemmas.List.{map-append}
-use Rattle.amber_rows.specs.Chunks.{numbers_below}
-use Rattle.amber_rows.specs.Crew.{crew_of, kind_at, op_of, what_at, workers_of}
-use Rattle.amber_rows.specs.FlowRules.{IsFlow, ends_in_sink, is_sink}
+use Rattle.amber_rows.specs.Lists.{numbers_below}
+use Rattle.amber_rows.specs.Crew.{crew_of, kind_at, op_of, what_at, workers_of, AreAlone}
+use Rattle.amber_rows.specs.FlowRules.{IsFlow, ends_in_sink}
+use Rattle.amber_rows.specs.Kinds.{is_sink}
 use Rattle.amber_rows.specs.Order.{sort_rows}
 use Rattle.amber_rows.specs.declared.flow.Operator.{Operator}
 use Rattle.amber_rows.specs.declared.flow.What.{What}
@@ -20,7 +21,7 @@ use Rattle.amber_meaning.specs.Position.{Position, Taken, fed, arrivals_of, shar
 use Rattle.amber_meaning.specs.State.{position_at}
 use Rattle.amber_meaning.specs.Task.{Arrival, Task}
 use Rattle.amber_meaning.specs.Views.{answer_in, by_number, insert_numbered, op_refuses, refusal_in, refused_in, rows_in, sink_rows, taken_by, taken_of, worker_refuses}
-use Rattle.amber_worker.specs.AtPosition.{AreAlone, kept_rows, placement_of}
+use Rattle.amber_worker.specs.AtPosition.{kept_rows, placement_of}
 use Rattle.amber_worker.specs.WorkerState.{WorkerState}
 use Rattle.amber_worker.proofs.Shares.{by_number-share}
 use Rattle.amber_home.specs.Answers.{IsGatheredFrom, ShowAll, refused_at, rows_before}

@@ -11,14 +11,16 @@ use Rattle.amber_rows.specs.declared.record.RowFault.{RowFault}
 use Rattle.amber_rows.specs.declared.value.Value.{Value}
 use Rattle.amber_meaning.specs.ScanFiles.{files_left, is_headed, records_at}
 use Rattle.amber_meaning.specs.Legal.{query_over}
-use Rattle.amber_meaning.specs.Plain.{list_at, next_file, records_of, wrong_header}
+use Rattle.amber_meaning.specs.Plain.{records_of, wrong_header}
+use Rattle.amber_rows.specs.Lists.{list_at, first_list}
 use Rattle.amber_meaning.specs.Position.{origin, taken_from}
 use Rattle.amber_meaning.proofs.Lists.{numbered_or}
 use Rattle.amber_meaning.proofs.Operators.{records-here, wrong_header-here, wrong_header-more}
 use Rattle.amber_worker.specs.Incoming.{Incoming}
 use Rattle.amber_worker.specs.Outgoing.{Outgoing}
 use Rattle.amber_worker.specs.Links.{waiting_from}
-use Rattle.amber_worker.specs.AtPosition.{AreAlone, IsAtPosition, first_orders, placement_of}
+use Rattle.amber_worker.specs.AtPosition.{IsAtPosition, first_orders, placement_of}
+use Rattle.amber_rows.specs.Crew.{AreAlone}
 use Rattle.amber_worker.specs.WorkerState.{WorkerState}
 use Rattle.amber_home.specs.declared.error.HomeErr.{HomeErr}
 use Rattle.amber_home.specs.declared.error.HomeErr.TheVariants as home_err
@@ -47,20 +49,20 @@ header-start flow files = refl
 
 module _ (flow : List Operator) (files : List (List ℕ)) (i : ℕ) (inside : i < length flow)
     (left : wrong_header 1 files flow ≡ wrong_header (i + 1) (files_left files (take i flow)) (drop i flow)) where
-  headed-here : (b : Bool) → is_headed (operator_kind flow i) (schema_at flow i) (next_file (files_left files (take i flow))) ≡ b
-      → is_headed (get_or flow i d).what (get_or flow i d).schema (next_file (files_left files (take i flow))) ≡ b
+  headed-here : (b : Bool) → is_headed (operator_kind flow i) (schema_at flow i) (first_list (files_left files (take i flow))) ≡ b
+      → is_headed (get_or flow i d).what (get_or flow i d).schema (first_list (files_left files (take i flow))) ≡ b
   headed-here b is =
       let o = get_or flow i d in
       let e : o ≡ get_or flow i o = get_or_default flow i d o inside in
       rw (← kind-here flow i o inside e, ← schema-here flow i o inside e) is
 
-  pub header-more : (file : List ℕ) → file ≡ next_file (files_left files (take i flow)) → is_headed (operator_kind flow i) (schema_at flow i) file ≡ true
+  pub header-more : (file : List ℕ) → file ≡ first_list (files_left files (take i flow)) → is_headed (operator_kind flow i) (schema_at flow i) file ≡ true
       → wrong_header 1 files flow ≡ wrong_header (i + 1 + 1) (files_left files (take (i + 1) flow)) (drop (i + 1) flow)
   header-more file is headed =
       wrong_header-more files flow i (get_or flow i d) (wrong_header 1 files flow) inside (get_or_default flow i d (get_or flow i d) inside) left
       (headed-here true (subst (λ f. is_headed (operator_kind flow i) (schema_at flow i) f ≡ true) is headed))
 
-  pub header-names : (file : List ℕ) (error : HomeErr) → file ≡ next_file (files_left files (take i flow))
+  pub header-names : (file : List ℕ) (error : HomeErr) → file ≡ first_list (files_left files (take i flow))
       → NamesOperator error (operator_kind flow i) (schema_at flow i) file (i + 1) → NamesScan error flow files
   header-names file (home_err.Header named) is has =
       wrong_header-here files flow i (get_or flow i d) (wrong_header 1 files flow) inside (get_or_default flow i d (get_or flow i d) inside) left
@@ -89,7 +91,7 @@ empty-more crew longer w is before here k =
     subst (λ (xs : List WorkerState). AreEmpty (worker_state_at xs k)) (sym is) (at-push crew w (λ _ v. AreEmpty v) (λ j _. before j) here (λ _ _. empty-none) k)
 
 pub begin_leg-more : (flow : List Operator) (files : List (List ℕ)) (size count : ℕ) (crew longer : List WorkerState) (w : WorkerState) (file : List ℕ) → longer ≡ crew ++ w ∷ []
-    → length crew ≡ count → count < length flow → file ≡ next_file (files_left files (take count flow))
+    → length crew ≡ count → count < length flow → file ≡ first_list (files_left files (take count flow))
     → HaveBegun flow (records_of files flow) size crew count → IsAtStart flow count size (records_at (operator_kind flow count) (schema_at flow count) file) w
     → HaveBegun flow (records_of files flow) size longer (count + 1)
 begin_leg-more flow files size count crew longer w file is long inside file-is before stands worker below =

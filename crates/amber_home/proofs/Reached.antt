@@ -7,8 +7,7 @@ use Rattle.std.proofs.lemmas.List.{map-append}
 use Rattle.std.proofs.lemmas.List.Sums.{sum_by-append}
 use Rattle.std.proofs.lemmas.Grind.{take_at_read}
 use Rattle.std.proofs.Math.ListN.{get_or-map}
-use Rattle.amber_rows.specs.Chunks.{numbers_below}
-use Rattle.amber_rows.specs.Cond.{nth}
+use Rattle.amber_rows.specs.Lists.{numbers_below, nth}
 use Rattle.amber_rows.specs.Crew.{crew_of, kind_at, op_of, what_at}
 use Rattle.amber_rows.specs.declared.flow.Operator.{Operator}
 use Rattle.amber_log.specs.declared.entry.Entry.{Entry}
@@ -96,13 +95,13 @@ start-position flow worker =
 
 hand-moves : (role : Role) (orders : Orders) (p q : Position) (one : Entry) → orders.counted ≡ false → p.hand ≡ 0 → Moves role orders p one q → q.hand ≡ 0
 hand-moves role orders p q (entry.Take from number) uncounted none moves = ap (λ m. m.hand) moves.2 ∙ none
-hand-moves role orders p q (entry.Go rows outs) uncounted none moves = ap (λ m. m.hand) moves.1 ∙ rw uncounted none
-hand-moves role orders p q (entry.Grant n) uncounted none moves = absurd (false≢true (sym uncounted ∙ moves.0.counted))
-hand-moves role orders p q (entry.Back n) uncounted none moves = ap (λ m. m.hand) moves.1
-hand-moves role orders p q entry.Pause uncounted none moves = ap (λ m. m.hand) moves.1 ∙ none
-hand-moves role orders p q entry.Resume uncounted none moves = ap (λ m. m.hand) moves.1 ∙ none
-hand-moves role orders p q entry.Hold uncounted none moves = ap (λ m. m.hand) moves.1 ∙ none
-hand-moves role orders p q entry.Finish uncounted none moves = ap (λ m. m.hand) moves.1 ∙ none
+hand-moves role orders p q (entry.Go rows outs) uncounted none moves = ap (λ m. m.hand) moves.2 ∙ rw uncounted none
+hand-moves role orders p q (entry.Grant n) uncounted none moves = absurd (false≢true (sym uncounted ∙ moves.1.counted))
+hand-moves role orders p q (entry.Back n) uncounted none moves = ap (λ m. m.hand) moves.2
+hand-moves role orders p q entry.Pause uncounted none moves = ap (λ m. m.hand) moves.2 ∙ none
+hand-moves role orders p q entry.Resume uncounted none moves = ap (λ m. m.hand) moves.2 ∙ none
+hand-moves role orders p q entry.Hold uncounted none moves = ap (λ m. m.hand) moves.2 ∙ none
+hand-moves role orders p q entry.Finish uncounted none moves = ap (λ m. m.hand) moves.2 ∙ none
 
 pub hand-stays : (role : Role) (orders : Orders) (p q : Position) (entries : List Entry) → orders.counted ≡ false → p.hand ≡ 0 → Leads role orders p entries q → q.hand ≡ 0
 unfolding Leads

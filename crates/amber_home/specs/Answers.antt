@@ -1,7 +1,7 @@
 -- What the workers give for the answer.
 use Rattle.std.specs.Prelude.{◌≡◌, ℕ, zero, suc, ◌<◌, List, [], ◌++◌, length}
 use Rattle.std.specs.List.{flat_map}
-use Rattle.amber_rows.specs.Chunks.{numbers_below}
+use Rattle.amber_rows.specs.Lists.{numbers_below}
 use Rattle.amber_rows.specs.FlowRules.{columns_at}
 use Rattle.amber_rows.specs.Order.{sort_rows}
 use Rattle.amber_rows.specs.declared.batch.Batch.{Batch}

@@ -1,6 +1,6 @@
 -- The parts of a leg, and the state that it reaches.
 use Rattle.std.specs.Prelude.{ℕ, ◌+◌, List, [], ◌∷◌, ◌++◌, map, if◌then◌else◌}
-use Rattle.amber_rows.specs.Chunks.{numbers_below}
+use Rattle.amber_rows.specs.Lists.{numbers_below}
 use Rattle.amber_rows.specs.Crew.{crew_of}
 use Rattle.amber_log.specs.declared.entry.Entry.{Entry}
 use Rattle.amber_log.specs.declared.leg.Part.{Part}

@@ -10,9 +10,10 @@ use Rattle.amber_rows.specs.declared.value.Value.{Value}
 use Rattle.amber_scan.specs.Shares.{share_of, with_numbers}
 use Rattle.amber_scan.specs.declared.share.Scanned.{Scanned}
 use Rattle.amber_meaning.specs.ScanFiles.{is_headed}
-use Rattle.amber_meaning.specs.Plain.{list_at}
+use Rattle.amber_rows.specs.Lists.{list_at}
 use Rattle.amber_meaning.specs.Position.{origin}
-use Rattle.amber_worker.specs.AtPosition.{AreAlone, IsAtPosition, first_orders, placement_of}
+use Rattle.amber_worker.specs.AtPosition.{IsAtPosition, first_orders, placement_of}
+use Rattle.amber_rows.specs.Crew.{AreAlone}
 use Rattle.amber_worker.specs.WorkerState.{WorkerState}
 use Rattle.amber_meaning.specs.Legal.{Query}
 use Rattle.amber_home.specs.AtWork.{AreMoved, AreAtPositions}

@@ -4,9 +4,11 @@ ghost use Rattle.amber_rows.specs.declared.record.RowFault.{RowFault as Fault};
 ghost use Rattle.amber_rows.specs.declared.value.Value.{Value as Cell};
 ghost use Rattle.amber_meaning.specs.ScanFiles.{records_at};
 ghost use Rattle.amber_meaning.specs.Legal.{query_over};
-ghost use Rattle.amber_meaning.specs.Plain.{is_scan, list_at};
+ghost use Rattle.amber_rows.specs.Kinds.{is_scan};
+ghost use Rattle.amber_rows.specs.Lists.{list_at};
 ghost use Rattle.amber_meaning.specs.Position.{origin};
-ghost use Rattle.amber_worker.specs.AtPosition.{AreAlone, IsAtPosition, first_orders, placement_of};
+ghost use Rattle.amber_worker.specs.AtPosition.{IsAtPosition, first_orders, placement_of};
+ghost use Rattle.amber_rows.specs.Crew.{AreAlone};
 ghost use Rattle.amber_home.specs.HomeState.{BeginsOrNames};
 ghost use Rattle.amber_home.specs.Start.{AreEmpty, HasHeader, HasNotBegun, HoldsRecords, IsAtStart, operator_kind, schema_at};
 

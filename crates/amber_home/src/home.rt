@@ -2,7 +2,7 @@ ghost use Rattle.std.specs.Prelude.{◌≡◌, ◌<◌, ◌≤◌, ◌^◌, ◌+
 ghost use Rattle.amber_log.specs.Grammar.{ends_over};
 ghost use Rattle.amber_meaning.specs.Legal.{IsLegal};
 ghost use Rattle.amber_meaning.specs.Plain.{scan_count};
-ghost use Rattle.amber_worker.specs.AtPosition.{AreAlone};
+ghost use Rattle.amber_rows.specs.Crew.{AreAlone};
 ghost use Rattle.amber_home.specs.HomeState.{BeginsOrNames, Ends, is_spent, query_of};
 
 use crate::crew::start_crew;

@@ -4,9 +4,10 @@ use Rattle.std.specs.List.{flat_map}
 use Rattle.std.proofs.lemmas.Bool.{eq-eqb, false≢true}
 use Rattle.std.proofs.lemmas.List.{append-nil, get_or_default, map_push, nil_from_length}
 use Rattle.std.proofs.lemmas.List.Concat.{flat_map-append}
-use Rattle.amber_rows.specs.Chunks.{numbers_below}
+use Rattle.amber_rows.specs.Lists.{numbers_below, list_at}
 use Rattle.amber_rows.specs.Crew.{crew_of, reads, what_at, workers_of}
-use Rattle.amber_rows.specs.FlowRules.{IsFlow, columns_at, is_sink}
+use Rattle.amber_rows.specs.FlowRules.{IsFlow, columns_at}
+use Rattle.amber_rows.specs.Kinds.{is_sink, is_scan}
 use Rattle.amber_rows.specs.Operators.{refused_keys}
 use Rattle.amber_rows.specs.Order.{sort_rows}
 use Rattle.amber_rows.specs.declared.agg.Agg.{Agg}
@@ -15,7 +16,7 @@ use Rattle.amber_rows.specs.declared.flow.What.{What}
 use Rattle.amber_rows.specs.declared.flow.What.TheVariants as what
 use Rattle.amber_rows.specs.declared.flow.Operator.{Operator}
 use Rattle.amber_meaning.specs.Legal.{Query, role_in}
-use Rattle.amber_meaning.specs.Plain.{answer_from, is_scan, list_at, outputs, refusals, refused_by, refused_groups, refused_records, rows_of}
+use Rattle.amber_meaning.specs.Plain.{answer_from, outputs, refusals, refused_by, refused_groups, refused_records, rows_of}
 use Rattle.amber_meaning.specs.Plan.{role_of, task_of}
 use Rattle.amber_meaning.specs.State.{State, have_finished}
 use Rattle.amber_meaning.specs.Stops.{op_numbers}

@@ -8,7 +8,7 @@ use Rattle.std.proofs.lemmas.List.Concat.{length-flat_map}
 use Rattle.std.proofs.lemmas.List.Folds.{sum_by-replicate}
 use Rattle.std.proofs.lemmas.List.Sums.{sum_by_more, sum_by_push}
 use Rattle.std.proofs.lemmas.Nat.{le-div}
-use Rattle.amber_rows.specs.Chunks.{numbers_below}
+use Rattle.amber_rows.specs.Lists.{numbers_below}
 use Rattle.amber_rows.specs.Crew.{crew_of, receiver_of}
 use Rattle.amber_meaning.specs.Laws.{SendersFirst}
 use Rattle.amber_meaning.specs.Legal.{Query, batches_for, role_in, stream_of}

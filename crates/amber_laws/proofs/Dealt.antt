@@ -9,7 +9,7 @@ use Rattle.amber_meaning.proofs.Lists.{numbered_or}
 use Rattle.amber_meaning.proofs.Senders.{flows_send_forward}
 use Rattle.amber_meaning.specs.Laws.{SendersFirst}
 use Rattle.amber_meaning.specs.Legal.{Query, role_in}
-use Rattle.amber_meaning.specs.Plain.{list_at}
+use Rattle.amber_rows.specs.Lists.{list_at}
 use Rattle.amber_meaning.specs.Plan.{role_of}
 use Rattle.amber_meaning.specs.Position.{share_or}
 use Rattle.amber_meaning.specs.Total.{dealt_by, dealt_stream, dealt_to, given, gives, arrivals_from}

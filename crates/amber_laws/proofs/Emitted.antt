@@ -6,7 +6,8 @@ use Rattle.std.proofs.lemmas.List.{take-append-drop}
 use Rattle.amber_rows.specs.Crew.{crew_of, receiver_of}
 use Rattle.amber_rows.specs.declared.value.Value.{Value}
 use Rattle.amber_meaning.specs.Laws.{SendersFirst}
-use Rattle.amber_meaning.specs.Legal.{AreOffered, IsPrefix, Query, batches_for, role_in, stream_of}
+use Rattle.amber_meaning.specs.Legal.{AreOffered, Query, batches_for, role_in, stream_of}
+use Rattle.amber_rows.specs.Lists.{IsPrefix}
 use Rattle.amber_meaning.specs.Plan.{role_of}
 use Rattle.amber_meaning.specs.Position.{Position, Taken, emitted_rows, fed, has_last, have_ended, is_complete, kept, produced_rows, product, share_or, taken_from}
 use Rattle.amber_meaning.specs.State.{State, first_constants, position_at}

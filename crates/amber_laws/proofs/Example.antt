@@ -21,7 +21,7 @@ use Rattle.amber_log.specs.declared.leg.Leg.{Leg}
 use Rattle.amber_log.specs.declared.log.Item.{Item}
 use Rattle.amber_log.specs.declared.log.Item.TheVariants as item
 use Rattle.amber_meaning.specs.Legal.{IsLegal, IsUnaltered, Query, query_over}
-use Rattle.amber_meaning.specs.LegalTests.{may_reach}
+use Rattle.amber_judge.specs.LegalTests.{may_reach}
 use Rattle.amber_meaning.specs.Plain.{answer_from, answer_of, outputs, records_of, refusals, refused_records}
 use Rattle.amber_meaning.specs.Replay.{state_after}
 use Rattle.amber_meaning.specs.State.{have_finished, start_of, steps_in}
@@ -29,8 +29,9 @@ use Rattle.amber_meaning.specs.Texts.{answer_text}
 use Rattle.amber_meaning.specs.Total.{step_total}
 use Rattle.amber_meaning.specs.Transcript.{transcript_of}
 use Rattle.amber_meaning.specs.Views.{answer_in}
-use Rattle.amber_meaning.proofs.ExampleCases.{lines, part, tests_on_literals, texts_on_literals, totals_on_literals}
-use Rattle.amber_meaning.proofs.LegalFrom.{logs_are_tested}
+use Rattle.amber_meaning.proofs.ExampleCases.{lines, part, texts_on_literals, totals_on_literals}
+use Rattle.amber_judge.proofs.ExampleTests.{tests_on_literals}
+use Rattle.amber_judge.proofs.LegalFrom.{logs_are_tested}
 use Rattle.amber_meaning.proofs.Senders.{flows_send_forward}
 use Rattle.amber_laws.proofs.Counted.{schedules_take_one_total}
 use Rattle.amber_laws.proofs.Schedules.{schedules_have_one_answer}

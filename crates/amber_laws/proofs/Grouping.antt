@@ -9,7 +9,7 @@ use Rattle.std.proofs.lemmas.Bool.{false≢true}
 use Rattle.std.proofs.lemmas.Cmp.{tied_itself, upto}
 use Rattle.std.proofs.lemmas.Int.{ints}
 use Rattle.amber_rows.proofs.Sorting.{row-same}
-use Rattle.amber_rows.specs.Cond.{nth}
+use Rattle.amber_rows.specs.Lists.{nth}
 use Rattle.amber_rows.specs.Operators.{agg_value, agg_values, cells_at, first_keys, greatest_of, greatest_value, group_row, group_result, int_value, key_if_none, least_of, least_value, number_of, pick_cells, refused_keys, same_row, total_of}
 use Rattle.amber_rows.specs.Order.{row_cmp, value_cmp}
 use Rattle.amber_rows.specs.OrderLaws.{row-total, value-total}

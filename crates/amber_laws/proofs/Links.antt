@@ -6,9 +6,10 @@ use Rattle.std.proofs.lemmas.Bool.{and_from, and_parts, cases_Bool, eq-eqb, eqb-
 use Rattle.std.proofs.lemmas.List.{append-nil}
 use Rattle.std.proofs.lemmas.List.Elements.{filter-append, filter_agree}
 use Rattle.std.proofs.lemmas.List.Folds.{list_all-append}
-use Rattle.amber_rows.specs.Chunks.{numbers_below}
-use Rattle.amber_rows.specs.Crew.{crew_of, first_worker_of, follower_of, is_keyed, keyed_receiver_of, op_of, reader_of, reads, receiver_of, senders_of, sends_to, side_keys, what_at, worker_count, workers_of}
-use Rattle.amber_rows.specs.FlowRules.{IsFlow, inputs_of}
+use Rattle.amber_rows.specs.Lists.{numbers_below, list_at}
+use Rattle.amber_rows.specs.Crew.{crew_of, first_worker_of, follower_of, keyed_receiver_of, op_of, reader_of, reads, receiver_of, senders_of, sends_to, what_at, worker_count, workers_of}
+use Rattle.amber_rows.specs.Kinds.{is_keyed, side_keys, inputs_of, is_scan}
+use Rattle.amber_rows.specs.FlowRules.{IsFlow}
 use Rattle.amber_rows.specs.Routing.{key_bytes_of, route_of}
 use Rattle.amber_rows.specs.declared.value.Value.{Value}
 use Rattle.amber_rows.specs.declared.record.RowFault.{RowFault}
@@ -17,7 +18,6 @@ use Rattle.amber_rows.specs.declared.flow.What.TheVariants as what
 use Rattle.amber_rows.specs.declared.flow.Operator.{Operator}
 use Rattle.amber_meaning.proofs.Lists.{list_all-every}
 use Rattle.amber_meaning.specs.Legal.{Query}
-use Rattle.amber_meaning.specs.Plain.{is_scan, list_at}
 use Rattle.amber_meaning.specs.Plan.{role_of, share_of, task_of, turn_of, with_numbers}
 use Rattle.amber_meaning.specs.Position.{share_or}
 use Rattle.amber_meaning.specs.Task.{Arrival}

@@ -6,7 +6,8 @@ use Rattle.std.proofs.lemmas.Bool.{and_from}
 use Rattle.std.proofs.lemmas.List.{length-take}
 use Rattle.std.proofs.lemmas.List.Folds.{list_all-append}
 use Rattle.std.proofs.lemmas.Option.{none-some, same_Some}
-use Rattle.amber_rows.specs.Cond.{holds_of, nth}
+use Rattle.amber_rows.specs.Cond.{holds_of}
+use Rattle.amber_rows.specs.Lists.{nth}
 use Rattle.amber_rows.specs.Crew.{crew_of, op_of, what_at}
 use Rattle.amber_rows.specs.FlowRules.{HasInput, IsEarlier, IsFlow, IsKind, agg_kind, column_kinds, columns_at, kinds_at, schema_of}
 use Rattle.amber_rows.specs.Operators.{matches_of}

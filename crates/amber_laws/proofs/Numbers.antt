@@ -4,7 +4,7 @@ use Rattle.std.specs.List.{flat_map}
 use Rattle.std.proofs.lemmas.Bool.{and_parts, cases_lt, both_ways, eq-eqb, eqb-true, false≢true, false_from_ne_true, ne_eqb, not-true, or_cases, or_left, or_parts, or_right}
 use Rattle.std.proofs.lemmas.List.{map_push, map-id}
 use Rattle.std.proofs.lemmas.List.Folds.{list_any-append}
-use Rattle.amber_rows.specs.Chunks.{numbers_below}
+use Rattle.amber_rows.specs.Lists.{numbers_below}
 use Rattle.amber_meaning.proofs.Lists.{list_all-members}
 use Rattle.amber_laws.proofs.Bags.{Same, Join, among, among-first, among-more, are_different, equal-among, same-dealt, same-is, sent_to}
 

@@ -3,7 +3,7 @@ use Rattle.std.proofs.Common.{◌≡◌, ℕ, zero, suc, ◌<◌, ◌≤◌, eqb
 use Rattle.std.specs.List.{slice_get}
 use Rattle.std.proofs.lemmas.Bool.{and_parts, false≢true}
 use Rattle.std.proofs.lemmas.List.{map-append, take_all, take_more}
-use Rattle.amber_rows.specs.Chunks.{numbers_below}
+use Rattle.amber_rows.specs.Lists.{numbers_below, changed_from}
 use Rattle.amber_rows.specs.Crew.{crew_of, kind_at, op_of, what_at}
 use Rattle.amber_rows.specs.declared.flow.Operator.{Operator}
 use Rattle.amber_log.specs.declared.command.Command.{Command}
@@ -17,7 +17,7 @@ use Rattle.amber_log.specs.declared.log.Log.{Log}
 use Rattle.amber_meaning.specs.Legal.{AreOffered, IsLegal, IsOpen, IsUnaltered, IsWorked, Makes, Query, Reaches, after_close, alters, entries_of, leg_start, role_in}
 use Rattle.amber_meaning.specs.Plan.{role_of, task_of}
 use Rattle.amber_meaning.specs.Position.{Position, origin}
-use Rattle.amber_meaning.specs.State.{Arms, State, arms_at, begin_leg, begin_last_leg, changed_from, after_command, without_arms, first_constants, let_go, no_arms, orders_of, position_at, start_of, with_arms}
+use Rattle.amber_meaning.specs.State.{Arms, State, arms_at, begin_leg, begin_last_leg, after_command, without_arms, first_constants, let_go, no_arms, orders_of, position_at, start_of, with_arms}
 use Rattle.amber_meaning.specs.Stops.{arms_left, op_numbers, without_stops}
 use Rattle.amber_meaning.proofs.Lists.{nth-next}
 use Rattle.amber_meaning.proofs.OneState.{position-get_or}

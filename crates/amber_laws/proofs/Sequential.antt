@@ -7,10 +7,12 @@ use Rattle.std.proofs.lemmas.List.{append-nil}
 use Rattle.std.proofs.lemmas.List.Folds.{list_all-map}
 use Rattle.amber_rows.specs.Cond.{holds_of}
 use Rattle.amber_rows.specs.Crew.{reads, what_at, workers_of}
-use Rattle.amber_rows.specs.FlowRules.{IsFlow, columns_at, is_sink, kind_of}
+use Rattle.amber_rows.specs.FlowRules.{IsFlow, columns_at, kind_of}
+use Rattle.amber_rows.specs.Kinds.{is_sink, is_scan}
 use Rattle.amber_rows.specs.Number.{read_int_of}
 use Rattle.amber_rows.specs.Operators.{join_result, matches_of, pick_cells, project_result, refused_keys, same_row}
-use Rattle.amber_rows.specs.Record.{cell_before, cell_of, cells_of, file_records, int_cell, later_records, ok_of, row_of, typed_records}
+use Rattle.amber_rows.specs.Record.{cell_before, cell_of, cells_of, file_records, int_cell, ok_of, row_of, typed_records}
+use Rattle.amber_rows.specs.Lists.{later_of, list_at, first_list}
 use Rattle.amber_rows.specs.Suits.{same_kind, suits_of}
 use Rattle.amber_rows.specs.declared.column.ColKind.{ColKind}
 use Rattle.amber_rows.specs.declared.column.ColKind.TheVariants as kind
@@ -26,7 +28,7 @@ use Rattle.amber_meaning.proofs.Lists.{list_all-every}
 use Rattle.amber_meaning.proofs.Operators.{list_at-is, records-here, rows-before, rows-here}
 use Rattle.amber_meaning.specs.ScanFiles.{files_left, records_at}
 use Rattle.amber_meaning.specs.Legal.{Query, query_over}
-use Rattle.amber_meaning.specs.Plain.{is_scan, list_at, next_file, outputs, records_of, rows_of}
+use Rattle.amber_meaning.specs.Plain.{outputs, records_of, rows_of}
 use Rattle.amber_meaning.specs.Plan.{with_numbers}
 use Rattle.amber_meaning.specs.Task.{Arrival, closing, yields}
 use Rattle.amber_meaning.specs.Total.{dealt_to, given, gives}
@@ -94,8 +96,8 @@ row_typed columns fields = by (eqb (length fields) (length columns)) refl
 file_typed : (columns : List Column) (file : List ℕ) → list_all (is_typed columns) (typed_records columns file) ≡ true
 unfolding typed_records
 file_typed columns file =
-    list_all-map (is_typed columns) (row_of columns) (later_records (file_records file))
-    ∙ list_all-every (λ fields. is_typed columns (row_of columns fields)) (later_records (file_records file)) (row_typed columns)
+    list_all-map (is_typed columns) (row_of columns) (later_of (file_records file))
+    ∙ list_all-every (λ fields. is_typed columns (row_of columns fields)) (later_of (file_records file)) (row_typed columns)
 
 some_typed : (kind : What) (columns : List Column) (file : List ℕ) → list_all (is_typed columns) (records_at kind columns file) ≡ true
 some_typed kind columns file = by (is_scan kind)
@@ -107,9 +109,9 @@ some_typed kind columns file = by (is_scan kind)
 pub typed-over : (flow : List Operator) (files : List (List ℕ)) (size most : ℕ) → IsFlow flow → AreTyped (query_over flow files size most)
 typed-over flow files size most is op some within scan =
     let at = there flow is op some within in
-    let records : list_at (records_of files flow) op ≡ records_at at.operator.what at.operator.schema (next_file (files_left files (take (op - 1) flow))) =
+    let records : list_at (records_of files flow) op ≡ records_at at.operator.what at.operator.schema (first_list (files_left files (take (op - 1) flow))) =
     list_at-is (records_of files flow) op some ∙ records-here files flow (op - 1) at.operator (omega arith) at.at in
-    rw (records, columns-there flow op at) (some_typed at.operator.what at.operator.schema (next_file (files_left files (take (op - 1) flow))))
+    rw (records, columns-there flow op at) (some_typed at.operator.what at.operator.schema (first_list (files_left files (take (op - 1) flow))))
 
 -- ---- scans
 

@@ -9,7 +9,7 @@ use Rattle.amber_log.specs.declared.entry.Entry.{Entry}
 use Rattle.amber_log.specs.declared.entry.Entry.TheVariants as entry
 use Rattle.amber_meaning.specs.Task.{Role, Task, is_builder}
 use Rattle.amber_meaning.specs.Position.{Position, Taken, fed, has_last, have_ended, origin, pending_rows, produced_rows, rest_of, taken_from}
-use Rattle.amber_meaning.specs.Rules.{Leads, MayFinish, MayGo, MayTake, Moves, Orders, took, went}
+use Rattle.amber_meaning.specs.Rules.{Leads, MayFinish, MayGo, MayTake, Moves, Orders, with_batch, with_rows}
 use Rattle.amber_meaning.specs.State.{first_constants, let_go}
 use Rattle.amber_meaning.proofs.Lists.{list_all-member}
 use Rattle.amber_meaning.proofs.OneState.{Leads-keeps}
@@ -96,17 +96,17 @@ more-steady xs x n e =
 not_finished : (p : Position) (A : Type 0) → p.finished ≡ false → p.finished ≡ true → A
 not_finished p A e f = absurd (false≢true (sym e ∙ f))
 
-took-sides : (role : Role) (p : Position) (from number : ℕ) (batch : Batch) → IsOrderly role (took from batch p).taken → IsSound role p → MayTake role p from number
-    → IsBuildFirst role.task (took from batch p).taken
-    × ((list_all (λ (t : Taken). is_builder role.task t.from) (took from batch p).taken ≡ true) ⊎ (have_ended role.task.builders (took from batch p).taken ≡ true))
+with_batch-sides : (role : Role) (p : Position) (from number : ℕ) (batch : Batch) → IsOrderly role (with_batch from batch p).taken → IsSound role p → MayTake role p from number
+    → IsBuildFirst role.task (with_batch from batch p).taken
+    × ((list_all (λ (t : Taken). is_builder role.task t.from) (with_batch from batch p).taken ≡ true) ⊎ (have_ended role.task.builders (with_batch from batch p).taken ≡ true))
 unfolding have_ended
-took-sides role p from number batch orderly s may = by (is_builder role.task from) refl s.sides may.side
+with_batch-sides role p from number batch orderly s may = by (is_builder role.task from) refl s.sides may.side
   where
     by : (b : Bool) → is_builder role.task from ≡ b
         → (list_all (λ (t : Taken). is_builder role.task t.from) p.taken ≡ true) ⊎ (have_ended role.task.builders p.taken ≡ true)
         → (if b then true else have_ended role.task.builders p.taken) ≡ true
-        → IsBuildFirst role.task (took from batch p).taken
-        × ((list_all (λ (t : Taken). is_builder role.task t.from) (took from batch p).taken ≡ true) ⊎ (have_ended role.task.builders (took from batch p).taken ≡ true))
+        → IsBuildFirst role.task (with_batch from batch p).taken
+        × ((list_all (λ (t : Taken). is_builder role.task t.from) (with_batch from batch p).taken ≡ true) ⊎ (have_ended role.task.builders (with_batch from batch p).taken ≡ true))
     by true e (inl all) side = (
       build_first-builder role.task p.taken (record { from = from; batch = batch }) all,
       inl (list_all-append (λ (t : Taken). is_builder role.task t.from) p.taken (record { from = from; batch = batch } ∷ []) ∙ and_from _ _ all (and_from _ _ e refl)),
@@ -120,12 +120,12 @@ took-sides role p from number batch orderly s may = by (is_builder role.task fro
       inr (have_ended-more role.task.builders p.taken (record { from = from; batch = batch } ∷ []) side),
     )
 
-took-sound : (role : Role) (p : Position) (from number : ℕ) (batch : Batch) → IsOrderly role (took from batch p).taken → IsSound role p → MayTake role p from number
-    → IsSound role (took from batch p)
+with_batch-sound : (role : Role) (p : Position) (from number : ℕ) (batch : Batch) → IsOrderly role (with_batch from batch p).taken → IsSound role p → MayTake role p from number
+    → IsSound role (with_batch from batch p)
 unfolding have_ended
-took-sound role p from number batch orderly s may =
+with_batch-sound role p from number batch orderly s may =
     let more = fed-more role p.taken (record { from = from; batch = batch } ∷ []) in
-    let sides = took-sides role p from number batch orderly s may in
+    let sides = with_batch-sides role p from number batch orderly s may in
     let early : have_ended role.senders p.taken ≡ false =
     false_from_ne_true _ (λ e. not-ended role p.taken from batch orderly may.sender (list_all-member (has_last p.taken) role.senders from e may.sender)) in
     let longer = product-grows role p.taken (record { from = from; batch = batch }) p.constants s.within early in
@@ -144,9 +144,9 @@ took-sound role p from number batch orderly s may =
       ended = not_finished p _ may.free.unfinished;
     }
 
-went-sound : (role : Role) (orders : Orders) (p : Position) (rows outs : ℕ) → orders.constants ≡ first_constants role.task.kind → IsSound role p
-    → MayGo role orders p rows outs → IsSound role (went orders rows outs p)
-went-sound role orders p rows outs e s may =
+with_rows-sound : (role : Role) (orders : Orders) (p : Position) (rows outs : ℕ) → orders.constants ≡ first_constants role.task.kind → IsSound role p
+    → MayGo role orders p rows outs → IsSound role (with_rows orders rows outs p)
+with_rows-sound role orders p rows outs e s may =
     let taken : length (p.constants ++ replicate rows orders.constants) ≡ length p.constants + rows =
     length-append p.constants _ ∙ ap (λ n. length p.constants + n) (length-replicate rows orders.constants) in
     let gone : length (p.outcomes ++ replicate outs true) ≡ length p.outcomes + outs =
@@ -180,14 +180,14 @@ finish-sound role p s may = record {
 
 moved-sound : (role : Role) (orders : Orders) (p q : Position) (one : Entry) → orders.constants ≡ first_constants role.task.kind → IsOrderly role q.taken
     → IsSound role p → Moves role orders p one q → IsSound role q
-moved-sound role orders p q (entry.Take from number) e orderly s h = rw h.2 (took-sound role p from number h.0 (rw h.2 at orderly) s h.1)
-moved-sound role orders p q (entry.Go rows outs) e orderly s h = rw h.1 (went-sound role orders p rows outs e s h.0)
-moved-sound role orders p q (entry.Grant n) e orderly s h = rw h.1 (flags-sound role p (p.hand + n) p.held p.waved p.paused s)
-moved-sound role orders p q (entry.Back n) e orderly s h = rw h.1 (flags-sound role p 0 p.held p.waved p.paused s)
-moved-sound role orders p q entry.Pause e orderly s h = rw h.1 (flags-sound role p p.hand p.held p.waved true s)
-moved-sound role orders p q entry.Resume e orderly s h = rw h.1 (flags-sound role p p.hand p.held p.waved false s)
-moved-sound role orders p q entry.Hold e orderly s h = rw h.1 (flags-sound role p p.hand true p.waved p.paused s)
-moved-sound role orders p q entry.Finish e orderly s h = rw h.1 (finish-sound role p s h.0)
+moved-sound role orders p q (entry.Take from number) e orderly s h = rw h.2 (with_batch-sound role p from number h.0 (rw h.2 at orderly) s h.1)
+moved-sound role orders p q (entry.Go rows outs) e orderly s h = rw h.2 (with_rows-sound role orders p rows outs e s h.1)
+moved-sound role orders p q (entry.Grant n) e orderly s h = rw h.2 (flags-sound role p (p.hand + n) p.held p.waved p.paused s)
+moved-sound role orders p q (entry.Back n) e orderly s h = rw h.2 (flags-sound role p 0 p.held p.waved p.paused s)
+moved-sound role orders p q entry.Pause e orderly s h = rw h.2 (flags-sound role p p.hand p.held p.waved true s)
+moved-sound role orders p q entry.Resume e orderly s h = rw h.2 (flags-sound role p p.hand p.held p.waved false s)
+moved-sound role orders p q entry.Hold e orderly s h = rw h.2 (flags-sound role p p.hand true p.waved p.paused s)
+moved-sound role orders p q entry.Finish e orderly s h = rw h.2 (finish-sound role p s h.1)
 
 pub led-sound : (role : Role) (orders : Orders) (p q : Position) (entries : List Entry) → orders.constants ≡ first_constants role.task.kind → IsOrderly role q.taken
     → IsSound role p → Leads role orders p entries q → IsSound role q

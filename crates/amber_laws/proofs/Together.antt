@@ -6,8 +6,9 @@ use Rattle.std.proofs.lemmas.Bool.{both_ways, eq-eqb, false_from_ne_true, ne_eqb
 use Rattle.std.proofs.lemmas.List.{append-nil}
 use Rattle.std.proofs.lemmas.List.Elements.{filter_agree}
 use Rattle.amber_rows.specs.Cond.{holds_of}
-use Rattle.amber_rows.specs.Crew.{first_worker_of, is_keyed, keyed_receiver_of, op_of, reader_of, receiver_of, side_keys, what_at, worker_count, workers_of}
-use Rattle.amber_rows.specs.FlowRules.{IsFlow, columns_at, inputs_of}
+use Rattle.amber_rows.specs.Crew.{first_worker_of, keyed_receiver_of, op_of, reader_of, receiver_of, what_at, worker_count, workers_of}
+use Rattle.amber_rows.specs.Kinds.{is_keyed, side_keys, inputs_of, is_scan}
+use Rattle.amber_rows.specs.FlowRules.{IsFlow, columns_at}
 use Rattle.amber_rows.specs.Operators.{group_result, join_result, pick_cells, project_result, refused_keys}
 use Rattle.amber_rows.specs.Routing.{fnv_of, key_bytes_of, key_piece, route_of}
 use Rattle.amber_rows.specs.Suits.{suits_of}
@@ -19,7 +20,6 @@ use Rattle.amber_rows.specs.declared.flow.What.TheVariants as what
 use Rattle.amber_rows.specs.declared.flow.Operator.{Operator}
 use Rattle.amber_meaning.proofs.Lists.{list_all-every}
 use Rattle.amber_meaning.specs.Legal.{Query, role_in}
-use Rattle.amber_meaning.specs.Plain.{is_scan}
 use Rattle.amber_meaning.specs.Plan.{task_of}
 use Rattle.amber_meaning.specs.Task.{Arrival, Task, closing, columns_from, suiting, yields}
 use Rattle.amber_meaning.specs.Total.{dealt_to, given, gives, arrivals_from}

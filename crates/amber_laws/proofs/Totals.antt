@@ -5,14 +5,15 @@ use Rattle.std.proofs.lemmas.Bool.{and_parts, false≢true, not-true}
 use Rattle.std.proofs.lemmas.List.{length-map}
 use Rattle.std.proofs.lemmas.List.Concat.{length-flat_map}
 use Rattle.std.proofs.lemmas.List.Sums.{sum_by-append, sum_by-cons}
-use Rattle.amber_rows.specs.Chunks.{numbers_below}
+use Rattle.amber_rows.specs.Lists.{numbers_below, list_at}
 use Rattle.amber_rows.specs.Crew.{crew_of, op_of, what_at, workers_of}
-use Rattle.amber_rows.specs.FlowRules.{IsFlow, inputs_of}
+use Rattle.amber_rows.specs.FlowRules.{IsFlow}
+use Rattle.amber_rows.specs.Kinds.{inputs_of, is_scan}
 use Rattle.amber_rows.specs.declared.flow.Operator.{Operator}
 use Rattle.amber_rows.specs.declared.record.RowFault.{RowFault}
 use Rattle.amber_rows.specs.declared.value.Value.{Value}
 use Rattle.amber_meaning.specs.Legal.{Query, query_over}
-use Rattle.amber_meaning.specs.Plain.{is_scan, list_at, records_of}
+use Rattle.amber_meaning.specs.Plain.{records_of}
 use Rattle.amber_meaning.specs.Plan.{with_numbers}
 use Rattle.amber_meaning.specs.Stops.{op_numbers}
 use Rattle.amber_meaning.specs.Total.{dealt_to, given, arrivals_from, step_total, work_of}

@@ -1,12 +1,12 @@
 -- The sequential answer asks for no number of workers.
 use Rattle.std.proofs.Common.{◌≡◌, ℕ, ◌+◌, Option, Some, None, option_map, List, [], ◌∷◌, ◌++◌, length, map, Result, refl, sym, ◌∙◌, ap}
 use Rattle.std.proofs.lemmas.List.{length-map}
-use Rattle.amber_rows.specs.Cond.{nth}
+use Rattle.amber_rows.specs.Lists.{nth, first_list, later_of}
 use Rattle.amber_rows.specs.FlowRules.{columns_at, schema_of}
 use Rattle.amber_rows.specs.declared.record.RowFault.{RowFault}
 use Rattle.amber_rows.specs.declared.value.Value.{Value}
 use Rattle.amber_rows.specs.declared.flow.Operator.{Operator}
-use Rattle.amber_meaning.specs.Plain.{answer_from, answer_of, files_after, first_list, later_lists, outputs, records_of, refusals, refused_by, rows_of}
+use Rattle.amber_meaning.specs.Plain.{answer_from, answer_of, files_after, outputs, records_of, refusals, refused_by, rows_of}
 use Rattle.amber_laws.proofs.Suited.{numbered_map}
 use Rattle.amber_laws.specs.AnswerLaws.{WorkersChangeNoAnswer, with_one_worker}
 
@@ -25,13 +25,13 @@ outputs_same : (records : Records) (done : Lists) (flow : List Operator) → out
 unfolding outputs
 outputs_same records done [] = refl
 outputs_same records done (operator ∷ flow) =
-    outputs_same (later_lists records) (done ++ rows_of operator.what (first_list records) done ∷ []) flow
+    outputs_same (later_of records) (done ++ rows_of operator.what (first_list records) done ∷ []) flow
 
 refusals_same : (op : ℕ) (records : Records) (done : Lists) (flow : List Operator) → refusals op records done (map with_one_worker flow) ≡ refusals op records done flow
 unfolding refusals
 refusals_same op records done [] = refl
 refusals_same op records done (operator ∷ flow) =
-    ap (λ later. refused_by op operator.what (first_list records) done ++ later) (refusals_same (op + 1) (later_lists records) done flow)
+    ap (λ later. refused_by op operator.what (first_list records) done ++ later) (refusals_same (op + 1) (later_of records) done flow)
 
 schema_same : (o : Option Operator) → schema_of (option_map with_one_worker o) ≡ schema_of o
 schema_same None = refl

@@ -2,12 +2,14 @@
 use Rattle.std.specs.Prelude.{◌≡◌, ℕ, ◌<◌, ◌≤◌, List, [], length, sum_by, if◌then◌else◌}
 use Rattle.std.specs.List.{flat_map}
 use Rattle.amber_rows.specs.Crew.{what_at, workers_of}
-use Rattle.amber_rows.specs.FlowRules.{IsFlow, inputs_of}
+use Rattle.amber_rows.specs.FlowRules.{IsFlow}
+use Rattle.amber_rows.specs.Kinds.{inputs_of, is_scan}
 use Rattle.amber_rows.specs.Order.{SameBag}
 use Rattle.amber_rows.specs.declared.value.Value.{Value}
 use Rattle.amber_rows.specs.declared.flow.Operator.{Operator}
 use Rattle.amber_meaning.specs.Legal.{Query, query_over}
-use Rattle.amber_meaning.specs.Plain.{is_scan, list_at, outputs, records_of}
+use Rattle.amber_meaning.specs.Plain.{outputs, records_of}
+use Rattle.amber_rows.specs.Lists.{list_at}
 use Rattle.amber_meaning.specs.Stops.{op_numbers}
 use Rattle.amber_meaning.specs.Total.{dealt_to, given, step_total, work_of}
 

@@ -8,9 +8,9 @@ use Rattle.amber_rows.specs.declared.batch.Batch.{Batch}
 use Rattle.amber_rows.specs.declared.cond.Cond.{Cond}
 use Rattle.amber_log.specs.declared.entry.Entry.{Entry}
 use Rattle.amber_log.specs.declared.entry.Entry.TheVariants as entry
-use Rattle.amber_meaning.specs.Legal.{IsPrefix}
+use Rattle.amber_rows.specs.Lists.{IsPrefix}
 use Rattle.amber_meaning.specs.Position.{Position, Taken, fed, has_last, have_ended, is_complete, origin, pending_rows, produced_rows, product}
-use Rattle.amber_meaning.specs.Rules.{Leads, MayGo, MayHold, MayTake, Moves, Orders, first_is_watched, took, went}
+use Rattle.amber_meaning.specs.Rules.{Leads, MayGo, MayHold, MayTake, Moves, Orders, first_is_watched, with_batch, with_rows}
 use Rattle.amber_meaning.specs.State.{let_go, without_held}
 use Rattle.amber_meaning.specs.Task.{Arrival, Role, Task, closing, produce, yields}
 use Rattle.amber_meaning.proofs.Lists.{list_all-member}
@@ -110,19 +110,19 @@ without_held-bounded role p h = by p.held refl
 not_held : (p : Position) (A : Type 0) → p.held ≡ false → p.held ≡ true → A
 not_held p A e f = absurd (false≢true (sym e ∙ f))
 
-took-bounded : (role : Role) (p : Position) (from number : ℕ) (batch : Batch) → IsOrderly role (took from batch p).taken → MayTake role p from number
-    → IsBounded role p → IsBounded role (took from batch p)
-took-bounded role p from number batch orderly may h =
+with_batch-bounded : (role : Role) (p : Position) (from number : ℕ) (batch : Batch) → IsOrderly role (with_batch from batch p).taken → MayTake role p from number
+    → IsBounded role p → IsBounded role (with_batch from batch p)
+with_batch-bounded role p from number batch orderly may h =
     let more = fed-more role p.taken (record { from = from; batch = batch } ∷ []) in
-    let size : length (fed role (took from batch p).taken) ≡ length (fed role p.taken) + length more.0 = ap length more.1 ∙ length-append (fed role p.taken) more.0 in
+    let size : length (fed role (with_batch from batch p).taken) ≡ length (fed role p.taken) + length more.0 = ap length more.1 ∙ length-append (fed role p.taken) more.0 in
     let within = h.within in
     let before = h.produced in
-    let longer = begins-length (product role p.taken p.constants) (product role (took from batch p).taken p.constants)
+    let longer = begins-length (product role p.taken p.constants) (product role (with_batch from batch p).taken p.constants)
     (product-taken role p.taken from batch p.constants h.within orderly may.sender) in
     record { within = omega arith; produced = omega arith; held = not_held p _ may.free.loose }
 
-went-bounded : (role : Role) (orders : Orders) (p : Position) (rows outs : ℕ) → MayGo role orders p rows outs → IsBounded role (went orders rows outs p)
-went-bounded role orders p rows outs may =
+with_rows-bounded : (role : Role) (orders : Orders) (p : Position) (rows outs : ℕ) → MayGo role orders p rows outs → IsBounded role (with_rows orders rows outs p)
+with_rows-bounded role orders p rows outs may =
     let taken : length (p.constants ++ replicate rows orders.constants) ≡ length p.constants + rows =
     length-append p.constants (replicate rows orders.constants) ∙ ap (λ (n : ℕ). length p.constants + n) (length-replicate rows orders.constants) in
     let gone : length (p.outcomes ++ replicate outs true) ≡ length p.outcomes + outs =
@@ -146,14 +146,14 @@ flags-bounded : (role : Role) (p : Position) (hand : ℕ) (waved paused finished
 flags-bounded role p hand waved paused finished h = record { within = h.within; produced = h.produced; held = h.held }
 
 pub moved-bounded : (role : Role) (orders : Orders) (p q : Position) (one : Entry) → IsOrderly role q.taken → Moves role orders p one q → IsBounded role p → IsBounded role q
-moved-bounded role orders p q (entry.Take from number) orderly h bounded = rw h.2 (took-bounded role p from number h.0 (rw h.2 at orderly) h.1 bounded)
-moved-bounded role orders p q (entry.Go rows outs) orderly h bounded = rw h.1 (went-bounded role orders p rows outs h.0)
-moved-bounded role orders p q (entry.Grant n) orderly h bounded = rw h.1 (flags-bounded role p (p.hand + n) p.waved p.paused p.finished bounded)
-moved-bounded role orders p q (entry.Back n) orderly h bounded = rw h.1 (flags-bounded role p 0 p.waved p.paused p.finished bounded)
-moved-bounded role orders p q entry.Pause orderly h bounded = rw h.1 (flags-bounded role p p.hand p.waved true p.finished bounded)
-moved-bounded role orders p q entry.Resume orderly h bounded = rw h.1 (flags-bounded role p p.hand p.waved false p.finished bounded)
-moved-bounded role orders p q entry.Hold orderly h bounded = rw h.1 (held-bounded role orders p h.0 bounded)
-moved-bounded role orders p q entry.Finish orderly h bounded = rw h.1 (flags-bounded role p p.hand p.waved p.paused true bounded)
+moved-bounded role orders p q (entry.Take from number) orderly h bounded = rw h.2 (with_batch-bounded role p from number h.0 (rw h.2 at orderly) h.1 bounded)
+moved-bounded role orders p q (entry.Go rows outs) orderly h bounded = rw h.2 (with_rows-bounded role orders p rows outs h.1)
+moved-bounded role orders p q (entry.Grant n) orderly h bounded = rw h.2 (flags-bounded role p (p.hand + n) p.waved p.paused p.finished bounded)
+moved-bounded role orders p q (entry.Back n) orderly h bounded = rw h.2 (flags-bounded role p 0 p.waved p.paused p.finished bounded)
+moved-bounded role orders p q entry.Pause orderly h bounded = rw h.2 (flags-bounded role p p.hand p.waved true p.finished bounded)
+moved-bounded role orders p q entry.Resume orderly h bounded = rw h.2 (flags-bounded role p p.hand p.waved false p.finished bounded)
+moved-bounded role orders p q entry.Hold orderly h bounded = rw h.2 (held-bounded role orders p h.1 bounded)
+moved-bounded role orders p q entry.Finish orderly h bounded = rw h.2 (flags-bounded role p p.hand p.waved p.paused true bounded)
 
 pub sooner-orderly : (role : Role) (orders : Orders) (p q : Position) (entries : List Entry) → Leads role orders p entries q → IsOrderly role q.taken → IsOrderly role p.taken
 sooner-orderly role orders p q entries h orderly sender known =

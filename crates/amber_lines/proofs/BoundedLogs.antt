@@ -11,7 +11,8 @@ use Rattle.amber_log.specs.declared.log.Item.TheVariants as item
 use Rattle.amber_log.specs.declared.log.Log.{Log}
 use Rattle.amber_meaning.specs.Legal.{IsLegal, IsOpen, IsWorked, Makes, Query, Reaches, after_close, entries_of, leg_start, role_in}
 use Rattle.amber_meaning.specs.Position.{Position, origin}
-use Rattle.amber_meaning.specs.State.{State, begin_leg, begin_last_leg, changed_from, after_command, let_go, position_at, start_of, worker_at, without_held}
+use Rattle.amber_meaning.specs.State.{State, begin_leg, begin_last_leg, after_command, let_go, position_at, start_of, worker_at, without_held}
+use Rattle.amber_rows.specs.Lists.{changed_from}
 use Rattle.amber_meaning.specs.Stops.{without_stops}
 use Rattle.amber_meaning.specs.Task.{Role}
 use Rattle.amber_meaning.proofs.Chunks.{offered-orderly}

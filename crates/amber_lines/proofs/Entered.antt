@@ -1,21 +1,21 @@
 -- The test of an entry, and what the state behind it is.
 use Rattle.std.proofs.Common.{◌≡◌, ℕ, zero, suc, ◌+◌, ◌<◌, List, [], ◌∷◌, length, get_or, Option, Some, None, is_some, true, refl, sym, ap, ◌∙◌, arith}
 use Rattle.std.proofs.lemmas.Bool.{and_from, and_parts, eq-eqb, false≢true, ne_eqb}
-use Rattle.amber_rows.specs.Cond.{nth}
+use Rattle.amber_meaning.specs.Replay.{batch_for}
+use Rattle.amber_rows.specs.Lists.{nth, changed_from}
 use Rattle.amber_rows.specs.declared.batch.Batch.{Batch}
 use Rattle.amber_log.specs.declared.entry.Entry.{Entry}
 use Rattle.amber_log.specs.declared.entry.Entry.TheVariants as entry
 use Rattle.amber_meaning.specs.Legal.{Query, role_in}
-use Rattle.amber_meaning.specs.LegalTests.{is_offered}
+use Rattle.amber_judge.specs.LegalTests.{is_offered}
 use Rattle.amber_meaning.specs.Position.{Position, origin}
-use Rattle.amber_meaning.specs.Replay.{moved_by, took_if}
-use Rattle.amber_meaning.specs.Rules.{Moves, Orders, took}
-use Rattle.amber_meaning.specs.RuleTests.{may_move}
-use Rattle.amber_meaning.specs.State.{State, changed_from, position_at}
-use Rattle.amber_meaning.proofs.LegalFrom.{moves-from}
-use Rattle.amber_meaning.proofs.LegalTests.{rule-of}
+use Rattle.amber_meaning.specs.Rules.{Moves, Orders, position_after, with_offered, with_batch}
+use Rattle.amber_judge.specs.RuleTests.{may_move}
+use Rattle.amber_meaning.specs.State.{State, position_at}
+use Rattle.amber_judge.proofs.LegalFrom.{moves-from}
+use Rattle.amber_judge.proofs.LegalTests.{rule-of}
 use Rattle.amber_meaning.proofs.OneState.{position-get_or}
-use Rattle.amber_meaning.proofs.RuleTests.{may_move-so}
+use Rattle.amber_judge.proofs.RuleTests.{may_move-so}
 use Rattle.amber_lines.specs.LineLaws.{EntriesAreTested}
 use Rattle.amber_lines.specs.Lines.{may_enter, offers_in, position_behind, with_position}
 use Rattle.amber_lines.specs.Moving.{TakesOffered, orders_in}
@@ -23,11 +23,11 @@ use Rattle.amber_lines.specs.Moving.{TakesOffered, orders_in}
 -- ---- the test
 
 -- a batch that is offered is taken
-pub takes-from : (offer : ℕ → List Batch) (orders : Orders) (p : Position) (made : Entry) → is_offered offer made ≡ true → TakesOffered offer p made (moved_by offer orders made p)
+pub takes-from : (offer : ℕ → List Batch) (orders : Orders) (p : Position) (made : Entry) → is_offered offer made ≡ true → TakesOffered offer p made (position_after orders (batch_for offer made) made p)
 takes-from offer orders p (entry.Take from number) e = by (nth (offer from) (number + 1)) refl e
   where
     by : (found : Option Batch) → nth (offer from) (number + 1) ≡ found → is_some found ≡ true
-        → (batch : Batch) × (nth (offer from) (number + 1) ≡ Some batch) × (took_if from found p ≡ took from batch p)
+        → (batch : Batch) × (nth (offer from) (number + 1) ≡ Some batch) × (with_offered from found p ≡ with_batch from batch p)
     by None is f = absurd (false≢true f)
     by (Some batch) is f = (batch, is, refl)
 takes-from offer orders p (entry.Go rows outs) e = tt

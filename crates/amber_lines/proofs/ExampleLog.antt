@@ -7,7 +7,8 @@ use Rattle.amber_log.specs.ReadLines.{finish, read_lines, read_on, step}
 use Rattle.amber_log.specs.ReadWords.{command_four, command_one, command_two, comparison_of, constant_of, head_line, line_of, line_one, line_three, line_two, number, parse, signed_number}
 use Rattle.amber_log.specs.declared.log.Log.{Log}
 use Rattle.amber_meaning.specs.Legal.{Query}
-use Rattle.amber_meaning.proofs.ExampleCases.{kept_from, query_of, tests_on_literals}
+use Rattle.amber_meaning.proofs.ExampleCases.{kept_from, query_of}
+use Rattle.amber_judge.proofs.ExampleTests.{tests_on_literals}
 use Rattle.amber_lines.specs.Lines.{bad_line_from, illegal_line, judge_all, may_enter, position_behind}
 
 -- what texts read as

@@ -19,11 +19,11 @@ use Rattle.amber_log.specs.declared.log.Item.TheVariants as item
 use Rattle.amber_log.specs.declared.log.Log.{Log}
 use Rattle.amber_log.proofs.Pushes.{ends_over-push}
 use Rattle.amber_meaning.specs.Legal.{AreKnown, IsLegal, IsOpen, Query, Reaches, after_close, entries_of, leg_start, role_in}
-use Rattle.amber_meaning.specs.LegalTests.{may_close_end, may_close_run}
+use Rattle.amber_judge.specs.LegalTests.{may_close_end, may_close_run}
 use Rattle.amber_meaning.specs.State.{State, after_command, position_at, start_of, steps_in}
 use Rattle.amber_meaning.proofs.Fronts.{legal_logs_grow}
 use Rattle.amber_meaning.proofs.Led.{Leads-push}
-use Rattle.amber_meaning.proofs.LegalFrom.{close_end-from, close_run-from}
+use Rattle.amber_judge.proofs.LegalFrom.{close_end-from, close_run-from}
 use Rattle.amber_meaning.proofs.Rest.{ends_close, legs_open, runs_close}
 use Rattle.amber_lines.specs.LineLaws.{FirstEntriesEnter, NextEntriesEnter}
 use Rattle.amber_lines.specs.Lines.{Between, Fresh, Progress, Within, judge, judge_all, may_enter, position_behind, state_behind}

@@ -8,8 +8,8 @@ use Rattle.std.proofs.lemmas.List.{append-nil, map-append}
 use Rattle.std.proofs.lemmas.List.Elements.{filter-append}
 use Rattle.std.proofs.lemmas.Nat.{le-div}
 use Rattle.std.proofs.lemmas.Option.{slice_get_within}
-use Rattle.amber_rows.specs.Chunks.{chunks_of, numbers_below}
-use Rattle.amber_rows.specs.Cond.{nth}
+use Rattle.amber_rows.specs.Chunks.{chunks_of}
+use Rattle.amber_rows.specs.Lists.{numbers_below, nth, IsPrefix}
 use Rattle.amber_rows.specs.Crew.{crew_of, receiver_of}
 use Rattle.amber_rows.specs.declared.value.Value.{Value}
 use Rattle.amber_rows.specs.declared.batch.Batch.{Batch}
@@ -17,10 +17,10 @@ use Rattle.amber_log.specs.Grammar.{IsBatch}
 use Rattle.amber_log.specs.declared.entry.Entry.{Entry}
 use Rattle.amber_log.specs.declared.entry.Entry.TheVariants as entry
 use Rattle.amber_log.specs.declared.log.Log.{Log}
-use Rattle.amber_meaning.specs.Legal.{AreOffered, IsPrefix, IsLegal, Query, batches_for, entries_of, leg_start, role_in, stream_of}
+use Rattle.amber_meaning.specs.Legal.{AreOffered, IsLegal, Query, batches_for, entries_of, leg_start, role_in, stream_of}
 use Rattle.amber_meaning.specs.Plan.{role_of}
 use Rattle.amber_meaning.specs.Position.{Position, emitted_rows, kept, produced_rows, taken_from}
-use Rattle.amber_meaning.specs.Rules.{Leads, MayGo, MayTake, Moves, Orders, took, went}
+use Rattle.amber_meaning.specs.Rules.{Leads, MayGo, MayTake, Moves, Orders, with_batch, with_rows}
 use Rattle.amber_meaning.specs.State.{position_at}
 use Rattle.amber_meaning.specs.Task.{Role}
 use Rattle.amber_meaning.proofs.Chunks.{chunks-marked, full_batch, fulls-longer}
@@ -61,17 +61,17 @@ pub record IsGrown (role : Role) (p q : Position) : Type 0 where
 still : (p : Position) (A : Type 0) → p.finished ≡ false → p.finished ≡ true → A
 still p A e f = absurd (false≢true (sym e ∙ f))
 
-took-grown : (role : Role) (p : Position) (from number : ℕ) (batch : Batch) → IsOrderly role (took from batch p).taken → MayTake role p from number
-    → IsBounded role p → IsGrown role p (took from batch p)
-took-grown role p from number batch orderly may h =
+with_batch-grown : (role : Role) (p : Position) (from number : ℕ) (batch : Batch) → IsOrderly role (with_batch from batch p).taken → MayTake role p from number
+    → IsBounded role p → IsGrown role p (with_batch from batch p)
+with_batch-grown role p from number batch orderly may h =
     let longer = product-taken role p.taken from batch p.constants h.within orderly may.sender in
-    let same : emitted_rows role (took from batch p) ≡ emitted_rows role p =
+    let same : emitted_rows role (with_batch from batch p) ≡ emitted_rows role p =
     ap (λ (rows : List (List Value)). kept rows p.outcomes) (sym longer.1) ∙ kept-front (produced_rows role p) longer.0 p.outcomes h.produced in
     record { emitted = rw same (IsPrefix-refl (emitted_rows role p)); over = still p _ may.free.unfinished }
 
-went-grown : (role : Role) (orders : Orders) (p : Position) (rows outs : ℕ) → MayGo role orders p rows outs → IsBounded role p
-    → IsGrown role p (went orders rows outs p)
-went-grown role orders p rows outs may h =
+with_rows-grown : (role : Role) (orders : Orders) (p : Position) (rows outs : ℕ) → MayGo role orders p rows outs → IsBounded role p
+    → IsGrown role p (with_rows orders rows outs p)
+with_rows-grown role orders p rows outs may h =
     let longer = product-later role p.taken p.constants rows orders.constants may.within in
     let all : List (List Value) = produced_rows role p ++ longer.0 in
     let first : IsPrefix (kept all p.outcomes) (kept all (p.outcomes ++ replicate outs true)) = kept-later all p.outcomes (replicate outs true) in
@@ -84,14 +84,14 @@ flags-grown : (role : Role) (p : Position) (hand : ℕ) (held waved paused : Boo
 flags-grown role p hand held waved paused = record { emitted = IsPrefix-refl (emitted_rows role p); over = λ e. (refl, e) }
 
 pub moved-grown : (role : Role) (orders : Orders) (p q : Position) (one : Entry) → IsOrderly role q.taken → Moves role orders p one q → IsBounded role p → IsGrown role p q
-moved-grown role orders p q (entry.Take from number) orderly h bounded = rw h.2 (took-grown role p from number h.0 (rw h.2 at orderly) h.1 bounded)
-moved-grown role orders p q (entry.Go rows outs) orderly h bounded = rw h.1 (went-grown role orders p rows outs h.0 bounded)
-moved-grown role orders p q (entry.Grant n) orderly h bounded = rw h.1 (flags-grown role p (p.hand + n) p.held p.waved p.paused)
-moved-grown role orders p q (entry.Back n) orderly h bounded = rw h.1 (flags-grown role p 0 p.held p.waved p.paused)
-moved-grown role orders p q entry.Pause orderly h bounded = rw h.1 (flags-grown role p p.hand p.held p.waved true)
-moved-grown role orders p q entry.Resume orderly h bounded = rw h.1 (flags-grown role p p.hand p.held p.waved false)
-moved-grown role orders p q entry.Hold orderly h bounded = rw h.1 (flags-grown role p p.hand true p.waved p.paused)
-moved-grown role orders p q entry.Finish orderly h bounded = rw h.1 (record { emitted = IsPrefix-refl (emitted_rows role p); over = λ e. (refl, refl) })
+moved-grown role orders p q (entry.Take from number) orderly h bounded = rw h.2 (with_batch-grown role p from number h.0 (rw h.2 at orderly) h.1 bounded)
+moved-grown role orders p q (entry.Go rows outs) orderly h bounded = rw h.2 (with_rows-grown role orders p rows outs h.1 bounded)
+moved-grown role orders p q (entry.Grant n) orderly h bounded = rw h.2 (flags-grown role p (p.hand + n) p.held p.waved p.paused)
+moved-grown role orders p q (entry.Back n) orderly h bounded = rw h.2 (flags-grown role p 0 p.held p.waved p.paused)
+moved-grown role orders p q entry.Pause orderly h bounded = rw h.2 (flags-grown role p p.hand p.held p.waved true)
+moved-grown role orders p q entry.Resume orderly h bounded = rw h.2 (flags-grown role p p.hand p.held p.waved false)
+moved-grown role orders p q entry.Hold orderly h bounded = rw h.2 (flags-grown role p p.hand true p.waved p.paused)
+moved-grown role orders p q entry.Finish orderly h bounded = rw h.2 (record { emitted = IsPrefix-refl (emitted_rows role p); over = λ e. (refl, refl) })
 
 -- ---- batches of a stream that grows
 
@@ -173,7 +173,7 @@ next-of xs ys y (z ∷ more, e) at =
 
 -- the next batch of a sender
 taken-next : (offer : ℕ → List Batch) (p : Position) (from number : ℕ) (batch : Batch) → number ≡ length (taken_from p.taken from)
-    → nth (offer from) (number + 1) ≡ Some batch → IsPrefix (taken_from p.taken from) (offer from) → IsPrefix (taken_from (took from batch p).taken from) (offer from)
+    → nth (offer from) (number + 1) ≡ Some batch → IsPrefix (taken_from p.taken from) (offer from) → IsPrefix (taken_from (with_batch from batch p).taken from) (offer from)
 taken-next offer p from number batch next there begins =
     rw (taken_from-push p.taken from batch)
     (next-of (taken_from p.taken from) (offer from) batch begins
@@ -184,18 +184,18 @@ pub taken-offered : (role : Role) (orders : Orders) (offer : ℕ → List Batch)
     → IsPrefix (taken_from p.taken sender) (offer sender) → IsPrefix (taken_from q.taken sender) (offer sender)
 taken-offered role orders offer p q (entry.Take from number) sender h there begins = rw there.2 (by (cases_eq from sender))
   where
-    by : (from ≡ sender) ⊎ (from ≡ sender → ⊥) → IsPrefix (taken_from (took from there.0 p).taken sender) (offer sender)
+    by : (from ≡ sender) ⊎ (from ≡ sender → ⊥) → IsPrefix (taken_from (with_batch from there.0 p).taken sender) (offer sender)
     by (inl same) =
-        subst (λ (s : ℕ). IsPrefix (taken_from (took from there.0 p).taken s) (offer s)) same
+        subst (λ (s : ℕ). IsPrefix (taken_from (with_batch from there.0 p).taken s) (offer s)) same
         (taken-next offer p from number there.0 h.1.next there.1 (subst (λ (s : ℕ). IsPrefix (taken_from p.taken s) (offer s)) (sym same) begins))
     by (inr other) = rw (taken_from-other p.taken from sender there.0 other) begins
-taken-offered role orders offer p q (entry.Go rows outs) sender h there begins = rw h.1 begins
-taken-offered role orders offer p q (entry.Grant n) sender h there begins = rw h.1 begins
-taken-offered role orders offer p q (entry.Back n) sender h there begins = rw h.1 begins
-taken-offered role orders offer p q entry.Pause sender h there begins = rw h.1 begins
-taken-offered role orders offer p q entry.Resume sender h there begins = rw h.1 begins
-taken-offered role orders offer p q entry.Hold sender h there begins = rw h.1 begins
-taken-offered role orders offer p q entry.Finish sender h there begins = rw h.1 begins
+taken-offered role orders offer p q (entry.Go rows outs) sender h there begins = rw h.2 begins
+taken-offered role orders offer p q (entry.Grant n) sender h there begins = rw h.2 begins
+taken-offered role orders offer p q (entry.Back n) sender h there begins = rw h.2 begins
+taken-offered role orders offer p q entry.Pause sender h there begins = rw h.2 begins
+taken-offered role orders offer p q entry.Resume sender h there begins = rw h.2 begins
+taken-offered role orders offer p q entry.Hold sender h there begins = rw h.2 begins
+taken-offered role orders offer p q entry.Finish sender h there begins = rw h.2 begins
 
 -- behind an entry more everything that was taken is offered
 grown-offered : (query : Query) (next : NextEntry) → 0 < query.size → AreOffered query next.now.positions

@@ -9,9 +9,9 @@ use Rattle.amber_rows.specs.declared.value.Value.{Value}
 use Rattle.amber_rows.specs.declared.cond.Cond.{Cond}
 use Rattle.amber_log.specs.declared.entry.Entry.TheVariants as entry
 use Rattle.amber_meaning.specs.Position.{Position, fed, product}
-use Rattle.amber_meaning.specs.Rules.{Leads, MayGo, Orders, is_watched, pass_by, produced_with, product_with, went}
+use Rattle.amber_meaning.specs.Rules.{Leads, MayGo, Orders, is_watched, pass_by, produced_with, product_with, with_rows}
 use Rattle.amber_meaning.specs.Task.{Role}
-use Rattle.amber_meaning.proofs.Led.{Leads-parts, Leads-push}
+use Rattle.amber_meaning.proofs.Led.{Leads-parts, Leads-push, no_batch}
 use Rattle.amber_lines.specs.MovingLaws.{GoesJoin}
 use Rattle.amber_lines.proofs.Bounded.{product-later}
 
@@ -38,9 +38,9 @@ Position-path p q a b c d e f g h = λ i. record { taken = a i; constants = b i;
 replicate-both : {A : Type 0} (xs : List A) (n m : ℕ) (x : A) → (xs ++ replicate n x) ++ replicate m x ≡ xs ++ replicate (n + m) x
 replicate-both xs n m x = append_assoc xs (replicate n x) (replicate m x) ∙ ap (λ l. xs ++ l) (replicate-append-replicate n m x)
 
-went-both : (orders : Orders) (p : Position) (rows outs more others : ℕ) → went orders more others (went orders rows outs p) ≡ went orders (rows + more) (outs + others) p
-went-both orders p rows outs more others =
-    Position-path (went orders more others (went orders rows outs p)) (went orders (rows + more) (outs + others) p)
+with_rows-both : (orders : Orders) (p : Position) (rows outs more others : ℕ) → with_rows orders more others (with_rows orders rows outs p) ≡ with_rows orders (rows + more) (outs + others) p
+with_rows-both orders p rows outs more others =
+    Position-path (with_rows orders more others (with_rows orders rows outs p)) (with_rows orders (rows + more) (outs + others) p)
     refl (replicate-both p.constants rows more orders.constants) (replicate-both p.outcomes outs others true)
     (hand-both orders.counted p.hand outs others) refl (waved-both p.waved outs others) refl refl
 
@@ -62,7 +62,7 @@ pass-both watch false n (x ∷ xs) ys size h k =
 
 -- ---- both together
 
-product-both : (role : Role) (orders : Orders) (p : Position) (rows outs more : ℕ) → product_with role orders (went orders rows outs p) more ≡ product_with role orders p (rows + more)
+product-both : (role : Role) (orders : Orders) (p : Position) (rows outs more : ℕ) → product_with role orders (with_rows orders rows outs p) more ≡ product_with role orders p (rows + more)
 product-both role orders p rows outs more = ap (product role p.taken) (replicate-both p.constants rows more orders.constants)
 
 -- rows of a list that grows: the next ones of the old list, and then the next ones of the new
@@ -76,7 +76,7 @@ rows-both outcomes outs others rows more all is within =
     ∙ ap (λ (l : List (List Value)). l ++ take others (drop outs (drop outcomes all))) (take-append-le outs (drop outcomes rows) more (omega arith))
     ∙ ap (λ (l : List (List Value)). take outs (drop outcomes rows) ++ take others l) (drop-drop outs outcomes all)
 
-go-both : (role : Role) (orders : Orders) (p : Position) (rows outs more others : ℕ) → MayGo role orders p rows outs → MayGo role orders (went orders rows outs p) more others
+go-both : (role : Role) (orders : Orders) (p : Position) (rows outs more others : ℕ) → MayGo role orders p rows outs → MayGo role orders (with_rows orders rows outs p) more others
     → MayGo role orders p (rows + more) (outs + others)
 go-both role orders p rows outs more others a b =
     record {
@@ -95,7 +95,7 @@ go-both role orders p rows outs more others a b =
     taken : length (p.constants ++ replicate rows orders.constants) ≡ length p.constants + rows
     taken = length-append p.constants (replicate rows orders.constants) ∙ ap (λ (n : ℕ). length p.constants + n) (length-replicate rows orders.constants)
 
-    made : (n : ℕ) → produced_with role orders (went orders rows outs p) n ≡ produced_with role orders p (rows + n)
+    made : (n : ℕ) → produced_with role orders (with_rows orders rows outs p) n ≡ produced_with role orders p (rows + n)
     made n = ap length (product-both role orders p rows outs n)
 
     within : length p.constants + (rows + more) ≤ length (fed role p.taken)
@@ -105,7 +105,7 @@ go-both role orders p rows outs more others a b =
     produced = let h = b.produced in let size = gone in let same = made more in omega arith
 
     -- the rows before the last
-    before : more ≢ 0 → produced_with role orders (went orders rows outs p) (more - 1) ≡ produced_with role orders p (rows + more - 1)
+    before : more ≢ 0 → produced_with role orders (with_rows orders rows outs p) (more - 1) ≡ produced_with role orders p (rows + more - 1)
     before some = made (more - 1) ∙ ap (produced_with role orders p) (omega arith)
 
     alone : more ≡ 0 → produced_with role orders p (rows + more - 1) ≡ produced_with role orders p (rows - 1)
@@ -115,7 +115,7 @@ go-both role orders p rows outs more others a b =
     drained (inl none) some = let h = a.drained (omega arith) in let same = alone none in omega arith
     drained (inr more_some) some = let h = b.drained (omega arith) in let size = gone in let same = before more_some in omega arith
 
-    hand-now : orders.counted ≡ true → (went orders rows outs p).hand ≡ p.hand - outs
+    hand-now : orders.counted ≡ true → (with_rows orders rows outs p).hand ≡ p.hand - outs
     hand-now counted = ap (λ (c : Bool). if c then p.hand - outs else p.hand) counted
 
     in_hand : orders.counted ≡ true → outs + others ≤ p.hand
@@ -152,11 +152,11 @@ pub goes_join : GoesJoin
 unfolding Leads
 goes_join role orders start p q done rows outs more others leads moves =
     let parts = Leads-parts role orders start p done (entry.Go rows outs ∷ []) leads in
-    join_result parts.0 parts.1 parts.2.1.0 (sym parts.2.2 ∙ parts.2.1.1)
+    joined parts.0 parts.1 parts.2.1.1 (sym parts.2.2 ∙ parts.2.1.2)
   where
-    joined : (m : Position) → Leads role orders start done m → MayGo role orders m rows outs → p ≡ went orders rows outs m
+    joined : (m : Position) → Leads role orders start done m → MayGo role orders m rows outs → p ≡ with_rows orders rows outs m
         → Leads role orders start (done ++ entry.Go (rows + more) (outs + others) ∷ []) q
-    join_result m before may is =
-        let second : MayGo role orders (went orders rows outs m) more others = rw is at moves.0 in
-        let now : q ≡ went orders (rows + more) (outs + others) m = moves.1 ∙ ap (went orders more others) is ∙ went-both orders m rows outs more others in
-        Leads-push role orders start done m (entry.Go (rows + more) (outs + others)) q before (go-both role orders m rows outs more others may second, now)
+    joined m before may is =
+        let second : MayGo role orders (with_rows orders rows outs m) more others = rw is at moves.1 in
+        let now : q ≡ with_rows orders (rows + more) (outs + others) m = moves.2 ∙ ap (with_rows orders more others) is ∙ with_rows-both orders m rows outs more others in
+        Leads-push role orders start done m (entry.Go (rows + more) (outs + others)) q before (no_batch, go-both role orders m rows outs more others may second, now)

@@ -5,7 +5,7 @@ use Rattle.std.proofs.lemmas.List.Sums.{sum_by-append, sum_by-cons}
 use Rattle.amber_log.specs.declared.entry.Entry.{Entry}
 use Rattle.amber_log.specs.declared.entry.Entry.TheVariants as entry
 use Rattle.amber_meaning.specs.Position.{Position, Taken, emitted_count, is_emitted, one_if, origin, steps_of}
-use Rattle.amber_meaning.specs.Rules.{Leads, Moves, Orders, went}
+use Rattle.amber_meaning.specs.Rules.{Leads, Moves, Orders, with_rows}
 use Rattle.amber_meaning.specs.State.{State, position_at, steps_in}
 use Rattle.amber_meaning.specs.Task.{Role}
 use Rattle.amber_meaning.proofs.OneState.{position-get_or}
@@ -13,14 +13,14 @@ use Rattle.amber_meaning.proofs.OneState.{position-get_or}
 emitted-more : (outcomes more : List Bool) → emitted_count outcomes ≤ emitted_count (outcomes ++ more)
 emitted-more outcomes more = let parts = sum_by-append (λ outcome. if is_emitted outcome then 1 else 0) outcomes more in omega arith
 
-went-steps : (orders : Orders) (p : Position) (rows outs : ℕ) → steps_of p ≤ steps_of (went orders rows outs p)
-went-steps orders p rows outs =
+with_rows-steps : (orders : Orders) (p : Position) (rows outs : ℕ) → steps_of p ≤ steps_of (with_rows orders rows outs p)
+with_rows-steps orders p rows outs =
     let taken = length-append p.constants (replicate rows orders.constants) in
     let gone = emitted-more p.outcomes (replicate outs true) in
     omega arith
 
-took-steps : (p : Position) (t : Taken) → steps_of p ≤ steps_of (record p { taken = p.taken ++ t ∷ [] })
-took-steps p t = let taken = length-append p.taken (t ∷ []) in omega arith
+with_batch-steps : (p : Position) (t : Taken) → steps_of p ≤ steps_of (record p { taken = p.taken ++ t ∷ [] })
+with_batch-steps p t = let taken = length-append p.taken (t ∷ []) in omega arith
 
 finish-steps : (p : Position) → p.finished ≡ false → steps_of p ≤ steps_of (record p { finished = true })
 finish-steps p e = let none : one_if p.finished ≡ 0 = ap one_if e in omega arith
@@ -29,14 +29,14 @@ no_fewer : (n : ℕ) → n ≤ n
 no_fewer n = omega arith
 
 moved-steps : (role : Role) (orders : Orders) (p q : Position) (one : Entry) → Moves role orders p one q → steps_of p ≤ steps_of q
-moved-steps role orders p q (entry.Take from number) h = rw h.2 (took-steps p (record { from = from; batch = h.0 }))
-moved-steps role orders p q (entry.Go rows outs) h = rw h.1 (went-steps orders p rows outs)
-moved-steps role orders p q (entry.Grant n) h = rw h.1 (no_fewer (steps_of p))
-moved-steps role orders p q (entry.Back n) h = rw h.1 (no_fewer (steps_of p))
-moved-steps role orders p q entry.Pause h = rw h.1 (no_fewer (steps_of p))
-moved-steps role orders p q entry.Resume h = rw h.1 (no_fewer (steps_of p))
-moved-steps role orders p q entry.Hold h = rw h.1 (no_fewer (steps_of p))
-moved-steps role orders p q entry.Finish h = rw h.1 (finish-steps p h.0.free.unfinished)
+moved-steps role orders p q (entry.Take from number) h = rw h.2 (with_batch-steps p (record { from = from; batch = h.0 }))
+moved-steps role orders p q (entry.Go rows outs) h = rw h.2 (with_rows-steps orders p rows outs)
+moved-steps role orders p q (entry.Grant n) h = rw h.2 (no_fewer (steps_of p))
+moved-steps role orders p q (entry.Back n) h = rw h.2 (no_fewer (steps_of p))
+moved-steps role orders p q entry.Pause h = rw h.2 (no_fewer (steps_of p))
+moved-steps role orders p q entry.Resume h = rw h.2 (no_fewer (steps_of p))
+moved-steps role orders p q entry.Hold h = rw h.2 (no_fewer (steps_of p))
+moved-steps role orders p q entry.Finish h = rw h.2 (finish-steps p h.1.free.unfinished)
 
 led-steps : (role : Role) (orders : Orders) (p q : Position) (entries : List Entry) → Leads role orders p entries q → steps_of p ≤ steps_of q
 unfolding Leads

@@ -26,7 +26,7 @@ use Rattle.amber_meaning.specs.Rules.{Leads, Moves, Orders}
 use Rattle.amber_meaning.specs.State.{State, begin_leg, begin_last_leg, after_command, position_at, start_of, steps_in}
 use Rattle.amber_meaning.specs.Task.{Role}
 use Rattle.amber_meaning.proofs.Fronts.{legal_logs_grow}
-use Rattle.amber_meaning.proofs.LegalTests.{may_close_end-is, may_close_run-is, offered-is}
+use Rattle.amber_judge.proofs.LegalTests.{may_close_end-is, may_close_run-is, offered-is}
 use Rattle.amber_meaning.proofs.OneState.{Leads-keeps, TookFirst, moved-is, position-get_or, same-batches}
 use Rattle.amber_meaning.proofs.Rest.{legal_logs_rest}
 use Rattle.amber_lines.specs.Lines.{Between, Fresh, Progress, Within, judge, judge_all, may_enter, offers_in, open_lines, leg_line, position_behind, state_behind, when}

@@ -1,6 +1,7 @@
 -- A log judged line by line, each line from those up to it.
 use Rattle.std.specs.Prelude.{◌≡◌, ℕ, ◌+◌, ◌==◌, nat_le, nat_lt, ◌&&◌, List, [], ◌∷◌, ◌++◌, Option, Some, None, option_and_then, Bool, true, false}
 use Rattle.std.specs.List.{flat_map}
+use Rattle.amber_meaning.specs.Replay.{batch_for}
 use Rattle.amber_rows.specs.Crew.{crew_of}
 use Rattle.amber_rows.specs.declared.batch.Batch.{Batch}
 use Rattle.amber_log.specs.Fits.{fits_of}
@@ -12,12 +13,13 @@ use Rattle.amber_log.specs.declared.leg.Part.{Part}
 use Rattle.amber_log.specs.declared.line.Line.{Line}
 use Rattle.amber_log.specs.declared.line.Line.TheVariants as line
 use Rattle.amber_log.specs.declared.log.Log.{Log}
-use Rattle.amber_meaning.specs.Legal.{IsPrefix, Query, after_close, batches_for, leg_start, role_in}
-use Rattle.amber_meaning.specs.LegalTests.{is_offered, may_close_end, may_close_run}
+use Rattle.amber_meaning.specs.Legal.{Query, after_close, batches_for, leg_start, role_in}
+use Rattle.amber_rows.specs.Lists.{IsPrefix, changed_at}
+use Rattle.amber_judge.specs.LegalTests.{is_offered, may_close_end, may_close_run}
 use Rattle.amber_meaning.specs.Position.{Position}
-use Rattle.amber_meaning.specs.Replay.{moved_by}
-use Rattle.amber_meaning.specs.RuleTests.{may_move}
-use Rattle.amber_meaning.specs.State.{State, changed_at, after_command, position_at, start_of, steps_in}
+use Rattle.amber_meaning.specs.Rules.{position_after}
+use Rattle.amber_judge.specs.RuleTests.{may_move}
+use Rattle.amber_meaning.specs.State.{State, after_command, position_at, start_of, steps_in}
 use Rattle.amber_lines.specs.Moving.{orders_in}
 
 -- how far a log was judged: no line yet, behind an item, or inside a leg, to the end or not, in the part of a worker
@@ -39,7 +41,7 @@ may_enter query now worker made =
 
 -- where the worker stands behind it
 unfoldable pub position_behind : Query → State → ℕ → Entry → Position
-position_behind query now worker made = moved_by (offers_in query now worker) (orders_in query now worker) made (position_at now.positions worker)
+position_behind query now worker made = position_after (orders_in query now worker) (batch_for (offers_in query now worker) made) made (position_at now.positions worker)
 
 abbrev pub with_position : ℕ → Position → State → State
 with_position worker p state = record state { positions = changed_at (λ old. p) (worker + 1) state.positions }

@@ -1,6 +1,6 @@
 -- A leg's work in two parts: each worker moves by its rules, and what was taken was offered.
 use Rattle.std.specs.Prelude.{◌≡◌, ℕ, ◌+◌, ◌<◌, ◌≤◌, List, length, Some, Bool, false}
-use Rattle.amber_rows.specs.Cond.{nth}
+use Rattle.amber_rows.specs.Lists.{nth}
 use Rattle.amber_rows.specs.Crew.{crew_of, op_of}
 use Rattle.amber_rows.specs.declared.batch.Batch.{Batch}
 use Rattle.amber_log.specs.Grammar.{AreParts, ends_over}
@@ -10,7 +10,7 @@ use Rattle.amber_log.specs.declared.leg.Part.{Part}
 use Rattle.amber_log.specs.declared.log.Log.{Log}
 use Rattle.amber_meaning.specs.Legal.{AreKnown, IsLegal, Query, batches_for, entries_of, leg_start, role_in}
 use Rattle.amber_meaning.specs.Position.{Position}
-use Rattle.amber_meaning.specs.Rules.{Leads, Moves, Orders, took}
+use Rattle.amber_meaning.specs.Rules.{Leads, Moves, Orders, with_batch}
 use Rattle.amber_meaning.specs.State.{State, arms_at, orders_of, position_at, steps_in}
 
 -- the orders of a worker in a leg that began in this state
@@ -38,7 +38,7 @@ pub record IsUnderway (query : Query) (log : Log) (to_end : Bool) (parts : List 
 
 -- an entry takes the batch that is offered under its number, and leads so to the position afterwards
 abbrev pub TakesOffered : (ℕ → List Batch) → Position → Entry → Position → Type 0
-TakesOffered offer p (entry.Take from number) q = (batch : Batch) × (nth (offer from) (number + 1) ≡ Some batch) × (q ≡ took from batch p)
+TakesOffered offer p (entry.Take from number) q = (batch : Batch) × (nth (offer from) (number + 1) ≡ Some batch) × (q ≡ with_batch from batch p)
 TakesOffered offer p (entry.Go rows outs) q = Unit {0}
 TakesOffered offer p (entry.Grant n) q = Unit {0}
 TakesOffered offer p (entry.Back n) q = Unit {0}

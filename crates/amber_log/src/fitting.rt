@@ -1,8 +1,8 @@
 //! Which commands a workflow takes.
 
 ghost use Rattle.std.specs.Prelude.{◌≡◌};
-ghost use Rattle.amber_rows.specs.Cond.{nth};
-ghost use Rattle.amber_rows.specs.FlowRules.{is_sink};
+ghost use Rattle.amber_rows.specs.Lists.{nth};
+ghost use Rattle.amber_rows.specs.Kinds.{is_sink};
 ghost use Rattle.amber_log.specs.Fits.{may_be_set_to, fits_of, has_worker, is_cell_of, is_source, is_target, is_there, takes_cond, takes_constant};
 
 use crate::command::Command;

@@ -13,7 +13,8 @@ use Rattle.amber_rows.specs.declared.cond.Cmp.TheVariants as cmp
 use Rattle.amber_rows.specs.declared.flow.What.TheVariants as what
 use Rattle.amber_rows.specs.declared.flow.Operator.{Operator}
 use Rattle.amber_rows.specs.declared.record.RowFault.{RowFault}
-use Rattle.amber_rows.specs.Chunks.{chunks_of, numbers_below}
+use Rattle.amber_rows.specs.Chunks.{chunks_of}
+use Rattle.amber_rows.specs.Lists.{numbers_below}
 use Rattle.amber_rows.specs.Cond.{holds_of}
 use Rattle.amber_rows.specs.Crew.{crew_of, first_worker_of, follower_of, keyed_receiver_of, op_of, reader_from, receiver_of, senders_of, sends_to, workers_of}
 use Rattle.amber_rows.specs.Operators.{agg_value, agg_values, first_keys, greatest_of, group_result, join_result, least_of, matches_of, pick_cells, project_result, refused_keys, total_of}
@@ -21,7 +22,6 @@ use Rattle.amber_rows.specs.Order.{insert_row, sort_rows}
 use Rattle.amber_rows.specs.Routing.{fnv_of, key_bytes_of, route_of}
 use Rattle.amber_rows.specs.RowText.{fields_text_of, rows_text_of}
 use Rattle.amber_rows.specs.Suits.{suits_of}
-use Rattle.amber_log.specs.Fits.{fits_of}
 use Rattle.amber_log.specs.declared.command.Command.TheVariants as command
 use Rattle.amber_log.specs.declared.entry.Entry.{Entry}
 use Rattle.amber_log.specs.declared.entry.Entry.TheVariants as entry
@@ -31,11 +31,9 @@ use Rattle.amber_log.specs.declared.leg.Part.{Part}
 use Rattle.amber_log.specs.declared.log.Item.{Item}
 use Rattle.amber_log.specs.declared.log.Item.TheVariants as item
 use Rattle.amber_meaning.specs.Legal.{Query, batches_for, entries_of, stream_of}
-use Rattle.amber_meaning.specs.LegalTests.{are_offered, begins, is_settled, may_close_end, may_close_run, may_lead, may_make, may_reach, may_work, same_rows}
 use Rattle.amber_meaning.specs.Plan.{role_of, share_of, task_of, with_numbers}
 use Rattle.amber_meaning.specs.Position.{fed, have_ended, kept, product, taken_from}
 use Rattle.amber_meaning.specs.Replay.{after_item, after_items, led_by, positions_after, state_after, after_leg}
-use Rattle.amber_meaning.specs.RuleTests.{may_finish, may_give_back, may_go, may_grant, may_hold, may_pause, may_resume, may_take}
 use Rattle.amber_meaning.specs.State.{begin_leg, begin_last_leg, after_command, counted_by, crew_at, emitted_by, start_of, steps_in}
 use Rattle.amber_meaning.specs.Stops.{count_stops, held_stops, pause_stops, stops_of, without_stops}
 use Rattle.amber_meaning.specs.Task.{built_of, closing, produce, yields}
@@ -65,11 +63,6 @@ positions_on_literals = tt
 unfoldable pub states_on_literals : ⊤
 unfolding positions_on_literals entries_of batches_for stream_of steps_in state_after after_items after_item after_leg positions_after led_by start_of after_command begin_leg begin_last_leg without_stops emitted_by counted_by crew_at stops_of held_stops count_stops pause_stops
 states_on_literals = tt
-
--- whether logs are legal
-unfoldable pub tests_on_literals : ⊤
-unfolding states_on_literals fits_of are_offered begins same_rows is_settled may_close_end may_close_run may_lead may_make may_reach may_work may_finish may_give_back may_go may_grant may_hold may_pause may_resume may_take
-tests_on_literals = tt
 
 -- how many steps a query has
 unfoldable pub totals_on_literals : ⊤

@@ -1,9 +1,14 @@
 -- Entries behind entries.
-use Rattle.std.proofs.Common.{List, [], ◌∷◌, ◌++◌, refl}
+use Rattle.std.proofs.Common.{List, [], ◌∷◌, ◌++◌, false, refl}
+use Rattle.amber_rows.specs.declared.batch.Batch.{Batch}
 use Rattle.amber_log.specs.declared.entry.Entry.{Entry}
 use Rattle.amber_meaning.specs.Position.{Position}
 use Rattle.amber_meaning.specs.Rules.{Leads, Moves, Orders}
 use Rattle.amber_meaning.specs.Task.{Role}
+
+-- the batch that is offered to an entry that takes none
+abbrev pub no_batch : Batch
+no_batch = record { seq = 0; rows = []; last = false }
 
 -- an entry more
 pub Leads-push : (role : Role) (orders : Orders) (start : Position) (journal : List Entry) (m : Position) (one : Entry) (q : Position)

@@ -5,9 +5,7 @@ use Rattle.std.proofs.lemmas.Bool.{and_from, and_parts, cases_lt, eq-eqb, eqb-tr
 use Rattle.std.proofs.lemmas.List.{append-nil}
 use Rattle.std.proofs.lemmas.List.Folds.{list_all-append}
 use Rattle.std.proofs.lemmas.Option.{unwrap_or-slice_get}
-use Rattle.amber_rows.specs.Chunks.{numbers_below}
-use Rattle.amber_rows.specs.Cond.{nth}
-use Rattle.amber_meaning.specs.Legal.{IsPrefix}
+use Rattle.amber_rows.specs.Lists.{numbers_below, nth, IsPrefix}
 
 pub IsPrefix-refl : {A : Type 0} (xs : List A) → IsPrefix xs xs
 IsPrefix-refl xs = ([], append-nil xs)

@@ -4,7 +4,7 @@ use Rattle.std.specs.Prelude.{filter}
 use Rattle.std.specs.List.{list_any}
 use Rattle.std.proofs.lemmas.Bool.{cases_eq, cases_lt, eq-eqb, ne_eqb}
 use Rattle.std.proofs.lemmas.List.{append-nil, ext_get_or, get_or_append_left, get_or_push, length_push}
-use Rattle.amber_rows.specs.Cond.{nth}
+use Rattle.amber_rows.specs.Lists.{nth, IsPrefix}
 use Rattle.amber_rows.specs.Crew.{crew_of, op_of}
 use Rattle.amber_rows.specs.declared.batch.Batch.{Batch}
 use Rattle.amber_log.specs.declared.entry.Entry.{Entry}
@@ -13,11 +13,11 @@ use Rattle.amber_log.specs.declared.leg.Part.{Part}
 use Rattle.amber_log.specs.declared.log.Item.{Item}
 use Rattle.amber_log.specs.declared.log.Item.TheVariants as item
 use Rattle.amber_meaning.specs.Laws.{ItemsHaveOneState, LegalLogsHaveOneState, LegsHaveOneState, SendersFirst}
-use Rattle.amber_meaning.specs.Legal.{AreOffered, IsPrefix, IsWorked, Makes, Query, Reaches, batches_for, entries_of, role_in, stream_of}
+use Rattle.amber_meaning.specs.Legal.{AreOffered, IsWorked, Makes, Query, Reaches, batches_for, entries_of, role_in, stream_of}
 use Rattle.amber_meaning.specs.Plan.{role_of}
 use Rattle.amber_meaning.specs.Position.{Position, Taken, origin, taken_from}
-use Rattle.amber_meaning.specs.Replay.{after_item, after_items, led_by, moved_by, positions_after, state_after, after_leg}
-use Rattle.amber_meaning.specs.Rules.{Leads, Moves, Orders}
+use Rattle.amber_meaning.specs.Replay.{after_item, after_items, led_by, positions_after, state_after, after_leg, batch_for}
+use Rattle.amber_meaning.specs.Rules.{Leads, Moves, Orders, position_after}
 use Rattle.amber_meaning.specs.State.{State, arms_at, begin_leg, begin_last_leg, orders_of, position_at, start_of}
 use Rattle.amber_meaning.specs.Task.{Role}
 use Rattle.amber_meaning.proofs.Lists.{IsPrefix-refl, IsPrefix-trans, nth-behind, numbered_or}
@@ -61,13 +61,13 @@ taken-keeps role orders p q (entry.Take from number) sender h =
       | inl e ↦ (h.0 ∷ [], rw (h.2, ← e) (sym (taken_from-push p.taken from h.0)))
       | inr ne ↦ ([], rw h.2 (append-nil _ ∙ sym (taken_from-other p.taken from sender h.0 ne)))
     ]
-taken-keeps role orders p q (entry.Go rows outs) sender h = rw h.1 (IsPrefix-refl _)
-taken-keeps role orders p q (entry.Grant n) sender h = rw h.1 (IsPrefix-refl _)
-taken-keeps role orders p q (entry.Back n) sender h = rw h.1 (IsPrefix-refl _)
-taken-keeps role orders p q entry.Pause sender h = rw h.1 (IsPrefix-refl _)
-taken-keeps role orders p q entry.Resume sender h = rw h.1 (IsPrefix-refl _)
-taken-keeps role orders p q entry.Hold sender h = rw h.1 (IsPrefix-refl _)
-taken-keeps role orders p q entry.Finish sender h = rw h.1 (IsPrefix-refl _)
+taken-keeps role orders p q (entry.Go rows outs) sender h = rw h.2 (IsPrefix-refl _)
+taken-keeps role orders p q (entry.Grant n) sender h = rw h.2 (IsPrefix-refl _)
+taken-keeps role orders p q (entry.Back n) sender h = rw h.2 (IsPrefix-refl _)
+taken-keeps role orders p q entry.Pause sender h = rw h.2 (IsPrefix-refl _)
+taken-keeps role orders p q entry.Resume sender h = rw h.2 (IsPrefix-refl _)
+taken-keeps role orders p q entry.Hold sender h = rw h.2 (IsPrefix-refl _)
+taken-keeps role orders p q entry.Finish sender h = rw h.2 (IsPrefix-refl _)
 
 pub Leads-keeps : (role : Role) (orders : Orders) (p q : Position) (entries : List Entry) (sender : ℕ) → Leads role orders p entries q
     → IsPrefix (taken_from p.taken sender) (taken_from q.taken sender)
@@ -88,15 +88,15 @@ found-batch role orders offer p q from number h first =
     nth-behind (taken_from p.taken from) (offer from) h.0 number h.1.next b
 
 pub moved-is : (role : Role) (orders : Orders) (offer : ℕ → List Batch) (p q : Position) (one : Entry) → Moves role orders p one q
-    → TookFirst role offer q → moved_by offer orders one p ≡ q
+    → TookFirst role offer q → position_after orders (batch_for offer one) one p ≡ q
 moved-is role orders offer p q (entry.Take from number) h first = rw (found-batch role orders offer p q from number h first) (sym h.2)
-moved-is role orders offer p q (entry.Go rows outs) h first = sym h.1
-moved-is role orders offer p q (entry.Grant n) h first = sym h.1
-moved-is role orders offer p q (entry.Back n) h first = sym h.1
-moved-is role orders offer p q entry.Pause h first = sym h.1
-moved-is role orders offer p q entry.Resume h first = sym h.1
-moved-is role orders offer p q entry.Hold h first = sym h.1
-moved-is role orders offer p q entry.Finish h first = sym h.1
+moved-is role orders offer p q (entry.Go rows outs) h first = sym h.2
+moved-is role orders offer p q (entry.Grant n) h first = sym h.2
+moved-is role orders offer p q (entry.Back n) h first = sym h.2
+moved-is role orders offer p q entry.Pause h first = sym h.2
+moved-is role orders offer p q entry.Resume h first = sym h.2
+moved-is role orders offer p q entry.Hold h first = sym h.2
+moved-is role orders offer p q entry.Finish h first = sym h.2
 
 pub led-is : (role : Role) (orders : Orders) (offer : ℕ → List Batch) (p q : Position) (entries : List Entry) → Leads role orders p entries q
     → TookFirst role offer q → led_by offer orders entries p ≡ q
@@ -138,10 +138,10 @@ are_found query state after parts first h (suc k) most =
     let before = are_found query state after parts first h k (omega arith) in
     let ps : List Position = positions_after query state parts k in
     let offer : ℕ → List Batch = λ sender. batches_for query ps sender k in
-    let took : TookFirst (role_in query k) offer (position_at after.positions k) = λ sender known.
+    let first_taken : TookFirst (role_in query k) offer (position_at after.positions k) = λ sender known.
     rw (same-batches query ps after.positions sender k (before.same sender (first k sender known))) (h.offered k (omega arith) sender known) in
     let new = led-is (role_in query k) (orders_of (arms_at state (op_of query.flow k))) offer (position_at state.positions k)
-    (position_at after.positions k) (entries_of parts k) (h.moved k (omega arith)) took in
+    (position_at after.positions k) (entries_of parts k) (h.moved k (omega arith)) first_taken in
     record {
       length = length_push ps _ ∙ ap (λ n. n + 1) before.length ∙ add-one k;
       same = λ worker less. elim (cases_lt worker k) [

@@ -5,14 +5,15 @@ use Rattle.std.proofs.lemmas.Bool.{ne_eqb, eqb-false}
 use Rattle.std.proofs.lemmas.List.{append-nil, drop_more, drop_all, length-take, get_or_append_left, length_push, take-append-drop, take_more}
 use Rattle.std.proofs.lemmas.List.Sums.{sum_by-cons}
 use Rattle.std.proofs.lemmas.Option.{unwrap_or-slice_get, slice_get-get_or}
-use Rattle.amber_rows.specs.Cond.{nth}
+use Rattle.amber_rows.specs.Lists.{nth, first_list, later_of, list_at}
 use Rattle.amber_rows.specs.FlowRules.{IsFlow, IsNext}
 use Rattle.amber_rows.specs.Record.{has_header}
 use Rattle.amber_rows.proofs.FlowFacts.{AreNext-at}
 use Rattle.amber_rows.specs.declared.value.Value.{Value}
 use Rattle.amber_rows.specs.declared.record.RowFault.{RowFault}
 use Rattle.amber_rows.specs.declared.flow.Operator.{Operator}
-use Rattle.amber_meaning.specs.Plain.{files_after, first_list, is_scan, later_files, later_lists, list_at, next_file, outputs, records_of, refusals, refused_by, rows_of, wrong_header}
+use Rattle.amber_meaning.specs.Plain.{files_after, outputs, records_of, refusals, refused_by, rows_of, wrong_header}
+use Rattle.amber_rows.specs.Kinds.{is_scan}
 use Rattle.amber_meaning.specs.ScanFiles.{files_left, is_headed, records_at}
 use Rattle.amber_meaning.specs.declared.answer.Refusal.{Refusal}
 
@@ -43,7 +44,7 @@ drop_nil : {A : Type 0} (n : ℕ) (none : List A) → none ≡ [] → drop n non
 drop_nil zero none e = refl
 drop_nil (suc n) none e = rw e refl
 
-drop_by : (b : Bool) (files : Files) (n : ℕ) → drop n (cond b (later_files files) files) ≡ drop (n + cond b 1 0) files
+drop_by : (b : Bool) (files : Files) (n : ℕ) → drop n (cond b (later_of files) files) ≡ drop (n + cond b 1 0) files
 drop_by true [] n = drop_nil n [] refl ∙ sym (drop_nil (n + 1) [] refl)
 drop_by true (file ∷ files) n = rw add-one refl
 drop_by false files n = rw add-zero refl
@@ -56,12 +57,12 @@ files_left-drop files (x ∷ xs) =
     let more : count_by (λ (o : Operator). is_scan o.what) (x ∷ xs) ≡ n + cond (is_scan x.what) 1 0 = omega (arith, sum_by-cons (λ (o : Operator). cond (is_scan o.what) 1 0) x xs) in
     files_left-drop (files_after x.what files) xs ∙ drop_by (is_scan x.what) files n ∙ ap (λ k. drop k files) (sym more)
 
-pub next-at : (files : Files) (n : ℕ) (d : List ℕ) → n < length files → next_file (drop n files) ≡ get_or files n d
+pub next-at : (files : Files) (n : ℕ) (d : List ℕ) → n < length files → first_list (drop n files) ≡ get_or files n d
 next-at [] n d h = absurd (omega arith)
 next-at (x ∷ files) zero d h = refl
 next-at (x ∷ files) (suc n) d h = next-at files n d (omega arith)
 
-pub next-past : (files : Files) (n : ℕ) → length files ≤ n → next_file (drop n files) ≡ []
+pub next-past : (files : Files) (n : ℕ) → length files ≤ n → first_list (drop n files) ≡ []
 next-past [] zero h = refl
 next-past [] (suc n) h = refl
 next-past (x ∷ files) zero h = absurd (omega arith)
@@ -69,7 +70,7 @@ next-past (x ∷ files) (suc n) h = next-past files n (omega arith)
 
 -- the records of an operator are those of the file that is next behind the operators before it
 pub records-here : (files : Files) (flow : List Operator) (i : ℕ) (o : Operator) → i < length flow → o ≡ get_or flow i o
-    → get_or (records_of files flow) i [] ≡ records_at o.what o.schema (next_file (files_left files (take i flow)))
+    → get_or (records_of files flow) i [] ≡ records_at o.what o.schema (first_list (files_left files (take i flow)))
 unfolding records_of files_left
 records-here files [] i o h e = absurd (omega arith)
 records-here files (x ∷ flow) zero o h e = rw e refl
@@ -81,7 +82,7 @@ drop_here : (flow : List Operator) (i : ℕ) (o : Operator) → i < length flow 
 drop_here flow i o h e = drop_more flow i o h ∙ ap (λ x. x ∷ drop (i + 1) flow) (sym e)
 
 header_go : (b t : Bool) (files : Files) (more : Files → Option ℕ) (stop : Option ℕ) → cond b t true ≡ true
-    → cond b (cond t (more (later_files files)) stop) (more files) ≡ more (cond b (later_files files) files)
+    → cond b (cond t (more (later_of files)) stop) (more files) ≡ more (cond b (later_of files) files)
 header_go true true files more stop e = refl
 header_go true false files more stop e = absurd (cc)
 header_go false t files more stop e = refl
@@ -92,7 +93,7 @@ header_stop true false x y stop e = refl
 header_stop false t x y stop e = absurd (cc)
 
 pub wrong_header-more : (files : Files) (flow : List Operator) (i : ℕ) (o : Operator) (whole : Option ℕ) → i < length flow → o ≡ get_or flow i o
-    → whole ≡ wrong_header (i + 1) (files_left files (take i flow)) (drop i flow) → is_headed o.what o.schema (next_file (files_left files (take i flow))) ≡ true
+    → whole ≡ wrong_header (i + 1) (files_left files (take i flow)) (drop i flow) → is_headed o.what o.schema (first_list (files_left files (take i flow))) ≡ true
     → whole ≡ wrong_header (i + 1 + 1) (files_left files (take (i + 1) flow)) (drop (i + 1) flow)
 unfolding wrong_header
 wrong_header-more files flow i o whole h e so t =
@@ -100,18 +101,18 @@ wrong_header-more files flow i o whole h e so t =
     let here : wrong_header (i + 1) left (drop i flow) ≡ wrong_header (i + 1) left (o ∷ drop (i + 1) flow) = ap (λ ops. wrong_header (i + 1) left ops) (drop_here flow i o h e) in
     rw (files_left-more files flow i o h e) (
     so ∙ here
-    ∙ header_go (is_scan o.what) (has_header o.schema (next_file left)) left (λ others. wrong_header (i + 1 + 1) others (drop (i + 1) flow)) (Some (i + 1)) t
+    ∙ header_go (is_scan o.what) (has_header o.schema (first_list left)) left (λ others. wrong_header (i + 1 + 1) others (drop (i + 1) flow)) (Some (i + 1)) t
     )
 
 pub wrong_header-here : (files : Files) (flow : List Operator) (i : ℕ) (o : Operator) (whole : Option ℕ) → i < length flow → o ≡ get_or flow i o
-    → whole ≡ wrong_header (i + 1) (files_left files (take i flow)) (drop i flow) → is_headed o.what o.schema (next_file (files_left files (take i flow))) ≡ false
+    → whole ≡ wrong_header (i + 1) (files_left files (take i flow)) (drop i flow) → is_headed o.what o.schema (first_list (files_left files (take i flow))) ≡ false
     → whole ≡ Some (i + 1)
 unfolding wrong_header
 wrong_header-here files flow i o whole h e so t =
     let left = files_left files (take i flow) in
     let here : wrong_header (i + 1) left (drop i flow) ≡ wrong_header (i + 1) left (o ∷ drop (i + 1) flow) = ap (λ ops. wrong_header (i + 1) left ops) (drop_here flow i o h e) in
     so ∙ here
-    ∙ header_stop (is_scan o.what) (has_header o.schema (next_file left)) (wrong_header (i + 1 + 1) (later_files left) (drop (i + 1) flow))
+    ∙ header_stop (is_scan o.what) (has_header o.schema (first_list left)) (wrong_header (i + 1 + 1) (later_of left) (drop (i + 1) flow))
     (wrong_header (i + 1 + 1) left (drop (i + 1) flow)) (Some (i + 1)) t
 
 pub wrong_header-end : (files : Files) (flow : List Operator) (i : ℕ) (whole : Option ℕ) → length flow ≤ i
@@ -127,13 +128,13 @@ first-at [] (suc i) = refl
 first-at (x ∷ records) zero = refl
 first-at (x ∷ records) (suc i) = first-at records i
 
-later_suc : (records : Records) (i : ℕ) → later_lists (drop i records) ≡ drop (suc i) records
+later_suc : (records : Records) (i : ℕ) → later_of (drop i records) ≡ drop (suc i) records
 later_suc [] zero = refl
 later_suc [] (suc i) = refl
 later_suc (x ∷ records) zero = refl
 later_suc (x ∷ records) (suc i) = later_suc records i
 
-later-at : (records : Records) (i : ℕ) → later_lists (drop i records) ≡ drop (i + 1) records
+later-at : (records : Records) (i : ℕ) → later_of (drop i records) ≡ drop (i + 1) records
 later-at records i = rw add-one (later_suc records i)
 
 pub refusals-more : (records : Records) (all : Lists) (flow : List Operator) (i : ℕ) (o : Operator) (whole old new : List Refusal) → i < length flow → o ≡ get_or flow i o
@@ -159,9 +160,9 @@ outputs-keeps records done [] k h = refl
 outputs-keeps records done (x ∷ xs) k h =
     let r = rows_of x.what (first_list records) done in
     let lt : k < length (done ++ r ∷ []) = omega (arith, length_push done r) in
-    outputs-keeps (later_lists records) (done ++ r ∷ []) xs k lt ∙ get_or_append_left done (r ∷ []) [] k h
+    outputs-keeps (later_of records) (done ++ r ∷ []) xs k lt ∙ get_or_append_left done (r ∷ []) [] k h
 
-drop_later : (records : Records) (n : ℕ) → drop n (later_lists records) ≡ drop (suc n) records
+drop_later : (records : Records) (n : ℕ) → drop n (later_of records) ≡ drop (suc n) records
 drop_later [] n = drop_nil n [] refl
 drop_later (x ∷ records) n = refl
 
@@ -170,14 +171,14 @@ unfolding outputs
 outputs-append records done [] ys = refl
 outputs-append records done (x ∷ xs) ys =
     let now = done ++ rows_of x.what (first_list records) done ∷ [] in
-    outputs-append (later_lists records) now xs ys ∙ ap (λ rest. outputs rest (outputs (later_lists records) now xs) ys) (drop_later records (length xs))
+    outputs-append (later_of records) now xs ys ∙ ap (λ rest. outputs rest (outputs (later_of records) now xs) ys) (drop_later records (length xs))
 
 pub length-outputs : (records : Records) (done : Lists) (xs : List Operator) → length (outputs records done xs) ≡ length done + length xs
 unfolding outputs
 length-outputs records done [] = omega arith
 length-outputs records done (x ∷ xs) =
     let r = rows_of x.what (first_list records) done in
-    omega (arith, length-outputs (later_lists records) (done ++ r ∷ []) xs, length_push done r)
+    omega (arith, length-outputs (later_of records) (done ++ r ∷ []) xs, length_push done r)
 
 -- the rows of the first operators stand in those of all
 outputs-front : (records : Records) (xs ys : List Operator) (k : ℕ) → k < length xs → get_or (outputs records [] (xs ++ ys)) k [] ≡ get_or (outputs records [] xs) k []
@@ -194,8 +195,8 @@ outputs-mid records xs o ys =
     let r = rows_of o.what (first_list rest) front in
     let long : length front ≡ length xs = omega (arith, length-outputs records [] xs) in
     let lt : length xs < length (front ++ r ∷ []) = omega (arith, length_push front r) in
-    let step : outputs records [] (xs ++ o ∷ ys) ≡ outputs (later_lists rest) (front ++ r ∷ []) ys = outputs-append records [] xs (o ∷ ys) in
-    ap (λ rows. get_or rows (length xs) []) step ∙ outputs-keeps (later_lists rest) (front ++ r ∷ []) ys (length xs) lt
+    let step : outputs records [] (xs ++ o ∷ ys) ≡ outputs (later_of rest) (front ++ r ∷ []) ys = outputs-append records [] xs (o ∷ ys) in
+    ap (λ rows. get_or rows (length xs) []) step ∙ outputs-keeps (later_of rest) (front ++ r ∷ []) ys (length xs) lt
     ∙ ap (λ k. get_or (front ++ r ∷ []) k []) (sym long) ∙ get_or-append_seam front r [] [] ∙ ap (λ one. rows_of o.what one front) (first-at records (length xs))
 
 pub list_at-is : {A : Type 0} (lists : List (List A)) (op : ℕ) → 0 < op → list_at lists op ≡ get_or lists (op - 1) []

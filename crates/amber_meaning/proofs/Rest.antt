@@ -6,7 +6,7 @@ use Rattle.std.proofs.lemmas.List.{length-map, length-replicate}
 use Rattle.std.proofs.lemmas.List.Folds.{sum_by-replicate}
 use Rattle.std.proofs.lemmas.List.Sums.{sum_by-cons, sum_by_push}
 use Rattle.amber_rows.specs.Crew.{crew_of}
-use Rattle.amber_rows.specs.Chunks.{numbers_below}
+use Rattle.amber_rows.specs.Lists.{numbers_below, changed_from}
 use Rattle.amber_rows.specs.declared.value.Value.{Value}
 use Rattle.amber_rows.specs.declared.flow.Operator.{Operator}
 use Rattle.amber_log.specs.Grammar.{AreParts}
@@ -21,7 +21,7 @@ use Rattle.amber_meaning.specs.Laws.{EndsClose, IsResting, LegalLogsRest, LegsOp
 use Rattle.amber_meaning.specs.Legal.{AreOffered, ClosesEnd, ClosesRun, IsSettled, IsWorked, Makes, Query, Reaches, after_close, batches_for, entries_of, leg_start, stream_of}
 use Rattle.amber_meaning.specs.Position.{Position, emitted_count, is_emitted, kept, origin, steps_of, taken_from}
 use Rattle.amber_meaning.specs.Rules.{Leads}
-use Rattle.amber_meaning.specs.State.{Arms, State, begin_leg, begin_last_leg, changed_from, after_command, without_arms, let_go, position_at, start_of, steps_in, with_arms, without_held}
+use Rattle.amber_meaning.specs.State.{Arms, State, begin_leg, begin_last_leg, after_command, without_arms, let_go, position_at, start_of, steps_in, with_arms, without_held}
 use Rattle.amber_meaning.specs.Stops.{op_numbers, without_stops}
 use Rattle.amber_meaning.proofs.Fronts.{legal_logs_grow}
 use Rattle.amber_meaning.proofs.OneState.{position-get_or}

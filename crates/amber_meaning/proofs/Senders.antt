@@ -5,7 +5,8 @@ use Rattle.std.specs.List.{list_all, list_any, slice_get}
 use Rattle.std.proofs.lemmas.Bool.{and_from, and_parts, cases_lt, eqb-true, false≢true, lt-ltb, ltb-false, ltb-true, or_cases}
 use Rattle.std.proofs.lemmas.List.{length_push}
 use Rattle.amber_rows.specs.Crew.{kind_at, op_of, reads, senders_of, sends_to, what_at}
-use Rattle.amber_rows.specs.FlowRules.{AreNext, HasInput, IsEarlier, IsKind, inputs_of}
+use Rattle.amber_rows.specs.FlowRules.{AreNext, HasInput, IsEarlier, IsKind}
+use Rattle.amber_rows.specs.Kinds.{inputs_of}
 use Rattle.amber_rows.specs.declared.column.Column.{Column}
 use Rattle.amber_rows.specs.declared.flow.What.{What}
 use Rattle.amber_rows.specs.declared.flow.What.TheVariants as what

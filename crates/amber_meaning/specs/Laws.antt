@@ -12,11 +12,9 @@ use Rattle.amber_log.specs.declared.log.Item.{Item}
 use Rattle.amber_log.specs.declared.log.Item.TheVariants as item
 use Rattle.amber_log.specs.declared.log.Log.{Log}
 use Rattle.amber_meaning.specs.Legal.{AreOffered, ClosesEnd, ClosesRun, IsLegal, IsOpen, IsWorked, Makes, Query, Reaches, after_close, leg_start}
-use Rattle.amber_meaning.specs.LegalTests.{may_reach}
 use Rattle.amber_meaning.specs.Position.{Position}
 use Rattle.amber_meaning.specs.Replay.{after_item, after_items, state_after, after_leg}
-use Rattle.amber_meaning.specs.Rules.{Orders}
-use Rattle.amber_meaning.specs.RuleTests.{MayMove, may_move}
+use Rattle.amber_meaning.specs.Rules.{Orders, May}
 use Rattle.amber_meaning.specs.State.{State, position_at, steps_in}
 use Rattle.amber_meaning.specs.Task.{Role}
 use Rattle.amber_meaning.specs.Transcript.{reply_of, transcript_of}
@@ -88,12 +86,3 @@ abbrev pub TranscriptsGrow : Type 0
 TranscriptsGrow = (query : Query) (items : List Item) (one : Item)
     → (transcript_of query (items ++ one ∷ []) ≡ transcript_of query items ++ reply_of query (state_after query items) one)
     × (state_after query (items ++ one ∷ []) ≡ after_item query (state_after query items) one)
-
--- the test of an entry's rule is true exactly where the rule holds
-abbrev pub RulesAreTested : Type 0
-RulesAreTested = (role : Role) (orders : Orders) (p : Position) (one : Entry) → (may_move role orders p one ≡ true) ↔ MayMove role orders p one
-
--- the test of items is true exactly where they lead to a state
-abbrev pub LogsAreTested : Type 0
-LogsAreTested = (query : Query) (state : State) (items : List Item) → SendersFirst query.flow
-    → (may_reach query state items ≡ true) ↔ ((after : State) × Reaches query state items after)

@@ -1,6 +1,7 @@
 -- Which logs a run may write, and the state that each leads to.
 use Rattle.std.specs.Prelude.{◌≡◌, ◌≢◌, ℕ, ◌==◌, ◌<◌, ◌≤◌, List, [], ◌∷◌, ◌++◌, length, filter, not, Some, Result, Bool, true, false, if◌then◌else◌}
 use Rattle.std.specs.List.{flat_map, list_all, list_any}
+use Rattle.amber_rows.specs.Lists.{IsPrefix}
 use Rattle.amber_rows.specs.Chunks.{chunks_of}
 use Rattle.amber_rows.specs.Crew.{crew_of, op_of, receiver_of}
 use Rattle.amber_rows.specs.declared.value.Value.{Value}
@@ -51,9 +52,6 @@ stream_of query positions sender receiver =
 unfoldable pub batches_for : Query → List Position → ℕ → ℕ → List Batch
 batches_for query positions sender receiver =
     chunks_of query.size (stream_of query positions sender receiver) (position_at positions sender).finished
-
-abbrev pub IsPrefix : {A : Type 0} → List A → List A → Type 0
-IsPrefix {A} xs ys = (more : List A) × (xs ++ more ≡ ys)
 
 -- what each worker took of each sender are the first batches that the sender has made for it
 unfoldable pub AreOffered : Query → List Position → Type 0

@@ -1,13 +1,11 @@
 pub mod Given
 pub mod Laws
 pub mod Legal
-pub mod LegalTests
 pub mod Plain
 pub mod Plan
 pub mod Position
 pub mod Replay
 pub mod Rules
-pub mod RuleTests
 pub mod ScanFiles
 pub mod State
 pub mod Stops

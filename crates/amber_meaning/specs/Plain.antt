@@ -1,7 +1,9 @@
 -- The sequential answer of a workflow: what each operator gives, as lists over whole files.
 use Rattle.std.specs.Prelude.{◌≡◌, ℕ, ◌+◌, ◌<◌, ◌≤◌, ⊤, List, [], ◌∷◌, ◌++◌, length, filter, map, count_by, sum_by, Option, Some, None, unwrap_or, Result, Ok, Err, Bool, true, false, if◌then◌else◌}
 use Rattle.std.specs.List.{filter_map}
-use Rattle.amber_rows.specs.Cond.{holds_of, nth}
+use Rattle.amber_rows.specs.Kinds.{is_scan}
+use Rattle.amber_rows.specs.Cond.{holds_of}
+use Rattle.amber_rows.specs.Lists.{nth, first_list, later_of, list_at}
 use Rattle.amber_rows.specs.FlowRules.{columns_at}
 use Rattle.amber_rows.specs.Operators.{group_result, join_result, project_result, refused_keys}
 use Rattle.amber_rows.specs.Order.{sort_rows}
@@ -19,43 +21,21 @@ use Rattle.amber_meaning.specs.declared.answer.PlainErr.TheVariants as plain_err
 
 -- ---- the files of the scans
 
-abbrev pub is_scan : What → Bool
-is_scan (what.Scan file) = true
-is_scan (what.Filter input cond) = false
-is_scan (what.Project input from) = false
-is_scan (what.Join build probe build_keys probe_keys) = false
-is_scan (what.Group input keys aggs) = false
-is_scan (what.Sink input) = false
-
 -- how many operators are scans: each has a file, in their order
 unfoldable pub scan_count : List Operator → ℕ
 scan_count flow = count_by (λ operator. is_scan operator.what) flow
 
--- the file of the next scan
-abbrev pub next_file : List (List ℕ) → List ℕ
-next_file [] = []
-next_file (file ∷ files) = file
-
--- the files behind it
-abbrev pub later_files : List (List ℕ) → List (List ℕ)
-later_files [] = []
-later_files (file ∷ files) = files
-
 -- the files that an operator leaves to those behind it
 abbrev pub files_after : What → List (List ℕ) → List (List ℕ)
-files_after kind files = if is_scan kind then later_files files else files
+files_after kind files = if is_scan kind then later_of files else files
 
 -- for each operator the typed records of its file; none where it is no scan
 unfoldable pub records_of : List (List ℕ) → List Operator → List (List (Result (List Value) RowFault))
 records_of files [] = []
 records_of files (operator ∷ more) =
-    (if is_scan operator.what then typed_records operator.schema (next_file files) else []) ∷ records_of (files_after operator.what files) more
+    (if is_scan operator.what then typed_records operator.schema (first_list files) else []) ∷ records_of (files_after operator.what files) more
 
 -- ---- rows
-
--- the list with this number, of lists numbered from 1; none where there is none
-abbrev pub list_at : {A : Type 0} → List (List A) → ℕ → List A
-list_at lists op = unwrap_or (nth lists op) []
 
 -- the rows of one operator, from its typed records and the rows of the operators before it: a scan gives the records that have no
 -- fault, a filter the rows for which its condition holds, a project the named columns, a join the matches of its probe rows in
@@ -68,18 +48,10 @@ rows_of (what.Join build probe build_keys probe_keys) records done = join_result
 rows_of (what.Group input keys aggs) records done = group_result keys aggs (list_at done input)
 rows_of (what.Sink input) records done = sort_rows (list_at done input)
 
-abbrev pub first_list : {A : Type 0} → List (List A) → List A
-first_list [] = []
-first_list (xs ∷ more) = xs
-
-abbrev pub later_lists : {A : Type 0} → List (List A) → List (List A)
-later_lists [] = []
-later_lists (xs ∷ more) = more
-
 -- the rows of the operators so far, and then of each of these in order
 unfoldable pub outputs : List (List (Result (List Value) RowFault)) → List (List (List Value)) → List Operator → List (List (List Value))
 outputs records done [] = done
-outputs records done (operator ∷ more) = outputs (later_lists records) (done ++ rows_of operator.what (first_list records) done ∷ []) more
+outputs records done (operator ∷ more) = outputs (later_of records) (done ++ rows_of operator.what (first_list records) done ∷ []) more
 
 -- ---- what is refused
 
@@ -105,7 +77,7 @@ refused_by op (what.Sink input) records done = []
 -- what the operators from this number on refuse, where these are the rows of all operators
 unfoldable pub refusals : ℕ → List (List (Result (List Value) RowFault)) → List (List (List Value)) → List Operator → List Refusal
 refusals op records done [] = []
-refusals op records done (operator ∷ more) = refused_by op operator.what (first_list records) done ++ refusals (op + 1) (later_lists records) done more
+refusals op records done (operator ∷ more) = refused_by op operator.what (first_list records) done ++ refusals (op + 1) (later_of records) done more
 
 -- ---- headers
 
@@ -113,7 +85,7 @@ refusals op records done (operator ∷ more) = refused_by op operator.what (firs
 unfoldable pub wrong_header : ℕ → List (List ℕ) → List Operator → Option ℕ
 wrong_header op files [] = None
 wrong_header op files (operator ∷ more) =
-    if is_scan operator.what then (if has_header operator.schema (next_file files) then wrong_header (op + 1) (later_files files) more else Some op)
+    if is_scan operator.what then (if has_header operator.schema (first_list files) then wrong_header (op + 1) (later_of files) more else Some op)
     else wrong_header (op + 1) files more
 
 -- ---- the answer

@@ -8,7 +8,7 @@ use Rattle.amber_rows.specs.declared.record.RowFault.{RowFault}
 use Rattle.amber_rows.specs.declared.flow.What.{What}
 use Rattle.amber_rows.specs.declared.flow.What.TheVariants as what
 use Rattle.amber_rows.specs.declared.flow.Operator.{Operator}
-use Rattle.amber_meaning.specs.Plain.{list_at}
+use Rattle.amber_rows.specs.Lists.{list_at}
 use Rattle.amber_meaning.specs.Task.{Arrival, Role, Task}
 
 -- the columns of what the workers of an operator are handed, of a join on its probe side

@@ -1,6 +1,6 @@
 -- The state that a log leads to, computed. Where the log is legal it is the one state that the log reaches.
 use Rattle.std.specs.Prelude.{ℕ, zero, suc, ◌+◌, List, [], ◌∷◌, ◌++◌, Option, Some, None, true, false}
-use Rattle.amber_rows.specs.Cond.{nth}
+use Rattle.amber_rows.specs.Lists.{nth}
 use Rattle.amber_rows.specs.Crew.{crew_of, op_of}
 use Rattle.amber_rows.specs.declared.batch.Batch.{Batch}
 use Rattle.amber_log.specs.declared.entry.Entry.{Entry}
@@ -10,29 +10,24 @@ use Rattle.amber_log.specs.declared.log.Item.{Item}
 use Rattle.amber_log.specs.declared.log.Item.TheVariants as item
 use Rattle.amber_meaning.specs.Legal.{Query, after_close, batches_for, entries_of}
 use Rattle.amber_meaning.specs.Position.{Position}
-use Rattle.amber_meaning.specs.Rules.{Orders, took, went}
+use Rattle.amber_meaning.specs.Rules.{Orders, position_after}
 use Rattle.amber_meaning.specs.State.{State, arms_at, begin_leg, begin_last_leg, after_command, orders_of, position_at, start_of}
 
--- a batch is taken where it is there
-abbrev pub took_if : ℕ → Option Batch → Position → Position
-took_if from None p = p
-took_if from (Some batch) p = took from batch p
+-- the batch that an entry takes, of those that `offer` has of each sender; none where it is not there, or none is taken
+abbrev pub batch_for : (ℕ → List Batch) → Entry → Option Batch
+batch_for offer (entry.Take from number) = nth (offer from) (number + 1)
+batch_for offer (entry.Go rows outs) = None
+batch_for offer (entry.Grant n) = None
+batch_for offer (entry.Back n) = None
+batch_for offer entry.Pause = None
+batch_for offer entry.Resume = None
+batch_for offer entry.Hold = None
+batch_for offer entry.Finish = None
 
--- the position after an entry, where `offer` has the batches of each sender
-abbrev pub moved_by : (ℕ → List Batch) → Orders → Entry → Position → Position
-moved_by offer orders (entry.Take from number) p = took_if from (nth (offer from) (number + 1)) p
-moved_by offer orders (entry.Go rows outs) p = went orders rows outs p
-moved_by offer orders (entry.Grant n) p = record p { hand = p.hand + n }
-moved_by offer orders (entry.Back n) p = record p { hand = 0 }
-moved_by offer orders entry.Pause p = record p { paused = true }
-moved_by offer orders entry.Resume p = record p { paused = false }
-moved_by offer orders entry.Hold p = record p { held = true }
-moved_by offer orders entry.Finish p = record p { finished = true }
-
--- the position after entries
+-- the position after entries, each with the batch that it takes of those that `offer` has
 unfoldable pub led_by : (ℕ → List Batch) → Orders → List Entry → Position → Position
 led_by offer orders [] p = p
-led_by offer orders (one ∷ more) p = led_by offer orders more (moved_by offer orders one p)
+led_by offer orders (one ∷ more) p = led_by offer orders more (position_after orders (batch_for offer one) one p)
 
 -- the positions of the first workers at the end of a leg: senders have smaller numbers than receivers
 unfoldable pub positions_after : Query → State → List Part → ℕ → List Position

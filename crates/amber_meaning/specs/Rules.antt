@@ -1,4 +1,4 @@
--- When a worker may make a step, and where it stands afterwards: one rule for each entry of a journal.
+-- When a worker may make a step: one rule for each entry of a journal. And where each entry leads.
 use Rattle.std.specs.Prelude.{◌≡◌, ℕ, ◌+◌, ◌-◌, ◌==◌, ◌<◌, ◌≤◌, ◌&&◌, not, List, [], ◌∷◌, ◌++◌, length, take, drop, replicate, Option, Some, None, Bool, true, false, if◌then◌else◌}
 use Rattle.std.specs.List.{list_all, list_any}
 use Rattle.amber_rows.specs.Cond.{holds_of}
@@ -107,31 +107,53 @@ pub record MayFinish (role : Role) (p : Position) : Type 0 where
   pub no_pending : pending_rows role p ≡ []
   pub ended : have_ended role.senders p.taken ≡ true
 
+-- when an entry may come
+abbrev pub May : Role → Orders → Position → Entry → Type 0
+May role orders p (entry.Take from number) = MayTake role p from number
+May role orders p (entry.Go rows outs) = MayGo role orders p rows outs
+May role orders p (entry.Grant n) = MayGrant orders p
+May role orders p (entry.Back n) = MayGiveBack orders p n
+May role orders p entry.Pause = MayPause p
+May role orders p entry.Resume = MayResume p
+May role orders p entry.Hold = MayHold role orders p
+May role orders p entry.Finish = MayFinish role p
+
 -- ---- the position afterwards
 
-abbrev pub took : ℕ → Batch → Position → Position
-took from batch p = record p { taken = p.taken ++ record { from = from; batch = batch } ∷ [] }
+-- a batch of a sender more
+abbrev pub with_batch : ℕ → Batch → Position → Position
+with_batch from batch p = record p { taken = p.taken ++ record { from = from; batch = batch } ∷ [] }
 
-abbrev pub went : Orders → ℕ → ℕ → Position → Position
-went orders rows outs p = record p {
+-- the same, where there is a batch
+abbrev pub with_offered : ℕ → Option Batch → Position → Position
+with_offered from None p = p
+with_offered from (Some batch) p = with_batch from batch p
+
+-- rows taken under the orders, and rows emitted
+abbrev pub with_rows : Orders → ℕ → ℕ → Position → Position
+with_rows orders rows outs p = record p {
   constants = p.constants ++ replicate rows orders.constants;
   outcomes = p.outcomes ++ replicate outs true;
   hand = if orders.counted then p.hand - outs else p.hand;
   waved = p.waved && (outs == 0);
 }
 
+-- where an entry leads, to which this batch is offered; a batch that is not there is not taken
+abbrev pub position_after : Orders → Option Batch → Entry → Position → Position
+position_after orders offered (entry.Take from number) p = with_offered from offered p
+position_after orders offered (entry.Go rows outs) p = with_rows orders rows outs p
+position_after orders offered (entry.Grant n) p = record p { hand = p.hand + n }
+position_after orders offered (entry.Back n) p = record p { hand = 0 }
+position_after orders offered entry.Pause p = record p { paused = true }
+position_after orders offered entry.Resume p = record p { paused = false }
+position_after orders offered entry.Hold p = record p { held = true }
+position_after orders offered entry.Finish p = record p { finished = true }
+
 -- ---- one entry, and a journal
 
--- an entry leads from one position to another
+-- an entry leads from one position to another: it may come, and some batch is offered to it
 abbrev pub Moves : Role → Orders → Position → Entry → Position → Type 0
-Moves role orders p (entry.Take from number) q = (batch : Batch) × MayTake role p from number × (q ≡ took from batch p)
-Moves role orders p (entry.Go rows outs) q = MayGo role orders p rows outs × (q ≡ went orders rows outs p)
-Moves role orders p (entry.Grant n) q = MayGrant orders p × (q ≡ record p { hand = p.hand + n })
-Moves role orders p (entry.Back n) q = MayGiveBack orders p n × (q ≡ record p { hand = 0 })
-Moves role orders p entry.Pause q = MayPause p × (q ≡ record p { paused = true })
-Moves role orders p entry.Resume q = MayResume p × (q ≡ record p { paused = false })
-Moves role orders p entry.Hold q = MayHold role orders p × (q ≡ record p { held = true })
-Moves role orders p entry.Finish q = MayFinish role p × (q ≡ record p { finished = true })
+Moves role orders p one q = (batch : Batch) × May role orders p one × (q ≡ position_after orders (Some batch) one p)
 
 -- entries lead from one position to another, one after the other
 unfoldable pub Leads : Role → Orders → Position → List Entry → Position → Type 0

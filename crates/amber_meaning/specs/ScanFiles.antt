@@ -6,7 +6,8 @@ use Rattle.amber_rows.specs.declared.column.Column.{Column}
 use Rattle.amber_rows.specs.declared.record.RowFault.{RowFault}
 use Rattle.amber_rows.specs.declared.flow.What.{What}
 use Rattle.amber_rows.specs.declared.flow.Operator.{Operator}
-use Rattle.amber_meaning.specs.Plain.{files_after, is_scan}
+use Rattle.amber_meaning.specs.Plain.{files_after}
+use Rattle.amber_rows.specs.Kinds.{is_scan}
 
 -- the files that these operators leave to those behind them
 unfoldable pub files_left : List (List ℕ) → List Operator → List (List ℕ)

@@ -1,7 +1,7 @@
 -- The state of a run: how far its workers are, and what commands have put in force.
 use Rattle.std.specs.Prelude.{ℕ, suc, ◌+◌, ◌==◌, List, [], ◌∷◌, ◌++◌, length, map, drop, replicate, sum_by, Option, Some, None, is_some, unwrap_or, Bool, true, false, if◌then◌else◌}
 use Rattle.std.specs.List.{list_all}
-use Rattle.amber_rows.specs.Cond.{nth}
+use Rattle.amber_rows.specs.Lists.{nth, changed_at}
 use Rattle.amber_rows.specs.Crew.{crew_of, first_worker_of, workers_of}
 use Rattle.amber_rows.specs.declared.value.Value.{Value}
 use Rattle.amber_rows.specs.declared.cond.Cond.{Cond}
@@ -94,14 +94,6 @@ start_of flow = record {
 }
 
 -- ---- what commands change
-
--- the element with this number replaced, of a list numbered from 1
-abbrev pub changed_from : {A : Type 0} → (A → A) → ℕ → ℕ → List A → List A
-changed_from change number place [] = []
-changed_from change number place (x ∷ xs) = (if place == number then change x else x) ∷ changed_from change number (suc place) xs
-
-abbrev pub changed_at : {A : Type 0} → (A → A) → ℕ → List A → List A
-changed_at change number xs = changed_from change number 1 xs
 
 -- other arms at an operator
 abbrev pub with_arms : (Arms → Arms) → ℕ → State → State

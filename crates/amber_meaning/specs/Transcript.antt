@@ -12,7 +12,8 @@ use Rattle.amber_meaning.specs.Position.{pending_rows}
 use Rattle.amber_meaning.specs.Replay.{after_item, after_leg}
 use Rattle.amber_meaning.specs.State.{State, begin_leg, begin_last_leg, position_at, start_of, worker_at}
 use Rattle.amber_meaning.specs.Texts.{answer_text, drop_text, inspected_text, ok_text, stops_text}
-use Rattle.amber_meaning.specs.Views.{answer_in, first_of, inspected_of}
+use Rattle.amber_meaning.specs.Views.{answer_in, inspected_of}
+use Rattle.amber_rows.specs.Lists.{first_of}
 
 -- the row before which a worker is held
 abbrev pub held_row : Query → State → ℕ → Option (List Value)

@@ -1,6 +1,7 @@
 -- What an inspection shows, and the answer in a state.
 use Rattle.std.specs.Prelude.{ℕ, nat_lt, List, [], ◌∷◌, ◌++◌, length, map, take, Option, Some, None, option_map, Result, Ok, Err, if◌then◌else◌}
 use Rattle.std.specs.List.{filter_map, flat_map}
+use Rattle.amber_rows.specs.Lists.{first_of}
 use Rattle.amber_rows.specs.Crew.{workers_of}
 use Rattle.amber_rows.specs.FlowRules.{columns_at}
 use Rattle.amber_rows.specs.Operators.{first_keys, refused_keys}
@@ -56,10 +57,6 @@ extra_of task (what.Join build probe build_keys probe_keys) arrivals =
     extra.Join (length (first_keys build_keys (built_of task arrivals))) (length (built_of task arrivals))
 extra_of task (what.Group input keys aggs) arrivals = extra.Group (length (first_keys keys (rows_in task arrivals)))
 extra_of task (what.Sink input) arrivals = extra.Sink (length (rows_in task arrivals))
-
-abbrev pub first_of : {A : Type 0} → List A → Option A
-first_of [] = None
-first_of (x ∷ xs) = Some x
 
 unfoldable pub view_of : Role → Position → WorkerView
 view_of role p = record {

@@ -1,6 +1,6 @@
 //! Laws of legal logs. Each function does nothing; its contract is the law.
 ghost use Rattle.amber_meaning.specs.Given.{FinishedOperatorsRefuse, KeysMayBeSorted, OneWorkerRefusesAlone};
-ghost use Rattle.amber_meaning.specs.Laws.{EndsClose, FlowsSendForward, FrontsAreLegal, ItemsHaveOneState, LegalLogsGrow, LegalLogsHaveOneState, LegalLogsRest, LegsHaveOneState, LegsOpen, LogsAreTested, RulesAreTested, RunsClose, TranscriptsGrow};
+ghost use Rattle.amber_meaning.specs.Laws.{EndsClose, FlowsSendForward, FrontsAreLegal, ItemsHaveOneState, LegalLogsGrow, LegalLogsHaveOneState, LegalLogsRest, LegsHaveOneState, LegsOpen, RunsClose, TranscriptsGrow};
 
 /// A beginning of a legal log is legal: whatever was written before the last items is a log of its own, which can
 /// be replayed, and from which a run can go on.
@@ -42,17 +42,6 @@ pub fn legal_logs_have_one_state()
 /// behind the log.
 pub fn transcripts_grow()
     ensures { TranscriptsGrow }
-{}
-
-/// For each entry of a journal a test says whether its rule holds, exactly.
-pub fn rules_are_tested()
-    ensures { RulesAreTested }
-{}
-
-/// A test says whether items lead on from a state, each by its rule: it is true exactly where they do. So the first
-/// item that cannot follow can be told by computing.
-pub fn logs_are_tested()
-    ensures { LogsAreTested }
 {}
 
 /// The state that a legal log leads to is one between legs: each worker has a position, no hand holds a unit, what was

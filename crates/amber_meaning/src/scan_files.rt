@@ -1,6 +1,7 @@
 // The files of the scans, which stand in the order of the operators.
 ghost use Rattle.std.specs.Prelude.{◌≡◌, ◌≤◌, count_by, length, take};
-ghost use Rattle.amber_meaning.specs.Plain.{is_scan, next_file};
+ghost use Rattle.amber_rows.specs.Kinds.{is_scan};
+ghost use Rattle.amber_rows.specs.Lists.{first_list};
 ghost use Rattle.amber_meaning.specs.ScanFiles.{files_left};
 
 use amber_rows::{Files, Flow, Operator, What};
@@ -32,7 +33,7 @@ fn scans_in(operators: &[Operator]) -> usize
 /// The file that is next behind so many operators: that of the next scan.
 pub fn file_behind<'a>(flow: &Flow, files: &'a Files, before: usize) -> &'a [u8]
     requires { before ≤ length flow.now }
-    ensures { result.now ≡ next_file (files_left files.now (take before flow.now)) }
+    ensures { result.now ≡ first_list (files_left files.now (take before flow.now)) }
 {
     let operators = flow.get();
     let scans = scans_in(&operators[..before]);

@@ -6,7 +6,8 @@ use Rattle.std.proofs.lemmas.List.Sums.{sum_by-append}
 use Rattle.amber_rows.specs.Cond.{holds_of}
 use Rattle.amber_rows.specs.Operators.{group_result, join_result, project_result, refused_keys}
 use Rattle.amber_rows.specs.Order.{sort_rows}
-use Rattle.amber_rows.specs.FlowRules.{IsFlow, IsKind, columns_at, inputs_of, reader_count}
+use Rattle.amber_rows.specs.FlowRules.{IsFlow, IsKind, columns_at, reader_count}
+use Rattle.amber_rows.specs.Kinds.{inputs_of}
 use Rattle.amber_rows.proofs.FlowFacts.{reader_count-append}
 use Rattle.amber_rows.specs.declared.value.Value.{Value}
 use Rattle.amber_rows.specs.declared.column.Column.{Column}
@@ -14,7 +15,8 @@ use Rattle.amber_rows.specs.declared.record.RowFault.{RowFault}
 use Rattle.amber_rows.specs.declared.flow.What.{What}
 use Rattle.amber_rows.specs.declared.flow.What.TheVariants as what
 use Rattle.amber_rows.specs.declared.flow.Operator.{Operator}
-use Rattle.amber_meaning.specs.Plain.{answer_from, answer_of, list_at, next_file, records_of, outputs, refusals, refused_by, refused_groups, rows_of}
+use Rattle.amber_meaning.specs.Plain.{answer_from, answer_of, records_of, outputs, refusals, refused_by, refused_groups, rows_of}
+use Rattle.amber_rows.specs.Lists.{list_at, first_list}
 use Rattle.amber_meaning.specs.ScanFiles.{files_left, records_at}
 use Rattle.amber_plain.specs.Evaluator.{HasInputs, lists_after}
 use Rattle.amber_meaning.specs.declared.answer.Answer.{Answer}
@@ -255,7 +257,7 @@ Evaluated-more flow ok records i o lists refused total h e v rows new newly coun
 
 -- the same, where the records are those of the operator's file
 pub Evaluated-step : (flow : List Operator) → IsFlow flow → (files : List (List ℕ)) (i : ℕ) (o : Operator) (lists : Lists) (refused : List Refusal) (total : ℕ) → i < length flow → o ≡ get_or flow i o
-    → Evaluated flow (records_of files flow) i lists refused total → (file : List ℕ) (new : Lists) (newly : List Refusal) (count : ℕ) → file ≡ next_file (files_left files (take i flow))
+    → Evaluated flow (records_of files flow) i lists refused total → (file : List ℕ) (new : Lists) (newly : List Refusal) (count : ℕ) → file ≡ first_list (files_left files (take i flow))
     → new ≡ lists_after o.what lists ++ rows_of o.what (records_at o.what o.schema file) lists ∷ [] → newly ≡ refused ++ refused_by (i + 1) o.what (records_at o.what o.schema file) lists
     → count ≡ length (rows_of o.what (records_at o.what o.schema file) lists) → Evaluated flow (records_of files flow) (i + 1) new newly (total + count)
 Evaluated-step flow ok files i o lists refused total h e v file new newly count f n l k =

@@ -1,7 +1,7 @@
 //! What an operator shows of its workers and of what is armed for it.
 ghost use Rattle.std.specs.Prelude.{◌≡◌, ◌+◌, [], ◌∷◌, ◌++◌, codes, decimal, IfOk, OnOk};
 ghost use Rattle.std.specs.List.{flat_map};
-ghost use Rattle.amber_rows.specs.Cond.{nth};
+ghost use Rattle.amber_rows.specs.Lists.{nth};
 ghost use Rattle.amber_meaning.specs.Texts.{after_blank, constant_text, count_text, extra_words, inspected_text};
 ghost use Rattle.amber_meaning.specs.Texts.{kind_in, kind_word, next_text, pause_text, stand_word, views_text, view_words};
 ghost use Rattle.amber_meaning.specs.Texts.{id_at, when_text, words_line};

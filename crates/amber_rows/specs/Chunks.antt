@@ -1,12 +1,8 @@
 -- The batches in which a stream of rows is sent.
 use Rattle.std.specs.Prelude.{ℕ, zero, suc, ◌*◌, ◌/◌, List, [], ◌∷◌, ◌++◌, length, map, take, drop, Bool, true, false, if◌then◌else◌}
+use Rattle.amber_rows.specs.Lists.{numbers_below}
 use Rattle.amber_rows.specs.declared.value.Value.{Value}
 use Rattle.amber_rows.specs.declared.batch.Batch.{Batch}
-
--- the numbers from 0 up to this one
-unfoldable pub numbers_below : ℕ → List ℕ
-numbers_below zero = []
-numbers_below (suc n) = numbers_below n ++ n ∷ []
 
 -- the piece of a stream with this number: `size` rows, or those that are left
 abbrev pub piece_of : ℕ → List (List Value) → ℕ → List (List Value)

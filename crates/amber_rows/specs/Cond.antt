@@ -2,15 +2,12 @@
 use Rattle.std.specs.Prelude.{ℕ, ◌-◌, ◌==◌, List, Option, Some, None, slice_get, Bool, false, if◌then◌else◌}
 use Rattle.std.specs.declared.cmp.Ordering.{Ordering}
 use Rattle.std.specs.Ordering.{is_eq, is_ne, is_lt, is_le, is_gt, is_ge}
+use Rattle.amber_rows.specs.Lists.{nth}
 use Rattle.amber_rows.specs.Order.{value_cmp}
 use Rattle.amber_rows.specs.declared.value.Value.{Value}
 use Rattle.amber_rows.specs.declared.cond.Cmp.{Cmp}
 use Rattle.amber_rows.specs.declared.cond.Cmp.TheVariants.{Eq, Ne, Lt, Le, Gt, Ge}
 use Rattle.amber_rows.specs.declared.cond.Cond.{Cond}
-
--- the element with a number that counts from 1
-abbrev pub nth : {A : Type 0} → List A → ℕ → Option A
-nth xs n = if n == 0 then None else slice_get xs (n - 1)
 
 -- whether a sign is met where a cell compares so with the constant
 abbrev pub meets : Cmp → Ordering → Bool

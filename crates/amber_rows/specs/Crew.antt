@@ -1,9 +1,8 @@
 -- The workers of a workflow. They have running numbers from 0: those of the first operator, then those of the second, and so on.
-use Rattle.std.specs.Prelude.{ℕ, suc, ◌+◌, ◌-◌, ◌%◌, ◌==◌, ◌&&◌, ◌||◌, nat_lt, List, [], ◌∷◌, map, filter, take, sum_by, Option, Some, None, Bool, true, false, if◌then◌else◌}
+use Rattle.std.specs.Prelude.{◌≡◌, ℕ, suc, ◌+◌, ◌-◌, ◌%◌, ◌==◌, ◌&&◌, ◌||◌, nat_lt, List, [], ◌∷◌, map, filter, take, sum_by, Option, Some, None, Bool, true, false, if◌then◌else◌, All}
 use Rattle.std.specs.List.{list_any}
-use Rattle.amber_rows.specs.Chunks.{numbers_below}
-use Rattle.amber_rows.specs.Cond.{nth}
-use Rattle.amber_rows.specs.FlowRules.{inputs_of}
+use Rattle.amber_rows.specs.Lists.{numbers_below, nth}
+use Rattle.amber_rows.specs.Kinds.{inputs_of, is_keyed, side_keys}
 use Rattle.amber_rows.specs.Routing.{key_bytes_of, route_of}
 use Rattle.amber_rows.specs.declared.value.Value.{Value}
 use Rattle.amber_rows.specs.declared.flow.What.{What}
@@ -37,16 +36,11 @@ unfoldable pub op_of : List Operator → ℕ → ℕ
 op_of [] worker = 1
 op_of (operator ∷ more) worker = if nat_lt worker operator.workers then 1 else suc (op_of more (worker - operator.workers))
 
--- ---- who sends to whom
+-- every operator has one worker
+abbrev pub AreAlone : List Operator → Type 0
+AreAlone flow = All (λ operator. operator.workers ≡ 1) flow
 
--- rows go to this kind of operator by their keys
-abbrev pub is_keyed : What → Bool
-is_keyed (what.Scan file) = false
-is_keyed (what.Filter input cond) = false
-is_keyed (what.Project input from) = false
-is_keyed (what.Join build probe build_keys probe_keys) = true
-is_keyed (what.Group input keys aggs) = true
-is_keyed (what.Sink input) = false
+-- ---- who sends to whom
 
 -- whether an operator of this kind reads from the operator with this number
 abbrev pub reads : What → ℕ → Bool
@@ -60,15 +54,6 @@ reader_from number (operator ∷ more) op = if reads operator.what op then numbe
 -- the operator that reads from this one
 abbrev pub reader_of : List Operator → ℕ → ℕ
 reader_of flow op = reader_from 1 flow op
-
--- the keys by which the rows of an operator go into this kind of operator
-abbrev pub side_keys : What → ℕ → List ℕ
-side_keys (what.Scan file) op = []
-side_keys (what.Filter input cond) op = []
-side_keys (what.Project input from) op = []
-side_keys (what.Join build probe build_keys probe_keys) op = if build == op then build_keys else probe_keys
-side_keys (what.Group input keys aggs) op = keys
-side_keys (what.Sink input) op = []
 
 -- what an operator does; a sink of nothing where there is no such operator
 abbrev pub kind_at : Option Operator → What

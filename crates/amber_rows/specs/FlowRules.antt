@@ -1,7 +1,8 @@
 -- When a list of operators is a workflow.
 use Rattle.std.specs.Prelude.{◌≡◌, ℕ, ◌<◌, ◌≤◌, ◌==◌, ◌&&◌, ◌||◌, not, nat_lt, nat_le, List, [], ◌∷◌, ◌++◌, length, map, sum_by, count_by, Bool, true, false, IsSomeAnd, All, bytes_eq, codes, Option, Some, None, option_map, unwrap_or}
 use Rattle.std.specs.List.{list_all, list_any, flat_map, filter_map}
-use Rattle.amber_rows.specs.Cond.{nth}
+use Rattle.amber_rows.specs.Kinds.{inputs_of, is_sink}
+use Rattle.amber_rows.specs.Lists.{nth}
 use Rattle.amber_rows.specs.Columns.{names_of}
 use Rattle.amber_rows.specs.declared.value.Value.{Value}
 use Rattle.amber_rows.specs.declared.value.Value.TheVariants as value
@@ -62,23 +63,6 @@ IsCondOn columns cond = IsSomeAnd (nth columns cond.column) (λ column. column.k
 
 -- ---- operators
 
--- the operators from which an operator reads
-abbrev pub inputs_of : What → List ℕ
-inputs_of (what.Scan file) = []
-inputs_of (what.Filter input cond) = input ∷ []
-inputs_of (what.Project input from) = input ∷ []
-inputs_of (what.Join build probe build_keys probe_keys) = build ∷ probe ∷ []
-inputs_of (what.Group input keys aggs) = input ∷ []
-inputs_of (what.Sink input) = input ∷ []
-
-abbrev pub is_sink : What → Bool
-is_sink (what.Scan file) = false
-is_sink (what.Filter input cond) = false
-is_sink (what.Project input from) = false
-is_sink (what.Join build probe build_keys probe_keys) = false
-is_sink (what.Group input keys aggs) = false
-is_sink (what.Sink input) = true
-
 abbrev pub schema_of : Option Operator → List Column
 schema_of None = []
 schema_of (Some operator) = operator.schema
@@ -98,6 +82,10 @@ IsEarlier before input = (0 < input) × (input ≤ length before)
 -- each of these numbers names a column
 abbrev pub AreIn : List Column → List ℕ → Type 0
 AreIn columns numbers = All (λ number. (0 < number) × (number ≤ length columns)) numbers
+
+-- the kind of the column with this number
+abbrev pub column_kind_at : List Column → ℕ → Option ColKind
+column_kind_at columns number = option_map (λ column. column.kind) (nth columns number)
 
 -- the kinds of the columns with these numbers
 abbrev pub kinds_at : List Column → List ℕ → List ColKind

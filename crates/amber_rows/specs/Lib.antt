@@ -1,9 +1,12 @@
+pub mod Chain
 pub mod Chunks
 pub mod Columns
 pub mod Cond
 pub mod Crew
 pub mod FlowRules
 pub mod Key
+pub mod Kinds
+pub mod Lists
 pub mod Number
 pub mod Operators
 pub mod Order
@@ -12,4 +15,5 @@ pub mod Reading
 pub mod Record
 pub mod Routing
 pub mod RowText
+pub mod Shares
 pub mod Suits

@@ -2,7 +2,7 @@
 use Rattle.std.specs.Prelude.{ℕ, ◌+ℤ◌, ℤ, pos, not, List, [], ◌∷◌, ◌++◌, length, map, filter, Option, Some, None, option_map, option_and_then, Bool, if◌then◌else◌}
 use Rattle.std.specs.List.{filter_map, flat_map}
 use Rattle.std.specs.Ordering.{is_eq, is_gt, is_lt}
-use Rattle.amber_rows.specs.Cond.{nth}
+use Rattle.amber_rows.specs.Lists.{nth}
 use Rattle.amber_rows.specs.Number.{fits_i64}
 use Rattle.amber_rows.specs.Order.{row_cmp, value_cmp}
 use Rattle.amber_rows.specs.declared.value.Value.{Value}

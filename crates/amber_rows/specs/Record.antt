@@ -4,6 +4,7 @@ use Rattle.std.specs.List.{filter_map}
 use Rattle.std.specs.Cmp.Lexicographic.{pointwise}
 use Rattle.std.specs.Str.{is_utf8}
 use Rattle.csv.specs.Reading.{default_config, records, strip_bom}
+use Rattle.amber_rows.specs.Lists.{first_of, later_of}
 use Rattle.amber_rows.specs.Columns.{names_of}
 use Rattle.amber_rows.specs.Number.{read_int_of}
 use Rattle.amber_rows.specs.declared.value.Value.{Value}
@@ -20,16 +21,6 @@ use Rattle.amber_rows.specs.declared.record.RowFault.TheVariants as fault
 unfoldable pub file_records : List ℕ → List (List (List ℕ))
 file_records bytes = records default_config (strip_bom bytes)
 
--- the first record, if there is one
-abbrev pub first_record : List (List (List ℕ)) → Option (List (List ℕ))
-first_record [] = None
-first_record (header ∷ records) = Some header
-
--- the records after the first
-abbrev pub later_records : List (List (List ℕ)) → List (List (List ℕ))
-later_records [] = []
-later_records (header ∷ records) = records
-
 -- whether a record is a list of names
 abbrev pub is_header : List (List ℕ) → Option (List (List ℕ)) → Bool
 is_header names None = false
@@ -37,7 +28,7 @@ is_header names (Some fields) = pointwise bytes_eq fields names
 
 -- whether the first record of a file is the list of the columns' names
 unfoldable pub has_header : List Column → List ℕ → Bool
-has_header columns bytes = is_header (names_of columns) (first_record (file_records bytes))
+has_header columns bytes = is_header (names_of columns) (first_of (file_records bytes))
 
 -- ---- typing
 
@@ -69,7 +60,7 @@ row_of columns fields = if length fields == length columns then cells_of 1 colum
 
 -- each record after the header as a row or its fault
 unfoldable pub typed_records : List Column → List ℕ → List (Result (List Value) RowFault)
-typed_records columns bytes = map (row_of columns) (later_records (file_records bytes))
+typed_records columns bytes = map (row_of columns) (later_of (file_records bytes))
 
 abbrev pub ok_of : {A : Type 0} {E : Type 0} → Result A E → Option A
 ok_of (Ok x) = Some x

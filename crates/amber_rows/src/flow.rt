@@ -1,5 +1,5 @@
 ghost use Rattle.std.specs.Prelude.{◌≡◌, length, option_map};
-ghost use Rattle.amber_rows.specs.Cond.{nth};
+ghost use Rattle.amber_rows.specs.Lists.{nth};
 ghost use Rattle.amber_rows.specs.FlowRules.{IsFlow};
 
 use crate::agg::Aggs;

@@ -14,6 +14,7 @@ pub mod crew;
 pub mod flow;
 pub mod header;
 mod key;
+mod kinds;
 pub mod order;
 pub mod record;
 pub mod record_reader;

@@ -1,6 +1,6 @@
 ghost use Rattle.std.specs.Prelude.{◌≡◌, ◌==◌, ◌++◌, ◌∷◌, [], IfOk, OnOk, length, option_map};
 ghost use Rattle.std.specs.List.{filter_map};
-ghost use Rattle.amber_rows.specs.Cond.{nth};
+ghost use Rattle.amber_rows.specs.Lists.{nth};
 ghost use Rattle.amber_rows.specs.Operators.{pick_cells};
 ghost use Rattle.amber_rows.specs.Order.{row_cmp};
 ghost use Rattle.std.specs.Ordering.{as_partial_cmp, eq_by_cmp};

@@ -3,7 +3,7 @@ ghost use Rattle.std.specs.Io.KnownBytes.{Appends};
 ghost use Rattle.amber_io.specs.Folder.{IsThere};
 ghost use Rattle.amber_rows.specs.FlowRules.{IsFlow};
 ghost use Rattle.amber_log.specs.Grammar.{IsBatch, ends_over};
-ghost use Rattle.amber_worker.specs.AtPosition.{AreAlone};
+ghost use Rattle.amber_rows.specs.Crew.{AreAlone};
 ghost use Rattle.amber_course.specs.Ready.{AreInputs};
 ghost use Rattle.amber_run.specs.Outcome.{Counts};
 ghost use Rattle.amber_run.specs.UnderWay.{Did, Opens, IsUnderWay, Worked};

@@ -1,7 +1,7 @@
 // A debugger whose runs are short: the numbers of a file that are 2 or more.
 ghost use Rattle.std.specs.Prelude.{◌≡◌, ◌<◌, ◌≤◌, ◌^◌, [], ◌∷◌, codes, length, IfOk};
 ghost use Rattle.amber_meaning.specs.Plain.{scan_count};
-ghost use Rattle.amber_worker.specs.AtPosition.{AreAlone};
+ghost use Rattle.amber_rows.specs.Crew.{AreAlone};
 
 use crate::written::text;
 use amber_debug::{DebugErr, Debugger, HomeErr, NoMemory};

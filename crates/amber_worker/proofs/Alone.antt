@@ -5,15 +5,15 @@ use Rattle.std.proofs.lemmas.Bool.{cases_lt, eq-eqb, eqb-true, false≢true, ltb
 use Rattle.std.proofs.lemmas.List.{length-take}
 use Rattle.std.proofs.lemmas.List.Elements.{filter-append}
 use Rattle.std.proofs.lemmas.List.Sums.{sum_by-cons}
-use Rattle.amber_rows.specs.Chunks.{numbers_below}
-use Rattle.amber_rows.specs.Crew.{crew_of, first_worker_of, follower_of, is_keyed, keyed_receiver_of, op_of, reader_of, reads, receiver_of, receivers_of, senders_of, sends_to, what_at, worker_count, workers_of}
+use Rattle.amber_rows.specs.Lists.{numbers_below}
+use Rattle.amber_rows.specs.Crew.{crew_of, first_worker_of, follower_of, keyed_receiver_of, op_of, reader_of, reads, receiver_of, receivers_of, senders_of, sends_to, what_at, worker_count, workers_of, AreAlone}
+use Rattle.amber_rows.specs.Kinds.{is_keyed}
 use Rattle.amber_rows.specs.FlowRules.{IsFlow}
 use Rattle.amber_rows.specs.Routing.{route_of}
 use Rattle.amber_rows.specs.declared.value.Value.{Value}
 use Rattle.amber_rows.specs.declared.flow.What.{What}
 use Rattle.amber_rows.specs.declared.flow.What.TheVariants as what
 use Rattle.amber_rows.specs.declared.flow.Operator.{Operator}
-use Rattle.amber_worker.specs.AtPosition.{AreAlone}
 use Rattle.amber_worker.proofs.Readers.{count-there, input-earlier, join-apart, reader-is, there}
 
 -- ---- numbers

@@ -7,8 +7,8 @@ use Rattle.amber_rows.specs.declared.column.Column.{Column}
 use Rattle.amber_rows.specs.declared.cond.Cmp.TheVariants as cmp
 use Rattle.amber_rows.specs.declared.flow.Operator.{Operator}
 use Rattle.amber_rows.specs.declared.flow.What.TheVariants as what
-use Rattle.amber_rows.specs.Crew.{crew_of, op_of, what_at}
-use Rattle.amber_worker.specs.AtPosition.{AreAlone, is_scan}
+use Rattle.amber_rows.specs.Crew.{crew_of, op_of, what_at, AreAlone}
+use Rattle.amber_rows.specs.Kinds.{is_scan}
 
 abbrev pub numbers : List Column
 numbers = record { name = codes "n"; kind = kind.Int } ∷ []

@@ -6,7 +6,8 @@ use Rattle.amber_rows.specs.declared.value.Value.TheVariants as value
 use Rattle.amber_rows.specs.declared.batch.Batch.{Batch}
 use Rattle.amber_rows.specs.declared.record.RowFault.{RowFault}
 use Rattle.amber_rows.specs.declared.record.RowFault.TheVariants as fault
-use Rattle.amber_rows.specs.Chunks.{chunks_of, numbers_below}
+use Rattle.amber_rows.specs.Chunks.{chunks_of}
+use Rattle.amber_rows.specs.Lists.{numbers_below}
 use Rattle.amber_rows.specs.Cond.{holds_of}
 use Rattle.amber_rows.specs.Crew.{crew_of, first_worker_of, follower_of, op_of, reader_from, receiver_of, senders_of, sends_to, workers_of}
 use Rattle.amber_rows.specs.Operators.{group_result, pick_cells}
@@ -19,11 +20,11 @@ use Rattle.amber_log.specs.declared.leg.Close.TheVariants as close
 use Rattle.amber_log.specs.declared.log.Item.{Item}
 use Rattle.amber_log.specs.declared.log.Item.TheVariants as item
 use Rattle.amber_meaning.specs.Legal.{Query, batches_for, entries_of, role_in, stream_of}
-use Rattle.amber_meaning.specs.LegalTests.{are_offered, begins, is_settled, may_close_end, may_lead, may_make, may_reach, may_work, same_rows}
+use Rattle.amber_judge.specs.LegalTests.{are_offered, begins, is_settled, may_close_end, may_lead, may_make, may_reach, may_work, same_rows}
 use Rattle.amber_meaning.specs.Plan.{role_of, share_of, task_of, with_numbers}
 use Rattle.amber_meaning.specs.Position.{Position, fed, have_ended, kept, origin, product, taken_from}
 use Rattle.amber_meaning.specs.Replay.{after_item, after_items, led_by, positions_after, state_after, after_leg}
-use Rattle.amber_meaning.specs.RuleTests.{may_finish, may_go, may_take}
+use Rattle.amber_judge.specs.RuleTests.{may_finish, may_go, may_take}
 use Rattle.amber_meaning.specs.State.{begin_leg, begin_last_leg, start_of, steps_in}
 use Rattle.amber_meaning.specs.Stops.{without_stops}
 use Rattle.amber_meaning.specs.Task.{built_of, closing, produce, yields}

@@ -6,11 +6,12 @@ use Rattle.std.specs.Prelude.{Result}
 use Rattle.std.proofs.lemmas.Bool.{eq-eqb, eqb-true, false≢true, or_cases, or_left, or_right}
 use Rattle.std.proofs.lemmas.List.Elements.{All-cons, All-nil}
 use Rattle.std.proofs.Math.Nat.{zero-div}
-use Rattle.amber_rows.specs.Chunks.{chunks_of, numbers_below}
-use Rattle.amber_rows.specs.Cond.{nth}
-use Rattle.amber_rows.specs.Crew.{crew_of, kind_at, op_of, receiver_of, receivers_of, senders_of, what_at}
+use Rattle.amber_rows.specs.Chunks.{chunks_of}
+use Rattle.amber_rows.specs.Lists.{numbers_below, nth}
+use Rattle.amber_rows.specs.Crew.{crew_of, kind_at, op_of, receiver_of, receivers_of, senders_of, what_at, AreAlone}
 use Rattle.amber_rows.specs.Operators.{first_keys, group_result}
-use Rattle.amber_rows.specs.FlowRules.{IsFlow, columns_at, inputs_of}
+use Rattle.amber_rows.specs.FlowRules.{IsFlow, columns_at}
+use Rattle.amber_rows.specs.Kinds.{inputs_of, is_scan}
 use Rattle.amber_rows.specs.declared.value.Value.{Value}
 use Rattle.amber_rows.specs.declared.record.RowFault.{RowFault}
 use Rattle.amber_rows.specs.declared.flow.What.{What}
@@ -30,7 +31,7 @@ use Rattle.amber_link.specs.Incoming.{Incoming}
 use Rattle.amber_link.specs.Outgoing.{Outgoing}
 use Rattle.amber_worker.specs.Fields.{AreFew, IsInOrder, rest_in}
 use Rattle.amber_worker.specs.Made.{IsOperatorStateOf, IsFresh, IsReceiver, fresh_inbox, fresh_inboxes, fresh_outbox, handing_operator, is_join}
-use Rattle.amber_worker.specs.AtPosition.{AreAlone, DoesKind, HasShare, HasTaken, Placement, ReceiveAll, Receives, SendAll, Sends, Shows, IsAtPosition, first_orders, is_scan, kept_rows, placement_of}
+use Rattle.amber_worker.specs.AtPosition.{DoesKind, HasShare, HasTaken, Placement, ReceiveAll, Receives, SendAll, Sends, Shows, IsAtPosition, first_orders, kept_rows, placement_of}
 use Rattle.amber_worker.specs.WorkerState.{WorkerState}
 use Rattle.amber_worker.specs.declared.operator_state.OperatorState.{OperatorState}
 use Rattle.amber_worker.specs.declared.operator_state.OperatorState.TheVariants as operator_state

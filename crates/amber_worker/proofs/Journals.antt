@@ -2,13 +2,14 @@
 use Rattle.std.proofs.Common.{◌≡◌, ℕ, zero, suc, ◌+◌, ◌-◌, ◌^◌, ◌<◌, ◌≤◌, eqb, ◌&&◌, List, [], ◌∷◌, ◌++◌, length, replicate, All, Option, None, Bool, true, false, refl, sym, ap, ◌∙◌, arith, zero-add, append_assoc, subst, length-append}
 use Rattle.std.proofs.lemmas.Bool.{false≢true, ne_eqb}
 use Rattle.std.proofs.lemmas.List.{length-replicate, replicate-append-replicate}
+use Rattle.amber_meaning.proofs.Led.{no_batch}
 use Rattle.amber_rows.specs.declared.value.Value.{Value}
 use Rattle.amber_rows.specs.declared.cond.Cond.{Cond}
 use Rattle.amber_log.specs.Grammar.{AreEntries, IsEntry, is_go}
 use Rattle.amber_log.specs.declared.entry.Entry.{Entry}
 use Rattle.amber_log.specs.declared.entry.Entry.TheVariants as entry
 use Rattle.amber_meaning.specs.Position.{Position, product}
-use Rattle.amber_meaning.specs.Rules.{Leads, MayGo, Moves, Orders, pass_by, produced_with, went}
+use Rattle.amber_meaning.specs.Rules.{Leads, MayGo, Moves, Orders, pass_by, produced_with, with_rows}
 use Rattle.amber_meaning.specs.Task.{Role}
 use Rattle.amber_meaning.proofs.Lists.{list_all-every}
 use Rattle.amber_worker.specs.Fields.{rows_moved}
@@ -43,9 +44,9 @@ waved_both true a b = none_yet a b
 waved_both false a b = refl
 
 -- rows more, and again some more
-pub went-went : (orders : Orders) (rows outs more others : ℕ) (p : Position) → ArePlain orders
-    → went orders more others (went orders rows outs p) ≡ went orders (rows + more) (outs + others) p
-went-went orders rows outs more others p plain =
+pub with_rows-with_rows : (orders : Orders) (rows outs more others : ℕ) (p : Position) → ArePlain orders
+    → with_rows orders more others (with_rows orders rows outs p) ≡ with_rows orders (rows + more) (outs + others) p
+with_rows-with_rows orders rows outs more others p plain =
     same_position _ _ refl
     (append_assoc p.constants _ _ ∙ ap (λ l. p.constants ++ l) (replicate-append-replicate rows more orders.constants))
     (append_assoc p.outcomes _ _ ∙ ap (λ l. p.outcomes ++ l) (replicate-append-replicate outs others true))
@@ -66,9 +67,9 @@ passes orders waved rows plain =
 pub not_counted : (orders : Orders) → ArePlain orders → orders.counted ≡ true → ⊥
 not_counted orders plain counted = false≢true (sym plain.uncounted ∙ counted)
 
-produced-went : (role : Role) (orders : Orders) (p : Position) (rows outs more : ℕ)
-    → produced_with role orders (went orders rows outs p) more ≡ produced_with role orders p (rows + more)
-produced-went role orders p rows outs more =
+produced-with_rows : (role : Role) (orders : Orders) (p : Position) (rows outs more : ℕ)
+    → produced_with role orders (with_rows orders rows outs p) more ≡ produced_with role orders p (rows + more)
+produced-with_rows role orders p rows outs more =
     ap (λ (constants : List (List Value)). length (product role p.taken constants))
     (append_assoc p.constants _ _ ∙ ap (λ l. p.constants ++ l) (replicate-append-replicate rows more orders.constants))
 
@@ -77,7 +78,7 @@ produced-same role orders p a b e = ap (λ n. produced_with role orders p n) e
 
 -- rows that were taken and emitted, and then a row that may be taken, may go as one
 go-row : (role : Role) (orders : Orders) (p : Position) (rows outs : ℕ) → ArePlain orders → MayGo role orders p rows outs
-    → MayGo role orders (went orders rows outs p) 1 0 → MayGo role orders p (rows + 1) (outs + 0)
+    → MayGo role orders (with_rows orders rows outs p) 1 0 → MayGo role orders p (rows + 1) (outs + 0)
 go-row role orders p rows outs plain first second =
     let constants = length-append p.constants (replicate rows orders.constants) in
     let rows_gone = length-replicate rows orders.constants in
@@ -85,9 +86,9 @@ go-row role orders p rows outs plain first second =
     let outs_gone = length-replicate outs true in
     let within = second.within in
     let produced = second.produced in
-    let drained : produced_with role orders (went orders rows outs p) 0 ≤ length (p.outcomes ++ replicate outs true) + 0 = second.drained (omega arith) in
-    let one = produced-went role orders p rows outs 1 in
-    let before = produced-went role orders p rows outs 0 ∙ produced-same role orders p (rows + 0) (rows + 1 - 1) (omega arith) in
+    let drained : produced_with role orders (with_rows orders rows outs p) 0 ≤ length (p.outcomes ++ replicate outs true) + 0 = second.drained (omega arith) in
+    let one = produced-with_rows role orders p rows outs 1 in
+    let before = produced-with_rows role orders p rows outs 0 ∙ produced-same role orders p (rows + 0) (rows + 1 - 1) (omega arith) in
     record {
       free = first.free;
       within = omega arith;
@@ -100,7 +101,7 @@ go-row role orders p rows outs plain first second =
 
 -- rows that were taken and emitted, and then a row that may be emitted, may go as one
 go-out : (role : Role) (orders : Orders) (p : Position) (rows outs : ℕ) → ArePlain orders → MayGo role orders p rows outs
-    → MayGo role orders (went orders rows outs p) 0 1 → MayGo role orders p (rows + 0) (outs + 1)
+    → MayGo role orders (with_rows orders rows outs p) 0 1 → MayGo role orders p (rows + 0) (outs + 1)
 go-out role orders p rows outs plain first second =
     let constants = length-append p.constants (replicate rows orders.constants) in
     let rows_gone = length-replicate rows orders.constants in
@@ -108,7 +109,7 @@ go-out role orders p rows outs plain first second =
     let outs_gone = length-replicate outs true in
     let within = first.within in
     let produced = second.produced in
-    let same = produced-went role orders p rows outs 0 in
+    let same = produced-with_rows role orders p rows outs 0 in
     let before = produced-same role orders p (rows + 0 - 1) (rows - 1) (omega arith) in
     record {
       free = first.free;
@@ -122,37 +123,37 @@ go-out role orders p rows outs plain first second =
 
 -- rows that were taken and emitted and some more may go as one
 abbrev MayJoin : Role → Orders → ℕ → ℕ → Type 0
-MayJoin role orders more others = (p : Position) (rows outs : ℕ) → MayGo role orders p rows outs → MayGo role orders (went orders rows outs p) more others
+MayJoin role orders more others = (p : Position) (rows outs : ℕ) → MayGo role orders p rows outs → MayGo role orders (with_rows orders rows outs p) more others
     → MayGo role orders p (rows + more) (outs + others)
 
 -- rows more at the end of a journal lead on
 Leads-go : (role : Role) (orders : Orders) (start : Position) (journal : List Entry) (p : Position) (rows outs : ℕ) → ArePlain orders → MayJoin role orders rows outs
-    → Leads role orders start journal p → MayGo role orders p rows outs → Leads role orders start (with_go journal rows outs) (went orders rows outs p)
+    → Leads role orders start journal p → MayGo role orders p rows outs → Leads role orders start (with_go journal rows outs) (with_rows orders rows outs p)
 unfolding Leads with_go
-Leads-go role orders start [] p rows outs plain join leads may = (went orders rows outs p, (rw leads may, rw leads refl), refl)
+Leads-go role orders start [] p rows outs plain join leads may = (with_rows orders rows outs p, (no_batch, rw leads may, rw leads refl), refl)
 Leads-go role orders start (entry.Take sender batch ∷ []) p rows outs plain join leads may =
-    (leads.0, leads.1, (went orders rows outs p, (rw leads.2 may, rw leads.2 refl), refl))
+    (leads.0, leads.1, (with_rows orders rows outs p, (no_batch, rw leads.2 may, rw leads.2 refl), refl))
 Leads-go role orders start (entry.Go before given ∷ []) p rows outs plain join leads may =
-    let same : p ≡ went orders before given start = sym leads.2 ∙ leads.1.1 in
-    (went orders rows outs p, (join start before given leads.1.0 (rw same at may), rw same (went-went orders before given rows outs start plain)), refl)
-Leads-go role orders start (entry.Grant n ∷ []) p rows outs plain join leads may = (leads.0, leads.1, (went orders rows outs p, (rw leads.2 may, rw leads.2 refl), refl))
-Leads-go role orders start (entry.Back n ∷ []) p rows outs plain join leads may = (leads.0, leads.1, (went orders rows outs p, (rw leads.2 may, rw leads.2 refl), refl))
-Leads-go role orders start (entry.Pause ∷ []) p rows outs plain join leads may = (leads.0, leads.1, (went orders rows outs p, (rw leads.2 may, rw leads.2 refl), refl))
-Leads-go role orders start (entry.Resume ∷ []) p rows outs plain join leads may = (leads.0, leads.1, (went orders rows outs p, (rw leads.2 may, rw leads.2 refl), refl))
-Leads-go role orders start (entry.Hold ∷ []) p rows outs plain join leads may = (leads.0, leads.1, (went orders rows outs p, (rw leads.2 may, rw leads.2 refl), refl))
-Leads-go role orders start (entry.Finish ∷ []) p rows outs plain join leads may = (leads.0, leads.1, (went orders rows outs p, (rw leads.2 may, rw leads.2 refl), refl))
+    let same : p ≡ with_rows orders before given start = sym leads.2 ∙ leads.1.2 in
+    (with_rows orders rows outs p, (no_batch, join start before given leads.1.1 (rw same at may), rw same (with_rows-with_rows orders before given rows outs start plain)), refl)
+Leads-go role orders start (entry.Grant n ∷ []) p rows outs plain join leads may = (leads.0, leads.1, (with_rows orders rows outs p, (no_batch, rw leads.2 may, rw leads.2 refl), refl))
+Leads-go role orders start (entry.Back n ∷ []) p rows outs plain join leads may = (leads.0, leads.1, (with_rows orders rows outs p, (no_batch, rw leads.2 may, rw leads.2 refl), refl))
+Leads-go role orders start (entry.Pause ∷ []) p rows outs plain join leads may = (leads.0, leads.1, (with_rows orders rows outs p, (no_batch, rw leads.2 may, rw leads.2 refl), refl))
+Leads-go role orders start (entry.Resume ∷ []) p rows outs plain join leads may = (leads.0, leads.1, (with_rows orders rows outs p, (no_batch, rw leads.2 may, rw leads.2 refl), refl))
+Leads-go role orders start (entry.Hold ∷ []) p rows outs plain join leads may = (leads.0, leads.1, (with_rows orders rows outs p, (no_batch, rw leads.2 may, rw leads.2 refl), refl))
+Leads-go role orders start (entry.Finish ∷ []) p rows outs plain join leads may = (leads.0, leads.1, (with_rows orders rows outs p, (no_batch, rw leads.2 may, rw leads.2 refl), refl))
 Leads-go role orders start (first ∷ next ∷ more) p rows outs plain join leads may =
     (leads.0, leads.1, Leads-go role orders leads.0 (next ∷ more) p rows outs plain join leads.2 may)
 
 -- a row taken at the end of a journal
 pub Leads-row : (role : Role) (orders : Orders) (start : Position) (journal : List Entry) (p : Position) → ArePlain orders
-    → Leads role orders start journal p → MayGo role orders p 1 0 → Leads role orders start (with_go journal 1 0) (went orders 1 0 p)
+    → Leads role orders start journal p → MayGo role orders p 1 0 → Leads role orders start (with_go journal 1 0) (with_rows orders 1 0 p)
 Leads-row role orders start journal p plain leads may =
     Leads-go role orders start journal p 1 0 plain (λ m rows outs first second. go-row role orders m rows outs plain first second) leads may
 
 -- a row emitted at the end of a journal
 pub Leads-out : (role : Role) (orders : Orders) (start : Position) (journal : List Entry) (p : Position) → ArePlain orders
-    → Leads role orders start journal p → MayGo role orders p 0 1 → Leads role orders start (with_go journal 0 1) (went orders 0 1 p)
+    → Leads role orders start journal p → MayGo role orders p 0 1 → Leads role orders start (with_go journal 0 1) (with_rows orders 0 1 p)
 Leads-out role orders start journal p plain leads may =
     Leads-go role orders start journal p 0 1 plain (λ m rows outs first second. go-out role orders m rows outs plain first second) leads may
 

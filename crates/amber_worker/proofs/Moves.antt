@@ -14,7 +14,7 @@ use Rattle.amber_rows.specs.declared.flow.What.{What}
 use Rattle.amber_rows.specs.declared.flow.What.TheVariants as what
 use Rattle.amber_log.specs.declared.entry.Entry.TheVariants as entry
 use Rattle.amber_meaning.specs.Position.{Position, Taken, emitted_rows, fed, have_ended, is_complete, is_emitted, product}
-use Rattle.amber_meaning.specs.Rules.{IsFree, MayFinish, MayGo, Orders, product_with, produced_with, went}
+use Rattle.amber_meaning.specs.Rules.{IsFree, MayFinish, MayGo, Orders, product_with, produced_with, with_rows}
 use Rattle.amber_meaning.specs.Task.{Arrival, Role, Task, closing, closing_rows, columns_from, is_builder, produce, row_in, suiting, yields, yields_if, yields_row}
 use Rattle.amber_meaning.specs.Views.{refusal_in, refused_in, rows_in, taken_of}
 use Rattle.amber_link.specs.Incoming.{Incoming, have_all_ended}
@@ -26,7 +26,7 @@ use Rattle.amber_worker.specs.Steps.{Becomes, Closes, all_done, columns_at_hand,
 use Rattle.amber_worker.specs.declared.operator_state.OperatorState.{OperatorState}
 use Rattle.amber_worker.specs.declared.operator_state.OperatorState.TheVariants as operator_state
 use Rattle.amber_worker.proofs.Chunked.{chunks-end, chunks-full, chunks-more, left_over, left_over-few}
-use Rattle.amber_meaning.proofs.Led.{Leads-push}
+use Rattle.amber_meaning.proofs.Led.{Leads-push, no_batch}
 use Rattle.amber_worker.proofs.Journals.{AreEntries-push, AreEntries-with_go, Leads-out, Leads-row, not_counted, passes}
 use Rattle.amber_worker.proofs.Produced.{and-turned, kept-longer, kept-next, left-behind, left-next, left-nothing, left-within, not-complete, produce-next, product-is, product-open, same-test, take-next}
 use Rattle.amber_worker.proofs.States.{closing-is, does-more, has-more, rows-more}
@@ -105,7 +105,7 @@ record TakesOne (placement : Placement) (orders : Orders) (w : WorkerState) (p :
 
 -- the position with a row more
 abbrev with_one : Orders → Position → Position
-with_one orders p = went orders 1 0 p
+with_one orders p = with_rows orders 1 0 p
 
 -- the side of what is at hand
 side-is : (placement : Placement) (orders : Orders) (w : WorkerState) (p : Position) (sent : ℕ → List Batch) (one : Arrival) (later : List Arrival) (now : OperatorState) (last : List (List Value))
@@ -388,7 +388,7 @@ may-emit_row placement orders w p sent row later shows pending works =
     }
 
 shows-row_emitted : (placement : Placement) (orders : Orders) (w : WorkerState) (p : Position) (sent : ℕ → List Batch) (row : List Value) (later : List (List Value))
-    → Shows placement orders w p sent → w.pending ≡ row ∷ later → IsWorking w → Shows placement orders (row_emitted row later w) (went orders 0 1 p) sent
+    → Shows placement orders w p sent → w.pending ≡ row ∷ later → IsWorking w → Shows placement orders (row_emitted row later w) (with_rows orders 0 1 p) sent
 shows-row_emitted placement orders w p sent row later shows pending works =
     let left : drop (length p.outcomes) (product placement.role p.taken p.constants) ≡ row ∷ later = sym shows.pending ∙ pending in
     let produced = left-within (length p.outcomes) (product placement.role p.taken p.constants) row later left in
@@ -430,7 +430,7 @@ shows-row_emitted placement orders w p sent row later shows pending works =
 pub Keeps-row_emitted : (w : WorkerState) (row : List Value) (later : List (List Value)) → w.pending ≡ row ∷ later → IsWorking w → Keeps w (row_emitted row later w)
 unfolding Keeps
 Keeps-row_emitted w row later pending works placement orders start p sent stands = (
-  went orders 0 1 p,
+  with_rows orders 0 1 p,
   record {
     leads = Leads-out placement.role orders start w.journal p stands.shows.plain stands.leads (may-emit_row placement orders w p sent row later stands.shows pending works);
     text = AreEntries-with_go w.journal 0 1 stands.text works.few refl;
@@ -475,7 +475,7 @@ Keeps-all_done w rest pending ended works placement orders start p sent stands =
     } in (
       record p { finished = true },
       record {
-        leads = Leads-push placement.role orders start w.journal p entry.Finish (record p { finished = true }) stands.leads (may, refl);
+        leads = Leads-push placement.role orders start w.journal p entry.Finish (record p { finished = true }) stands.leads (no_batch, may, refl);
         text = AreEntries-push false w.journal entry.Finish stands.text tt refl;
         shows = record {
           op = shows.op;

@@ -4,9 +4,10 @@ use Rattle.std.specs.List.{flat_map, list_any}
 use Rattle.std.proofs.lemmas.Bool.{eq-eqb, eqb-true, false≢true, or_cases, or_left}
 use Rattle.std.proofs.lemmas.List.{length-take}
 use Rattle.std.proofs.lemmas.List.Sums.{sum_by-append, sum_by-cons}
-use Rattle.amber_rows.specs.Cond.{nth}
+use Rattle.amber_rows.specs.Lists.{nth}
 use Rattle.amber_rows.specs.Crew.{kind_at, reader_from, reader_of, reads, what_at, worker_count, workers_in}
-use Rattle.amber_rows.specs.FlowRules.{HasInput, IsEarlier, IsFlow, IsKind, IsNext, columns_at, inputs_of, reader_count, schema_of}
+use Rattle.amber_rows.specs.FlowRules.{HasInput, IsEarlier, IsFlow, IsKind, IsNext, columns_at, reader_count, schema_of}
+use Rattle.amber_rows.specs.Kinds.{inputs_of}
 use Rattle.amber_rows.specs.declared.column.Column.{Column}
 use Rattle.amber_rows.specs.declared.flow.What.{What}
 use Rattle.amber_rows.specs.declared.flow.What.TheVariants as what

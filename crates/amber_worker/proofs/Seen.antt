@@ -5,7 +5,8 @@ use Rattle.amber_rows.specs.declared.record.RowFault.{RowFault}
 use Rattle.amber_rows.specs.declared.flow.What.{What}
 use Rattle.amber_rows.specs.declared.flow.What.TheVariants as what
 use Rattle.amber_meaning.specs.Task.{Arrival, Role, Task}
-use Rattle.amber_meaning.specs.Views.{extra_of, first_of, refusal_in, refused_in, rows_in, taken_of, view_of}
+use Rattle.amber_meaning.specs.Views.{extra_of, refusal_in, refused_in, rows_in, taken_of, view_of}
+use Rattle.amber_rows.specs.Lists.{first_of}
 use Rattle.amber_meaning.specs.declared.answer.Refusal.{Refusal}
 use Rattle.amber_meaning.specs.declared.view.Extra.{Extra}
 use Rattle.amber_meaning.specs.declared.view.Extra.TheVariants as extra

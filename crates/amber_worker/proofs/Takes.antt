@@ -13,7 +13,7 @@ use Rattle.amber_rows.specs.declared.flow.What.{What}
 use Rattle.amber_rows.specs.declared.flow.What.TheVariants as what
 use Rattle.amber_log.specs.declared.entry.Entry.TheVariants as entry
 use Rattle.amber_meaning.specs.Position.{Position, Taken, fed, arrivals_of, has_last, have_ended, is_complete, product, share_or, taken_from}
-use Rattle.amber_meaning.specs.Rules.{MayTake, Orders, may_take_from, took}
+use Rattle.amber_meaning.specs.Rules.{MayTake, Orders, may_take_from, with_batch}
 use Rattle.amber_meaning.specs.Task.{Arrival, Role, Task, closing, is_builder, produce}
 use Rattle.amber_meaning.specs.Views.{taken_of}
 use Rattle.amber_link.specs.Incoming.{Incoming, IsTaken, have_all_ended, have_builders_ended, without_first}
@@ -401,7 +401,7 @@ product-now placement orders w p sent one batch ins last shows takes =
     ∙ ap (λ rows. product placement.role p.taken p.constants ++ rows) (sym (last-is placement orders w p sent one batch ins last shows takes))
 
 shows-batch_taken : (placement : Placement) (orders : Orders) (w : WorkerState) (p : Position) (sent : ℕ → List Batch) (one : Incoming) (batch : Batch) (ins : List Incoming) (last : List (List Value))
-    → Shows placement orders w p sent → TakesOne w one batch ins last → Shows placement orders (batch_taken one batch ins last w) (took one.from batch p) sent
+    → Shows placement orders w p sent → TakesOne w one batch ins last → Shows placement orders (batch_taken one batch ins last w) (with_batch one.from batch p) sent
 shows-batch_taken placement orders w p sent one batch ins last shows takes =
     let so = takes.taken_so in
     let more = fed-now placement orders w p sent one batch ins last shows takes in
@@ -477,9 +477,9 @@ pub Keeps-batch_taken : (w : WorkerState) (one : Incoming) (batch : Batch) (ins 
 unfolding Keeps
 Keeps-batch_taken w one batch ins last rest pending so few small closes works placement orders start p sent stands =
     let takes : TakesOne w one batch ins last = record { rest = rest; pending = pending; taken_so = so; closes = closes } in (
-      took one.from batch p,
+      with_batch one.from batch p,
       record {
-        leads = Leads-push placement.role orders start w.journal p (entry.Take one.from one.taken) (took one.from batch p) stands.leads
+        leads = Leads-push placement.role orders start w.journal p (entry.Take one.from one.taken) (with_batch one.from batch p) stands.leads
             (batch, may-take placement orders w p sent one batch ins last stands.shows takes works, refl);
         text = AreEntries-push false w.journal (entry.Take one.from one.taken) stands.text (few, small) refl;
         shows = shows-batch_taken placement orders w p sent one batch ins last stands.shows takes;

@@ -63,18 +63,6 @@ pub record ArePlain (orders : Orders) : Type 0 where
   pub unwatched : orders.watch ≡ None
   pub uncounted : orders.counted ≡ false
 
-abbrev pub is_scan : What → Bool
-is_scan (what.Scan file) = true
-is_scan (what.Filter input cond) = false
-is_scan (what.Project input columns) = false
-is_scan (what.Join build probe build_keys probe_keys) = false
-is_scan (what.Group input keys aggs) = false
-is_scan (what.Sink input) = false
-
--- every operator has one worker
-abbrev pub AreAlone : List Operator → Type 0
-AreAlone flow = All (λ operator. operator.workers ≡ 1) flow
-
 -- a worker of a scan was given its share
 abbrev pub HasShare : Option (List Scanned) → Role → Type 0
 HasShare None role = Unit {0}

@@ -1,7 +1,7 @@
 //! The parts of what a worker shows.
 
 ghost use Rattle.std.specs.Prelude.{◌≡◌, IfOk, if◌then◌else◌, length};
-ghost use Rattle.amber_meaning.specs.Views.{first_of};
+ghost use Rattle.amber_rows.specs.Lists.{first_of};
 ghost use Rattle.amber_worker.specs.Steps.{IsExtra};
 
 use crate::operator_state::OperatorState;

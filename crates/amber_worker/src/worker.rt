@@ -2,7 +2,7 @@ ghost use Rattle.std.specs.Prelude.{All, MatchOption, false, MatchBool, if◌the
 ghost use Rattle.std.specs.List.{list_any};
 ghost use Rattle.amber_rows.specs.declared.value.Value.{Value as Cell};
 ghost use Rattle.amber_rows.specs.declared.record.RowFault.{RowFault as Fault};
-ghost use Rattle.amber_rows.specs.Crew.{crew_of, op_of, what_at};
+ghost use Rattle.amber_rows.specs.Crew.{crew_of, op_of, what_at, AreAlone};
 ghost use Rattle.amber_meaning.specs.Position.{origin};
 ghost use Rattle.amber_meaning.specs.Plan.{role_of};
 ghost use Rattle.amber_link.specs.Incoming.{has_some, have_all_ended};
@@ -10,7 +10,8 @@ ghost use Rattle.amber_worker.specs.Links.{waiting_for, with_batches, without_ba
 ghost use Rattle.amber_worker.specs.WorkerState.{next_turn, has_ready, steps_made};
 ghost use Rattle.amber_worker.specs.Steps.{IsCalm, IsShown, TakesBatch, TakesRow, all_done, row_emitted_from};
 ghost use Rattle.amber_worker.specs.Made.{IsFresh};
-ghost use Rattle.amber_worker.specs.AtPosition.{AreAlone, HasShare, HasTurned, IsGivenOf, IsViewOf, Keeps, IsAtPosition, first_orders, is_scan, placement_of};
+ghost use Rattle.amber_worker.specs.AtPosition.{HasShare, HasTurned, IsGivenOf, IsViewOf, Keeps, IsAtPosition, first_orders, placement_of};
+ghost use Rattle.amber_rows.specs.Kinds.{is_scan};
 
 use crate::given::{Given, add_keys, refused_keys};
 use crate::journal::note_go;

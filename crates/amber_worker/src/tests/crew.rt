@@ -1,7 +1,7 @@
 // The workers of one query, the numbers of a file that are 2 or more: a scan, a filter and a sink.
 ghost use Rattle.std.specs.Prelude.{◌≡◌, ◌++◌, ◌<◌, ◌≤◌, ◌∷◌, [], true, false, codes, is_some, IfOk, OnOk};
-ghost use Rattle.amber_rows.specs.Crew.{crew_of, op_of, what_at};
-ghost use Rattle.amber_worker.specs.AtPosition.{AreAlone, is_scan};
+ghost use Rattle.amber_rows.specs.Crew.{crew_of, op_of, what_at, AreAlone};
+ghost use Rattle.amber_rows.specs.Kinds.{is_scan};
 
 use super::*;
 use amber_rows::{Cmp, ColKind, Column, Cond, Flow, Operator, Schema, Text, Value, What};

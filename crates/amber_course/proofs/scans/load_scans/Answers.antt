@@ -1,6 +1,6 @@
 -- A step of the walk, and its ends.
 use Rattle.std.proofs.Common.{◌≡◌, ◌<◌, ◌≤◌, length, get_or, [], false, refl, Err, arith, rules, ◌∙◌, sym}
-use Rattle.amber_meaning.specs.Plain.{is_scan}
+use Rattle.amber_rows.specs.Kinds.{is_scan}
 use Rattle.amber_course.specs.Course.{most_scanned, scans_of}
 use Rattle.amber_course.proofs.Following.{told-all}
 use Rattle.amber_course.proofs.Scanning.{IsWalked, inputs-end, inputs-none, inputs-scan, inputs-skip, not-scan, scan-end, scan-names, scan-next, scan-skip, scan-failure, walk-none, walked-all}

@@ -1,5 +1,5 @@
 use Rattle.std.proofs.Common.{◌≡◌, drop, map}
-use Rattle.amber_flow.specs.Chain.{each}
+use Rattle.amber_rows.specs.Chain.{each}
 use Rattle.amber_flow.specs.Aggregates.{agg_of}
 use Rattle.amber_flow.proofs.ListFacts.{each_after}
 use Rattle.amber_flow.proofs.aggregates.read_aggs.Given as goal

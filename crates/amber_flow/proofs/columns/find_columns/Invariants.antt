@@ -1,5 +1,5 @@
 use Rattle.std.proofs.Common.{◌≡◌, drop, map}
-use Rattle.amber_flow.specs.Chain.{each}
+use Rattle.amber_rows.specs.Chain.{each}
 use Rattle.amber_flow.specs.Columns.{column_number}
 use Rattle.amber_flow.proofs.ListFacts.{each_after}
 use Rattle.amber_flow.proofs.columns.find_columns.Given as goal

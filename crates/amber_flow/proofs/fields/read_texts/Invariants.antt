@@ -1,7 +1,7 @@
 use Rattle.std.proofs.Common.{◌≡◌, drop, map}
 use Rattle.serde_json.specs.Find.{as_str}
 use Rattle.serde_json.specs.View.{view}
-use Rattle.amber_flow.specs.Chain.{each}
+use Rattle.amber_rows.specs.Chain.{each}
 use Rattle.amber_flow.proofs.ListFacts.{each_after}
 use Rattle.amber_flow.proofs.fields.read_texts.Given as goal
 

@@ -2,7 +2,7 @@ use Rattle.std.proofs.Common.{List, ℕ, Bor, map, subst, sym, ap, ◌∙◌}
 use Rattle.serde_json.specs.View.{view}
 use Rattle.amber_rows.specs.FlowRules.{HasInput}
 use Rattle.amber_rows.specs.declared.column.Column.{Column}
-use Rattle.amber_flow.specs.Chain.{each}
+use Rattle.amber_rows.specs.Chain.{each}
 use Rattle.amber_flow.specs.Columns.{column_number}
 use Rattle.amber_flow.proofs.NameFacts.{project-kind}
 use Rattle.amber_flow.proofs.project.read_project.Goals as goal

@@ -1,6 +1,6 @@
 use Rattle.std.proofs.Common.{◌≡◌, drop, map}
 use Rattle.serde_json.specs.View.{view}
-use Rattle.amber_flow.specs.Chain.{each}
+use Rattle.amber_rows.specs.Chain.{each}
 use Rattle.amber_flow.specs.Columns.{source_of}
 use Rattle.amber_flow.proofs.ListFacts.{each_after}
 use Rattle.amber_flow.proofs.project.read_sources.Given as goal

@@ -9,7 +9,7 @@ use Rattle.amber_rows.specs.declared.flow.Operator.{Operator}
 use Rattle.amber_rows.specs.declared.flow.What.TheVariants as what
 use Rattle.std.proofs.lemmas.List.Elements.{All-cons, All-nil}
 use Rattle.amber_meaning.specs.Plain.{scan_count}
-use Rattle.amber_worker.specs.AtPosition.{AreAlone}
+use Rattle.amber_rows.specs.Crew.{AreAlone}
 use Rattle.amber_tests.proofs.debug.query.Goals as goal
 
 abbrev numbers : List Column

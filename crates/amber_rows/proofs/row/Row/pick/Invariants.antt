@@ -1,7 +1,7 @@
 -- The cells of the columns so far.
 use Rattle.std.proofs.Common.{◌≡◌, take}
 use Rattle.std.specs.List.{filter_map}
-use Rattle.amber_rows.specs.Cond.{nth}
+use Rattle.amber_rows.specs.Lists.{nth}
 use Rattle.amber_rows.proofs.row.Row.pick.Given as goal
 
 abbrev pub invariant-loop-column : goal.invariant-loop-column

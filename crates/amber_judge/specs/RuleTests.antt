@@ -1,15 +1,12 @@
 -- Tests for the rules: each is true exactly where its rule holds.
 use Rattle.std.specs.Prelude.{ℕ, ◌+◌, ◌-◌, ◌==◌, nat_le, nat_lt, ◌&&◌, ◌||◌, not, List, [], ◌∷◌, length, take, drop, Bool, true, false}
 use Rattle.std.specs.List.{list_any}
+use Rattle.amber_rows.specs.Lists.{is_empty}
 use Rattle.amber_log.specs.declared.entry.Entry.{Entry}
 use Rattle.amber_log.specs.declared.entry.Entry.TheVariants as entry
 use Rattle.amber_meaning.specs.Task.{Role}
 use Rattle.amber_meaning.specs.Position.{Position, fed, have_ended, pending_rows, rest_of, taken_from}
 use Rattle.amber_meaning.specs.Rules.{MayFinish, MayGiveBack, MayGo, MayGrant, MayHold, MayPause, MayResume, MayTake, Orders, first_is_watched, may_take_from, pass_by, produced_with, product_with}
-
-abbrev pub is_empty : {A : Type 0} → List A → Bool
-is_empty [] = true
-is_empty (x ∷ xs) = false
 
 -- neither paused nor held nor finished
 abbrev pub is_free : Position → Bool
@@ -58,14 +55,3 @@ may_move role orders p entry.Pause = may_pause p
 may_move role orders p entry.Resume = may_resume p
 may_move role orders p entry.Hold = may_hold role orders p
 may_move role orders p entry.Finish = may_finish role p
-
--- the rule of an entry
-abbrev pub MayMove : Role → Orders → Position → Entry → Type 0
-MayMove role orders p (entry.Take from number) = MayTake role p from number
-MayMove role orders p (entry.Go rows outs) = MayGo role orders p rows outs
-MayMove role orders p (entry.Grant n) = MayGrant orders p
-MayMove role orders p (entry.Back n) = MayGiveBack orders p n
-MayMove role orders p entry.Pause = MayPause p
-MayMove role orders p entry.Resume = MayResume p
-MayMove role orders p entry.Hold = MayHold role orders p
-MayMove role orders p entry.Finish = MayFinish role p

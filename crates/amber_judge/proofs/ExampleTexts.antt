@@ -7,10 +7,11 @@ use Rattle.amber_log.specs.declared.entry.Entry.TheVariants as entry
 use Rattle.amber_log.specs.declared.leg.Close.TheVariants as close
 use Rattle.amber_log.specs.declared.log.Item.{Item}
 use Rattle.amber_log.specs.declared.log.Item.TheVariants as item
-use Rattle.amber_meaning.specs.LegalTests.{may_reach}
+use Rattle.amber_judge.specs.LegalTests.{may_reach}
 use Rattle.amber_meaning.specs.State.{start_of}
 use Rattle.amber_meaning.specs.Transcript.{transcript_of}
-use Rattle.amber_meaning.proofs.ExampleCases.{counted_log, kept_from, lines, part, priced_query, query_of, tests_on_literals, texts_on_literals, with_prices}
+use Rattle.amber_meaning.proofs.ExampleCases.{counted_log, kept_from, lines, part, priced_query, query_of, texts_on_literals, with_prices}
+use Rattle.amber_judge.proofs.ExampleTests.{tests_on_literals}
 
 -- ---- a count stops the filter in the middle of a batch
 

@@ -3,10 +3,11 @@ use Rattle.std.proofs.Common.{◌≡◌, true, arith, refl}
 use Rattle.amber_log.specs.Grammar.{AreEntries, AreItems, AreParts, IsLog}
 use Rattle.amber_log.specs.declared.log.Log.{Log}
 use Rattle.amber_meaning.specs.Legal.{IsLegal}
-use Rattle.amber_meaning.specs.LegalTests.{may_reach}
+use Rattle.amber_judge.specs.LegalTests.{may_reach}
 use Rattle.amber_meaning.specs.State.{start_of}
-use Rattle.amber_meaning.proofs.ExampleCases.{counted_log, kept_from, query_of, tests_on_literals}
-use Rattle.amber_meaning.proofs.LegalFrom.{logs_are_tested}
+use Rattle.amber_meaning.proofs.ExampleCases.{counted_log, kept_from, query_of}
+use Rattle.amber_judge.proofs.ExampleTests.{tests_on_literals}
+use Rattle.amber_judge.proofs.LegalFrom.{logs_are_tested}
 use Rattle.amber_meaning.proofs.Senders.{senders_first}
 
 abbrev log : Log

@@ -9,8 +9,8 @@ use Rattle.amber_rows.specs.Order.{row_cmp}
 use Rattle.amber_rows.specs.OrderLaws.{row-total}
 use Rattle.amber_rows.specs.declared.batch.Batch.{Batch}
 use Rattle.amber_rows.specs.declared.value.Value.{Value}
-use Rattle.amber_meaning.specs.Legal.{IsPrefix}
-use Rattle.amber_meaning.specs.LegalTests.{begins, same_batch, same_flag, same_rows}
+use Rattle.amber_rows.specs.Lists.{IsPrefix}
+use Rattle.amber_judge.specs.LegalTests.{begins, same_batch, same_flag, same_rows}
 
 row-is : (x y : List Value) → same_row x y ≡ true → x ≡ y
 row-is x y e = row-same x y (equal_from (row_cmp x y) e)

@@ -2,7 +2,7 @@
 use Rattle.std.proofs.Common.{◌≡◌, ◌≢◌, ℕ, suc, ◌<◌, ◌≤◌, eqb, ltb, List, [], ◌∷◌, length, map, Option, Some, None, is_some, true, not, refl, ap}
 use Rattle.std.specs.List.{list_all, list_any}
 use Rattle.std.proofs.lemmas.Bool.{and_from, eq-eqb, le-leb, lt-ltb, not_from_false, or_left, or_right}
-use Rattle.amber_rows.specs.Chunks.{numbers_below}
+use Rattle.amber_rows.specs.Lists.{numbers_below, IsPrefix, is_empty}
 use Rattle.amber_rows.specs.Crew.{crew_of, op_of}
 use Rattle.amber_rows.specs.declared.batch.Batch.{Batch}
 use Rattle.amber_log.specs.declared.entry.Entry.{Entry}
@@ -12,32 +12,25 @@ use Rattle.amber_log.specs.declared.leg.Close.TheVariants as close
 use Rattle.amber_log.specs.declared.leg.Part.{Part}
 use Rattle.amber_log.specs.declared.log.Item.{Item}
 use Rattle.amber_log.specs.declared.log.Item.TheVariants as item
-use Rattle.amber_meaning.specs.Laws.{RulesAreTested, SendersFirst}
-use Rattle.amber_meaning.specs.Legal.{AreOffered, IsPrefix, ClosesEnd, ClosesRun, IsSettled, IsWorked, Makes, Query, Reaches, batches_for, entries_of, role_in, stops_in}
-use Rattle.amber_meaning.specs.LegalTests.{are_offered, is_first_of, is_offered, is_settled, is_within, may_close_end, may_close_run, may_do, may_lead, may_make, may_reach, may_work}
+use Rattle.amber_meaning.specs.Laws.{SendersFirst}
+use Rattle.amber_judge.specs.TestLaws.{RulesAreTested}
+use Rattle.amber_meaning.specs.Legal.{AreOffered, ClosesEnd, ClosesRun, IsSettled, IsWorked, Makes, Query, Reaches, batches_for, entries_of, role_in, stops_in}
+use Rattle.amber_judge.specs.LegalTests.{are_offered, is_first_of, is_offered, is_settled, is_within, may_close_end, may_close_run, may_do, may_lead, may_make, may_reach, may_work}
 use Rattle.amber_meaning.specs.Plan.{role_of}
 use Rattle.amber_meaning.specs.Position.{Position, taken_from}
 use Rattle.amber_meaning.specs.Replay.{after_leg}
-use Rattle.amber_meaning.specs.Rules.{Leads, Moves, Orders}
-use Rattle.amber_meaning.specs.RuleTests.{MayMove, is_empty}
+use Rattle.amber_meaning.specs.Rules.{Leads, Moves, Orders, May}
 use Rattle.amber_meaning.specs.State.{Counting, State, arms_at, begin_leg, begin_last_leg, counted_at, orders_of, position_at}
 use Rattle.amber_meaning.specs.Task.{Role}
-use Rattle.amber_meaning.proofs.Batches.{begins-so}
+use Rattle.amber_judge.proofs.Batches.{begins-so}
 use Rattle.amber_meaning.proofs.Lists.{IsPrefix-trans, list_all-below, list_all-every, list_all-members}
 use Rattle.amber_meaning.proofs.OneState.{Leads-keeps, TookFirst, found-batch, item-is, moved-is, after_leg-is}
-use Rattle.amber_meaning.proofs.RuleTests.{empty_from_nil, may_move-so}
+use Rattle.amber_judge.proofs.RuleTests.{empty_from_nil, may_move-so}
 
 -- ---- one worker
 
-pub rule-of : (role : Role) (orders : Orders) (p q : Position) (one : Entry) → Moves role orders p one q → MayMove role orders p one
-rule-of role orders p q (entry.Take from number) h = h.1
-rule-of role orders p q (entry.Go rows outs) h = h.0
-rule-of role orders p q (entry.Grant n) h = h.0
-rule-of role orders p q (entry.Back n) h = h.0
-rule-of role orders p q entry.Pause h = h.0
-rule-of role orders p q entry.Resume h = h.0
-rule-of role orders p q entry.Hold h = h.0
-rule-of role orders p q entry.Finish h = h.0
+pub rule-of : (role : Role) (orders : Orders) (p q : Position) (one : Entry) → Moves role orders p one q → May role orders p one
+rule-of role orders p q one h = h.1
 
 pub offered-is : (role : Role) (orders : Orders) (offer : ℕ → List Batch) (p q : Position) (one : Entry) → Moves role orders p one q → TookFirst role offer q
     → is_offered offer one ≡ true
@@ -86,10 +79,10 @@ unfolding may_work AreOffered role_of
 may_work-is query before after parts first h =
     and_from _ _ (known-all (crew_of query.flow) parts h.known) (and_from _ _ (list_all-below (may_do query before parts) (crew_of query.flow) (λ worker less.
     let offer : ℕ → List Batch = λ sender. batches_for query (after_leg query before parts).positions sender worker in
-    let took : TookFirst (role_in query worker) offer (position_at after.positions worker) = λ sender known.
+    let first_taken : TookFirst (role_in query worker) offer (position_at after.positions worker) = λ sender known.
     rw (after_leg-is query before after parts first h) (h.offered worker less sender known) in
     leads-may (role_in query worker) (orders_of (arms_at before (op_of query.flow worker))) offer (position_at before.positions worker)
-    (position_at after.positions worker) (entries_of parts worker) (h.moved worker less) took))
+    (position_at after.positions worker) (entries_of parts worker) (h.moved worker less) first_taken))
     (rw (after_leg-is query before after parts first h) (are_offered-is query after.positions h.offered)))
 
 is_within-is : (query : Query) (state : State) (op : ℕ) (armed : Option Counting)

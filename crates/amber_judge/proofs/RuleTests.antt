@@ -5,8 +5,9 @@ use Rattle.amber_log.specs.declared.entry.Entry.{Entry}
 use Rattle.amber_log.specs.declared.entry.Entry.TheVariants as entry
 use Rattle.amber_meaning.specs.Task.{Role}
 use Rattle.amber_meaning.specs.Position.{Position}
-use Rattle.amber_meaning.specs.Rules.{IsFree, MayFinish, MayGiveBack, MayGo, MayGrant, MayHold, MayPause, MayResume, MayTake, Orders}
-use Rattle.amber_meaning.specs.RuleTests.{MayMove, is_empty, is_free, may_finish, may_give_back, may_go, may_grant, may_hold, may_move, may_pause, may_resume, may_take}
+use Rattle.amber_meaning.specs.Rules.{IsFree, MayFinish, MayGiveBack, MayGo, MayGrant, MayHold, MayPause, MayResume, MayTake, Orders, May}
+use Rattle.amber_judge.specs.RuleTests.{is_free, may_finish, may_give_back, may_go, may_grant, may_hold, may_move, may_pause, may_resume, may_take}
+use Rattle.amber_rows.specs.Lists.{is_empty}
 
 pub nil_from_empty : {A : Type 0} (xs : List A) → is_empty xs ≡ true → xs ≡ []
 nil_from_empty [] e = refl
@@ -145,7 +146,7 @@ may_finish-so role p = (to, back)
     back : MayFinish role p → may_finish role p ≡ true
     back h = and_from _ _ (free-so p h.free) (and_from _ _ (empty_from_nil _ h.no_rest) (and_from _ _ (empty_from_nil _ h.no_pending) h.ended))
 
-pub may_move-so : (role : Role) (orders : Orders) (p : Position) (one : Entry) → (may_move role orders p one ≡ true) ↔ MayMove role orders p one
+pub may_move-so : (role : Role) (orders : Orders) (p : Position) (one : Entry) → (may_move role orders p one ≡ true) ↔ May role orders p one
 may_move-so role orders p (entry.Take from number) = may_take-so role p from number
 may_move-so role orders p (entry.Go rows outs) = may_go-so role orders p rows outs
 may_move-so role orders p (entry.Grant n) = may_grant-so orders p

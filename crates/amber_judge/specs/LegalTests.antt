@@ -1,8 +1,7 @@
 -- Tests for legs and logs: they are true exactly of what leads on.
 use Rattle.std.specs.Prelude.{ℕ, ◌+◌, ◌==◌, nat_le, nat_lt, ◌&&◌, not, suc, List, [], ◌∷◌, length, map, Option, Some, None, is_some, Bool, true, false}
 use Rattle.std.specs.List.{list_all}
-use Rattle.amber_rows.specs.Chunks.{numbers_below}
-use Rattle.amber_rows.specs.Cond.{nth}
+use Rattle.amber_rows.specs.Lists.{numbers_below, nth, is_empty}
 use Rattle.amber_rows.specs.Crew.{crew_of, op_of}
 use Rattle.amber_rows.specs.Operators.{same_row}
 use Rattle.amber_rows.specs.declared.value.Value.{Value}
@@ -17,9 +16,9 @@ use Rattle.amber_log.specs.declared.log.Item.{Item}
 use Rattle.amber_log.specs.declared.log.Item.TheVariants as item
 use Rattle.amber_meaning.specs.Legal.{Query, batches_for, entries_of, role_in, stops_in}
 use Rattle.amber_meaning.specs.Position.{Position, taken_from}
-use Rattle.amber_meaning.specs.Replay.{after_item, moved_by, after_leg}
-use Rattle.amber_meaning.specs.Rules.{Orders}
-use Rattle.amber_meaning.specs.RuleTests.{is_empty, may_move}
+use Rattle.amber_meaning.specs.Replay.{after_item, after_leg, batch_for}
+use Rattle.amber_meaning.specs.Rules.{Orders, position_after}
+use Rattle.amber_judge.specs.RuleTests.{may_move}
 use Rattle.amber_meaning.specs.State.{Counting, State, arms_at, begin_leg, begin_last_leg, counted_at, have_finished, orders_of, position_at, steps_in}
 use Rattle.amber_meaning.specs.Task.{Role}
 
@@ -56,7 +55,7 @@ are_offered query positions =
 
 -- the batch that an entry takes is there
 abbrev pub is_offered : (ℕ → List Batch) → Entry → Bool
-is_offered offer (entry.Take from number) = is_some (nth (offer from) (number + 1))
+is_offered offer (entry.Take from number) = is_some (batch_for offer (entry.Take from number))
 is_offered offer (entry.Go rows outs) = true
 is_offered offer (entry.Grant n) = true
 is_offered offer (entry.Back n) = true
@@ -68,7 +67,7 @@ is_offered offer entry.Finish = true
 -- entries may follow one another from a position, where `offer` has the batches of each sender
 unfoldable pub may_lead : (ℕ → List Batch) → Role → Orders → Position → List Entry → Bool
 may_lead offer role orders p [] = true
-may_lead offer role orders p (one ∷ more) = may_move role orders p one && (is_offered offer one && may_lead offer role orders (moved_by offer orders one p) more)
+may_lead offer role orders p (one ∷ more) = may_move role orders p one && (is_offered offer one && may_lead offer role orders (position_after orders (batch_for offer one) one p) more)
 
 -- what a worker did may be what a leg's parts say
 abbrev pub may_do : Query → State → List Part → ℕ → Bool

@@ -7,10 +7,11 @@ use Rattle.amber_log.specs.declared.leg.Close.TheVariants as close
 use Rattle.amber_log.specs.declared.log.Item.{Item}
 use Rattle.amber_log.specs.declared.log.Item.TheVariants as item
 use Rattle.amber_meaning.specs.Legal.{IsLegal}
-use Rattle.amber_meaning.specs.LegalTests.{may_reach}
+use Rattle.amber_judge.specs.LegalTests.{may_reach}
 use Rattle.amber_meaning.specs.State.{start_of}
-use Rattle.amber_meaning.proofs.ExampleCases.{kept_from, log_with, part, query_of, tests_on_literals}
-use Rattle.amber_meaning.proofs.LegalFrom.{logs_are_tested}
+use Rattle.amber_meaning.proofs.ExampleCases.{kept_from, log_with, part, query_of}
+use Rattle.amber_judge.proofs.ExampleTests.{tests_on_literals}
+use Rattle.amber_judge.proofs.LegalFrom.{logs_are_tested}
 use Rattle.amber_meaning.proofs.Senders.{senders_first}
 
 abbrev IsRefused : List Item → Type 0

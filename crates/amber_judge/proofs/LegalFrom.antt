@@ -5,8 +5,8 @@ use Rattle.std.proofs.lemmas.Bool.{and_parts, cases_lt, eqb-true, false≢true, 
 use Rattle.std.proofs.lemmas.List.{length_push}
 use Rattle.std.proofs.lemmas.List.Folds.{list_all-map}
 use Rattle.std.proofs.lemmas.Option.{slice_get_past}
-use Rattle.amber_rows.specs.Chunks.{numbers_below}
-use Rattle.amber_rows.specs.Cond.{nth}
+use Rattle.amber_meaning.proofs.Led.{no_batch}
+use Rattle.amber_rows.specs.Lists.{numbers_below, nth, is_empty}
 use Rattle.amber_rows.specs.Crew.{crew_of, op_of}
 use Rattle.amber_rows.specs.declared.batch.Batch.{Batch}
 use Rattle.amber_log.specs.declared.entry.Entry.{Entry}
@@ -16,38 +16,39 @@ use Rattle.amber_log.specs.declared.leg.Close.TheVariants as close
 use Rattle.amber_log.specs.declared.leg.Part.{Part}
 use Rattle.amber_log.specs.declared.log.Item.{Item}
 use Rattle.amber_log.specs.declared.log.Item.TheVariants as item
-use Rattle.amber_meaning.specs.Laws.{LogsAreTested, SendersFirst}
+use Rattle.amber_meaning.specs.Laws.{SendersFirst}
+use Rattle.amber_judge.specs.TestLaws.{LogsAreTested}
 use Rattle.amber_meaning.specs.Legal.{AreOffered, ClosesEnd, ClosesRun, IsSettled, IsWorked, Makes, Query, Reaches, batches_for, entries_of, role_in, stops_in}
-use Rattle.amber_meaning.specs.LegalTests.{are_offered, is_first_of, is_offered, is_settled, is_within, may_close_end, may_close_run, may_do, may_lead, may_make, may_reach, may_work}
+use Rattle.amber_judge.specs.LegalTests.{are_offered, is_first_of, is_offered, is_settled, is_within, may_close_end, may_close_run, may_do, may_lead, may_make, may_reach, may_work}
 use Rattle.amber_meaning.specs.Plan.{role_of}
 use Rattle.amber_meaning.specs.Position.{Position}
-use Rattle.amber_meaning.specs.Replay.{after_item, after_items, led_by, moved_by, positions_after, took_if, after_leg}
-use Rattle.amber_meaning.specs.Rules.{Leads, Moves, Orders}
-use Rattle.amber_meaning.specs.RuleTests.{is_empty, may_move}
+use Rattle.amber_meaning.specs.Replay.{after_item, after_items, led_by, positions_after, after_leg, batch_for}
+use Rattle.amber_meaning.specs.Rules.{Leads, Moves, Orders, position_after, with_offered}
+use Rattle.amber_judge.specs.RuleTests.{may_move}
 use Rattle.amber_meaning.specs.State.{Counting, State, arms_at, begin_leg, begin_last_leg, counted_at, no_arms, orders_of, position_at, steps_in}
 use Rattle.amber_meaning.specs.Task.{Role}
-use Rattle.amber_meaning.proofs.Batches.{begins-so}
-use Rattle.amber_meaning.proofs.LegalTests.{may_reach-is}
+use Rattle.amber_judge.proofs.Batches.{begins-so}
+use Rattle.amber_judge.proofs.LegalTests.{may_reach-is}
 use Rattle.amber_meaning.proofs.Lists.{list_all-at, list_all-member, nth-next}
 use Rattle.amber_meaning.proofs.OneState.{position-before, position-last, same-batches}
-use Rattle.amber_meaning.proofs.RuleTests.{may_move-so, may_take-so, nil_from_empty}
+use Rattle.amber_judge.proofs.RuleTests.{may_move-so, may_take-so, nil_from_empty}
 
 -- ---- one worker
 
 pub moves-from : (role : Role) (orders : Orders) (offer : ℕ → List Batch) (p : Position) (one : Entry) → may_move role orders p one ≡ true
-    → is_offered offer one ≡ true → Moves role orders p one (moved_by offer orders one p)
+    → is_offered offer one ≡ true → Moves role orders p one (position_after orders (batch_for offer one) one p)
 moves-from role orders offer p (entry.Take from number) e f = by (nth (offer from) (number + 1)) f
   where
-    by : (found : Option Batch) → is_some found ≡ true → Moves role orders p (entry.Take from number) (took_if from found p)
+    by : (found : Option Batch) → is_some found ≡ true → Moves role orders p (entry.Take from number) (with_offered from found p)
     by None g = absurd (false≢true g)
     by (Some batch) g = (batch, (may_take-so role p from number).0 e, refl)
-moves-from role orders offer p (entry.Go rows outs) e f = ((may_move-so role orders p (entry.Go rows outs)).0 e, refl)
-moves-from role orders offer p (entry.Grant n) e f = ((may_move-so role orders p (entry.Grant n)).0 e, refl)
-moves-from role orders offer p (entry.Back n) e f = ((may_move-so role orders p (entry.Back n)).0 e, refl)
-moves-from role orders offer p entry.Pause e f = ((may_move-so role orders p entry.Pause).0 e, refl)
-moves-from role orders offer p entry.Resume e f = ((may_move-so role orders p entry.Resume).0 e, refl)
-moves-from role orders offer p entry.Hold e f = ((may_move-so role orders p entry.Hold).0 e, refl)
-moves-from role orders offer p entry.Finish e f = ((may_move-so role orders p entry.Finish).0 e, refl)
+moves-from role orders offer p (entry.Go rows outs) e f = (no_batch, (may_move-so role orders p (entry.Go rows outs)).0 e, refl)
+moves-from role orders offer p (entry.Grant n) e f = (no_batch, (may_move-so role orders p (entry.Grant n)).0 e, refl)
+moves-from role orders offer p (entry.Back n) e f = (no_batch, (may_move-so role orders p (entry.Back n)).0 e, refl)
+moves-from role orders offer p entry.Pause e f = (no_batch, (may_move-so role orders p entry.Pause).0 e, refl)
+moves-from role orders offer p entry.Resume e f = (no_batch, (may_move-so role orders p entry.Resume).0 e, refl)
+moves-from role orders offer p entry.Hold e f = (no_batch, (may_move-so role orders p entry.Hold).0 e, refl)
+moves-from role orders offer p entry.Finish e f = (no_batch, (may_move-so role orders p entry.Finish).0 e, refl)
 
 leads-from : (role : Role) (orders : Orders) (offer : ℕ → List Batch) (p : Position) (entries : List Entry) → may_lead offer role orders p entries ≡ true
     → Leads role orders p entries (led_by offer orders entries p)
@@ -56,12 +57,12 @@ leads-from role orders offer p [] e = refl
 leads-from role orders offer p (one ∷ more) e =
     let parts = and_parts (may_move role orders p one) _ e in
     let others = and_parts (is_offered offer one) _ parts.1 in
-    (moved_by offer orders one p, moves-from role orders offer p one parts.0 others.0, leads-from role orders offer (moved_by offer orders one p) more others.1)
+    (position_after orders (batch_for offer one) one p, moves-from role orders offer p one parts.0 others.0, leads-from role orders offer (position_after orders (batch_for offer one) one p) more others.1)
 
 -- the same batches of the senders lead to the same
 moved-same : (role : Role) (orders : Orders) (offer other : ℕ → List Batch) (p : Position) (one : Entry)
     → ((sender : ℕ) → list_any (λ s. eqb s sender) role.senders ≡ true → other sender ≡ offer sender) → may_move role orders p one ≡ true
-    → moved_by other orders one p ≡ moved_by offer orders one p
+    → position_after orders (batch_for other one) one p ≡ position_after orders (batch_for offer one) one p
 moved-same role orders offer other p (entry.Take from number) same e = rw (same from ((may_take-so role p from number).0 e).sender)
 moved-same role orders offer other p (entry.Go rows outs) same e = refl
 moved-same role orders offer other p (entry.Grant n) same e = refl
@@ -79,7 +80,7 @@ led-same role orders offer other p [] same e = refl
 led-same role orders offer other p (one ∷ more) same e =
     let parts = and_parts (may_move role orders p one) _ e in
     let others = and_parts (is_offered offer one) _ parts.1 in
-    rw (moved-same role orders offer other p one same parts.0) (led-same role orders offer other (moved_by offer orders one p) more same others.1)
+    rw (moved-same role orders offer other p one same parts.0) (led-same role orders offer other (position_after orders (batch_for offer one) one p) more same others.1)
 
 -- ---- a leg
 

@@ -6,10 +6,11 @@ use Rattle.amber_log.specs.declared.leg.Close.TheVariants as close
 use Rattle.amber_log.specs.declared.log.Item.{Item}
 use Rattle.amber_log.specs.declared.log.Item.TheVariants as item
 use Rattle.amber_meaning.specs.Legal.{Query}
-use Rattle.amber_meaning.specs.LegalTests.{may_reach}
+use Rattle.amber_judge.specs.LegalTests.{may_reach}
 use Rattle.amber_meaning.specs.State.{start_of}
 use Rattle.amber_meaning.specs.Transcript.{transcript_of}
-use Rattle.amber_meaning.proofs.ExampleCases.{by_item, kept_from, lines, part, query_of, tests_on_literals, texts_on_literals}
+use Rattle.amber_meaning.proofs.ExampleCases.{by_item, kept_from, lines, part, query_of, texts_on_literals}
+use Rattle.amber_judge.proofs.ExampleTests.{tests_on_literals}
 
 abbrev five_lines : List (List ℕ)
 five_lines = codes "rows 5" ∷ codes "id,item,qty" ∷ codes "1,nut,5" ∷ codes "2,bolt,12" ∷ codes "3,nut,7" ∷ codes "4,cog,12" ∷ codes "5,bolt,1" ∷ []

@@ -1,0 +1,9 @@
+pub mod Batches
+pub mod ExampleLegal
+pub mod ExampleRefusals
+pub mod ExampleRuns
+pub mod ExampleTests
+pub mod ExampleTexts
+pub mod LegalFrom
+pub mod LegalTests
+pub mod RuleTests

@@ -1,0 +1,3 @@
+pub mod LegalTests
+pub mod RuleTests
+pub mod TestLaws

@@ -1,0 +1,83 @@
+-- What is so of each kind of operator. Whoever asks for one of these facts asks here.
+use Rattle.std.specs.Prelude.{ℕ, ◌==◌, List, [], ◌∷◌, Option, Some, None, Bool, true, false, if◌then◌else◌}
+use Rattle.amber_rows.specs.declared.cond.Cond.{Cond}
+use Rattle.amber_rows.specs.declared.flow.What.{What}
+use Rattle.amber_rows.specs.declared.flow.What.TheVariants as what
+
+-- ---- where its rows come from
+
+-- the operators from which it reads
+abbrev pub inputs_of : What → List ℕ
+inputs_of (what.Scan file) = []
+inputs_of (what.Filter input cond) = input ∷ []
+inputs_of (what.Project input from) = input ∷ []
+inputs_of (what.Join build probe build_keys probe_keys) = build ∷ probe ∷ []
+inputs_of (what.Group input keys aggs) = input ∷ []
+inputs_of (what.Sink input) = input ∷ []
+
+-- the input whose rows it works on, one after the other, of a join the probe side; a scan has none
+abbrev pub main_input : What → Option ℕ
+main_input (what.Scan file) = None
+main_input (what.Filter input cond) = Some input
+main_input (what.Project input from) = Some input
+main_input (what.Join build probe build_keys probe_keys) = Some probe
+main_input (what.Group input keys aggs) = Some input
+main_input (what.Sink input) = Some input
+
+-- the input whose rows it keeps first, to look them up: a join has one, its build side
+abbrev pub build_input : What → Option ℕ
+build_input (what.Scan file) = None
+build_input (what.Filter input cond) = None
+build_input (what.Project input from) = None
+build_input (what.Join build probe build_keys probe_keys) = Some build
+build_input (what.Group input keys aggs) = None
+build_input (what.Sink input) = None
+
+-- its rows are those of a file
+abbrev pub is_scan : What → Bool
+is_scan (what.Scan file) = true
+is_scan (what.Filter input cond) = false
+is_scan (what.Project input from) = false
+is_scan (what.Join build probe build_keys probe_keys) = false
+is_scan (what.Group input keys aggs) = false
+is_scan (what.Sink input) = false
+
+-- its rows are the answer
+abbrev pub is_sink : What → Bool
+is_sink (what.Scan file) = false
+is_sink (what.Filter input cond) = false
+is_sink (what.Project input from) = false
+is_sink (what.Join build probe build_keys probe_keys) = false
+is_sink (what.Group input keys aggs) = false
+is_sink (what.Sink input) = true
+
+-- ---- to which of its workers a row goes
+
+-- rows go to it by their keys
+abbrev pub is_keyed : What → Bool
+is_keyed (what.Scan file) = false
+is_keyed (what.Filter input cond) = false
+is_keyed (what.Project input from) = false
+is_keyed (what.Join build probe build_keys probe_keys) = true
+is_keyed (what.Group input keys aggs) = true
+is_keyed (what.Sink input) = false
+
+-- the keys by which the rows of an operator go into it
+abbrev pub side_keys : What → ℕ → List ℕ
+side_keys (what.Scan file) op = []
+side_keys (what.Filter input cond) op = []
+side_keys (what.Project input from) op = []
+side_keys (what.Join build probe build_keys probe_keys) op = if build == op then build_keys else probe_keys
+side_keys (what.Group input keys aggs) op = keys
+side_keys (what.Sink input) op = []
+
+-- ---- what can be set
+
+-- the condition whose constant a command may set: a filter's
+abbrev pub settable_cond : What → Option Cond
+settable_cond (what.Scan file) = None
+settable_cond (what.Filter input cond) = Some cond
+settable_cond (what.Project input from) = None
+settable_cond (what.Join build probe build_keys probe_keys) = None
+settable_cond (what.Group input keys aggs) = None
+settable_cond (what.Sink input) = None
