@@ -74,7 +74,7 @@ pub operator-here : (flow : List Operator) (k : ℕ) (d : Operator) → k < leng
 operator-here flow k d h = nth-here flow k (get_or flow k d) h (get_or_default flow k d (get_or flow k d) h)
 
 pub kind-here : (flow : List Operator) (k : ℕ) (o : Operator) → k < length flow → o ≡ get_or flow k o → operator_kind flow k ≡ o.what
-kind-here flow k o h is = ap crew.operator_kind (nth-here flow k o h is)
+kind-here flow k o h is = ap crew.kind_at (nth-here flow k o h is)
 
 pub schema-here : (flow : List Operator) (k : ℕ) (o : Operator) → k < length flow → o ≡ get_or flow k o → schema_at flow k ≡ o.schema
 schema-here flow k o h is = ap schema_of (nth-here flow k o h is)
