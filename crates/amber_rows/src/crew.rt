@@ -25,29 +25,6 @@ fn push_if(numbers: &mut Vec<u32>, number: u32, wanted: bool) -> Result<(), Allo
     Ok(())
 }
 
-impl What {
-    /// Whether an operator of this kind reads from the operator with this number.
-    pub fn reads(&self, op: u32) -> bool
-        ensures { result ≡ crew.reads self.now op }
-    {
-        match self {
-            What::Scan { .. } => false,
-            What::Filter { input, .. }
-            | What::Project { input, .. }
-            | What::Group { input, .. }
-            | What::Sink { input } => *input == op,
-            What::Join { build, probe, .. } => *build == op || *probe == op,
-        }
-    }
-
-    /// Whether rows go to an operator of this kind by their keys.
-    pub fn is_keyed(&self) -> bool
-        ensures { result ≡ crew.is_keyed self.now }
-    {
-        matches!(self, What::Join { .. } | What::Group { .. })
-    }
-}
-
 impl Flow {
     /// How many workers the operators have together: 1 to 128.
     #[tactic(auto, unfolding(crate::specs::Crew::crew_of))]

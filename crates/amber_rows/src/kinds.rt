@@ -1,11 +1,26 @@
 // What is so of each kind of operator.
 ghost use Rattle.std.specs.Prelude.{◌≡◌, option_map};
+ghost use Rattle.amber_rows.specs.Crew.{reads};
 ghost use Rattle.amber_rows.specs.Kinds.{build_input, is_keyed, is_scan, is_sink, main_input, settable_cond};
 
 use crate::cond::Cond;
 use crate::flow::What;
 
 impl What {
+    /// Whether an operator of this kind reads from the operator with this number.
+    pub fn reads(&self, op: u32) -> bool
+        ensures { result ≡ reads self.now op }
+    {
+        match self {
+            What::Scan { .. } => false,
+            What::Filter { input, .. }
+            | What::Project { input, .. }
+            | What::Group { input, .. }
+            | What::Sink { input } => *input == op,
+            What::Join { build, probe, .. } => *build == op || *probe == op,
+        }
+    }
+
     /// The input whose rows it works on, one after the other, of a join the probe side; a scan has none.
     pub fn main_input(&self) -> Option<u32>
         ensures { result ≡ main_input self.now }

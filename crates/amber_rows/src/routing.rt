@@ -2,7 +2,7 @@
 
 ghost use Rattle.std.specs.Prelude.{◌≡◌, ◌<◌, ◌++◌, ◌∷◌, [], IfOk, OnOk};
 ghost use Rattle.std.specs.List.{filter_map, flat_map};
-ghost use Rattle.amber_rows.specs.Cond.{nth};
+ghost use Rattle.amber_rows.specs.Lists.{nth};
 ghost use Rattle.amber_rows.specs.Routing.{fnv_of, key_bytes_of, key_piece, route_of};
 
 use crate::column::Cols;

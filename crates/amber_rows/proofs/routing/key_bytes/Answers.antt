@@ -4,7 +4,7 @@ use Rattle.std.specs.List.{filter_map, flat_map}
 use Rattle.std.proofs.lemmas.Grind.{flat_map-append}
 use Rattle.std.proofs.lemmas.List.{take_all, take_more}
 use Rattle.std.proofs.lemmas.List.Elements.{filter_map-append}
-use Rattle.amber_rows.specs.Cond.{nth}
+use Rattle.amber_rows.specs.Lists.{nth}
 use Rattle.amber_rows.specs.Operators.{pick_cells}
 use Rattle.amber_rows.specs.Routing.{key_bytes_of, key_piece}
 use Rattle.amber_rows.proofs.routing.key_bytes.Goals as goal

@@ -1,7 +1,7 @@
 -- The bytes of the columns so far.
 use Rattle.std.proofs.Common.{◌≡◌, take}
 use Rattle.std.specs.List.{filter_map, flat_map}
-use Rattle.amber_rows.specs.Cond.{nth}
+use Rattle.amber_rows.specs.Lists.{nth}
 use Rattle.amber_rows.specs.Routing.{key_piece}
 use Rattle.amber_rows.proofs.routing.key_bytes.Given as goal
 
