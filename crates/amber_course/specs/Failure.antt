@@ -1,7 +1,7 @@
 -- The status and the error line of a call that ended early.
 use Rattle.std.specs.Prelude.{◌≡◌, ◌⊎◌, ℕ, List, [], ◌++◌, codes}
 use Rattle.std.specs.Fmt.{decimal}
-use Rattle.amber_flow.specs.Words.{why_word}
+use Rattle.amber_flow.specs.Words.{flow_reason_word}
 use Rattle.amber_course.specs.declared.script.ScriptWhy.{ScriptWhy}
 use Rattle.amber_course.specs.declared.script.ScriptWhy.TheVariants as script_why
 use Rattle.amber_course.specs.declared.status.Status.{Status}
@@ -30,7 +30,7 @@ IsToldAs other result = (result ≡ status_of other) ⊎ (result ≡ status.NoMe
 -- ---- error lines
 
 abbrev pub reason_word : Reason → List ℕ
-reason_word (reason.Flow why) = why_word why
+reason_word (reason.Flow why) = flow_reason_word why
 reason_word reason.Header = codes "Header"
 reason_word reason.LogName = codes "LogName"
 

@@ -15,7 +15,7 @@ use Rattle.amber_meaning.specs.Texts.{answer_text}
 use Rattle.amber_meaning.specs.Transcript.{reply_of}
 use Rattle.amber_meaning.specs.Views.{answer_in}
 use Rattle.amber_meaning.proofs.Fronts.{transcripts_grow}
-use Rattle.amber_home.specs.HomeState.{Closes, HomeState, end_item, query_of}
+use Rattle.amber_home.specs.HomeState.{ClosesLeg, HomeState, end_item, query_of}
 use Rattle.amber_debug.specs.declared.done.Done.{Done}
 use Rattle.amber_debug.specs.declared.done.EndErr.TheVariants as end_err
 use Rattle.amber_debug.specs.Ending.{EndsAs, IsLastText}
@@ -42,11 +42,11 @@ last-text log items one text same is text-is before last split =
 
 -- ---- at home
 
-leg-text : (old new : HomeState) (closed : Close) (text : List ℕ) → (leg : Closes old new closed) → IsLastText new.log text → text ≡ item_text (end_item leg.parts closed)
+leg-text : (old new : HomeState) (closed : Close) (text : List ℕ) → (leg : ClosesLeg old new closed) → IsLastText new.log text → text ≡ item_text (end_item leg.parts closed)
 unfolding IsLastText
 leg-text old new closed text leg last = last old.log.items (end_item leg.parts closed) (ap (λ (e : HomeState). e.log.items) leg.is)
 
-pub ends-ok : (old new : HomeState) (done : Done) (flow : List Operator) → (leg : Closes old new close.Cut) → IsLastText new.log done.item → flow ≡ new.flow
+pub ends-ok : (old new : HomeState) (done : Done) (flow : List Operator) → (leg : ClosesLeg old new close.Cut) → IsLastText new.log done.item → flow ≡ new.flow
     → done.reply ≡ answer_text flow (answer_in (query_of old) (state_after (query_of old) new.log.items))
     → EndsAs (Ok done) old new
 ends-ok old new done flow leg last flow-is reply-is = (
@@ -55,7 +55,7 @@ ends-ok old new done flow leg last flow-is reply-is = (
   reply-is ∙ ap (λ f. answer_text f (answer_in (query_of old) (state_after (query_of old) new.log.items))) (flow-is ∙ ap (λ (e : HomeState). e.flow) leg.is),
 )
 
-pub ends-long : (old new : HomeState) (item : List ℕ) → (leg : Closes old new close.Long) → IsLastText new.log item → EndsAs (Err (end_err.Long item)) old new
+pub ends-long : (old new : HomeState) (item : List ℕ) → (leg : ClosesLeg old new close.Long) → IsLastText new.log item → EndsAs (Err (end_err.Long item)) old new
 ends-long old new item leg last = (leg, leg-text old new close.Long item leg last)
 
 -- ---- in a session
@@ -63,7 +63,7 @@ ends-long old new item leg last = (leg, leg-text old new close.Long item leg las
 abbrev pub session : HomeState → ℕ → Bool → Session
 session home threads spent = record { flow = home.flow; files = home.files; most = home.most; threads = threads; log = home.log; spent = spent }
 
-grew : (old new : HomeState) (threads : ℕ) (closed : Close) → (leg : Closes old new closed) → Grew (session old threads false) (session new threads false) command.End (end_item leg.parts closed)
+grew : (old new : HomeState) (threads : ℕ) (closed : Close) → (leg : ClosesLeg old new closed) → Grew (session old threads false) (session new threads false) command.End (end_item leg.parts closed)
 grew old new threads closed leg = record {
   flow = ap (λ (e : HomeState). e.flow) leg.is;
   files = ap (λ (e : HomeState). e.files) leg.is;
@@ -75,7 +75,7 @@ grew old new threads closed leg = record {
 }
 
 -- the state behind the leg, and the reply to it
-reply-is : (old new : HomeState) → (leg : Closes old new close.Cut)
+reply-is : (old new : HomeState) → (leg : ClosesLeg old new close.Cut)
     → answer_text old.flow (answer_in (query_of old) (state_after (query_of old) new.log.items))
     ≡ reply_of (query_of old) (state_after (query_of old) old.log.items) (end_item leg.parts close.Cut)
 unfolding reply_of after_item

@@ -8,7 +8,7 @@ use Rattle.amber_log.specs.declared.log.Log.{Log}
 use Rattle.amber_meaning.specs.Replay.{state_after}
 use Rattle.amber_meaning.specs.Texts.{answer_text}
 use Rattle.amber_meaning.specs.Views.{answer_in}
-use Rattle.amber_home.specs.HomeState.{Closes, HomeState, end_item, query_of}
+use Rattle.amber_home.specs.HomeState.{ClosesLeg, HomeState, end_item, query_of}
 use Rattle.amber_home.specs.declared.phase.Phase.TheVariants as phase
 use Rattle.amber_debug.specs.declared.done.EndErr.{EndErr}
 use Rattle.amber_debug.specs.declared.done.EndErr.TheVariants as end_err
@@ -22,7 +22,7 @@ IsLastText log text = (before : List Item) (last : Item) → log.items ≡ befor
 -- or behind that
 abbrev pub EndsAs : Result Done EndErr → HomeState → HomeState → Type 0
 EndsAs (Ok done) old new =
-    (leg : Closes old new close.Cut) × (done.item ≡ item_text (end_item leg.parts close.Cut))
+    (leg : ClosesLeg old new close.Cut) × (done.item ≡ item_text (end_item leg.parts close.Cut))
     × (done.reply ≡ answer_text old.flow (answer_in (query_of old) (state_after (query_of old) new.log.items)))
-EndsAs (Err (end_err.Long text)) old new = (leg : Closes old new close.Long) × (text ≡ item_text (end_item leg.parts close.Long))
-EndsAs (Err end_err.NoMemory) old new = (new ≡ record old { phase = phase.Spent }) ⊎ ((closed : Close) × Closes old new closed)
+EndsAs (Err (end_err.Long text)) old new = (leg : ClosesLeg old new close.Long) × (text ≡ item_text (end_item leg.parts close.Long))
+EndsAs (Err end_err.NoMemory) old new = (new ≡ record old { phase = phase.Spent }) ⊎ ((closed : Close) × ClosesLeg old new closed)
