@@ -16,13 +16,15 @@ use Rattle.amber_rows.specs.declared.flow.What.{What}
 use Rattle.amber_rows.specs.declared.flow.What.TheVariants as what
 use Rattle.amber_rows.specs.declared.flow.Operator.{Operator}
 use Rattle.amber_meaning.specs.Legal.{Query, role_in}
-use Rattle.amber_meaning.specs.Plain.{answer_from, outputs, refusals, refused_by, refused_groups, refused_records, rows_of}
+use Rattle.amber_meaning.specs.Plain.{answer_from, outputs, refusals}
+use Rattle.amber_meaning.specs.Kinds.{refused_by, rows_of, keys_refused}
+use Rattle.amber_meaning.specs.Refused.{refused_groups, refused_records, refusal_in, refused_in}
 use Rattle.amber_meaning.specs.Plan.{role_of, task_of}
 use Rattle.amber_meaning.specs.State.{State, have_finished}
 use Rattle.amber_meaning.specs.Stops.{op_numbers}
-use Rattle.amber_meaning.specs.Task.{Arrival, Task, suiting}
+use Rattle.amber_meaning.specs.Task.{Arrival, Task, suiting, rows_in}
 use Rattle.amber_meaning.specs.Total.{dealt_to, given, arrivals_from}
-use Rattle.amber_meaning.specs.Views.{answer_in, by_number, keys_refused, op_refuses, refusal_in, refused_in, rows_in, sink_rows, taken_by, taken_of, worker_refuses}
+use Rattle.amber_meaning.specs.Views.{answer_in, by_number, op_refuses, sink_rows, taken_by, taken_of, worker_refuses}
 use Rattle.amber_meaning.specs.declared.answer.Refusal.{Refusal}
 use Rattle.amber_meaning.specs.declared.answer.Refusal.TheVariants as refusal
 use Rattle.amber_meaning.proofs.Operators.{list_at-is, nth-here, refusals-end, refusals-more, rows-before, rows-here}

@@ -11,7 +11,8 @@ use Rattle.amber_rows.specs.Lists.{IsPrefix}
 use Rattle.amber_meaning.specs.Plan.{role_of}
 use Rattle.amber_meaning.specs.Position.{Position, Taken, emitted_rows, fed, has_last, have_ended, is_complete, kept, produced_rows, product, share_or, taken_from}
 use Rattle.amber_meaning.specs.State.{State, first_constants, position_at}
-use Rattle.amber_meaning.specs.Task.{Arrival, Role, closing, produce, yields}
+use Rattle.amber_meaning.specs.Task.{Arrival, Role}
+use Rattle.amber_meaning.specs.Produce.{closing, produce, yields}
 use Rattle.amber_meaning.specs.Total.{dealt_stream, dealt_to, given, gives, arrivals_from, task_constants}
 use Rattle.amber_meaning.specs.Views.{taken_of}
 use Rattle.amber_meaning.proofs.Lists.{list_all-member}

@@ -22,7 +22,8 @@ use Rattle.amber_log.specs.declared.log.Item.{Item}
 use Rattle.amber_log.specs.declared.log.Item.TheVariants as item
 use Rattle.amber_meaning.specs.Legal.{IsLegal, IsUnaltered, Query, query_over}
 use Rattle.amber_judge.specs.LegalTests.{may_reach}
-use Rattle.amber_meaning.specs.Plain.{answer_from, answer_of, outputs, records_of, refusals, refused_records}
+use Rattle.amber_meaning.specs.Plain.{answer_from, answer_of, outputs, records_of, refusals}
+use Rattle.amber_meaning.specs.Refused.{refused_records}
 use Rattle.amber_meaning.specs.Replay.{state_after}
 use Rattle.amber_meaning.specs.State.{have_finished, start_of, steps_in}
 use Rattle.amber_meaning.specs.Texts.{answer_text}

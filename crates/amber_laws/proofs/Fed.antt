@@ -16,7 +16,9 @@ use Rattle.amber_rows.specs.declared.cond.Cond.{Cond}
 use Rattle.amber_rows.specs.declared.value.Value.{Value}
 use Rattle.amber_rows.specs.declared.flow.What.TheVariants as what
 use Rattle.amber_rows.specs.declared.flow.Operator.{Operator}
-use Rattle.amber_meaning.specs.Task.{Arrival, Task, built_of, closing, columns_from, is_builder, suiting, yields, yields_row}
+use Rattle.amber_meaning.specs.Task.{Arrival, Task, built_of, columns_from, is_builder, suiting}
+use Rattle.amber_meaning.specs.Produce.{closing, yields}
+use Rattle.amber_meaning.specs.Kinds.{yields_row}
 use Rattle.amber_meaning.specs.Total.{gives, arrivals_from}
 use Rattle.amber_laws.proofs.Bags.{among, among-first, among-more, equal-among}
 use Rattle.amber_laws.proofs.Links.{fed_by, filter_flat}

@@ -9,7 +9,9 @@ use Rattle.amber_rows.specs.Operators.{matches_of}
 use Rattle.amber_rows.specs.declared.value.Value.{Value}
 use Rattle.amber_rows.specs.declared.flow.What.{What}
 use Rattle.amber_rows.specs.declared.flow.What.TheVariants as what
-use Rattle.amber_meaning.specs.Task.{Arrival, Role, Task, built_of, closing, is_builder, produce, suiting, yields, yields_if, yields_row}
+use Rattle.amber_meaning.specs.Task.{Arrival, Role, Task, built_of, is_builder, suiting}
+use Rattle.amber_meaning.specs.Produce.{closing, produce, yields, yields_if}
+use Rattle.amber_meaning.specs.Kinds.{yields_row}
 use Rattle.amber_meaning.specs.Position.{Position, Taken, emitted_rows, fed, arrivals_of, have_ended, is_complete, kept, produced_rows, product, share_or}
 use Rattle.amber_meaning.specs.State.{first_constants}
 use Rattle.amber_meaning.specs.Total.{gives, task_constants}

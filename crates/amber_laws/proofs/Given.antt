@@ -13,7 +13,9 @@ use Rattle.amber_rows.specs.declared.flow.What.TheVariants as what
 use Rattle.amber_meaning.specs.Legal.{Query, role_in}
 use Rattle.amber_meaning.specs.Plan.{role_of}
 use Rattle.amber_meaning.specs.Position.{Taken, arrivals_of, share_or, taken_from}
-use Rattle.amber_meaning.specs.Task.{Arrival, Task, built_of, closing, closing_rows, is_builder, produce, suiting, yields, yields_if, yields_row}
+use Rattle.amber_meaning.specs.Task.{Arrival, Task, built_of, is_builder, suiting}
+use Rattle.amber_meaning.specs.Produce.{closing, produce, yields, yields_if}
+use Rattle.amber_meaning.specs.Kinds.{closing_rows, yields_row}
 use Rattle.amber_meaning.specs.Total.{gives, arrivals_from, task_constants}
 use Rattle.amber_laws.proofs.Bags.{Same, Empty, Join, Part, among, are_different, equal-among, part-among, part-begin, part-both, part-filter, part-filter_map, part-map, part-none, part-self, part-then, same-among, same-both, same-dealt, same-each, same-filter, same-filter_map, same-flat_map, same-map, same-self, same-turned, sent_to}
 use Rattle.amber_meaning.proofs.Chunks.{batch_rows}

@@ -21,7 +21,9 @@ use Rattle.amber_rows.specs.declared.flow.Operator.{Operator}
 use Rattle.amber_meaning.proofs.Operators.{nth-within}
 use Rattle.amber_meaning.specs.Legal.{Query, role_in}
 use Rattle.amber_meaning.specs.Plan.{built_columns, builders_in, arrival_columns, role_of, task_of}
-use Rattle.amber_meaning.specs.Task.{Arrival, Task, built_of, closing, columns_from, is_builder, row_in, suiting, yields, yields_if, yields_row}
+use Rattle.amber_meaning.specs.Task.{Arrival, Task, built_of, columns_from, is_builder, row_in, suiting}
+use Rattle.amber_meaning.specs.Produce.{closing, yields, yields_if}
+use Rattle.amber_meaning.specs.Kinds.{yields_row}
 use Rattle.amber_meaning.specs.Total.{dealt_to, given, gives}
 use Rattle.amber_laws.proofs.Crews.{op-within}
 use Rattle.amber_laws.proofs.Dealt.{dealt-is}

@@ -3,10 +3,10 @@ use Rattle.std.proofs.Common.{◌≡◌, ℕ, ◌+◌, ◌<◌, ◌&&◌, ◌||�
 use Rattle.std.proofs.lemmas.Bool.{and_from, and_parts, eqb-false, eqb-true, le-ltb, lt-ltb, ltb-false, ltb-true, ne_eqb, not-true, or_parts}
 use Rattle.amber_rows.specs.declared.value.Value.{Value}
 use Rattle.amber_rows.specs.declared.record.RowFault.{RowFault}
-use Rattle.amber_meaning.specs.Plain.{refused_records}
+use Rattle.amber_meaning.specs.Refused.{refused_records, refused_in}
 use Rattle.amber_meaning.specs.Plan.{with_numbers}
 use Rattle.amber_meaning.specs.Task.{Arrival}
-use Rattle.amber_meaning.specs.Views.{by_number, insert_numbered, refused_in}
+use Rattle.amber_meaning.specs.Views.{by_number, insert_numbered}
 use Rattle.amber_meaning.specs.declared.answer.Refusal.TheVariants as refusal
 use Rattle.amber_laws.proofs.Bags.{Same, Empty, Keep, Turn, Join, among, are_different, same-any, same-map, same-self}
 

@@ -28,11 +28,12 @@ use Rattle.amber_meaning.proofs.Lists.{list_all-every}
 use Rattle.amber_meaning.proofs.Operators.{list_at-is, records-here, rows-before, rows-here}
 use Rattle.amber_meaning.specs.ScanFiles.{files_left, records_at}
 use Rattle.amber_meaning.specs.Legal.{Query, query_over}
-use Rattle.amber_meaning.specs.Plain.{outputs, records_of, rows_of}
+use Rattle.amber_meaning.specs.Plain.{outputs, records_of}
+use Rattle.amber_meaning.specs.Kinds.{rows_of}
 use Rattle.amber_meaning.specs.Plan.{with_numbers}
-use Rattle.amber_meaning.specs.Task.{Arrival, closing, yields}
+use Rattle.amber_meaning.specs.Task.{Arrival, rows_in}
+use Rattle.amber_meaning.specs.Produce.{closing, yields}
 use Rattle.amber_meaning.specs.Total.{dealt_to, given, gives}
-use Rattle.amber_meaning.specs.Views.{rows_in}
 use Rattle.amber_laws.proofs.Answered.{IsDealtOut, plain_rows, rows_given}
 use Rattle.amber_laws.proofs.Bags.{Same, Join, among, among-first, among-more, equal-among, same-each, same-filter, same-flat_map, same-is, same-map}
 use Rattle.amber_laws.proofs.Flows.{columns-there, input-earlier, kind-there, no-sink, there}

@@ -21,9 +21,9 @@ use Rattle.amber_rows.specs.declared.flow.Operator.{Operator}
 use Rattle.amber_meaning.proofs.Lists.{list_all-every}
 use Rattle.amber_meaning.specs.Legal.{Query, role_in}
 use Rattle.amber_meaning.specs.Plan.{task_of}
-use Rattle.amber_meaning.specs.Task.{Arrival, Task, closing, columns_from, suiting, yields}
+use Rattle.amber_meaning.specs.Task.{Arrival, Task, columns_from, suiting, rows_in}
+use Rattle.amber_meaning.specs.Produce.{closing, yields}
 use Rattle.amber_meaning.specs.Total.{dealt_to, given, gives, arrivals_from}
-use Rattle.amber_meaning.specs.Views.{rows_in}
 use Rattle.amber_laws.proofs.Bags.{Same, Join, among, equal-among, same-among, same-filter_map, same-flat_map, same-is, sent_to}
 use Rattle.amber_laws.proofs.Crews.{different-workers, place-worker, worker-known, worker-op}
 use Rattle.amber_laws.proofs.Dealt.{dealt-is}

@@ -6,7 +6,8 @@ use Rattle.amber_rows.specs.FlowRules.{columns_at, schema_of}
 use Rattle.amber_rows.specs.declared.record.RowFault.{RowFault}
 use Rattle.amber_rows.specs.declared.value.Value.{Value}
 use Rattle.amber_rows.specs.declared.flow.Operator.{Operator}
-use Rattle.amber_meaning.specs.Plain.{answer_from, answer_of, files_after, outputs, records_of, refusals, refused_by, rows_of}
+use Rattle.amber_meaning.specs.Plain.{answer_from, answer_of, files_after, outputs, records_of, refusals}
+use Rattle.amber_meaning.specs.Kinds.{refused_by, rows_of}
 use Rattle.amber_laws.proofs.Suited.{numbered_map}
 use Rattle.amber_laws.specs.AnswerLaws.{WorkersChangeNoAnswer, with_one_worker}
 

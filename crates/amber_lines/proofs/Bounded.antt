@@ -12,7 +12,8 @@ use Rattle.amber_rows.specs.Lists.{IsPrefix}
 use Rattle.amber_meaning.specs.Position.{Position, Taken, fed, has_last, have_ended, is_complete, origin, pending_rows, produced_rows, product}
 use Rattle.amber_meaning.specs.Rules.{Leads, MayGo, MayHold, MayTake, Moves, Orders, first_is_watched, with_batch, with_rows}
 use Rattle.amber_meaning.specs.State.{let_go, without_held}
-use Rattle.amber_meaning.specs.Task.{Arrival, Role, Task, closing, produce, yields}
+use Rattle.amber_meaning.specs.Task.{Arrival, Role, Task}
+use Rattle.amber_meaning.specs.Produce.{closing, produce, yields}
 use Rattle.amber_meaning.proofs.Lists.{list_all-member}
 use Rattle.amber_meaning.proofs.OneState.{Leads-keeps}
 use Rattle.amber_meaning.proofs.Orderly.{IsOrderly, fed-more, marked-front, not-ended, produce-more, product-before}

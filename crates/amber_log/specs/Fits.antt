@@ -2,12 +2,11 @@
 use Rattle.std.specs.Prelude.{ℕ, ◌^◌, ◌&&◌, nat_lt, nat_le, not, List, Option, Some, None, Bool, true, false}
 use Rattle.amber_rows.specs.Lists.{nth}
 use Rattle.amber_rows.specs.FlowRules.{kind_of}
-use Rattle.amber_rows.specs.Kinds.{is_sink}
+use Rattle.amber_rows.specs.Kinds.{is_sink, settable_cond}
 use Rattle.amber_rows.specs.Suits.{same_kind}
 use Rattle.amber_rows.specs.declared.value.Value.{Value}
 use Rattle.amber_rows.specs.declared.column.Column.{Column}
 use Rattle.amber_rows.specs.declared.cond.Cond.{Cond}
-use Rattle.amber_rows.specs.declared.flow.What.TheVariants as what
 use Rattle.amber_rows.specs.declared.flow.What.{What}
 use Rattle.amber_rows.specs.declared.flow.Operator.{Operator}
 use Rattle.amber_log.specs.declared.command.Command.{Command}
@@ -41,14 +40,14 @@ abbrev pub takes_cond : Option Operator → Cond → Bool
 takes_cond None cond = false
 takes_cond (Some operator) cond = not (is_sink operator.what) && is_cell_of (nth operator.schema cond.column) cond.constant
 
--- the operator is a filter, of whose column the value may be the constant
+-- the condition is there, and the value may stand in its column
+abbrev pub is_constant_of : Option Cond → List Column → Value → Bool
+is_constant_of None columns value = false
+is_constant_of (Some cond) columns value = is_cell_of (nth columns cond.column) value
+
+-- the operator has a constant that can be set, and the value may be it
 abbrev pub may_be_set_to : What → List Column → Value → Bool
-may_be_set_to (what.Scan file) columns value = false
-may_be_set_to (what.Filter input cond) columns value = is_cell_of (nth columns cond.column) value
-may_be_set_to (what.Project input from) columns value = false
-may_be_set_to (what.Join build probe build_keys probe_keys) columns value = false
-may_be_set_to (what.Group input keys aggs) columns value = false
-may_be_set_to (what.Sink input) columns value = false
+may_be_set_to kind columns value = is_constant_of (settable_cond kind) columns value
 
 abbrev pub takes_constant : Option Operator → Value → Bool
 takes_constant None value = false

@@ -17,19 +17,6 @@ fn is_target(n: u64) -> bool
     0 < n && n <= MOST
 }
 
-fn is_sink(what: &What) -> bool
-    ensures { result ≡ is_sink what.now }
-{
-    match what {
-        What::Sink { .. } => true,
-        What::Scan { .. }
-        | What::Filter { .. }
-        | What::Project { .. }
-        | What::Join { .. }
-        | What::Group { .. } => false,
-    }
-}
-
 // Whether a value may stand in the column with this number.
 fn is_cell_of(schema: &Schema, column: u32, value: &Value) -> bool
     ensures { result ≡ is_cell_of (nth schema.now column) value.now }
@@ -49,7 +36,7 @@ fn is_source(flow: &Flow, op: u32) -> bool
 {
     match flow.operator(op) {
         None => false,
-        Some(operator) => !is_sink(&operator.what),
+        Some(operator) => !operator.what.is_sink(),
     }
 }
 
@@ -74,22 +61,18 @@ fn takes_cond(flow: &Flow, op: u32, cond: &Cond) -> bool
     match flow.operator(op) {
         None => false,
         Some(operator) => {
-            !is_sink(&operator.what) && is_cell_of(&operator.schema, cond.column, &cond.constant)
+            !operator.what.is_sink() && is_cell_of(&operator.schema, cond.column, &cond.constant)
         }
     }
 }
 
-// Whether a value may be the constant of an operator, a filter with these columns.
-fn is_constant_of(what: &What, schema: &Schema, value: &Value) -> bool
+// Whether a value may be the constant that can be set of an operator with these columns.
+fn may_be_set_to(what: &What, schema: &Schema, value: &Value) -> bool
     ensures { result ≡ may_be_set_to what.now schema.now value.now }
 {
-    match what {
-        What::Filter { cond, .. } => is_cell_of(schema, cond.column, value),
-        What::Scan { .. }
-        | What::Project { .. }
-        | What::Join { .. }
-        | What::Group { .. }
-        | What::Sink { .. } => false,
+    match what.settable_cond() {
+        None => false,
+        Some(cond) => is_cell_of(schema, cond.column, value),
     }
 }
 
@@ -98,7 +81,7 @@ fn takes_constant(flow: &Flow, op: u32, value: &Value) -> bool
 {
     match flow.operator(op) {
         None => false,
-        Some(operator) => is_constant_of(&operator.what, &operator.schema, value),
+        Some(operator) => may_be_set_to(&operator.what, &operator.schema, value),
     }
 }
 

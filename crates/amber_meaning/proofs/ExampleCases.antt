@@ -36,7 +36,8 @@ use Rattle.amber_meaning.specs.Position.{fed, have_ended, kept, product, taken_f
 use Rattle.amber_meaning.specs.Replay.{after_item, after_items, led_by, positions_after, state_after, after_leg}
 use Rattle.amber_meaning.specs.State.{begin_leg, begin_last_leg, after_command, counted_by, crew_at, emitted_by, start_of, steps_in}
 use Rattle.amber_meaning.specs.Stops.{count_stops, held_stops, pause_stops, stops_of, without_stops}
-use Rattle.amber_meaning.specs.Task.{built_of, closing, produce, yields}
+use Rattle.amber_meaning.specs.Task.{built_of}
+use Rattle.amber_meaning.specs.Produce.{closing, produce, yields}
 use Rattle.amber_meaning.specs.Texts.{answer_text, drop_text, inspected_text, ok_text, stops_text, views_text, word_of, words_before, words_line}
 use Rattle.amber_meaning.specs.Total.{dealt_by, dealt_to, given, gives, step_total, work_of}
 use Rattle.amber_meaning.specs.Transcript.{replies, reply_of, transcript_of}

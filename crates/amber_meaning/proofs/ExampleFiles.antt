@@ -10,7 +10,8 @@ use Rattle.amber_rows.specs.declared.column.Column.{Column}
 use Rattle.amber_rows.specs.declared.flow.What.TheVariants as what
 use Rattle.amber_rows.specs.declared.flow.Operator.{Operator}
 use Rattle.amber_meaning.specs.Legal.{query_over}
-use Rattle.amber_meaning.specs.Plain.{answer_from, answer_of, outputs, records_of, refusals, refused_records}
+use Rattle.amber_meaning.specs.Plain.{answer_from, answer_of, outputs, records_of, refusals}
+use Rattle.amber_meaning.specs.Refused.{refused_records}
 use Rattle.amber_meaning.specs.Texts.{answer_text}
 use Rattle.amber_meaning.proofs.ExampleCases.{kept_from, lines, orders, query_of, scan_orders, texts_on_literals}
 

@@ -10,9 +10,9 @@ use Rattle.amber_rows.specs.declared.value.Value.{Value}
 use Rattle.amber_meaning.specs.declared.answer.Refusal.TheVariants as refusal
 use Rattle.amber_meaning.specs.Given.{FinishedOperatorsRefuse, KeysMayBeSorted, OneWorkerRefusesAlone, keys_given, operator_refusals, worker_refusals}
 use Rattle.amber_meaning.specs.Legal.{Query, role_in}
-use Rattle.amber_meaning.specs.Plain.{refused_groups}
+use Rattle.amber_meaning.specs.Refused.{refused_groups, refused_in}
 use Rattle.amber_meaning.specs.State.{State, position_at}
-use Rattle.amber_meaning.specs.Views.{by_number, refused_in, taken_by, taken_of, worker_refuses}
+use Rattle.amber_meaning.specs.Views.{by_number, taken_by, taken_of, worker_refuses}
 
 pub one_worker_refuses_alone : OneWorkerRefusesAlone
 unfolding operator_refusals worker_refusals taken_by

@@ -12,7 +12,8 @@ use Rattle.amber_rows.proofs.FlowFacts.{AreNext-at}
 use Rattle.amber_rows.specs.declared.value.Value.{Value}
 use Rattle.amber_rows.specs.declared.record.RowFault.{RowFault}
 use Rattle.amber_rows.specs.declared.flow.Operator.{Operator}
-use Rattle.amber_meaning.specs.Plain.{files_after, outputs, records_of, refusals, refused_by, rows_of, wrong_header}
+use Rattle.amber_meaning.specs.Plain.{files_after, outputs, records_of, refusals, wrong_header}
+use Rattle.amber_meaning.specs.Kinds.{refused_by, rows_of}
 use Rattle.amber_rows.specs.Kinds.{is_scan}
 use Rattle.amber_meaning.specs.ScanFiles.{files_left, is_headed, records_at}
 use Rattle.amber_meaning.specs.declared.answer.Refusal.{Refusal}

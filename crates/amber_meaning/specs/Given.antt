@@ -6,11 +6,11 @@ use Rattle.amber_rows.specs.Order.{sort_rows}
 use Rattle.amber_rows.specs.declared.value.Value.{Value}
 use Rattle.amber_meaning.specs.declared.answer.Refusal.{Refusal}
 use Rattle.amber_meaning.specs.Legal.{Query, role_in}
-use Rattle.amber_meaning.specs.Plain.{refused_groups}
+use Rattle.amber_meaning.specs.Refused.{refused_groups, refused_in}
 use Rattle.amber_meaning.specs.Position.{Position}
 use Rattle.amber_meaning.specs.State.{State, position_at}
 use Rattle.amber_meaning.specs.Task.{Role}
-use Rattle.amber_meaning.specs.Views.{by_number, op_refuses, refused_in, taken_by, taken_of, worker_refuses}
+use Rattle.amber_meaning.specs.Views.{by_number, op_refuses, taken_by, taken_of, worker_refuses}
 
 -- the keys of a worker's groups that have no row, once the worker has finished; none before
 abbrev pub keys_given : Role → Position → List (List Value)

@@ -1,9 +1,13 @@
+pub mod Behaviour
 pub mod Given
+pub mod Kinds
 pub mod Laws
 pub mod Legal
 pub mod Plain
 pub mod Plan
 pub mod Position
+pub mod Produce
+pub mod Refused
 pub mod Replay
 pub mod Rules
 pub mod ScanFiles

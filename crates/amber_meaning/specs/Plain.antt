@@ -1,6 +1,7 @@
 -- The sequential answer of a workflow: what each operator gives, as lists over whole files.
 use Rattle.std.specs.Prelude.{◌≡◌, ℕ, ◌+◌, ◌<◌, ◌≤◌, ⊤, List, [], ◌∷◌, ◌++◌, length, filter, map, count_by, sum_by, Option, Some, None, unwrap_or, Result, Ok, Err, Bool, true, false, if◌then◌else◌}
 use Rattle.std.specs.List.{filter_map}
+use Rattle.amber_meaning.specs.Kinds.{rows_of, refused_by}
 use Rattle.amber_rows.specs.Kinds.{is_scan}
 use Rattle.amber_rows.specs.Cond.{holds_of}
 use Rattle.amber_rows.specs.Lists.{nth, first_list, later_of, list_at}
@@ -37,42 +38,12 @@ records_of files (operator ∷ more) =
 
 -- ---- rows
 
--- the rows of one operator, from its typed records and the rows of the operators before it: a scan gives the records that have no
--- fault, a filter the rows for which its condition holds, a project the named columns, a join the matches of its probe rows in
--- the build rows, a group a row for each key, and the sink its rows in the order of rows
-abbrev pub rows_of : What → List (Result (List Value) RowFault) → List (List (List Value)) → List (List Value)
-rows_of (what.Scan file) records done = filter_map ok_of records
-rows_of (what.Filter input cond) records done = filter (holds_of cond) (list_at done input)
-rows_of (what.Project input from) records done = project_result from (list_at done input)
-rows_of (what.Join build probe build_keys probe_keys) records done = join_result build_keys probe_keys (list_at done build) (list_at done probe)
-rows_of (what.Group input keys aggs) records done = group_result keys aggs (list_at done input)
-rows_of (what.Sink input) records done = sort_rows (list_at done input)
-
 -- the rows of the operators so far, and then of each of these in order
 unfoldable pub outputs : List (List (Result (List Value) RowFault)) → List (List (List Value)) → List Operator → List (List (List Value))
 outputs records done [] = done
 outputs records done (operator ∷ more) = outputs (later_of records) (done ++ rows_of operator.what (first_list records) done ∷ []) more
 
 -- ---- what is refused
-
--- the records that have a fault, by their numbers from this one on
-unfoldable pub refused_records : ℕ → ℕ → List (Result (List Value) RowFault) → List Refusal
-refused_records op number [] = []
-refused_records op number (Ok row ∷ more) = refused_records op (number + 1) more
-refused_records op number (Err why ∷ more) = refusal.Record op number why ∷ refused_records op (number + 1) more
-
--- the keys of groups that have no row, in the order of rows
-abbrev pub refused_groups : ℕ → List (List Value) → List Refusal
-refused_groups op keys = map (refusal.Group op) (sort_rows keys)
-
--- what an operator refuses
-abbrev pub refused_by : ℕ → What → List (Result (List Value) RowFault) → List (List (List Value)) → List Refusal
-refused_by op (what.Scan file) records done = refused_records op 1 records
-refused_by op (what.Filter input cond) records done = []
-refused_by op (what.Project input from) records done = []
-refused_by op (what.Join build probe build_keys probe_keys) records done = []
-refused_by op (what.Group input keys aggs) records done = refused_groups op (refused_keys keys aggs (list_at done input))
-refused_by op (what.Sink input) records done = []
 
 -- what the operators from this number on refuse, where these are the rows of all operators
 unfoldable pub refusals : ℕ → List (List (Result (List Value) RowFault)) → List (List (List Value)) → List Operator → List Refusal

@@ -1,41 +1,35 @@
 -- The roles of a workflow's workers, from the typed records of its scans.
-use Rattle.std.specs.Prelude.{ℕ, ◌+◌, ◌-◌, ◌%◌, ◌==◌, List, [], ◌∷◌, filter, Result}
+use Rattle.std.specs.Prelude.{ℕ, ◌+◌, ◌-◌, ◌%◌, ◌==◌, List, [], ◌∷◌, filter, Result, Option, Some, None, unwrap_or}
+use Rattle.amber_rows.specs.Kinds.{build_input, main_input}
 use Rattle.amber_rows.specs.Crew.{first_worker_of, op_of, senders_of, what_at, worker_count, workers_of}
 use Rattle.amber_rows.specs.FlowRules.{columns_at}
 use Rattle.amber_rows.specs.declared.value.Value.{Value}
 use Rattle.amber_rows.specs.declared.column.Column.{Column}
 use Rattle.amber_rows.specs.declared.record.RowFault.{RowFault}
 use Rattle.amber_rows.specs.declared.flow.What.{What}
-use Rattle.amber_rows.specs.declared.flow.What.TheVariants as what
 use Rattle.amber_rows.specs.declared.flow.Operator.{Operator}
 use Rattle.amber_rows.specs.Lists.{list_at}
 use Rattle.amber_meaning.specs.Task.{Arrival, Role, Task}
 
--- the columns of what the workers of an operator are handed, of a join on its probe side
+-- the columns of what the workers of an operator are handed, of a join on its probe side; a scan's are its own
 abbrev pub arrival_columns : List Operator → ℕ → What → List Column
-arrival_columns flow op (what.Scan file) = columns_at flow op
-arrival_columns flow op (what.Filter input cond) = columns_at flow input
-arrival_columns flow op (what.Project input from) = columns_at flow input
-arrival_columns flow op (what.Join build probe build_keys probe_keys) = columns_at flow probe
-arrival_columns flow op (what.Group input keys aggs) = columns_at flow input
-arrival_columns flow op (what.Sink input) = columns_at flow input
+arrival_columns flow op kind = columns_at flow (unwrap_or (main_input kind) op)
 
--- of a join's build side the columns, and the workers
+-- of an input the columns, and the workers; none where there is no such input
+abbrev pub columns_in : List Operator → Option ℕ → List Column
+columns_in flow None = []
+columns_in flow (Some input) = columns_at flow input
+
+abbrev pub workers_in : List Operator → Option ℕ → List ℕ
+workers_in flow None = []
+workers_in flow (Some input) = workers_of flow input
+
+-- the same of a build side
 abbrev pub built_columns : List Operator → What → List Column
-built_columns flow (what.Scan file) = []
-built_columns flow (what.Filter input cond) = []
-built_columns flow (what.Project input from) = []
-built_columns flow (what.Join build probe build_keys probe_keys) = columns_at flow build
-built_columns flow (what.Group input keys aggs) = []
-built_columns flow (what.Sink input) = []
+built_columns flow kind = columns_in flow (build_input kind)
 
 abbrev pub builders_in : List Operator → What → List ℕ
-builders_in flow (what.Scan file) = []
-builders_in flow (what.Filter input cond) = []
-builders_in flow (what.Project input from) = []
-builders_in flow (what.Join build probe build_keys probe_keys) = workers_of flow build
-builders_in flow (what.Group input keys aggs) = []
-builders_in flow (what.Sink input) = []
+builders_in flow kind = workers_in flow (build_input kind)
 
 -- the task of an operator's workers
 unfoldable pub task_of : List Operator → ℕ → Task

@@ -1,11 +1,12 @@
 -- How far a worker has come. Whatever tables and queues it keeps, this is all that a run says of it.
 use Rattle.std.specs.Prelude.{ℕ, ◌+◌, ◌==◌, ◌&&◌, List, [], ◌∷◌, ◌++◌, length, map, filter, drop, count_by, Ok, Bool, true, false, if◌then◌else◌}
 use Rattle.std.specs.List.{flat_map, list_all, list_any}
+use Rattle.amber_rows.specs.Kinds.{is_scan}
 use Rattle.amber_rows.specs.declared.value.Value.{Value}
 use Rattle.amber_rows.specs.declared.batch.Batch.{Batch}
 use Rattle.amber_rows.specs.declared.flow.What.{What}
-use Rattle.amber_rows.specs.declared.flow.What.TheVariants as what
-use Rattle.amber_meaning.specs.Task.{Arrival, Role, closing, produce}
+use Rattle.amber_meaning.specs.Task.{Arrival, Role}
+use Rattle.amber_meaning.specs.Produce.{closing, produce}
 
 -- a batch that was taken, and its sender
 pub record Taken : Type 0 where
@@ -37,13 +38,9 @@ origin = record { taken = []; constants = []; outcomes = []; hand = 0; held = fa
 abbrev pub arrivals_of : Taken → List Arrival
 arrivals_of taken = map (λ row. record { from = taken.from; what = Ok row }) taken.batch.rows
 
+-- a scan's share, or what others were handed
 abbrev pub share_or : What → List Arrival → List Arrival → List Arrival
-share_or (what.Scan file) share arrivals = share
-share_or (what.Filter input cond) share arrivals = arrivals
-share_or (what.Project input columns) share arrivals = arrivals
-share_or (what.Join build probe build_keys probe_keys) share arrivals = arrivals
-share_or (what.Group input keys aggs) share arrivals = arrivals
-share_or (what.Sink input) share arrivals = arrivals
+share_or kind share arrivals = if is_scan kind then share else arrivals
 
 -- all that a worker was handed: the rows of the batches that it took, one after the other, or a scan's share
 unfoldable pub fed : Role → List Taken → List Arrival

@@ -1,12 +1,12 @@
 -- The state of a run: how far its workers are, and what commands have put in force.
 use Rattle.std.specs.Prelude.{ℕ, suc, ◌+◌, ◌==◌, List, [], ◌∷◌, ◌++◌, length, map, drop, replicate, sum_by, Option, Some, None, is_some, unwrap_or, Bool, true, false, if◌then◌else◌}
 use Rattle.std.specs.List.{list_all}
+use Rattle.amber_rows.specs.Kinds.{settable_cond}
 use Rattle.amber_rows.specs.Lists.{nth, changed_at}
 use Rattle.amber_rows.specs.Crew.{crew_of, first_worker_of, workers_of}
 use Rattle.amber_rows.specs.declared.value.Value.{Value}
 use Rattle.amber_rows.specs.declared.cond.Cond.{Cond}
 use Rattle.amber_rows.specs.declared.flow.What.{What}
-use Rattle.amber_rows.specs.declared.flow.What.TheVariants as what
 use Rattle.amber_rows.specs.declared.flow.Operator.{Operator}
 use Rattle.amber_log.specs.declared.command.Command.{Command}
 use Rattle.amber_log.specs.declared.command.Command.TheVariants as command
@@ -78,13 +78,14 @@ steps_in state = sum_by steps_of state.positions
 
 -- ---- the start
 
+-- the constant of a condition
+abbrev pub constant_in : Option Cond → List Value
+constant_in None = []
+constant_in (Some cond) = cond.constant ∷ []
+
+-- the constants in force before any command
 abbrev pub first_constants : What → List Value
-first_constants (what.Scan file) = []
-first_constants (what.Filter input cond) = cond.constant ∷ []
-first_constants (what.Project input from) = []
-first_constants (what.Join build probe build_keys probe_keys) = []
-first_constants (what.Group input keys aggs) = []
-first_constants (what.Sink input) = []
+first_constants kind = constant_in (settable_cond kind)
 
 -- nothing was done, nothing is armed
 unfoldable pub start_of : List Operator → State

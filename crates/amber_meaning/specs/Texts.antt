@@ -2,6 +2,7 @@
 use Rattle.std.specs.Prelude.{ℕ, ◌+◌, ◌==◌, ◌&&◌, nat_le, not, List, [], ◌∷◌, ◌++◌, length, codes, Option, Some, None, Bool, false, if◌then◌else◌}
 use Rattle.std.specs.List.{flat_map, list_all}
 use Rattle.std.specs.Fmt.{decimal, signed_decimal}
+use Rattle.amber_meaning.specs.Kinds.{kind_word}
 use Rattle.amber_rows.specs.Columns.{names_of}
 use Rattle.amber_rows.specs.Lists.{nth}
 use Rattle.amber_rows.specs.FlowRules.{columns_at}
@@ -129,14 +130,6 @@ unfoldable pub stops_text : List Operator → List Stop → List ℕ
 stops_text flow stops = flat_map (stop_text flow) stops
 
 -- ---- inspections
-
-abbrev pub kind_word : What → List ℕ
-kind_word (what.Scan file) = codes "scan"
-kind_word (what.Filter input cond) = codes "filter"
-kind_word (what.Project input from) = codes "project"
-kind_word (what.Join build probe build_keys probe_keys) = codes "join"
-kind_word (what.Group input keys aggs) = codes "group"
-kind_word (what.Sink input) = codes "sink"
 
 abbrev pub stand_word : Stand → List ℕ
 stand_word stand.Ready = codes "ready"

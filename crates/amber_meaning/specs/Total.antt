@@ -6,7 +6,8 @@ use Rattle.amber_rows.specs.Crew.{crew_of, receiver_of}
 use Rattle.amber_rows.specs.declared.value.Value.{Value}
 use Rattle.amber_meaning.specs.Legal.{Query, role_in}
 use Rattle.amber_meaning.specs.Position.{share_or}
-use Rattle.amber_meaning.specs.Task.{Arrival, Task, closing, yields}
+use Rattle.amber_meaning.specs.Task.{Arrival, Task}
+use Rattle.amber_meaning.specs.Produce.{closing, yields}
 
 -- rows as they come from a sender
 abbrev pub arrivals_from : ℕ → List (List Value) → List Arrival

@@ -1,6 +1,7 @@
 -- What an inspection shows, and the answer in a state.
 use Rattle.std.specs.Prelude.{ℕ, nat_lt, List, [], ◌∷◌, ◌++◌, length, map, take, Option, Some, None, option_map, Result, Ok, Err, if◌then◌else◌}
 use Rattle.std.specs.List.{filter_map, flat_map}
+use Rattle.amber_meaning.specs.Kinds.{extra_of, keys_refused}
 use Rattle.amber_rows.specs.Lists.{first_of}
 use Rattle.amber_rows.specs.Crew.{workers_of}
 use Rattle.amber_rows.specs.FlowRules.{columns_at}
@@ -21,11 +22,11 @@ use Rattle.amber_meaning.specs.declared.view.Stand.{Stand}
 use Rattle.amber_meaning.specs.declared.view.Stand.TheVariants as stand
 use Rattle.amber_meaning.specs.declared.view.WorkerView.{WorkerView}
 use Rattle.amber_meaning.specs.Legal.{Query, role_in}
-use Rattle.amber_meaning.specs.Plain.{refused_groups}
+use Rattle.amber_meaning.specs.Refused.{refused_groups, refused_in}
 use Rattle.amber_meaning.specs.Position.{Position, emitted_count, fed, pending_rows, rest_of}
 use Rattle.amber_meaning.specs.Stops.{op_numbers}
 use Rattle.amber_meaning.specs.State.{Counting, State, arms_at, counted_at, position_at}
-use Rattle.amber_meaning.specs.Task.{Arrival, Role, Task, built_of, suiting}
+use Rattle.amber_meaning.specs.Task.{Arrival, Role, Task, built_of, suiting, rows_in}
 
 -- ---- one worker
 
@@ -35,28 +36,6 @@ taken_of role p = take (length p.constants) (fed role p.taken)
 
 abbrev pub stand_of : Position → Stand
 stand_of p = if p.finished then stand.Finished else (if p.held then stand.Held else stand.Ready)
-
--- the records that have a fault, as refused by an operator
-abbrev pub refusal_in : ℕ → ℕ → Result (List Value) RowFault → List Refusal
-refusal_in op number (Ok row) = []
-refusal_in op number (Err why) = refusal.Record op number why ∷ []
-
-abbrev pub refused_in : ℕ → List Arrival → List Refusal
-refused_in op arrivals = flat_map (λ one. refusal_in op one.from one.what) arrivals
-
--- the rows that a worker took and that suit
-abbrev pub rows_in : Task → List Arrival → List (List Value)
-rows_in task arrivals = filter_map (suiting task) arrivals
-
--- what a worker shows by its kind, that took these
-abbrev pub extra_of : Task → What → List Arrival → Extra
-extra_of task (what.Scan file) arrivals = extra.Scan (length (refused_in 0 arrivals))
-extra_of task (what.Filter input cond) arrivals = extra.Nothing
-extra_of task (what.Project input columns) arrivals = extra.Nothing
-extra_of task (what.Join build probe build_keys probe_keys) arrivals =
-    extra.Join (length (first_keys build_keys (built_of task arrivals))) (length (built_of task arrivals))
-extra_of task (what.Group input keys aggs) arrivals = extra.Group (length (first_keys keys (rows_in task arrivals)))
-extra_of task (what.Sink input) arrivals = extra.Sink (length (rows_in task arrivals))
 
 unfoldable pub view_of : Role → Position → WorkerView
 view_of role p = record {
@@ -90,15 +69,6 @@ inspected_of query state op = record {
 -- what the workers of an operator took, one worker after the other
 unfoldable pub taken_by : Query → State → ℕ → List Arrival
 taken_by query state op = flat_map (λ worker. taken_of (role_in query worker) (position_at state.positions worker)) (workers_of query.flow op)
-
--- the keys of a worker's groups that have no row, once all was taken
-abbrev pub keys_refused : What → Task → List Arrival → List (List Value)
-keys_refused (what.Scan file) task arrivals = []
-keys_refused (what.Filter input cond) task arrivals = []
-keys_refused (what.Project input columns) task arrivals = []
-keys_refused (what.Join build probe build_keys probe_keys) task arrivals = []
-keys_refused (what.Group input keys aggs) task arrivals = refused_keys keys aggs (rows_in task arrivals)
-keys_refused (what.Sink input) task arrivals = []
 
 abbrev pub worker_refuses : Role → Position → List (List Value)
 worker_refuses role p = keys_refused role.task.kind role.task (taken_of role p)

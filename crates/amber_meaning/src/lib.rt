@@ -11,6 +11,6 @@ pub mod scan_files;
 pub mod view;
 
 pub use answer::{Answer, PlainErr, Refusal, Refusals};
-pub use scan_files::{file_behind, is_scan};
+pub use scan_files::file_behind;
 pub use std::alloc::AllocError as NoMemory;
 pub use view::{Counted, Extra, Inspected, Stand, Stop, Stops, Views, WorkerView};

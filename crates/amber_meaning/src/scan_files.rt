@@ -4,21 +4,7 @@ ghost use Rattle.amber_rows.specs.Kinds.{is_scan};
 ghost use Rattle.amber_rows.specs.Lists.{first_list};
 ghost use Rattle.amber_meaning.specs.ScanFiles.{files_left};
 
-use amber_rows::{Files, Flow, Operator, What};
-
-/// Whether an operator is a scan.
-pub fn is_scan(what: &What) -> bool
-    ensures { result ≡ is_scan what.now }
-{
-    match what {
-        What::Scan { .. } => true,
-        What::Filter { .. }
-        | What::Project { .. }
-        | What::Join { .. }
-        | What::Group { .. }
-        | What::Sink { .. } => false,
-    }
-}
+use amber_rows::{Files, Flow, Operator};
 
 /// How many of these operators are scans.
 fn scans_in(operators: &[Operator]) -> usize
@@ -26,7 +12,7 @@ fn scans_in(operators: &[Operator]) -> usize
 {
     operators
         .iter()
-        .filter(|operator| is_scan(&operator.what))
+        .filter(|operator| operator.what.is_scan())
         .count()
 }
 

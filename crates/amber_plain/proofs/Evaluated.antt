@@ -15,7 +15,9 @@ use Rattle.amber_rows.specs.declared.record.RowFault.{RowFault}
 use Rattle.amber_rows.specs.declared.flow.What.{What}
 use Rattle.amber_rows.specs.declared.flow.What.TheVariants as what
 use Rattle.amber_rows.specs.declared.flow.Operator.{Operator}
-use Rattle.amber_meaning.specs.Plain.{answer_from, answer_of, records_of, outputs, refusals, refused_by, refused_groups, rows_of}
+use Rattle.amber_meaning.specs.Plain.{answer_from, answer_of, records_of, outputs, refusals}
+use Rattle.amber_meaning.specs.Kinds.{refused_by, rows_of}
+use Rattle.amber_meaning.specs.Refused.{refused_groups}
 use Rattle.amber_rows.specs.Lists.{list_at, first_list}
 use Rattle.amber_meaning.specs.ScanFiles.{files_left, records_at}
 use Rattle.amber_plain.specs.Evaluator.{HasInputs, lists_after}

@@ -10,7 +10,7 @@ use Rattle.amber_rows.specs.declared.value.Value.{Value}
 use Rattle.amber_rows.specs.declared.column.Column.{Column}
 use Rattle.amber_rows.specs.declared.record.RowFault.{RowFault}
 use Rattle.amber_rows.specs.declared.record_reader.RecordReader.{RecordReader}
-use Rattle.amber_meaning.specs.Plain.{refused_records}
+use Rattle.amber_meaning.specs.Refused.{refused_records}
 use Rattle.amber_meaning.specs.declared.answer.Refusal.{Refusal}
 
 abbrev Rows : Type 0

@@ -3,7 +3,9 @@ ghost use Rattle.std.specs.Prelude.{◌≡◌, ◌<◌, ◌^◌, ◌++◌, ◌�
 ghost use Rattle.amber_rows.specs.Cond.{holds_of};
 ghost use Rattle.amber_rows.specs.FlowRules.{columns_at};
 ghost use Rattle.amber_rows.specs.Operators.{group_result, refused_keys};
-ghost use Rattle.amber_meaning.specs.Plain.{IsPlain, refused_by, refused_groups, rows_of, scan_count};
+ghost use Rattle.amber_meaning.specs.Plain.{IsPlain, scan_count};
+ghost use Rattle.amber_meaning.specs.Kinds.{refused_by, rows_of};
+ghost use Rattle.amber_meaning.specs.Refused.{refused_groups};
 ghost use Rattle.amber_rows.specs.Lists.{list_at};
 ghost use Rattle.amber_meaning.specs.ScanFiles.{records_at};
 ghost use Rattle.amber_plain.specs.Evaluator.{HasInputs, HasList, lists_after, without};

@@ -3,7 +3,7 @@ ghost use Rattle.std.specs.Prelude.{◌≡◌, IfOk};
 ghost use Rattle.amber_meaning.specs.Plain.{wrong_header};
 ghost use Rattle.amber_meaning.specs.ScanFiles.{is_headed};
 
-use amber_meaning::{file_behind, is_scan};
+use amber_meaning::file_behind;
 use amber_rows::{Files, Flow, Operator, has_header};
 use std::alloc::{AllocError, Global};
 
@@ -11,7 +11,7 @@ use std::alloc::{AllocError, Global};
 fn is_headed(alloc: Global, operator: &Operator, file: &[u8]) -> Result<bool, AllocError>
     ensures { IfOk result (λ headed. headed ≡ is_headed operator.now.what operator.now.schema file.now) }
 {
-    if !is_scan(&operator.what) {
+    if !operator.what.is_scan() {
         return Ok(true);
     }
     has_header(alloc, &operator.schema, file)

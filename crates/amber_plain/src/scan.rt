@@ -2,7 +2,7 @@
 ghost use Rattle.std.specs.Prelude.{◌≡◌, ◌<◌, ◌^◌, ◌++◌, ◌∷◌, [], length, IfOk, OnOk};
 ghost use Rattle.std.specs.List.{filter_map};
 ghost use Rattle.amber_rows.specs.Record.{ok_of, typed_records};
-ghost use Rattle.amber_meaning.specs.Plain.{refused_records};
+ghost use Rattle.amber_meaning.specs.Refused.{refused_records};
 
 use amber_meaning::Refusal;
 use amber_rows::{RecordReader, Row, RowFault, Schema, type_record};
@@ -10,7 +10,7 @@ use csv::ByteRecord;
 use std::alloc::{AllocError, Global};
 
 /// Puts a record with this number behind the rows, or behind what was refused.
-#[tactic(auto, unfolding(amber_meaning::specs::Plain::refused_records))]
+#[tactic(auto, unfolding(amber_meaning::specs::Refused::refused_records))]
 fn add_record(
     op: u32,
     number: u64,

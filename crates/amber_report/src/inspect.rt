@@ -3,7 +3,8 @@ ghost use Rattle.std.specs.Prelude.{◌≡◌, ◌+◌, [], ◌∷◌, ◌++◌,
 ghost use Rattle.std.specs.List.{flat_map};
 ghost use Rattle.amber_rows.specs.Lists.{nth};
 ghost use Rattle.amber_meaning.specs.Texts.{after_blank, constant_text, count_text, extra_words, inspected_text};
-ghost use Rattle.amber_meaning.specs.Texts.{kind_in, kind_word, next_text, pause_text, stand_word, views_text, view_words};
+ghost use Rattle.amber_meaning.specs.Texts.{kind_in, next_text, pause_text, stand_word, views_text, view_words};
+ghost use Rattle.amber_meaning.specs.Kinds.{kind_word};
 ghost use Rattle.amber_meaning.specs.Texts.{id_at, when_text, words_line};
 
 use crate::conditions::push_cond;
