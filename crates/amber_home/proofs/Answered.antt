@@ -15,13 +15,14 @@ use Rattle.amber_rows.specs.declared.flow.What.TheVariants as what
 use Rattle.amber_rows.specs.declared.value.Value.{Value}
 use Rattle.amber_meaning.specs.declared.answer.Answer.{Answer}
 use Rattle.amber_meaning.specs.Legal.{Query, role_in}
-use Rattle.amber_meaning.specs.Plain.{refused_groups}
+use Rattle.amber_meaning.specs.Refused.{refused_groups, refusal_in, refused_in}
 use Rattle.amber_meaning.specs.Plan.{role_of, task_of}
 use Rattle.amber_meaning.specs.Position.{Position, Taken, fed, arrivals_of, share_or}
 use Rattle.amber_meaning.specs.State.{position_at}
-use Rattle.amber_meaning.specs.Task.{Arrival, Task}
-use Rattle.amber_meaning.specs.Views.{answer_in, by_number, insert_numbered, op_refuses, refusal_in, refused_in, rows_in, sink_rows, taken_by, taken_of, worker_refuses}
-use Rattle.amber_worker.specs.AtPosition.{kept_rows, placement_of}
+use Rattle.amber_meaning.specs.Task.{Arrival, Task, rows_in}
+use Rattle.amber_meaning.specs.Views.{answer_in, by_number, insert_numbered, op_refuses, sink_rows, taken_by, taken_of, worker_refuses}
+use Rattle.amber_worker.specs.AtPosition.{placement_of}
+use Rattle.amber_meaning.specs.Kinds.{kept_rows}
 use Rattle.amber_worker.specs.WorkerState.{WorkerState}
 use Rattle.amber_worker.proofs.Shares.{by_number-share}
 use Rattle.amber_home.specs.Answers.{IsGatheredFrom, ShowAll, refused_at, rows_before}

@@ -10,10 +10,11 @@ use Rattle.amber_rows.specs.declared.value.Value.{Value}
 use Rattle.amber_meaning.specs.declared.answer.Answer.{Answer}
 use Rattle.amber_meaning.specs.declared.answer.Refusal.{Refusal}
 use Rattle.amber_meaning.specs.Legal.{Query}
-use Rattle.amber_meaning.specs.Plain.{refused_groups}
+use Rattle.amber_meaning.specs.Refused.{refused_groups, refused_in}
 use Rattle.amber_meaning.specs.Position.{Position}
-use Rattle.amber_meaning.specs.Views.{refused_in, taken_of, worker_refuses}
-use Rattle.amber_worker.specs.AtPosition.{Placement, Shows, first_orders, kept_rows, placement_of}
+use Rattle.amber_meaning.specs.Views.{taken_of, worker_refuses}
+use Rattle.amber_worker.specs.AtPosition.{Placement, Shows, first_orders, placement_of}
+use Rattle.amber_meaning.specs.Kinds.{kept_rows}
 use Rattle.amber_worker.specs.WorkerState.{WorkerState}
 use Rattle.amber_home.specs.AtWork.{worker_state_at}
 

@@ -3,7 +3,7 @@ ghost use Rattle.std.specs.Prelude.{◌≡◌};
 ghost use Rattle.amber_meaning.specs.Plain.{scan_count};
 
 use amber_flow::read_flow;
-use amber_meaning::{PlainErr, is_scan};
+use amber_meaning::PlainErr;
 use amber_plain::plain;
 use amber_rows::{Bytes, Files, Flow};
 use std::alloc::{AllocError, Global};
@@ -30,7 +30,7 @@ fn scans_of(flow: &Flow) -> usize
 {
     flow.get()
         .iter()
-        .filter(|operator| is_scan(&operator.what))
+        .filter(|operator| operator.what.is_scan())
         .count()
 }
 

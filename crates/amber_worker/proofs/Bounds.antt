@@ -10,7 +10,7 @@ use Rattle.amber_log.specs.declared.entry.Entry.{Entry}
 use Rattle.amber_log.specs.declared.entry.Entry.TheVariants as entry
 use Rattle.amber_meaning.specs.Position.{one_if}
 use Rattle.amber_meaning.specs.Task.{Arrival, row_in}
-use Rattle.amber_meaning.specs.Views.{refusal_in}
+use Rattle.amber_meaning.specs.Refused.{refusal_in}
 use Rattle.amber_scan.specs.declared.share.Scanned.{Scanned}
 use Rattle.amber_link.specs.Incoming.{Incoming, IsTaken, have_all_ended, have_builders_ended}
 use Rattle.amber_link.specs.Outgoing.{Outgoing, with_row}

@@ -27,7 +27,8 @@ use Rattle.amber_meaning.specs.Replay.{after_item, after_items, led_by, position
 use Rattle.amber_judge.specs.RuleTests.{may_finish, may_go, may_take}
 use Rattle.amber_meaning.specs.State.{begin_leg, begin_last_leg, start_of, steps_in}
 use Rattle.amber_meaning.specs.Stops.{without_stops}
-use Rattle.amber_meaning.specs.Task.{built_of, closing, produce, yields}
+use Rattle.amber_meaning.specs.Task.{built_of}
+use Rattle.amber_meaning.specs.Produce.{closing, produce, yields}
 use Rattle.amber_meaning.specs.Views.{answer_in, by_number, insert_numbered, taken_by, view_of}
 use Rattle.amber_meaning.specs.declared.answer.Answer.{Answer}
 use Rattle.amber_meaning.specs.declared.answer.Refusal.{Refusal}

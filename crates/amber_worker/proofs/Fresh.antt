@@ -23,7 +23,9 @@ use Rattle.amber_meaning.specs.Plan.{builders_in, arrival_columns, role_of, task
 use Rattle.amber_meaning.specs.Position.{fed, is_complete, kept, origin, product, share_or, taken_from}
 use Rattle.amber_meaning.specs.Rules.{Leads}
 use Rattle.amber_meaning.specs.State.{first_constants}
-use Rattle.amber_meaning.specs.Task.{Arrival, Role, Task, built_of, closing, closing_rows, suiting}
+use Rattle.amber_meaning.specs.Task.{Arrival, Role, Task, built_of, suiting}
+use Rattle.amber_meaning.specs.Produce.{closing}
+use Rattle.amber_meaning.specs.Kinds.{closing_rows, kept_rows}
 use Rattle.amber_meaning.proofs.Lists.{nth-next}
 use Rattle.amber_scan.specs.declared.share.Scanned.{Scanned}
 use Rattle.amber_join.specs.Join.{Join}
@@ -31,7 +33,7 @@ use Rattle.amber_link.specs.Incoming.{Incoming}
 use Rattle.amber_link.specs.Outgoing.{Outgoing}
 use Rattle.amber_worker.specs.Fields.{AreFew, IsInOrder, rest_in}
 use Rattle.amber_worker.specs.Made.{IsOperatorStateOf, IsFresh, IsReceiver, fresh_inbox, fresh_inboxes, fresh_outbox, handing_operator, is_join}
-use Rattle.amber_worker.specs.AtPosition.{DoesKind, HasShare, HasTaken, Placement, ReceiveAll, Receives, SendAll, Sends, Shows, IsAtPosition, first_orders, kept_rows, placement_of}
+use Rattle.amber_worker.specs.AtPosition.{DoesKind, HasShare, HasTaken, Placement, ReceiveAll, Receives, SendAll, Sends, Shows, IsAtPosition, first_orders, placement_of}
 use Rattle.amber_worker.specs.WorkerState.{WorkerState}
 use Rattle.amber_worker.specs.declared.operator_state.OperatorState.{OperatorState}
 use Rattle.amber_worker.specs.declared.operator_state.OperatorState.TheVariants as operator_state

@@ -4,8 +4,9 @@ use Rattle.amber_rows.specs.Order.{sort_rows}
 use Rattle.amber_rows.specs.declared.value.Value.{Value}
 use Rattle.amber_rows.specs.declared.flow.What.{What}
 use Rattle.amber_rows.specs.declared.flow.What.TheVariants as what
-use Rattle.amber_meaning.specs.Task.{Arrival, Role, Task}
-use Rattle.amber_meaning.specs.Views.{keys_refused, rows_in, taken_of}
+use Rattle.amber_meaning.specs.Task.{Arrival, Role, Task, rows_in}
+use Rattle.amber_meaning.specs.Views.{taken_of}
+use Rattle.amber_meaning.specs.Kinds.{keys_refused}
 use Rattle.amber_meaning.specs.declared.answer.Refusal.TheVariants as refusal
 use Rattle.amber_worker.specs.AtPosition.{DoesKind, HasTaken, IsGivenOf, Keeps}
 use Rattle.amber_worker.specs.WorkerState.{WorkerState}

@@ -15,12 +15,15 @@ use Rattle.amber_rows.specs.declared.flow.What.TheVariants as what
 use Rattle.amber_log.specs.declared.entry.Entry.TheVariants as entry
 use Rattle.amber_meaning.specs.Position.{Position, Taken, emitted_rows, fed, have_ended, is_complete, is_emitted, product}
 use Rattle.amber_meaning.specs.Rules.{IsFree, MayFinish, MayGo, Orders, product_with, produced_with, with_rows}
-use Rattle.amber_meaning.specs.Task.{Arrival, Role, Task, closing, closing_rows, columns_from, is_builder, produce, row_in, suiting, yields, yields_if, yields_row}
-use Rattle.amber_meaning.specs.Views.{refusal_in, refused_in, rows_in, taken_of}
+use Rattle.amber_meaning.specs.Task.{Arrival, Role, Task, columns_from, is_builder, row_in, suiting, rows_in}
+use Rattle.amber_meaning.specs.Produce.{closing, produce, yields, yields_if}
+use Rattle.amber_meaning.specs.Kinds.{closing_rows, yields_row, kept_rows}
+use Rattle.amber_meaning.specs.Views.{taken_of}
+use Rattle.amber_meaning.specs.Refused.{refusal_in, refused_in}
 use Rattle.amber_link.specs.Incoming.{Incoming, have_all_ended}
 use Rattle.amber_link.specs.Outgoing.{Outgoing, with_end, with_row}
 use Rattle.amber_worker.specs.Fields.{rows_moved}
-use Rattle.amber_worker.specs.AtPosition.{DoesKind, HasTaken, Keeps, Placement, ReceiveAll, SendAll, Sends, Shows, kept_rows, stream_to}
+use Rattle.amber_worker.specs.AtPosition.{DoesKind, HasTaken, Keeps, Placement, ReceiveAll, SendAll, Sends, Shows, stream_to}
 use Rattle.amber_worker.specs.WorkerState.{WorkerState}
 use Rattle.amber_worker.specs.Steps.{Becomes, Closes, all_done, columns_at_hand, row_yield, gives_if, keeps, keeps_if, row_emitted, row_taken}
 use Rattle.amber_worker.specs.declared.operator_state.OperatorState.{OperatorState}

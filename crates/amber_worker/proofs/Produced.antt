@@ -4,7 +4,8 @@ use Rattle.std.proofs.lemmas.Bool.{eq-eqb, eqb-true, false≢true}
 use Rattle.std.proofs.lemmas.List.{append-nil}
 use Rattle.amber_rows.specs.declared.value.Value.{Value}
 use Rattle.amber_meaning.specs.Position.{Taken, fed, have_ended, is_complete, kept, product}
-use Rattle.amber_meaning.specs.Task.{Arrival, Role, Task, closing, produce, yields}
+use Rattle.amber_meaning.specs.Task.{Arrival, Role, Task}
+use Rattle.amber_meaning.specs.Produce.{closing, produce, yields}
 
 -- ---- a list that is left from a place on
 

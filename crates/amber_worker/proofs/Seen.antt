@@ -4,15 +4,17 @@ use Rattle.amber_rows.specs.declared.value.Value.{Value}
 use Rattle.amber_rows.specs.declared.record.RowFault.{RowFault}
 use Rattle.amber_rows.specs.declared.flow.What.{What}
 use Rattle.amber_rows.specs.declared.flow.What.TheVariants as what
-use Rattle.amber_meaning.specs.Task.{Arrival, Role, Task}
-use Rattle.amber_meaning.specs.Views.{extra_of, refusal_in, refused_in, rows_in, taken_of, view_of}
+use Rattle.amber_meaning.specs.Task.{Arrival, Role, Task, rows_in}
+use Rattle.amber_meaning.specs.Views.{taken_of, view_of}
+use Rattle.amber_meaning.specs.Kinds.{extra_of, kept_rows}
+use Rattle.amber_meaning.specs.Refused.{refusal_in, refused_in}
 use Rattle.amber_rows.specs.Lists.{first_of}
 use Rattle.amber_meaning.specs.declared.answer.Refusal.{Refusal}
 use Rattle.amber_meaning.specs.declared.view.Extra.{Extra}
 use Rattle.amber_meaning.specs.declared.view.Extra.TheVariants as extra
 use Rattle.amber_meaning.specs.declared.view.Stand.TheVariants as stand
 use Rattle.amber_meaning.specs.declared.view.WorkerView.{WorkerView}
-use Rattle.amber_worker.specs.AtPosition.{DoesKind, HasTaken, IsViewOf, kept_rows}
+use Rattle.amber_worker.specs.AtPosition.{DoesKind, HasTaken, IsViewOf}
 use Rattle.amber_worker.specs.WorkerState.{WorkerState}
 use Rattle.amber_worker.specs.Steps.{IsExtra, IsShown}
 use Rattle.amber_worker.specs.declared.operator_state.OperatorState.{OperatorState}

@@ -14,7 +14,8 @@ use Rattle.amber_rows.specs.declared.flow.What.TheVariants as what
 use Rattle.amber_log.specs.declared.entry.Entry.TheVariants as entry
 use Rattle.amber_meaning.specs.Position.{Position, Taken, fed, arrivals_of, has_last, have_ended, is_complete, product, share_or, taken_from}
 use Rattle.amber_meaning.specs.Rules.{MayTake, Orders, may_take_from, with_batch}
-use Rattle.amber_meaning.specs.Task.{Arrival, Role, Task, closing, is_builder, produce}
+use Rattle.amber_meaning.specs.Task.{Arrival, Role, Task, is_builder}
+use Rattle.amber_meaning.specs.Produce.{closing, produce}
 use Rattle.amber_meaning.specs.Views.{taken_of}
 use Rattle.amber_link.specs.Incoming.{Incoming, IsTaken, have_all_ended, have_builders_ended, without_first}
 use Rattle.amber_worker.specs.Fields.{row_from}

@@ -1,6 +1,7 @@
 -- Where a worker stands: the position that it shows, and that its journal leads there.
 use Rattle.std.specs.Prelude.{◌≡◌, ℕ, ◌+◌, ◌*◌, ◌/◌, ◌==◌, ◌<◌, ◌≤◌, List, [], ◌∷◌, ◌++◌, length, map, filter, drop, All, Option, Some, None, Result, Bool, true, false}
 use Rattle.std.specs.List.{list_any}
+use Rattle.amber_meaning.specs.Kinds.{kept_rows}
 use Rattle.amber_rows.specs.Chunks.{chunks_of}
 use Rattle.amber_rows.specs.Crew.{op_of, receiver_of, receivers_of, what_at}
 use Rattle.amber_rows.specs.Order.{sort_rows}
@@ -16,9 +17,10 @@ use Rattle.amber_meaning.specs.Plan.{role_of}
 use Rattle.amber_meaning.specs.Position.{Position, Taken, emitted_count, emitted_rows, fed, has_last, pending_rows, produced_rows, rest_of, taken_from}
 use Rattle.amber_meaning.specs.Rules.{Leads, Orders}
 use Rattle.amber_meaning.specs.State.{first_constants}
-use Rattle.amber_meaning.specs.Task.{Arrival, Role, Task, built_of, is_builder, with_constant}
-use Rattle.amber_meaning.specs.Plain.{refused_groups}
-use Rattle.amber_meaning.specs.Views.{refused_in, rows_in, taken_of, view_of, worker_refuses}
+use Rattle.amber_meaning.specs.Task.{Arrival, Role, Task, built_of, is_builder, rows_in}
+use Rattle.amber_meaning.specs.Kinds.Filter.{with_constant}
+use Rattle.amber_meaning.specs.Refused.{refused_groups, refused_in}
+use Rattle.amber_meaning.specs.Views.{taken_of, view_of, worker_refuses}
 use Rattle.amber_meaning.specs.declared.view.WorkerView.{WorkerView}
 use Rattle.amber_scan.specs.declared.share.Scanned.{Scanned}
 use Rattle.amber_link.specs.Incoming.{Incoming}
@@ -88,15 +90,6 @@ HasTaken (operator_state.Project from) task arrivals = Unit {0}
 HasTaken (operator_state.Join state) task arrivals = state.rows ≡ built_of task arrivals
 HasTaken (operator_state.Group state) task arrivals = IsFedWith state (rows_in task arrivals)
 HasTaken operator_state.Sink task arrivals = Unit {0}
-
--- the rows that a worker keeps for the answer, of those that it took
-abbrev pub kept_rows : What → Task → List Arrival → List (List Value)
-kept_rows (what.Scan file) task arrivals = []
-kept_rows (what.Filter input cond) task arrivals = []
-kept_rows (what.Project input columns) task arrivals = []
-kept_rows (what.Join build probe build_keys probe_keys) task arrivals = []
-kept_rows (what.Group input keys aggs) task arrivals = []
-kept_rows (what.Sink input) task arrivals = rows_in task arrivals
 
 -- what is kept of a sender: how many of its batches were taken, and whether the last was
 pub record Receives (sender : ℕ) (batches : List Taken) (one : Incoming) : Type 0 where

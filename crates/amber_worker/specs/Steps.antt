@@ -10,7 +10,7 @@ use Rattle.amber_join.specs.Join.{Join}
 use Rattle.amber_log.specs.declared.entry.Entry.{Entry}
 use Rattle.amber_log.specs.declared.entry.Entry.TheVariants as entry
 use Rattle.amber_meaning.specs.Task.{Arrival, row_in}
-use Rattle.amber_meaning.specs.Views.{refusal_in}
+use Rattle.amber_meaning.specs.Refused.{refusal_in}
 use Rattle.amber_rows.specs.Lists.{first_of}
 use Rattle.amber_meaning.specs.declared.view.Extra.{Extra}
 use Rattle.amber_meaning.specs.declared.view.Extra.TheVariants as extra

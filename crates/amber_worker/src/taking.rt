@@ -3,7 +3,7 @@
 ghost use Rattle.std.specs.Prelude.{◌≡◌, ◌==◌, ◌&&◌, [], if◌then◌else◌, ◌+◌, ◌<◌, ◌++◌, Ok, Some, is_some, true, false, not, length, vec_capacity, vec_len, IfOk, IfSome, OnErr, OnOk};
 ghost use Rattle.std.specs.VecDeque.{deque_capacity, deque_len};
 ghost use Rattle.amber_meaning.specs.Task.{row_in};
-ghost use Rattle.amber_meaning.specs.Views.{refusal_in};
+ghost use Rattle.amber_meaning.specs.Refused.{refusal_in};
 ghost use Rattle.amber_link.specs.Incoming.{has_some, have_all_ended};
 ghost use Rattle.amber_worker.specs.Fields.{arrivals_in};
 ghost use Rattle.amber_worker.specs.Steps.{AreSame, Closes, GainsAny, GainsNext, GainsRecord, GainsRow, MayTakeRow, gives_if, has_state, held_back_of, keeps_if, passed_of, turned_to};
