@@ -6,7 +6,8 @@ use Rattle.std.specs.Prelude.{◌==◌}
 use Rattle.std.proofs.lemmas.List.{get_or_default, length-take-le}
 use Rattle.std.proofs.lemmas.List.Elements.{All-take}
 use Rattle.std.proofs.lemmas.List.Sums.{sum_by-cons}
-use Rattle.amber_rows.specs.Lists.{numbers_below, nth}
+use Rattle.amber_rows.specs.Kinds.{is_scan}
+use Rattle.amber_rows.specs.Lists.{list_at, numbers_below, nth}
 use Rattle.amber_rows.specs.Crew as crew
 use Rattle.amber_rows.specs.Crew.{crew_of, first_worker_of, op_of, what_at, worker_count, workers_in, workers_of, AreAlone}
 use Rattle.amber_rows.specs.FlowRules.{IsFlow, schema_of}
@@ -16,13 +17,13 @@ use Rattle.amber_rows.specs.declared.flow.What.TheVariants as what
 use Rattle.amber_rows.specs.declared.record.RowFault.{RowFault}
 use Rattle.amber_rows.specs.declared.value.Value.{Value}
 use Rattle.amber_rows.proofs.FlowFacts.{AreNext-at}
-use Rattle.amber_meaning.specs.Plain as plain
 use Rattle.amber_meaning.specs.Plan as plan
 use Rattle.amber_meaning.proofs.Operators.{nth-here}
-use Rattle.amber_scan.specs.Shares as shares
+use Rattle.amber_rows.specs.Shares as shares
+use Rattle.amber_scan.specs.Shares.{scanned_number, scanned_record}
+use Rattle.amber_worker.proofs.Shares.{share-dealt}
 use Rattle.amber_scan.specs.declared.share.Scanned.{Scanned}
 use Rattle.amber_worker.specs.Fields.{arrival_of}
-use Rattle.amber_worker.specs.AtPosition as at_position
 use Rattle.amber_worker.specs.AtPosition.{HasShare, IsAtPosition, first_orders, placement_of}
 use Rattle.amber_worker.specs.WorkerState.{WorkerState}
 use Rattle.amber_meaning.specs.ScanFiles.{is_headed, records_at}
@@ -92,15 +93,7 @@ workers-alone flow k alone h =
     ap (λ n. map (λ place. first_worker_of flow (k + 1) + place) (numbers_below n)) (count-alone flow k alone h)
     ∙ ap (λ n. n ∷ []) (add-zero (first_worker_of flow (k + 1)) ∙ first-alone flow k alone (omega arith))
 
--- ---- kinds
-
-pub scan-same : (kind : What) → at_position.is_scan kind ≡ plain.is_scan kind
-scan-same (what.Scan file) = refl
-scan-same (what.Filter input cond) = refl
-scan-same (what.Project input columns) = refl
-scan-same (what.Join build probe build_keys probe_keys) = refl
-scan-same (what.Group input keys aggs) = refl
-scan-same (what.Sink input) = refl
+-- ---- columns
 
 pub columns-few : (flow : List Operator) (k : ℕ) (o : Operator) → IsFlow flow → k < length flow → o ≡ get_or flow k o → length o.schema < 2 ^ 32
 columns-few flow k o ok h is =
@@ -113,24 +106,9 @@ columns-few flow k o ok h is =
 abbrev Records : Type 0
 Records = List (Result (List Value) RowFault)
 
-shared-same : (workers place number : ℕ) (records : Records)
-    → map arrival_of (shares.share_of workers place (shares.with_numbers number records)) ≡ filter (λ arrivals. plan.turn_of workers arrivals.from == place) (plan.with_numbers number records)
-unfolding shares.share_of shares.with_numbers plan.with_numbers
-shared-same workers place number [] = refl
-shared-same workers place number (one ∷ more) = by (plan.turn_of workers number == place) (shared-same workers place (number + 1) more)
-  where
-    by : (b : Bool)
-        → map arrival_of (shares.share_of workers place (shares.with_numbers (number + 1) more)) ≡ filter (λ arrivals. plan.turn_of workers arrivals.from == place) (plan.with_numbers (number + 1) more)
-        → map arrival_of (if b then record { number = number; what = one } ∷ shares.share_of workers place (shares.with_numbers (number + 1) more)
-        else shares.share_of workers place (shares.with_numbers (number + 1) more))
-        ≡ (if b then record { from = number; what = one } ∷ filter (λ arrivals. plan.turn_of workers arrivals.from == place) (plan.with_numbers (number + 1) more)
-        else filter (λ arrivals. plan.turn_of workers arrivals.from == place) (plan.with_numbers (number + 1) more))
-    by true rest = ap (λ xs. record { from = number; what = one } ∷ xs) rest
-    by false rest = rest
-
-pub share-same : (records : Records) → map arrival_of (shares.share_of 1 0 (shares.with_numbers 1 records)) ≡ plan.share_of records 1 0
-unfolding plan.share_of
-share-same records = shared-same 1 0 1 records
+pub share-same : (records : Records) → map arrival_of (shares.share_of scanned_number 1 0 (shares.with_numbers scanned_record 1 records))
+    ≡ shares.share_of plan.record_number 1 0 (shares.with_numbers plan.numbered_record 1 records)
+share-same records = share-dealt records 1 0
 
 -- ---- a worker that was made for an operator
 
@@ -138,14 +116,14 @@ abbrev Stood : List Operator → List Records → ℕ → ℕ → WorkerState �
 Stood flow records size k w = IsAtPosition (placement_of flow records size k) (first_orders flow k) w origin origin (λ _. [])
 
 role-share : (flow : List Operator) (records : List Records) (k : ℕ) → AreAlone flow → k < length flow
-    → (plan.role_of flow records k).share ≡ plan.share_of (plain.list_at records (k + 1)) 1 0
+    → (plan.role_of flow records k).share ≡ shares.share_of plan.record_number 1 0 (shares.with_numbers plan.numbered_record 1 (list_at records (k + 1)))
 unfolding plan.role_of
 role-share flow records k alone h =
     let none : k - k ≡ 0 = omega arith in
-    ap (λ op. plan.share_of (plain.list_at records op) (worker_count flow op) (k - first_worker_of flow op)) (op-alone flow k alone h)
-    ∙ ap (λ n. plan.share_of (plain.list_at records (k + 1)) n (k - first_worker_of flow (k + 1))) (count-alone flow k alone h)
-    ∙ ap (λ n. plan.share_of (plain.list_at records (k + 1)) 1 (k - n)) (first-alone flow k alone (omega arith))
-    ∙ ap (plan.share_of (plain.list_at records (k + 1)) 1) none
+    ap (λ op. shares.share_of plan.record_number (worker_count flow op) (k - first_worker_of flow op) (shares.with_numbers plan.numbered_record 1 (list_at records op))) (op-alone flow k alone h)
+    ∙ ap (λ n. shares.share_of plan.record_number n (k - first_worker_of flow (k + 1)) (shares.with_numbers plan.numbered_record 1 (list_at records (k + 1)))) (count-alone flow k alone h)
+    ∙ ap (λ n. shares.share_of plan.record_number 1 (k - n) (shares.with_numbers plan.numbered_record 1 (list_at records (k + 1)))) (first-alone flow k alone (omega arith))
+    ∙ ap (λ n. shares.share_of plan.record_number 1 n (shares.with_numbers plan.numbered_record 1 (list_at records (k + 1)))) none
 
 -- of a scan, from its share
 pub stands-scan : (flow : List Operator) (k size : ℕ) (o : Operator) (file : List ℕ) (share : List Scanned) (w : WorkerState) → AreAlone flow → k < length flow → o ≡ get_or flow k o
@@ -155,7 +133,7 @@ pub stands-scan : (flow : List Operator) (k size : ℕ) (o : Operator) (file : L
 stands-scan flow k size o file share w alone h is holds made records own =
     made records
     (ap (map arrival_of) holds ∙ share-same (records_at o.what o.schema file)
-    ∙ ap (λ r. plan.share_of r 1 0) (sym (own ∙ ap (λ kind. records_at kind (schema_at flow k) file) (kind-here flow k o h is) ∙ ap (λ columns. records_at o.what columns file) (schema-here flow k o h is)))
+    ∙ ap (λ r. shares.share_of plan.record_number 1 0 (shares.with_numbers plan.numbered_record 1 r)) (sym (own ∙ ap (λ kind. records_at kind (schema_at flow k) file) (kind-here flow k o h is) ∙ ap (λ columns. records_at o.what columns file) (schema-here flow k o h is)))
     ∙ sym (role-share flow records k alone h))
 
 -- of another operator
@@ -170,6 +148,6 @@ pub names-at : (error : HomeErr) (flow : List Operator) (k : ℕ) (o : Operator)
     → NamesOperator error o.what o.schema file (k + 1) → NamesOperator error (operator_kind flow k) (schema_at flow k) file (k + 1)
 names-at error flow k o file h is has = rw (kind-here flow k o h is, schema-here flow k o h is) has
 
-pub headed-other : (flow : List Operator) (k : ℕ) (o : Operator) (file : List ℕ) → k < length flow → o ≡ get_or flow k o → plain.is_scan o.what ≡ false
+pub headed-other : (flow : List Operator) (k : ℕ) (o : Operator) (file : List ℕ) → k < length flow → o ≡ get_or flow k o → is_scan o.what ≡ false
     → is_headed (operator_kind flow k) (schema_at flow k) file ≡ true
 headed-other flow k o file h is other = rw (kind-here flow k o h is, other) refl

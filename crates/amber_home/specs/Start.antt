@@ -1,5 +1,6 @@
 -- The workers of a run that has not begun.
 use Rattle.std.specs.Prelude.{◌≡◌, ℕ, ◌+◌, List, [], All, ⊤, Result, Ok, Err, true, false}
+use Rattle.amber_scan.specs.Shares.{scanned_number, scanned_record}
 use Rattle.amber_rows.specs.Crew as crew
 use Rattle.amber_rows.specs.FlowRules.{IsFlow, columns_at}
 use Rattle.amber_rows.specs.declared.column.Column.{Column}
@@ -7,7 +8,7 @@ use Rattle.amber_rows.specs.declared.flow.Operator.{Operator}
 use Rattle.amber_rows.specs.declared.flow.What.{What}
 use Rattle.amber_rows.specs.declared.record.RowFault.{RowFault}
 use Rattle.amber_rows.specs.declared.value.Value.{Value}
-use Rattle.amber_scan.specs.Shares.{share_of, with_numbers}
+use Rattle.amber_rows.specs.Shares.{share_of, with_numbers}
 use Rattle.amber_scan.specs.declared.share.Scanned.{Scanned}
 use Rattle.amber_meaning.specs.ScanFiles.{is_headed}
 use Rattle.amber_rows.specs.Lists.{list_at}
@@ -39,7 +40,7 @@ HasHeader (Err error) kind columns file op = NamesOperator error kind columns fi
 
 -- a share has all of these records, numbered from 1
 abbrev pub HoldsRecords : List (Result (List Value) RowFault) → List Scanned → Type 0
-HoldsRecords records share = share ≡ share_of 1 0 (with_numbers 1 records)
+HoldsRecords records share = share ≡ share_of scanned_number 1 0 (with_numbers scanned_record 1 records)
 
 -- no batch waits in a worker's inboxes, and none to be moved
 abbrev pub AreEmpty : WorkerState → Type 0

@@ -18,7 +18,8 @@ use Rattle.amber_rows.specs.declared.flow.What.TheVariants as what
 use Rattle.amber_rows.specs.declared.flow.Operator.{Operator}
 use Rattle.amber_meaning.proofs.Lists.{list_all-every}
 use Rattle.amber_meaning.specs.Legal.{Query}
-use Rattle.amber_meaning.specs.Plan.{role_of, share_of, task_of, turn_of, with_numbers}
+use Rattle.amber_meaning.specs.Plan.{role_of, task_of, numbered_record, record_number}
+use Rattle.amber_rows.specs.Shares.{share_of, turn_of, with_numbers}
 use Rattle.amber_meaning.specs.Position.{share_or}
 use Rattle.amber_meaning.specs.Task.{Arrival}
 use Rattle.amber_meaning.specs.Total.{dealt_stream, given, arrivals_from}
@@ -171,7 +172,7 @@ share-rows (what.Sink input) share arrivals e = refl
 -- a scan's worker is given the records whose turn is its own
 pub scan-given : (query : Query) (dealt : ℕ → List (List Value)) (op worker : ℕ) → is_scan (what_at query.flow op) ≡ true
     → among worker (workers_of query.flow op) ≡ true
-    → given query dealt worker ≡ sent_to (scan_route query.flow op) (with_numbers 1 (list_at query.records op)) worker
+    → given query dealt worker ≡ sent_to (scan_route query.flow op) (with_numbers numbered_record 1 (list_at query.records op)) worker
 unfolding given role_of share_of task_of
 scan-given query dealt op worker scan mine =
     let own : op_of query.flow worker ≡ op = worker-op query.flow op worker mine in
@@ -179,9 +180,9 @@ scan-given query dealt op worker scan mine =
     let count = worker_count query.flow op in
     let first = first_worker_of query.flow op in
     rw own (
-    share-scan (what_at query.flow op) (filter (λ one. eqb (turn_of count one.from) (worker - first)) (with_numbers 1 (list_at query.records op))) _ scan
+    share-scan (what_at query.flow op) (filter (λ one. eqb (turn_of count one.from) (worker - first)) (with_numbers numbered_record 1 (list_at query.records op))) _ scan
     ∙ filter_agree (λ one. eqb (turn_of count one.from) (worker - first)) (λ one. eqb (first + turn_of count one.from) worker)
-    (λ one. by first (turn_of count one.from) worker low) (with_numbers 1 (list_at query.records op))
+    (λ one. by first (turn_of count one.from) worker low) (with_numbers numbered_record 1 (list_at query.records op))
     )
   where
     by : (first turn worker : ℕ) → first ≤ worker → eqb turn (worker - first) ≡ eqb (first + turn) worker
@@ -251,7 +252,7 @@ rows-given query is dealt op worker some within rows mine =
     ∙ equal-among f (λ sender. sent_to (row_route flow) (arrivals_from sender (dealt sender)) worker) feeders
     (λ sender h. sym (filter_arrivals flow sender worker (dealt sender)))
     ∙ sym (filter_flat (λ one. eqb (row_route flow one) worker) (λ sender. arrivals_from sender (dealt sender)) feeders) in
-    rw (own, share-rows (what_at flow op) (share_of (list_at query.records op) (worker_count flow op) (worker - first_worker_of flow op)) (flat_map f (senders_of flow worker)) rows)
+    rw (own, share-rows (what_at flow op) (share_of record_number (worker_count flow op) (worker - first_worker_of flow op) (with_numbers numbered_record 1 (list_at query.records op))) (flat_map f (senders_of flow worker)) rows)
     (Join (flat_map f (senders_of flow worker)) (flat_map f (filter test feeders)) (sent_to (row_route flow) (flat_map (λ sender. arrivals_from sender (dealt sender)) feeders) worker)
     (same-flat_map f (senders-feed flow is op worker some within mine))
     (same-is (flat_map f (filter test feeders)) (sent_to (row_route flow) (flat_map (λ sender. arrivals_from sender (dealt sender)) feeders) worker) whole))
@@ -280,9 +281,9 @@ rows-routed query is dealt op some within =
 -- a scan's workers are given its records
 pub scan-whole : (query : Query) → IsFlow query.flow → (dealt : ℕ → List (List Value)) (op : ℕ) → 0 < op → op ≤ length query.flow
     → is_scan (what_at query.flow op) ≡ true
-    → Same (flat_map (given query dealt) (workers_of query.flow op)) (with_numbers 1 (list_at query.records op))
+    → Same (flat_map (given query dealt) (workers_of query.flow op)) (with_numbers numbered_record 1 (list_at query.records op))
 scan-whole query is dealt op some within scan =
-    let all = with_numbers 1 (list_at query.records op) in
+    let all = with_numbers numbered_record 1 (list_at query.records op) in
     let workers = workers_of query.flow op in
     Join (flat_map (given query dealt) workers) (flat_map (sent_to (scan_route query.flow op) all) workers) all
     (same-among (given query dealt) (sent_to (scan_route query.flow op) all) workers

@@ -1,10 +1,11 @@
 -- Records in the order of their numbers, whoever had them.
 use Rattle.std.proofs.Common.{◌≡◌, ℕ, ◌+◌, ◌<◌, ◌&&◌, ◌||◌, eqb, ltb, List, [], ◌∷◌, map, Result, Ok, Err, Bool, true, false, not, cond, refl, sym, ap, ◌∙◌, arith}
 use Rattle.std.proofs.lemmas.Bool.{and_from, and_parts, eqb-false, eqb-true, le-ltb, lt-ltb, ltb-false, ltb-true, ne_eqb, not-true, or_parts}
+use Rattle.amber_meaning.specs.Plan.{numbered_record}
 use Rattle.amber_rows.specs.declared.value.Value.{Value}
 use Rattle.amber_rows.specs.declared.record.RowFault.{RowFault}
 use Rattle.amber_meaning.specs.Refused.{refused_records, refused_in}
-use Rattle.amber_meaning.specs.Plan.{with_numbers}
+use Rattle.amber_rows.specs.Shares.{with_numbers}
 use Rattle.amber_meaning.specs.Task.{Arrival}
 use Rattle.amber_meaning.specs.Views.{by_number, insert_numbered}
 use Rattle.amber_meaning.specs.declared.answer.Refusal.TheVariants as refusal
@@ -97,17 +98,17 @@ ordered-same (x ∷ xs) = Join (insert_numbered x (by_number xs)) (x ∷ by_numb
 
 -- ---- numbered records
 
-not-below : (records : List (Result (List Value) RowFault)) (n m : ℕ) → m < n → among m (numbers_in (with_numbers n records)) ≡ false
+not-below : (records : List (Result (List Value) RowFault)) (n m : ℕ) → m < n → among m (numbers_in (with_numbers numbered_record n records)) ≡ false
 unfolding with_numbers
 not-below [] n m h = refl
 not-below (one ∷ more) n m h = rw (ne_eqb n m (λ e. omega arith)) (not-below more (n + 1) m (omega arith))
 
-nth-apart : (records : List (Result (List Value) RowFault)) (n : ℕ) → are_different (numbers_in (with_numbers n records)) ≡ true
+nth-apart : (records : List (Result (List Value) RowFault)) (n : ℕ) → are_different (numbers_in (with_numbers numbered_record n records)) ≡ true
 unfolding with_numbers
 nth-apart [] n = refl
 nth-apart (one ∷ more) n = and_from _ _ (ap not (not-below more (n + 1) n (omega arith))) (nth-apart more (n + 1))
 
-nth-ordered : (records : List (Result (List Value) RowFault)) (n : ℕ) → by_number (with_numbers n records) ≡ with_numbers n records
+nth-ordered : (records : List (Result (List Value) RowFault)) (n : ℕ) → by_number (with_numbers numbered_record n records) ≡ with_numbers numbered_record n records
 unfolding with_numbers by_number insert_numbered
 nth-ordered [] n = refl
 nth-ordered (one ∷ []) n = refl
@@ -116,12 +117,12 @@ nth-ordered (one ∷ next ∷ more) n =
     ∙ rw (le-ltb (n + 1) n (omega arith)) refl
 
 -- records that were dealt out stand, put in order, as they were
-pub records-ordered : (records : List (Result (List Value) RowFault)) (xs : List Arrival) → Same xs (with_numbers 1 records) → by_number xs ≡ with_numbers 1 records
+pub records-ordered : (records : List (Result (List Value) RowFault)) (xs : List Arrival) → Same xs (with_numbers numbered_record 1 records) → by_number xs ≡ with_numbers numbered_record 1 records
 records-ordered records xs h =
     by_number-same h (same-different (same-map (λ (one : Arrival). one.from) h) ∙ nth-apart records 1) ∙ nth-ordered records 1
 
 -- those with a fault are refused
-pub records-refused : (op : ℕ) (records : List (Result (List Value) RowFault)) (n : ℕ) → refused_in op (with_numbers n records) ≡ refused_records op n records
+pub records-refused : (op : ℕ) (records : List (Result (List Value) RowFault)) (n : ℕ) → refused_in op (with_numbers numbered_record n records) ≡ refused_records op n records
 unfolding with_numbers refused_records
 records-refused op [] n = refl
 records-refused op (Ok row ∷ more) n = records-refused op more (n + 1)

@@ -5,6 +5,7 @@ use Rattle.std.specs.List.{filter_map, flat_map, list_all}
 use Rattle.std.proofs.lemmas.Bool.{and_from, and_parts, eqb-true, false≢true}
 use Rattle.std.proofs.lemmas.List.{append-nil}
 use Rattle.std.proofs.lemmas.List.Folds.{list_all-map}
+use Rattle.amber_meaning.specs.Plan.{numbered_record}
 use Rattle.amber_rows.specs.Cond.{holds_of}
 use Rattle.amber_rows.specs.Crew.{reads, what_at, workers_of}
 use Rattle.amber_rows.specs.FlowRules.{IsFlow, columns_at, kind_of}
@@ -30,7 +31,7 @@ use Rattle.amber_meaning.specs.ScanFiles.{files_left, records_at}
 use Rattle.amber_meaning.specs.Legal.{Query, query_over}
 use Rattle.amber_meaning.specs.Plain.{outputs, records_of}
 use Rattle.amber_meaning.specs.Kinds.{rows_of}
-use Rattle.amber_meaning.specs.Plan.{with_numbers}
+use Rattle.amber_rows.specs.Shares.{with_numbers}
 use Rattle.amber_meaning.specs.Task.{Arrival, rows_in}
 use Rattle.amber_meaning.specs.Produce.{closing, yields}
 use Rattle.amber_meaning.specs.Total.{dealt_to, given, gives}
@@ -118,7 +119,7 @@ typed-over flow files size most is op some within scan =
 
 scan_alone : (flow : List Operator) (op : ℕ) (file : List ℕ) (number : ℕ) (records : List (Result (List Value) RowFault))
     → list_all (is_typed (columns_at flow op)) records ≡ true
-    → flat_map (λ one. yields (task_with flow op (what.Scan file)) [] one []) (with_numbers number records) ≡ filter_map ok_of records
+    → flat_map (λ one. yields (task_with flow op (what.Scan file)) [] one []) (with_numbers numbered_record number records) ≡ filter_map ok_of records
 unfolding with_numbers yields
 scan_alone flow op file number [] h = refl
 scan_alone flow op file number (Ok row ∷ records) h =
@@ -135,7 +136,7 @@ scan-together : (query : Query) (op : ℕ) (file : List ℕ) → IsOperator quer
     → Same (flat_map (dealt_to query) (workers_of query.flow op)) (filter_map ok_of (list_at query.records op))
 scan-together query op file h typed =
     let task = task_with query.flow op (what.Scan file) in
-    let all = with_numbers 1 (list_at query.records op) in
+    let all = with_numbers numbered_record 1 (list_at query.records op) in
     let scan : is_scan (what_at query.flow op) ≡ true = ap is_scan h.is in
     Join (flat_map (dealt_to query) (workers_of query.flow op)) (gives task all) (filter_map ok_of (list_at query.records op))
     (one-by-one query op (what.Scan file) h (λ one. yields task [] one []) (scan_gives query.flow op file) all

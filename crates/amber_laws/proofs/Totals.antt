@@ -5,6 +5,7 @@ use Rattle.std.proofs.lemmas.Bool.{and_parts, false≢true, not-true}
 use Rattle.std.proofs.lemmas.List.{length-map}
 use Rattle.std.proofs.lemmas.List.Concat.{length-flat_map}
 use Rattle.std.proofs.lemmas.List.Sums.{sum_by-append, sum_by-cons}
+use Rattle.amber_meaning.specs.Plan.{numbered_record}
 use Rattle.amber_rows.specs.Lists.{numbers_below, list_at}
 use Rattle.amber_rows.specs.Crew.{crew_of, op_of, what_at, workers_of}
 use Rattle.amber_rows.specs.FlowRules.{IsFlow}
@@ -14,7 +15,7 @@ use Rattle.amber_rows.specs.declared.record.RowFault.{RowFault}
 use Rattle.amber_rows.specs.declared.value.Value.{Value}
 use Rattle.amber_meaning.specs.Legal.{Query, query_over}
 use Rattle.amber_meaning.specs.Plain.{records_of}
-use Rattle.amber_meaning.specs.Plan.{with_numbers}
+use Rattle.amber_rows.specs.Shares.{with_numbers}
 use Rattle.amber_meaning.specs.Stops.{op_numbers}
 use Rattle.amber_meaning.specs.Total.{dealt_to, given, arrivals_from, step_total, work_of}
 use Rattle.amber_laws.proofs.Answered.{plain_rows}
@@ -45,7 +46,7 @@ sum-flat f g (n ∷ ns) =
     let later = sum-flat f g ns in
     omega (arith, sum_by-append f (g n) (flat_map g ns), sum_by-cons (λ n. sum_by f (g n)) n ns)
 
-nth-length : (number : ℕ) (records : List (Result (List Value) RowFault)) → length (with_numbers number records) ≡ length records
+nth-length : (number : ℕ) (records : List (Result (List Value) RowFault)) → length (with_numbers numbered_record number records) ≡ length records
 unfolding with_numbers
 nth-length number [] = refl
 nth-length number (one ∷ records) = ap suc (nth-length (number + 1) records)

@@ -31,7 +31,8 @@ use Rattle.amber_log.specs.declared.leg.Part.{Part}
 use Rattle.amber_log.specs.declared.log.Item.{Item}
 use Rattle.amber_log.specs.declared.log.Item.TheVariants as item
 use Rattle.amber_meaning.specs.Legal.{Query, batches_for, entries_of, stream_of}
-use Rattle.amber_meaning.specs.Plan.{role_of, share_of, task_of, with_numbers}
+use Rattle.amber_meaning.specs.Plan.{role_of, task_of}
+use Rattle.amber_rows.specs.Shares.{share_of, with_numbers}
 use Rattle.amber_meaning.specs.Position.{fed, have_ended, kept, product, taken_from}
 use Rattle.amber_meaning.specs.Replay.{after_item, after_items, led_by, positions_after, state_after, after_leg}
 use Rattle.amber_meaning.specs.State.{begin_leg, begin_last_leg, after_command, counted_by, crew_at, emitted_by, start_of, steps_in}

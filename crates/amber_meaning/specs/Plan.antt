@@ -1,5 +1,6 @@
 -- The roles of a workflow's workers, from the typed records of its scans.
 use Rattle.std.specs.Prelude.{ℕ, ◌+◌, ◌-◌, ◌%◌, ◌==◌, List, [], ◌∷◌, filter, Result, Option, Some, None, unwrap_or}
+use Rattle.amber_rows.specs.Shares.{share_of, with_numbers}
 use Rattle.amber_rows.specs.Kinds.{build_input, main_input}
 use Rattle.amber_rows.specs.Crew.{first_worker_of, op_of, senders_of, what_at, worker_count, workers_of}
 use Rattle.amber_rows.specs.FlowRules.{columns_at}
@@ -40,25 +41,20 @@ task_of flow op = record {
   builders = builders_in flow (what_at flow op);
 }
 
--- records with their numbers from this one on
-unfoldable pub with_numbers : ℕ → List (Result (List Value) RowFault) → List Arrival
-with_numbers number [] = []
-with_numbers number (one ∷ more) = record { from = number; what = one } ∷ with_numbers (number + 1) more
+-- a record of a scan's file and its number, as they are handed to a worker
+abbrev pub numbered_record : ℕ → Result (List Value) RowFault → Arrival
+numbered_record number what = record { from = number; what = what }
 
--- the worker of a scan, by its place from 0, that has the record with this number: they take turns
-abbrev pub turn_of : ℕ → ℕ → ℕ
-turn_of workers number = (number - 1) % workers
+abbrev pub record_number : Arrival → ℕ
+record_number one = one.from
 
--- the share of a scan's worker: every record whose turn is its own
-unfoldable pub share_of : List (Result (List Value) RowFault) → ℕ → ℕ → List Arrival
-share_of records workers place = filter (λ arrivals. turn_of workers arrivals.from == place) (with_numbers 1 records)
-
--- the role of a worker
+-- the role of a worker; of a scan's workers each has the records whose turn is its own
 unfoldable pub role_of : List Operator → List (List (Result (List Value) RowFault)) → ℕ → Role
 role_of flow records worker =
     let op = op_of flow worker in
     record {
       task = task_of flow op;
       senders = senders_of flow worker;
-      share = share_of (list_at records op) (worker_count flow op) (worker - first_worker_of flow op);
+      share = share_of record_number (worker_count flow op) (worker - first_worker_of flow op)
+          (with_numbers numbered_record 1 (list_at records op));
     }

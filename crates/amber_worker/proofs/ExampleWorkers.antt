@@ -21,7 +21,8 @@ use Rattle.amber_log.specs.declared.log.Item.{Item}
 use Rattle.amber_log.specs.declared.log.Item.TheVariants as item
 use Rattle.amber_meaning.specs.Legal.{Query, batches_for, entries_of, role_in, stream_of}
 use Rattle.amber_judge.specs.LegalTests.{are_offered, begins, is_settled, may_close_end, may_lead, may_make, may_reach, may_work, same_rows}
-use Rattle.amber_meaning.specs.Plan.{role_of, share_of, task_of, with_numbers}
+use Rattle.amber_meaning.specs.Plan.{role_of, task_of}
+use Rattle.amber_rows.specs.Shares.{share_of, with_numbers}
 use Rattle.amber_meaning.specs.Position.{Position, fed, have_ended, kept, origin, product, taken_from}
 use Rattle.amber_meaning.specs.Replay.{after_item, after_items, led_by, positions_after, state_after, after_leg}
 use Rattle.amber_judge.specs.RuleTests.{may_finish, may_go, may_take}

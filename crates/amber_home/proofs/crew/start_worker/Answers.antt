@@ -1,6 +1,6 @@
 -- What is known of the operator is known of its worker.
 use Rattle.std.proofs.Common.{◌≡◌, get_or, Err, rules}
-use Rattle.amber_home.proofs.Alone.{columns-few, crew-alone, headed-other, kind-here, names-at, scan-same, schema-here, stands-other, stands-scan, what-alone}
+use Rattle.amber_home.proofs.Alone.{columns-few, crew-alone, headed-other, kind-here, names-at, schema-here, stands-other, stands-scan, what-alone}
 use Rattle.amber_home.proofs.crew.start_worker.Goals as goal
 
 pub whole_share-requires-clause-columns : goal.whole_share-requires-clause-columns
@@ -21,7 +21,7 @@ pub new-requires-clause-shared : goal.new-requires-clause-shared
 new-requires-clause-shared c =
     let o = c.index-get-before.result in
     let e : o ≡ get_or c.args.flow.now c.args.before o = rw c.get.ensures.operators at c.index-get-before.is in
-    rw (what-alone c.args.flow.now c.args.before o c.requires.alone c.requires.there e, scan-same o.what) (search rules)
+    rw (what-alone c.args.flow.now c.args.before o c.requires.alone c.requires.there e) (search rules)
 
 pub new-requires-in-Filter-clause-there : goal.new-requires-in-Filter-clause-there
 new-requires-in-Filter-clause-there c = rw (crew-alone c.args.flow.now c.requires.alone) c.requires.there
@@ -30,7 +30,7 @@ pub new-requires-in-Filter-clause-shared : goal.new-requires-in-Filter-clause-sh
 new-requires-in-Filter-clause-shared c =
     let o = c.index-get-before.result in
     let e : o ≡ get_or c.args.flow.now c.args.before o = rw c.get.ensures.operators at c.index-get-before.is in
-    rw (what-alone c.args.flow.now c.args.before o c.requires.alone c.requires.there e, scan-same o.what) (search rules)
+    rw (what-alone c.args.flow.now c.args.before o c.requires.alone c.requires.there e) (search rules)
 
 pub returns-in_ok-worker-in-Scan-clause-header : goal.returns-in_ok-worker-in-Scan-clause-header
 returns-in_ok-worker-in-Scan-clause-header c =

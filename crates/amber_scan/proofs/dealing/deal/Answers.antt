@@ -3,7 +3,7 @@ use Rattle.std.proofs.Common.{◌≡◌, ◌<◌, [], ◌∷◌, ◌++◌, false
 use Rattle.std.proofs.lemmas.List.{length_push, length-set, with_items_is}
 use Rattle.csv.specs.Records.{fields_of}
 use Rattle.amber_rows.proofs.Headers.{header-none, header-some}
-use Rattle.amber_scan.specs.Shares.{turn_of}
+use Rattle.amber_rows.specs.Shares.{turn_of}
 use Rattle.amber_scan.proofs.Dealt.{AreDealt-none, dealt-all, dealt-more}
 use Rattle.amber_scan.proofs.dealing.deal.Goals as goal
 
