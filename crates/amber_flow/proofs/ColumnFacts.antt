@@ -4,8 +4,7 @@ use Rattle.std.proofs.lemmas.List.{drop_all}
 use Rattle.std.specs.List.{list_all, list_any}
 use Rattle.serde_json.specs.View.{view}
 use Rattle.serde_json.specs.declared.value.Value.{Value}
-use Rattle.amber_rows.specs.Columns.{names_of}
-use Rattle.amber_rows.specs.FlowRules.{are_apart, is_among, is_column_name}
+use Rattle.amber_rows.specs.Columns.{names_of, are_apart, is_among, is_column_name}
 use Rattle.amber_rows.specs.declared.column.Column.{Column}
 use Rattle.amber_rows.specs.Chain.{◌>>=◌}
 use Rattle.amber_flow.specs.Columns.{column_of, columns_of}

@@ -2,9 +2,9 @@
 use Rattle.std.proofs.Common.{◌≡◌, ℕ, true, List, [], ◌∷◌, ◌++◌, map, Option, Some, None, is_some, refl}
 use Rattle.std.proofs.lemmas.List.{map-append}
 use Rattle.std.specs.List.{filter_map, list_all}
-use Rattle.amber_rows.specs.Columns.{names_of}
+use Rattle.amber_rows.specs.Columns.{names_of, HasInput, IsEarlier, agg_kind, agg_name, column_kinds}
 use Rattle.amber_rows.specs.Lists.{nth}
-use Rattle.amber_rows.specs.FlowRules.{HasInput, IsEarlier, IsKind, agg_kind, agg_name, column_kinds}
+use Rattle.amber_rows.specs.Kinds.{IsKind}
 use Rattle.amber_rows.specs.declared.agg.Agg.{Agg}
 use Rattle.amber_rows.specs.declared.column.ColKind.{ColKind}
 use Rattle.amber_rows.specs.declared.column.Column.{Column}

@@ -4,7 +4,8 @@ use Rattle.std.proofs.lemmas.List.{drop_all}
 use Rattle.std.proofs.lemmas.List.Elements.{All-cons, All-nil}
 use Rattle.std.specs.List.{cons_option, filter_map}
 use Rattle.amber_rows.specs.Lists.{nth}
-use Rattle.amber_rows.specs.FlowRules.{AreIn, HasInput, IsEarlier, IsKind, kinds_at, column_kind_at}
+use Rattle.amber_rows.specs.Columns.{AreIn, HasInput, IsEarlier, kinds_at, column_kind_at}
+use Rattle.amber_rows.specs.Kinds.{IsKind}
 use Rattle.amber_rows.specs.declared.column.ColKind.{ColKind}
 use Rattle.amber_rows.specs.declared.column.ColKind.TheVariants.{Int, Text}
 use Rattle.amber_rows.specs.declared.column.Column.{Column}

@@ -8,9 +8,9 @@ use Rattle.std.proofs.lemmas.Slice.Eq.{bytes_eq-Decides}
 use Rattle.std.specs.List.{filter_map, list_all}
 use Rattle.serde_json.specs.Data.{Data}
 use Rattle.serde_json.specs.Find.{at}
-use Rattle.amber_rows.specs.Columns.{names_of}
+use Rattle.amber_rows.specs.Columns.{names_of, AreIn, HasInput, IsEarlier, column_kinds, columns_at, is_column_name, kinds_at, schema_of}
 use Rattle.amber_rows.specs.Lists.{nth}
-use Rattle.amber_rows.specs.FlowRules.{AreIn, HasInput, IsEarlier, IsKind, column_kinds, columns_at, is_column_name, kinds_at, schema_of}
+use Rattle.amber_rows.specs.Kinds.{IsKind}
 use Rattle.amber_rows.specs.declared.column.Column.{Column}
 use Rattle.amber_rows.specs.declared.flow.Operator.{Operator}
 use Rattle.amber_rows.specs.declared.flow.What.TheVariants as what

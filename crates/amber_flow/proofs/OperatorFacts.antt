@@ -6,7 +6,8 @@ use Rattle.std.proofs.lemmas.List.Elements.{All-push}
 use Rattle.std.specs.List.{list_any}
 use Rattle.serde_json.specs.View.{view}
 use Rattle.serde_json.specs.declared.value.Value.{Value}
-use Rattle.amber_rows.specs.FlowRules.{AreNext, IsNext, ends_in_sink, is_among}
+use Rattle.amber_rows.specs.FlowRules.{AreNext, IsNext, ends_in_sink}
+use Rattle.amber_rows.specs.Columns.{is_among}
 use Rattle.amber_rows.specs.Kinds.{is_sink}
 use Rattle.amber_rows.specs.declared.flow.Operator.{Operator}
 use Rattle.amber_rows.specs.Crew.{AreAlone}

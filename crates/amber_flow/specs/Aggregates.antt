@@ -1,7 +1,7 @@
 -- The aggregates of a group, as texts mean them.
 use Rattle.std.specs.Prelude.{ℕ, ◌||◌, List, length, drop, Option, Some, None, is_some, option_and_then, option_map, Bool, if◌then◌else◌, nat_eq, bytes_eq, codes}
 use Rattle.std.specs.List.{starts_with}
-use Rattle.amber_rows.specs.FlowRules.{agg_kind}
+use Rattle.amber_rows.specs.Columns.{agg_kind}
 use Rattle.amber_rows.specs.declared.agg.Agg.{Agg}
 use Rattle.amber_rows.specs.declared.agg.Agg.TheVariants as agg
 use Rattle.amber_rows.specs.declared.column.Column.{Column}

@@ -2,7 +2,7 @@
 use Rattle.std.specs.Prelude.{ℕ, List, ◌++◌, codes, is_some, ok_or, Result, Ok}
 use Rattle.std.specs.List.{filter_map, list_all}
 use Rattle.serde_json.specs.Data.{Data}
-use Rattle.amber_rows.specs.FlowRules.{agg_kind}
+use Rattle.amber_rows.specs.Columns.{agg_kind}
 use Rattle.amber_rows.specs.declared.column.Column.{Column}
 use Rattle.amber_rows.specs.declared.flow.What.TheVariants.{Group}
 use Rattle.amber_rows.specs.declared.flow.Operator.{Operator}

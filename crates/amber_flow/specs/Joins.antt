@@ -3,7 +3,7 @@ use Rattle.std.specs.Prelude.{◌≡◌, ℕ, ◌==◌, ◌&&◌, nat_lt, List, 
 use Rattle.std.specs.List.{filter_map}
 use Rattle.serde_json.specs.Data.{Data}
 use Rattle.amber_rows.specs.Suits.{same_kind}
-use Rattle.amber_rows.specs.FlowRules.{AreIn, kinds_at, column_kind_at}
+use Rattle.amber_rows.specs.Columns.{AreIn, kinds_at, column_kind_at}
 use Rattle.amber_rows.specs.declared.column.ColKind.{ColKind}
 use Rattle.amber_rows.specs.declared.column.ColKind.TheVariants.{Int, Text}
 use Rattle.amber_rows.specs.declared.column.Column.{Column}

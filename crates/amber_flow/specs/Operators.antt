@@ -3,9 +3,8 @@ use Rattle.std.specs.Prelude.{ℕ, ◌+◌, ◌==◌, ◌&&◌, not, nat_lt, nat
 use Rattle.std.specs.List.{filter_map}
 use Rattle.serde_json.specs.Data.{Data}
 use Rattle.serde_json.specs.Find.{as_i64, as_number, as_str, as_u64, get}
-use Rattle.amber_rows.specs.Columns.{names_of}
+use Rattle.amber_rows.specs.Columns.{names_of, are_apart, is_among, is_id}
 use Rattle.amber_rows.specs.Lists.{nth}
-use Rattle.amber_rows.specs.FlowRules.{are_apart, is_among, is_id}
 use Rattle.amber_rows.specs.declared.value.Value.{Value}
 use Rattle.amber_rows.specs.declared.value.Value.TheVariants as value
 use Rattle.amber_rows.specs.declared.column.ColKind.{ColKind}

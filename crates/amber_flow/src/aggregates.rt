@@ -1,6 +1,6 @@
 ghost use Rattle.std.specs.Prelude.{◌≡◌, ◌++◌, ◌≤◌, IfOk, OnOk, is_some, length, map, option_map};
 ghost use Rattle.std.specs.List.{filter_map, list_all};
-ghost use Rattle.amber_rows.specs.FlowRules.{agg_kind};
+ghost use Rattle.amber_rows.specs.Columns.{agg_kind};
 ghost use Rattle.amber_flow.specs.Aggregates.{agg_column, agg_of, behind, is_agg_text};
 ghost use Rattle.amber_rows.specs.Chain.{each};
 

@@ -1,8 +1,7 @@
 ghost use Rattle.std.specs.Prelude.{◌≡◌, ◌++◌, [], OnOk, ◌+◌, ◌^◌, ◌≤◌, ◌<◌, true, length, map, option_map, position, bytes_eq, IfOk, IfSome, MatchResult, Ok, Err};
 ghost use Rattle.std.specs.List.{cons_option, filter_map, list_all, list_any};
 ghost use Rattle.serde_json.specs.View.{view};
-ghost use Rattle.amber_rows.specs.Columns.{names_of};
-ghost use Rattle.amber_rows.specs.FlowRules.{are_apart, is_among, is_column_name, column_kind_at};
+ghost use Rattle.amber_rows.specs.Columns.{names_of, are_apart, is_among, is_column_name, column_kind_at};
 ghost use Rattle.amber_rows.specs.Chain.{each};
 ghost use Rattle.amber_flow.specs.Columns.{column_named, column_number, column_of, columns_of};
 

@@ -1,7 +1,7 @@
 ghost use Rattle.std.specs.Prelude.{◌≡◌, ◌<◌, ◌≤◌, All, IfOk, IfSome, false, length, true};
 ghost use Rattle.serde_json.specs.View.{view};
-ghost use Rattle.amber_rows.specs.FlowRules.{IsCondOn, IsKind, kind_of};
-ghost use Rattle.amber_rows.specs.Kinds.{is_sink};
+ghost use Rattle.amber_rows.specs.Columns.{IsCondOn, kind_of};
+ghost use Rattle.amber_rows.specs.Kinds.{is_sink, IsKind};
 ghost use Rattle.amber_flow.specs.Inputs.{IsNarrow};
 ghost use Rattle.amber_flow.specs.Operators.{cond_of, flow_constant, filter_of};
 

@@ -1,8 +1,8 @@
 ghost use Rattle.std.specs.Prelude.{◌≡◌, ◌++◌, ◌<◌, ◌≤◌, All, IfOk, List, false, is_some, length, map, option_map, true};
 ghost use Rattle.std.specs.List.{filter_map, list_all};
 ghost use Rattle.serde_json.specs.View.{view};
-ghost use Rattle.amber_rows.specs.FlowRules.{HasInput, IsEarlier, IsKind};
-ghost use Rattle.amber_rows.specs.Kinds.{is_sink};
+ghost use Rattle.amber_rows.specs.Columns.{HasInput, IsEarlier};
+ghost use Rattle.amber_rows.specs.Kinds.{is_sink, IsKind};
 ghost use Rattle.amber_rows.specs.declared.flow.Operator.{Operator as OneOperator};
 ghost use Rattle.amber_flow.specs.Aggregates.{agg_column};
 ghost use Rattle.amber_flow.specs.Columns.{column_named};

@@ -1,7 +1,7 @@
 ghost use Rattle.std.specs.Prelude.{◌≡◌, ◌<◌, ◌≤◌, true, false, bytes_eq, IfOk, IfSome, option_map};
 ghost use Rattle.std.specs.List.{list_any};
 ghost use Rattle.serde_json.specs.View.{view};
-ghost use Rattle.amber_rows.specs.FlowRules.{is_among, is_id};
+ghost use Rattle.amber_rows.specs.Columns.{is_among, is_id};
 ghost use Rattle.amber_flow.specs.Operators.{head_of, ids_of, is_placed, most_workers, new_id, workers_from};
 ghost use Rattle.amber_flow.specs.Names.{is_sink_kind};
 

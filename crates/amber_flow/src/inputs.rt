@@ -1,5 +1,5 @@
 ghost use Rattle.std.specs.Prelude.{◌≡◌, ◌<◌, ◌≤◌, All, IfSome, Some, bytes_eq, length, option_map, position};
-ghost use Rattle.amber_rows.specs.FlowRules.{HasInput};
+ghost use Rattle.amber_rows.specs.Columns.{HasInput};
 ghost use Rattle.amber_flow.specs.Inputs.{IsNarrow, operator_columns, operator_number};
 
 use amber_rows::{Operator, Schema};

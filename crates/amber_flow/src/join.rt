@@ -1,8 +1,8 @@
 ghost use Rattle.std.specs.Prelude.{◌≡◌, ◌++◌, ◌<◌, ◌≤◌, All, IfOk, OnOk, false, length, map, true};
 ghost use Rattle.std.specs.List.{filter_map};
 ghost use Rattle.serde_json.specs.View.{view};
-ghost use Rattle.amber_rows.specs.FlowRules.{IsKind, column_kind_at};
-ghost use Rattle.amber_rows.specs.Kinds.{is_sink};
+ghost use Rattle.amber_rows.specs.Columns.{column_kind_at};
+ghost use Rattle.amber_rows.specs.Kinds.{is_sink, IsKind};
 ghost use Rattle.amber_flow.specs.Inputs.{IsNarrow};
 ghost use Rattle.amber_flow.specs.Joins.{AreKeys, are_alike, are_paired, join_of, keys_of};
 ghost use Rattle.amber_rows.specs.Suits.{same_kind};

@@ -1,6 +1,6 @@
 ghost use Rattle.std.specs.Prelude.{◌≡◌};
 ghost use Rattle.std.specs.List.{list_all};
-ghost use Rattle.amber_rows.specs.FlowRules.{is_column_name, is_id, is_id_byte, is_letter};
+ghost use Rattle.amber_rows.specs.Columns.{is_column_name, is_id, is_id_byte, is_letter};
 ghost use Rattle.amber_flow.specs.Names.{column_kind_named, is_sink_kind, kind_named, sign_named};
 
 use amber_rows::{Cmp, ColKind};
@@ -87,7 +87,7 @@ fn are_later_id_bytes(bytes: &[u8]) -> bool
 }
 
 /// Whether a text may be an operator's id: a letter, and up to 31 letters, digits and `_`.
-#[tactic(auto, unfolding(amber_rows::specs::FlowRules::is_id))]
+#[tactic(auto, unfolding(amber_rows::specs::Columns::is_id))]
 pub fn is_operator_id(id: &str) -> bool
     ensures { result ≡ is_id id.now }
 {

@@ -1,7 +1,7 @@
 ghost use Rattle.std.specs.Prelude.{◌≡◌, ◌<◌, All, IfOk, length, true};
 ghost use Rattle.serde_json.specs.View.{view};
-ghost use Rattle.amber_rows.specs.FlowRules.{AreColumns, IsKind};
-ghost use Rattle.amber_rows.specs.Kinds.{is_sink};
+ghost use Rattle.amber_rows.specs.Columns.{AreColumns};
+ghost use Rattle.amber_rows.specs.Kinds.{is_sink, IsKind};
 ghost use Rattle.amber_flow.specs.Inputs.{IsNarrow};
 ghost use Rattle.amber_flow.specs.Operators.{check_columns, parts_of};
 ghost use Rattle.amber_flow.specs.Names.{is_sink_kind};

@@ -1,8 +1,7 @@
 ghost use Rattle.std.specs.Prelude.{◌≡◌, IfOk, List, false, true};
 ghost use Rattle.serde_json.specs.View.{view};
 ghost use Rattle.amber_rows.specs.declared.flow.Operator.{Operator as OneOperator};
-ghost use Rattle.amber_rows.specs.FlowRules.{IsKind};
-ghost use Rattle.amber_rows.specs.Kinds.{is_sink};
+ghost use Rattle.amber_rows.specs.Kinds.{is_sink, IsKind};
 ghost use Rattle.amber_flow.specs.Operators.{scan_of};
 
 use crate::columns::read_columns;

@@ -10,7 +10,8 @@ use Rattle.amber_rows.specs.Kinds.{is_scan}
 use Rattle.amber_rows.specs.Lists.{list_at, numbers_below, nth}
 use Rattle.amber_rows.specs.Crew as crew
 use Rattle.amber_rows.specs.Crew.{crew_of, first_worker_of, op_of, what_at, worker_count, workers_in, workers_of, AreAlone}
-use Rattle.amber_rows.specs.FlowRules.{IsFlow, schema_of}
+use Rattle.amber_rows.specs.FlowRules.{IsFlow}
+use Rattle.amber_rows.specs.Columns.{schema_of}
 use Rattle.amber_rows.specs.declared.flow.Operator.{Operator}
 use Rattle.amber_rows.specs.declared.flow.What.{What}
 use Rattle.amber_rows.specs.declared.flow.What.TheVariants as what

@@ -6,7 +6,8 @@ use Rattle.std.proofs.lemmas.List.{append-nil, get_or_default, map_push, nil_fro
 use Rattle.std.proofs.lemmas.List.Concat.{flat_map-append}
 use Rattle.amber_rows.specs.Lists.{numbers_below, list_at}
 use Rattle.amber_rows.specs.Crew.{crew_of, reads, what_at, workers_of}
-use Rattle.amber_rows.specs.FlowRules.{IsFlow, columns_at}
+use Rattle.amber_rows.specs.FlowRules.{IsFlow}
+use Rattle.amber_rows.specs.Columns.{columns_at}
 use Rattle.amber_rows.specs.Kinds.{is_sink, is_scan}
 use Rattle.amber_rows.specs.Operators.{refused_keys}
 use Rattle.amber_rows.specs.Order.{sort_rows}

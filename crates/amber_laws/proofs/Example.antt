@@ -5,7 +5,8 @@ use Rattle.std.specs.Prelude.{⊤}
 use Rattle.std.specs.Str.{chars, is_utf8}
 use Rattle.std.proofs.lemmas.Bool.{false≢true}
 use Rattle.std.proofs.lemmas.List.Elements.{All-cons, All-nil}
-use Rattle.amber_rows.specs.FlowRules.{AreIn, AreNext, IsFlow, IsNext, are_apart, ends_in_sink, is_id, reader_count}
+use Rattle.amber_rows.specs.FlowRules.{AreNext, IsFlow, IsNext, ends_in_sink, reader_count}
+use Rattle.amber_rows.specs.Columns.{AreIn, are_apart, is_id}
 use Rattle.amber_rows.specs.Number.{read_int_of}
 use Rattle.amber_rows.specs.Record.{cells_of, file_records, row_of, typed_records}
 use Rattle.amber_rows.specs.declared.agg.Agg.TheVariants as agg

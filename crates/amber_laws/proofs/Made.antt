@@ -9,7 +9,9 @@ use Rattle.std.proofs.lemmas.Option.{none-some, same_Some}
 use Rattle.amber_rows.specs.Cond.{holds_of}
 use Rattle.amber_rows.specs.Lists.{nth}
 use Rattle.amber_rows.specs.Crew.{crew_of, op_of, what_at}
-use Rattle.amber_rows.specs.FlowRules.{HasInput, IsEarlier, IsFlow, IsKind, agg_kind, column_kinds, columns_at, kinds_at, schema_of}
+use Rattle.amber_rows.specs.FlowRules.{IsFlow}
+use Rattle.amber_rows.specs.Columns.{HasInput, IsEarlier, agg_kind, column_kinds, columns_at, kinds_at, schema_of}
+use Rattle.amber_rows.specs.Kinds.{IsKind}
 use Rattle.amber_rows.specs.Operators.{matches_of}
 use Rattle.amber_rows.specs.Suits.{suits_of}
 use Rattle.amber_rows.specs.declared.value.Value.{Value}

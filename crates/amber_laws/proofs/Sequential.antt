@@ -8,7 +8,8 @@ use Rattle.std.proofs.lemmas.List.Folds.{list_all-map}
 use Rattle.amber_meaning.specs.Plan.{numbered_record}
 use Rattle.amber_rows.specs.Cond.{holds_of}
 use Rattle.amber_rows.specs.Crew.{reads, what_at, workers_of}
-use Rattle.amber_rows.specs.FlowRules.{IsFlow, columns_at, kind_of}
+use Rattle.amber_rows.specs.FlowRules.{IsFlow}
+use Rattle.amber_rows.specs.Columns.{columns_at, kind_of}
 use Rattle.amber_rows.specs.Kinds.{is_sink, is_scan}
 use Rattle.amber_rows.specs.Number.{read_int_of}
 use Rattle.amber_rows.specs.Operators.{join_result, matches_of, pick_cells, project_result, refused_keys, same_row}

@@ -7,7 +7,7 @@ use Rattle.std.proofs.lemmas.List.Folds.{list_all-append}
 use Rattle.std.specs.Ordering.{is_gt, is_lt}
 use Rattle.std.proofs.lemmas.Option.{none-some, same_Some, slice_get-map}
 use Rattle.amber_rows.specs.Lists.{nth}
-use Rattle.amber_rows.specs.FlowRules.{agg_kind, column_kinds, kind_of, kinds_at}
+use Rattle.amber_rows.specs.Columns.{agg_kind, column_kinds, kind_of, kinds_at}
 use Rattle.amber_rows.specs.Number.{fits_i64}
 use Rattle.amber_rows.specs.Operators.{agg_value, agg_values, cells_at, first_keys, greatest_of, greatest_value, group_row, group_result, int_value, least_of, least_value, matches_of, pick_cells, rows_with, same_row, total_of}
 use Rattle.amber_rows.specs.Order.{value_cmp}

@@ -8,7 +8,8 @@ use Rattle.std.proofs.lemmas.List.Elements.{filter_agree}
 use Rattle.amber_rows.specs.Cond.{holds_of}
 use Rattle.amber_rows.specs.Crew.{first_worker_of, keyed_receiver_of, op_of, reader_of, receiver_of, what_at, worker_count, workers_of}
 use Rattle.amber_rows.specs.Kinds.{is_keyed, side_keys, inputs_of, is_scan}
-use Rattle.amber_rows.specs.FlowRules.{IsFlow, columns_at}
+use Rattle.amber_rows.specs.FlowRules.{IsFlow}
+use Rattle.amber_rows.specs.Columns.{columns_at}
 use Rattle.amber_rows.specs.Operators.{group_result, join_result, pick_cells, project_result, refused_keys}
 use Rattle.amber_rows.specs.Routing.{fnv_of, key_bytes_of, key_piece, route_of}
 use Rattle.amber_rows.specs.Suits.{suits_of}

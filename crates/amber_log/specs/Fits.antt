@@ -1,7 +1,7 @@
 -- Which commands a workflow takes.
 use Rattle.std.specs.Prelude.{ℕ, ◌^◌, ◌&&◌, nat_lt, nat_le, not, List, Option, Some, None, Bool, true, false}
 use Rattle.amber_rows.specs.Lists.{nth}
-use Rattle.amber_rows.specs.FlowRules.{kind_of}
+use Rattle.amber_rows.specs.Columns.{kind_of}
 use Rattle.amber_rows.specs.Kinds.{is_sink, settable_cond}
 use Rattle.amber_rows.specs.Suits.{same_kind}
 use Rattle.amber_rows.specs.declared.value.Value.{Value}

@@ -1,7 +1,9 @@
 -- The workflows of the examples are workflows.
 use Rattle.std.proofs.Common.{◌≡◌, ◌<◌, ◌≤◌, ℕ, zero, suc, pos, List, [], ◌∷◌, ◌++◌, length, map, codes, refl, false, true, arith}
 use Rattle.std.proofs.lemmas.List.Elements.{All-cons, All-nil}
-use Rattle.amber_rows.specs.FlowRules.{AreColumns, AreIn, AreNext, IsFlow, IsKind, IsNext, are_apart, ends_in_sink, is_among, is_id, reader_count}
+use Rattle.amber_rows.specs.FlowRules.{AreNext, IsFlow, IsNext, ends_in_sink, reader_count}
+use Rattle.amber_rows.specs.Columns.{AreColumns, AreIn, are_apart, is_among, is_id}
+use Rattle.amber_rows.specs.Kinds.{IsKind}
 use Rattle.amber_rows.specs.declared.value.Value.TheVariants as value
 use Rattle.amber_rows.specs.declared.agg.Agg.TheVariants as agg
 use Rattle.amber_rows.specs.declared.column.ColKind.TheVariants as kind

@@ -5,8 +5,9 @@ use Rattle.std.specs.List.{list_all, list_any, slice_get}
 use Rattle.std.proofs.lemmas.Bool.{and_from, and_parts, cases_lt, eqb-true, false≢true, lt-ltb, ltb-false, ltb-true, or_cases}
 use Rattle.std.proofs.lemmas.List.{length_push}
 use Rattle.amber_rows.specs.Crew.{kind_at, op_of, reads, senders_of, sends_to, what_at}
-use Rattle.amber_rows.specs.FlowRules.{AreNext, HasInput, IsEarlier, IsKind}
-use Rattle.amber_rows.specs.Kinds.{inputs_of}
+use Rattle.amber_rows.specs.FlowRules.{AreNext}
+use Rattle.amber_rows.specs.Columns.{HasInput, IsEarlier}
+use Rattle.amber_rows.specs.Kinds.{inputs_of, IsKind}
 use Rattle.amber_rows.specs.declared.column.Column.{Column}
 use Rattle.amber_rows.specs.declared.flow.What.{What}
 use Rattle.amber_rows.specs.declared.flow.What.TheVariants as what

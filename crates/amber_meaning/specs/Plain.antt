@@ -5,7 +5,7 @@ use Rattle.amber_meaning.specs.Kinds.{rows_of, refused_by}
 use Rattle.amber_rows.specs.Kinds.{is_scan}
 use Rattle.amber_rows.specs.Cond.{holds_of}
 use Rattle.amber_rows.specs.Lists.{nth, first_list, later_of, list_at}
-use Rattle.amber_rows.specs.FlowRules.{columns_at}
+use Rattle.amber_rows.specs.Columns.{columns_at}
 use Rattle.amber_rows.specs.Operators.{group_result, join_result, project_result, refused_keys}
 use Rattle.amber_rows.specs.Order.{sort_rows}
 use Rattle.amber_rows.specs.Record.{has_header, ok_of, typed_records}

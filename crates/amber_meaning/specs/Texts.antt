@@ -3,9 +3,8 @@ use Rattle.std.specs.Prelude.{ℕ, ◌+◌, ◌==◌, ◌&&◌, nat_le, not, Lis
 use Rattle.std.specs.List.{flat_map, list_all}
 use Rattle.std.specs.Fmt.{decimal, signed_decimal}
 use Rattle.amber_meaning.specs.Kinds.{kind_word}
-use Rattle.amber_rows.specs.Columns.{names_of}
+use Rattle.amber_rows.specs.Columns.{names_of, columns_at}
 use Rattle.amber_rows.specs.Lists.{nth}
-use Rattle.amber_rows.specs.FlowRules.{columns_at}
 use Rattle.amber_rows.specs.RowText.{fields_text_of, row_text_of, rows_text_of}
 use Rattle.amber_rows.specs.declared.value.Value.{Value}
 use Rattle.amber_rows.specs.declared.value.Value.TheVariants as value

@@ -4,7 +4,7 @@ use Rattle.std.specs.List.{filter_map, flat_map}
 use Rattle.amber_meaning.specs.Kinds.{extra_of, keys_refused}
 use Rattle.amber_rows.specs.Lists.{first_of}
 use Rattle.amber_rows.specs.Crew.{workers_of}
-use Rattle.amber_rows.specs.FlowRules.{columns_at}
+use Rattle.amber_rows.specs.Columns.{columns_at}
 use Rattle.amber_rows.specs.Operators.{first_keys, refused_keys}
 use Rattle.amber_rows.specs.Order.{sort_rows}
 use Rattle.amber_rows.specs.declared.value.Value.{Value}

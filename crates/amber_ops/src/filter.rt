@@ -1,6 +1,6 @@
 ghost use Rattle.std.specs.Prelude.{◌≡◌, IfOk, if◌then◌else◌};
 ghost use Rattle.amber_rows.specs.Cond.{holds_of};
-ghost use Rattle.amber_rows.specs.FlowRules.{kind_of};
+ghost use Rattle.amber_rows.specs.Columns.{kind_of};
 
 use amber_rows::{Cond, Row, Value, holds};
 use std::alloc::AllocError;

@@ -6,8 +6,9 @@ use Rattle.std.proofs.lemmas.List.Sums.{sum_by-append}
 use Rattle.amber_rows.specs.Cond.{holds_of}
 use Rattle.amber_rows.specs.Operators.{group_result, join_result, project_result, refused_keys}
 use Rattle.amber_rows.specs.Order.{sort_rows}
-use Rattle.amber_rows.specs.FlowRules.{IsFlow, IsKind, columns_at, reader_count}
-use Rattle.amber_rows.specs.Kinds.{inputs_of}
+use Rattle.amber_rows.specs.FlowRules.{IsFlow, reader_count}
+use Rattle.amber_rows.specs.Columns.{columns_at}
+use Rattle.amber_rows.specs.Kinds.{inputs_of, IsKind}
 use Rattle.amber_rows.proofs.FlowFacts.{reader_count-append}
 use Rattle.amber_rows.specs.declared.value.Value.{Value}
 use Rattle.amber_rows.specs.declared.column.Column.{Column}

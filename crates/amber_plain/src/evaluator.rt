@@ -1,7 +1,7 @@
 // The operators of a workflow, evaluated one after the other.
 ghost use Rattle.std.specs.Prelude.{◌≡◌, ◌<◌, ◌^◌, ◌++◌, ◌∷◌, [], length, filter, map, IfOk, OnOk};
 ghost use Rattle.amber_rows.specs.Cond.{holds_of};
-ghost use Rattle.amber_rows.specs.FlowRules.{columns_at};
+ghost use Rattle.amber_rows.specs.Columns.{columns_at};
 ghost use Rattle.amber_rows.specs.Operators.{group_result, refused_keys};
 ghost use Rattle.amber_meaning.specs.Plain.{IsPlain, scan_count};
 ghost use Rattle.amber_meaning.specs.Kinds.{refused_by, rows_of};

@@ -1,7 +1,7 @@
 //! Conditions as words of a line.
 ghost use Rattle.std.specs.Prelude.{◌≡◌, ◌++◌, OnOk};
 ghost use Rattle.std.specs.List.{flat_map};
-ghost use Rattle.amber_rows.specs.FlowRules.{columns_at};
+ghost use Rattle.amber_rows.specs.Columns.{columns_at};
 ghost use Rattle.amber_meaning.specs.Texts.{after_blank, column_name_at, cond_words};
 
 use crate::words::{push_quoted, push_value, push_word};

@@ -7,7 +7,8 @@ use Rattle.std.proofs.lemmas.Grind.{flat_map-append}
 use Rattle.std.proofs.lemmas.List.{append-nil}
 use Rattle.std.proofs.lemmas.List.Folds.{list_any-append}
 use Rattle.std.proofs.lemmas.List.Sums.{sum_by-append}
-use Rattle.amber_rows.specs.FlowRules.{AreNext, IsNext, are_apart, ends_in_sink, is_among, reader_count}
+use Rattle.amber_rows.specs.FlowRules.{AreNext, IsNext, ends_in_sink, reader_count}
+use Rattle.amber_rows.specs.Columns.{are_apart, is_among}
 use Rattle.amber_rows.specs.Kinds.{inputs_of, is_sink}
 use Rattle.amber_rows.specs.declared.flow.Operator.{Operator}
 

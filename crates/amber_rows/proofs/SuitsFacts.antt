@@ -1,7 +1,7 @@
 -- Whether a row fits columns, one column after the other.
 use Rattle.std.proofs.Common.{◌≡◌, ◌≢◌, ◌<◌, ◌≤◌, ◌+◌, ◌&&◌, ℕ, suc, List, [], ◌∷◌, length, drop, get_or, refl, sym, ◌∙◌, ap, add-one, drop-cons, true, false, Bool}
 use Rattle.std.proofs.lemmas.List.{drop_all}
-use Rattle.amber_rows.specs.FlowRules.{kind_of}
+use Rattle.amber_rows.specs.Columns.{kind_of}
 use Rattle.amber_rows.specs.Suits.{same_kind, suits_of}
 use Rattle.amber_rows.specs.declared.column.Column.{Column}
 use Rattle.amber_rows.specs.declared.value.Value.{Value}

@@ -1,8 +1,29 @@
 -- What is so of each kind of operator. Whoever asks for one of these facts asks here.
-use Rattle.std.specs.Prelude.{ℕ, ◌==◌, List, [], ◌∷◌, Option, Some, None, Bool, true, false, if◌then◌else◌}
+use Rattle.std.specs.Prelude.{◌≡◌, ℕ, ◌<◌, ◌≤◌, ◌==◌, List, [], ◌∷◌, ◌++◌, length, map, Option, Some, None, Bool, true, false, if◌then◌else◌}
+use Rattle.std.specs.List.{list_all}
+use Rattle.amber_rows.specs.Columns.{AreIn, HasInput, IsCondOn, IsEarlier, agg_kind, agg_name, column_kinds, columns_at, is_column_name, kinds_at, names_at, names_of}
+use Rattle.amber_rows.specs.declared.column.Column.{Column}
 use Rattle.amber_rows.specs.declared.cond.Cond.{Cond}
 use Rattle.amber_rows.specs.declared.flow.What.{What}
 use Rattle.amber_rows.specs.declared.flow.What.TheVariants as what
+use Rattle.amber_rows.specs.declared.flow.Operator.{Operator}
+
+-- ---- when it is well formed
+
+-- what each kind asks of an operator with these columns, where these stand before it
+abbrev pub IsKind : List Operator → What → List Column → Type 0
+IsKind before (what.Scan file) columns = (0 < length file) × (length file ≤ 255) × (list_all is_column_name (names_of columns) ≡ true)
+IsKind before (what.Filter input cond) columns = HasInput before input columns × IsCondOn columns cond
+IsKind before (what.Project input from) columns = IsEarlier before input × AreIn (columns_at before input) from
+    × (column_kinds columns ≡ kinds_at (columns_at before input) from) × (list_all is_column_name (names_of columns) ≡ true)
+IsKind before (what.Join build probe build_keys probe_keys) columns = IsEarlier before build × IsEarlier before probe
+    × AreIn (columns_at before build) build_keys × AreIn (columns_at before probe) probe_keys × (0 < length build_keys)
+    × (kinds_at (columns_at before build) build_keys ≡ kinds_at (columns_at before probe) probe_keys)
+    × (columns ≡ columns_at before probe ++ columns_at before build)
+IsKind before (what.Group input keys aggs) columns = IsEarlier before input × AreIn (columns_at before input) keys
+    × (map Some (column_kinds columns) ≡ map Some (kinds_at (columns_at before input) keys) ++ map (agg_kind (columns_at before input)) aggs)
+    × (names_of columns ≡ names_at (columns_at before input) keys ++ map (agg_name (columns_at before input)) aggs)
+IsKind before (what.Sink input) columns = HasInput before input columns
 
 -- ---- where its rows come from
 

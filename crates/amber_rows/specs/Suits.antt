@@ -1,6 +1,6 @@
 -- Whether a row fits columns.
 use Rattle.std.specs.Prelude.{◌&&◌, List, [], ◌∷◌, Bool, true, false}
-use Rattle.amber_rows.specs.FlowRules.{kind_of}
+use Rattle.amber_rows.specs.Columns.{kind_of}
 use Rattle.amber_rows.specs.declared.value.Value.{Value}
 use Rattle.amber_rows.specs.declared.column.ColKind.{ColKind}
 use Rattle.amber_rows.specs.declared.column.ColKind.TheVariants.{Int, Text}

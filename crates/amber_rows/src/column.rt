@@ -1,5 +1,5 @@
 ghost use Rattle.std.specs.Prelude.{◌≡◌, IfOk, length};
-ghost use Rattle.amber_rows.specs.FlowRules.{kind_of};
+ghost use Rattle.amber_rows.specs.Columns.{kind_of};
 ghost use Rattle.amber_rows.specs.Suits.{same_kind};
 
 use crate::text::Text;

@@ -5,7 +5,7 @@ use Rattle.std.specs.List.{list_all}
 use Rattle.std.proofs.lemmas.Bool.{and_from, ne_eqb}
 use Rattle.std.proofs.lemmas.List.Folds.{list_all-append}
 use Rattle.amber_rows.specs.Lists.{nth}
-use Rattle.amber_rows.specs.FlowRules.{kind_of}
+use Rattle.amber_rows.specs.Columns.{kind_of}
 use Rattle.amber_rows.specs.Suits.{same_kind}
 use Rattle.amber_rows.specs.declared.value.Value.{Value}
 use Rattle.amber_rows.specs.declared.column.ColKind.{ColKind}

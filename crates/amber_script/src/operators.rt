@@ -1,7 +1,7 @@
 //! Operators and constants that a command names.
 ghost use Rattle.std.specs.Prelude.{◌≡◌, ◌<◌, bytes_eq, length, position, true, IfOk, IfSome};
 ghost use Rattle.amber_rows.specs.Lists.{nth};
-ghost use Rattle.amber_rows.specs.FlowRules.{kind_of};
+ghost use Rattle.amber_rows.specs.Columns.{kind_of};
 ghost use Rattle.amber_rows.specs.Kinds.{is_sink};
 ghost use Rattle.amber_rows.specs.Suits.{same_kind};
 ghost use Rattle.amber_log.specs.Fits.{is_source, is_there};

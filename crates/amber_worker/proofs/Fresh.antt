@@ -10,7 +10,8 @@ use Rattle.amber_rows.specs.Chunks.{chunks_of}
 use Rattle.amber_rows.specs.Lists.{numbers_below, nth}
 use Rattle.amber_rows.specs.Crew.{crew_of, kind_at, op_of, receiver_of, receivers_of, senders_of, what_at, AreAlone}
 use Rattle.amber_rows.specs.Operators.{first_keys, group_result}
-use Rattle.amber_rows.specs.FlowRules.{IsFlow, columns_at}
+use Rattle.amber_rows.specs.FlowRules.{IsFlow}
+use Rattle.amber_rows.specs.Columns.{columns_at}
 use Rattle.amber_rows.specs.Kinds.{inputs_of, is_scan}
 use Rattle.amber_rows.specs.declared.value.Value.{Value}
 use Rattle.amber_rows.specs.declared.record.RowFault.{RowFault}

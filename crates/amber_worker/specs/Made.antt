@@ -1,7 +1,7 @@
 -- What a new worker is made of.
 use Rattle.std.specs.Prelude.{◌≡◌, ℕ, ◌+◌, ◌-◌, ◌<◌, List, [], length, map, option_to_list, MatchOption, Option, Bool, true, false, nat_lt, ◌∷◌, if◌then◌else◌}
 use Rattle.amber_rows.specs.Crew.{op_of, reads, what_at}
-use Rattle.amber_rows.specs.FlowRules.{columns_at}
+use Rattle.amber_rows.specs.Columns.{columns_at}
 use Rattle.amber_rows.specs.declared.flow.Operator.{Operator}
 use Rattle.amber_rows.specs.declared.flow.What.{What}
 use Rattle.amber_rows.specs.declared.flow.What.TheVariants as what

@@ -2,7 +2,7 @@
 
 ghost use Rattle.std.specs.Prelude.{◌≡◌, nat_lt, [], ◌∷◌, if◌then◌else◌, ◌+◌, ◌-◌, ◌^◌, ◌<◌, ℕ, All, true, false, length, map, option_to_list, IfOk, MatchOption};
 ghost use Rattle.amber_rows.specs.Crew.{reads, what_at};
-ghost use Rattle.amber_rows.specs.FlowRules.{columns_at};
+ghost use Rattle.amber_rows.specs.Columns.{columns_at};
 ghost use Rattle.amber_rows.specs.Kinds.{inputs_of};
 ghost use Rattle.amber_meaning.specs.Plan.{built_columns};
 ghost use Rattle.amber_worker.specs.Made.{IsOperatorStateOf, fresh_inbox, fresh_inboxes, fresh_outbox, handing_operator, is_join};

@@ -1,6 +1,5 @@
 use Rattle.std.proofs.Common.{◌≡◌, drop}
-use Rattle.amber_rows.specs.Columns.{names_of}
-use Rattle.amber_rows.specs.FlowRules.{are_apart}
+use Rattle.amber_rows.specs.Columns.{names_of, are_apart}
 use Rattle.amber_flow.proofs.columns.are_all_apart.Given as goal
 
 abbrev pub invariant-loop-index : goal.invariant-loop-index

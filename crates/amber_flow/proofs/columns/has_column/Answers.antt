@@ -1,6 +1,5 @@
 use Rattle.std.proofs.Common.{ap, ◌∙◌}
-use Rattle.amber_rows.specs.Columns.{names_of}
-use Rattle.amber_rows.specs.FlowRules.{is_among}
+use Rattle.amber_rows.specs.Columns.{names_of, is_among}
 use Rattle.amber_flow.proofs.ColumnFacts.{names-any}
 use Rattle.amber_flow.proofs.columns.has_column.Goals as goal
 

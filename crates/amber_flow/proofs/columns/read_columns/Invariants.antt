@@ -1,8 +1,7 @@
 use Rattle.std.proofs.Common.{◌≡◌, drop, map, true}
 use Rattle.std.specs.List.{list_all}
 use Rattle.serde_json.specs.View.{view}
-use Rattle.amber_rows.specs.Columns.{names_of}
-use Rattle.amber_rows.specs.FlowRules.{is_column_name}
+use Rattle.amber_rows.specs.Columns.{names_of, is_column_name}
 use Rattle.amber_flow.specs.Columns.{columns_of}
 use Rattle.amber_flow.proofs.ColumnFacts.{columns_after}
 use Rattle.amber_flow.proofs.columns.read_columns.Given as goal

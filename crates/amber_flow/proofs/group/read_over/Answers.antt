@@ -1,6 +1,6 @@
 use Rattle.std.proofs.Common.{List, ℕ, Bor, is_some, map, sym, ap, ◌∙◌}
 use Rattle.std.specs.List.{list_all}
-use Rattle.amber_rows.specs.FlowRules.{agg_kind}
+use Rattle.amber_rows.specs.Columns.{agg_kind}
 use Rattle.amber_rows.specs.declared.agg.Agg.{Agg}
 use Rattle.amber_flow.proofs.GroupFacts.{group-kind}
 use Rattle.amber_flow.proofs.group.read_over.Goals as goal

@@ -1,6 +1,6 @@
 use Rattle.std.proofs.Common.{◌<◌, List, ℕ, Bor, length, map, subst, sym, ap, arith, refl}
 use Rattle.std.proofs.lemmas.List.{length-map}
-use Rattle.amber_rows.specs.FlowRules.{HasInput}
+use Rattle.amber_rows.specs.Columns.{HasInput}
 use Rattle.amber_rows.specs.declared.column.Column.{Column}
 use Rattle.amber_flow.proofs.JoinFacts.{join-kind}
 use Rattle.amber_flow.proofs.join.read_join.Goals as goal

@@ -1,6 +1,6 @@
 use Rattle.std.proofs.Common.{List, ℕ, Bor, map, sym, ap, ◌∙◌}
 use Rattle.std.specs.List.{filter_map}
-use Rattle.amber_rows.specs.FlowRules.{column_kind_at}
+use Rattle.amber_rows.specs.Columns.{column_kind_at}
 use Rattle.amber_flow.proofs.JoinFacts.{are-keys}
 use Rattle.amber_flow.proofs.join.read_keys.Goals as goal
 

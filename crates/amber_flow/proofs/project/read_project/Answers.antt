@@ -1,6 +1,6 @@
 use Rattle.std.proofs.Common.{List, ℕ, Bor, map, subst, sym, ap, ◌∙◌}
 use Rattle.serde_json.specs.View.{view}
-use Rattle.amber_rows.specs.FlowRules.{HasInput}
+use Rattle.amber_rows.specs.Columns.{HasInput}
 use Rattle.amber_rows.specs.declared.column.Column.{Column}
 use Rattle.amber_rows.specs.Chain.{each}
 use Rattle.amber_flow.specs.Columns.{column_number}

@@ -2,7 +2,7 @@
 use Rattle.std.proofs.Common.{◌≡◌, ◌∷◌, ◌++◌, [], append_assoc, sym, ap, ◌∙◌, rules, length}
 use Rattle.std.proofs.lemmas.List.{nil_from_length}
 use Rattle.std.specs.Vec.Iter.{into_iter_items}
-use Rattle.amber_rows.specs.FlowRules.{columns_at}
+use Rattle.amber_rows.specs.Columns.{columns_at}
 use Rattle.amber_home.proofs.Gathered.{columns-last, given-all, given-more, given-none}
 use Rattle.amber_home.proofs.answer.gather.Goals as goal
 

@@ -1,6 +1,6 @@
 -- All cells before the next one fit.
 use Rattle.std.proofs.Common.{◌≡◌, ◌<◌, ◌≤◌, ◌∙◌, ◌+◌, ◌&&◌, ap, sym, length, drop, true, false}
-use Rattle.amber_rows.specs.FlowRules.{kind_of}
+use Rattle.amber_rows.specs.Columns.{kind_of}
 use Rattle.amber_rows.specs.Suits.{same_kind, suits_of}
 use Rattle.amber_rows.proofs.SuitsFacts.{suits-end, suits-next, suits-width}
 use Rattle.amber_rows.proofs.suiting.suits.Goals as goal

@@ -1,6 +1,6 @@
 use Rattle.std.proofs.Common.{length, ap, sym, ◌∙◌, All, ◌<◌, arith, refl, subst}
 use Rattle.amber_rows.specs.Crew.{op_of, what_at}
-use Rattle.amber_rows.specs.FlowRules.{columns_at}
+use Rattle.amber_rows.specs.Columns.{columns_at}
 use Rattle.amber_rows.specs.Kinds.{inputs_of}
 use Rattle.amber_rows.specs.declared.flow.What.{What}
 use Rattle.amber_worker.specs.Fields.{rest_in}
