@@ -17,20 +17,20 @@ abbrev pub arrival_columns : List Operator → ℕ → What → List Column
 arrival_columns flow op kind = columns_at flow (unwrap_or (main_input kind) op)
 
 -- of an input the columns, and the workers; none where there is no such input
-abbrev pub columns_in : List Operator → Option ℕ → List Column
-columns_in flow None = []
-columns_in flow (Some input) = columns_at flow input
+abbrev pub input_columns : List Operator → Option ℕ → List Column
+input_columns flow None = []
+input_columns flow (Some input) = columns_at flow input
 
-abbrev pub workers_in : List Operator → Option ℕ → List ℕ
-workers_in flow None = []
-workers_in flow (Some input) = workers_of flow input
+abbrev pub input_workers : List Operator → Option ℕ → List ℕ
+input_workers flow None = []
+input_workers flow (Some input) = workers_of flow input
 
 -- the same of a build side
 abbrev pub built_columns : List Operator → What → List Column
-built_columns flow kind = columns_in flow (build_input kind)
+built_columns flow kind = input_columns flow (build_input kind)
 
 abbrev pub builders_in : List Operator → What → List ℕ
-builders_in flow kind = workers_in flow (build_input kind)
+builders_in flow kind = input_workers flow (build_input kind)
 
 -- the task of an operator's workers
 unfoldable pub task_of : List Operator → ℕ → Task
