@@ -81,9 +81,9 @@ abbrev AreWhole : What → Lists → Lists → Type 0
 AreWhole kind lists all = (op : ℕ) → 0 < read_count kind op → IsWhole kind lists all op
 
 inputs-there : (kind : What) (lists all : Lists) → AreWhole kind lists all → HasInputs lists kind
-inputs-there (what.Scan file) lists all w = tt
-inputs-there (what.Filter input test) lists all w = let h = w input (omega (arith, reads_own input)) in (h.some, h.within)
-inputs-there (what.Project input from) lists all w = let h = w input (omega (arith, reads_own input)) in (h.some, h.within)
+inputs-there (what.Scan file) lists all w = (tt, tt, tt)
+inputs-there (what.Filter input test) lists all w = let h = w input (omega (arith, reads_own input)) in (tt, (h.some, h.within), tt)
+inputs-there (what.Project input from) lists all w = let h = w input (omega (arith, reads_own input)) in (tt, (h.some, h.within), tt)
 inputs-there (what.Join build probe build_keys probe_keys) lists all w =
     let a = w build (omega (arith, reads_own build)) in
     let b = w probe (omega (arith, reads_own probe)) in (
@@ -91,8 +91,8 @@ inputs-there (what.Join build probe build_keys probe_keys) lists all w =
       (b.some, b.within),
       λ e. absurd (omega (arith, a.once, reads_same probe build e, reads_own build)),
     )
-inputs-there (what.Group input keys aggs) lists all w = let h = w input (omega (arith, reads_own input)) in (h.some, h.within)
-inputs-there (what.Sink input) lists all w = let h = w input (omega (arith, reads_own input)) in (h.some, h.within)
+inputs-there (what.Group input keys aggs) lists all w = let h = w input (omega (arith, reads_own input)) in (tt, (h.some, h.within), tt)
+inputs-there (what.Sink input) lists all w = let h = w input (omega (arith, reads_own input)) in (tt, (h.some, h.within), tt)
 
 -- an operator gives the same rows from lists that are the same at its inputs, and refuses the same
 pub rows-same : (kind : What) (records : List (Result (List Value) RowFault)) (lists all : Lists) → ((op : ℕ) → 0 < read_count kind op → list_at lists op ≡ list_at all op)
@@ -130,12 +130,12 @@ after-length (what.Sink input) lists = length-set lists (input - 1) []
 
 after-other : (kind : What) (lists : Lists) (op : ℕ) → 0 < op → HasInputs lists kind → read_count kind op ≡ 0 → get_or (lists_after kind lists) (op - 1) [] ≡ get_or lists (op - 1) []
 after-other (what.Scan file) lists op some h none = refl
-after-other (what.Filter input test) lists op some h none = set-other lists input op some h.0 (reads_other input op (omega arith))
-after-other (what.Project input from) lists op some h none = set-other lists input op some h.0 (reads_other input op (omega arith))
+after-other (what.Filter input test) lists op some h none = set-other lists input op some h.1.0 (reads_other input op (omega arith))
+after-other (what.Project input from) lists op some h none = set-other lists input op some h.1.0 (reads_other input op (omega arith))
 after-other (what.Join build probe build_keys probe_keys) lists op some h none =
     set-other (set lists (build - 1) []) probe op some h.1.0 (reads_other probe op (omega arith)) ∙ set-other lists build op some h.0.0 (reads_other build op (omega arith))
-after-other (what.Group input keys aggs) lists op some h none = set-other lists input op some h.0 (reads_other input op (omega arith))
-after-other (what.Sink input) lists op some h none = set-other lists input op some h.0 (reads_other input op (omega arith))
+after-other (what.Group input keys aggs) lists op some h none = set-other lists input op some h.1.0 (reads_other input op (omega arith))
+after-other (what.Sink input) lists op some h none = set-other lists input op some h.1.0 (reads_other input op (omega arith))
 
 -- ---- the first operators were evaluated
 
