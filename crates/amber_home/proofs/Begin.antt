@@ -130,5 +130,5 @@ all-begin_leg flow files size most crew alone long empty begun = record {
   each = λ worker below.
       subst (λ sent. IsAtPosition (placement_of flow (records_of files flow) size worker) (first_orders flow worker) (worker_state_at crew worker) origin origin sent)
       (λ i receiver. sym (none-sent crew worker receiver empty) i)
-      (begin_leg worker (rw (← crew-alone flow alone) below));
+      (begun worker (rw (← crew-alone flow alone) below));
 }
