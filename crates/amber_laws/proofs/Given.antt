@@ -4,6 +4,7 @@ use Rattle.std.specs.List.{flat_map, list_all}
 use Rattle.std.proofs.lemmas.Bool.{eqb-true}
 use Rattle.std.proofs.lemmas.List.{map-append}
 use Rattle.std.proofs.lemmas.List.Concat.{flat_map-append}
+use Rattle.amber_rows.specs.Kinds.{is_scan}
 use Rattle.amber_rows.specs.Crew.{crew_of, senders_of, sends_to}
 use Rattle.amber_rows.specs.Lists.{numbers_below}
 use Rattle.amber_rows.specs.Operators.{matches_of, pick_cells, same_row}
@@ -120,20 +121,18 @@ produce-part task before (one ∷ more) all constants (suc n) h =
 -- ---- what a worker is given
 
 pub share-same : (kind : What) (share : List Arrival) {xs ys : List Arrival} → Same xs ys → Same (share_or kind share xs) (share_or kind share ys)
-share-same (what.Scan file) share h = same-self share
-share-same (what.Filter input cond) share h = h
-share-same (what.Project input columns) share h = h
-share-same (what.Join build probe build_keys probe_keys) share h = h
-share-same (what.Group input keys aggs) share h = h
-share-same (what.Sink input) share h = h
+share-same kind share {xs} {ys} h = by (is_scan kind)
+  where
+    by : (scan : Bool) → Same (if scan then share else xs) (if scan then share else ys)
+    by true = same-self share
+    by false = h
 
 pub share-part : (kind : What) (share : List Arrival) {xs ys : List Arrival} → Part xs ys → Part (share_or kind share xs) (share_or kind share ys)
-share-part (what.Scan file) share h = part-self share
-share-part (what.Filter input cond) share h = h
-share-part (what.Project input columns) share h = h
-share-part (what.Join build probe build_keys probe_keys) share h = h
-share-part (what.Group input keys aggs) share h = h
-share-part (what.Sink input) share h = h
+share-part kind share {xs} {ys} h = by (is_scan kind)
+  where
+    by : (scan : Bool) → Part (if scan then share else xs) (if scan then share else ys)
+    by true = part-self share
+    by false = h
 
 -- one handed list for each sender
 abbrev arrivals_each : List ℕ → (ℕ → List (List Value)) → List Arrival

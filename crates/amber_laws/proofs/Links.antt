@@ -152,20 +152,10 @@ unfoldable pub fed_by : (ℕ → List (List Value)) → List ℕ → List Arriva
 fed_by dealt feeders = flat_map (λ sender. arrivals_from sender (dealt sender)) feeders
 
 pub share-scan : (kind : What) (share arrivals : List Arrival) → is_scan kind ≡ true → share_or kind share arrivals ≡ share
-share-scan (what.Scan file) share arrivals e = refl
-share-scan (what.Filter input test) share arrivals e = absurd (false≢true e)
-share-scan (what.Project input from) share arrivals e = absurd (false≢true e)
-share-scan (what.Join build probe build_keys probe_keys) share arrivals e = absurd (false≢true e)
-share-scan (what.Group input keys aggs) share arrivals e = absurd (false≢true e)
-share-scan (what.Sink input) share arrivals e = absurd (false≢true e)
+share-scan kind share arrivals e = rw e refl
 
 pub share-rows : (kind : What) (share arrivals : List Arrival) → is_scan kind ≡ false → share_or kind share arrivals ≡ arrivals
-share-rows (what.Scan file) share arrivals e = absurd (false≢true (sym e))
-share-rows (what.Filter input test) share arrivals e = refl
-share-rows (what.Project input from) share arrivals e = refl
-share-rows (what.Join build probe build_keys probe_keys) share arrivals e = refl
-share-rows (what.Group input keys aggs) share arrivals e = refl
-share-rows (what.Sink input) share arrivals e = refl
+share-rows kind share arrivals e = rw e refl
 
 -- ---- scans
 

@@ -6,6 +6,7 @@ use Rattle.std.proofs.lemmas.Bool.{and_from, and_parts, false≢true, or_cases, 
 use Rattle.std.proofs.lemmas.List.{append-nil}
 use Rattle.std.proofs.lemmas.List.Concat.{flat_map-append}
 use Rattle.std.proofs.lemmas.List.Folds.{list_any-append}
+use Rattle.amber_rows.specs.Kinds.{is_scan}
 use Rattle.amber_rows.specs.declared.value.Value.{Value}
 use Rattle.amber_rows.specs.declared.batch.Batch.{Batch}
 use Rattle.amber_rows.specs.declared.flow.What.{What}
@@ -82,12 +83,11 @@ not-ended role taken from batch orderly known e =
 -- ---- what was handed and produced
 
 pub share_or-more : (kind : What) (share xs ys : List Arrival) → (more : List Arrival) × (share_or kind share (xs ++ ys) ≡ share_or kind share xs ++ more)
-share_or-more (what.Scan file) share xs ys = ([], sym (append-nil share))
-share_or-more (what.Filter input cond) share xs ys = (ys, refl)
-share_or-more (what.Project input columns) share xs ys = (ys, refl)
-share_or-more (what.Join build probe build_keys probe_keys) share xs ys = (ys, refl)
-share_or-more (what.Group input keys aggs) share xs ys = (ys, refl)
-share_or-more (what.Sink input) share xs ys = (ys, refl)
+share_or-more kind share xs ys = by (is_scan kind)
+  where
+    by : (scan : Bool) → (more : List Arrival) × ((if scan then share else xs ++ ys) ≡ (if scan then share else xs) ++ more)
+    by true = ([], sym (append-nil share))
+    by false = (ys, refl)
 
 pub fed-more : (role : Role) (xs ys : List Taken) → (more : List Arrival) × (fed role (xs ++ ys) ≡ fed role xs ++ more)
 unfolding fed
