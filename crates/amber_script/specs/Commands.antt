@@ -3,8 +3,10 @@ use Rattle.std.specs.Prelude.{ℕ, ◌+◌, ◌||◌, ◌&&◌, List, [], ◌∷
 use Rattle.std.specs.List.{list_all}
 use Rattle.std.specs.Str.{is_utf8}
 use Rattle.std.specs.Str.Parse.{digits_value}
+use Rattle.amber_rows.specs.declared.cond.Cond.{Cond}
+use Rattle.amber_rows.specs.Kinds.{settable_cond}
 use Rattle.amber_rows.specs.Lists.{nth}
-use Rattle.amber_rows.specs.Columns.{schema_of}
+use Rattle.amber_rows.specs.Columns.{schema_of, column_kind_at}
 use Rattle.amber_rows.specs.Number.{read_int_of}
 use Rattle.amber_rows.specs.declared.value.Value.{Value}
 use Rattle.amber_rows.specs.declared.value.Value.TheVariants as value
@@ -12,13 +14,12 @@ use Rattle.amber_rows.specs.declared.column.ColKind.{ColKind}
 use Rattle.amber_rows.specs.declared.column.ColKind.TheVariants as kind
 use Rattle.amber_rows.specs.declared.column.Column.{Column}
 use Rattle.amber_rows.specs.declared.flow.What.{What}
-use Rattle.amber_rows.specs.declared.flow.What.TheVariants as what
 use Rattle.amber_rows.specs.declared.flow.Operator.{Operator}
 use Rattle.amber_log.specs.Fits.{has_worker, is_source, is_target}
 use Rattle.amber_log.specs.ReadWords.{comparison_of}
 use Rattle.amber_log.specs.declared.command.Command.{Command}
 use Rattle.amber_log.specs.declared.command.Command.TheVariants as command
-use Rattle.amber_script.specs.Chain.{◌>>=◌, require}
+use Rattle.amber_rows.specs.Chain.{◌>>=◌, require}
 use Rattle.amber_script.specs.declared.error.ScriptWhy.{ScriptWhy}
 use Rattle.amber_script.specs.declared.error.ScriptWhy.TheVariants as why
 
@@ -48,18 +49,14 @@ row_count_of word = target_where word (digits_value 10 word)
 abbrev pub one_worker : Option Operator → List ℕ → Result ℕ ScriptWhy
 one_worker operator word = canonical word >>= (λ worker. if has_worker operator worker then Ok worker else Err why.Worker)
 
--- the kind of the column with this number
-abbrev pub column_kind_at : List Column → ℕ → Option ColKind
-column_kind_at columns column = option_map (λ one. one.kind) (nth columns column)
+-- the kind of the column on which a condition stands
+abbrev pub cond_kind : Option Cond → List Column → Option ColKind
+cond_kind None columns = None
+cond_kind (Some cond) columns = column_kind_at columns cond.column
 
--- the kind of the column on which a filter's condition stands. Nothing else has a constant that can be set
+-- the kind of the column on whose condition a constant can be set
 abbrev pub filtered_kind : What → List Column → Option ColKind
-filtered_kind (what.Scan file) columns = None
-filtered_kind (what.Filter input cond) columns = column_kind_at columns cond.column
-filtered_kind (what.Project input from) columns = None
-filtered_kind (what.Join build probe build_keys probe_keys) columns = None
-filtered_kind (what.Group input keys aggs) columns = None
-filtered_kind (what.Sink input) columns = None
+filtered_kind kind columns = cond_kind (settable_cond kind) columns
 
 abbrev pub settable_kind : Option Operator → Option ColKind
 settable_kind None = None

@@ -1,5 +1,4 @@
 pub mod Answers
-pub mod Chain
 pub mod Commands
 pub mod Laws
 pub mod Lexing

@@ -1,11 +1,11 @@
 //! Operators and constants that a command names.
 ghost use Rattle.std.specs.Prelude.{◌≡◌, ◌<◌, bytes_eq, length, position, true, IfOk, IfSome};
 ghost use Rattle.amber_rows.specs.Lists.{nth};
-ghost use Rattle.amber_rows.specs.Columns.{kind_of};
+ghost use Rattle.amber_rows.specs.Columns.{kind_of, column_kind_at};
 ghost use Rattle.amber_rows.specs.Kinds.{is_sink};
 ghost use Rattle.amber_rows.specs.Suits.{same_kind};
 ghost use Rattle.amber_log.specs.Fits.{is_source, is_there};
-ghost use Rattle.amber_script.specs.Commands.{script_constant, filtered_kind, column_kind_at, operator_named, settable_kind};
+ghost use Rattle.amber_script.specs.Commands.{script_constant, filtered_kind, operator_named, settable_kind};
 
 use crate::error::ScriptWhy;
 use amber_rows::{ColKind, Flow, Schema, Text, Value, What, read_int};
@@ -33,26 +33,13 @@ pub fn find_operator(flow: &Flow, id: &str) -> Result<u32, ScriptWhy>
     }
 }
 
-fn is_sink(what: &What) -> bool
-    ensures { result ≡ is_sink what.now }
-{
-    match what {
-        What::Sink { .. } => true,
-        What::Scan { .. }
-        | What::Filter { .. }
-        | What::Project { .. }
-        | What::Join { .. }
-        | What::Group { .. } => false,
-    }
-}
-
 /// Whether an operator is there, and not the sink.
 pub fn is_source(flow: &Flow, op: u32) -> bool
     ensures { result ≡ is_source (nth flow.now op) }
 {
     match flow.operator(op) {
         None => false,
-        Some(operator) => !is_sink(&operator.what),
+        Some(operator) => !operator.what.is_sink(),
     }
 }
 
@@ -71,13 +58,9 @@ fn column_kind_at(schema: &Schema, column: u32) -> Option<ColKind>
 fn filtered_kind(what: &What, schema: &Schema) -> Option<ColKind>
     ensures { result ≡ filtered_kind what.now schema.now }
 {
-    match what {
-        What::Filter { cond, .. } => column_kind_at(schema, cond.column),
-        What::Scan { .. }
-        | What::Project { .. }
-        | What::Join { .. }
-        | What::Group { .. }
-        | What::Sink { .. } => None,
+    match what.settable_cond() {
+        None => None,
+        Some(cond) => column_kind_at(schema, cond.column),
     }
 }
 
