@@ -1,7 +1,7 @@
 ghost use Rattle.std.specs.Prelude.{◌≡◌, ◌<◌, ◌≤◌, ◌^◌, ◌++◌, ◌∷◌, [], ℕ, false, true, length, replicate, vec_len, slice_index_or, slice_set, IfOk, IfErr, OnOk};
 ghost use Rattle.amber_rows.specs.Record.{has_header, typed_records};
-ghost use Rattle.amber_rows.specs.Shares.{share_of, turn_of, with_numbers};
-ghost use Rattle.amber_scan.specs.Shares.{scanned_number, scanned_record};
+ghost use Rattle.amber_rows.specs.Shares.{share_of, turn_of};
+ghost use Rattle.amber_scan.specs.Shares.{scanned_number, scanned_records};
 ghost use Rattle.amber_scan.specs.declared.dealing.ScanErr.TheVariants as scan_err;
 
 use crate::share::{Scanned, Share};
@@ -66,7 +66,8 @@ pub fn deal(
     requires columns { length schema.now < 2 ^ 32 }
     ensures one_each { IfOk result (λ shares. vec_len shares ≡ workers) }
     ensures shares { IfOk result (λ shares. (worker : ℕ) → worker < workers
-        → slice_index_or shares.items worker [] ≡ share_of scanned_number workers worker (with_numbers scanned_record 1 (typed_records schema.now bytes.now))) }
+        → slice_index_or shares.items worker []
+        ≡ share_of scanned_number workers worker (scanned_records schema.now bytes.now)) }
     ensures headed { IfOk result (λ _. has_header schema.now bytes.now ≡ true) }
     ensures header { IfErr result (λ why. why ≡ ScanErr.Header → has_header schema.now bytes.now ≡ false) }
 {
