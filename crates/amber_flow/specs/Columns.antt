@@ -3,8 +3,7 @@ use Rattle.std.specs.Prelude.{ℕ, ◌+◌, ◌&&◌, List, [], ◌∷◌, Optio
 use Rattle.serde_json.specs.Data.{Data}
 use Rattle.serde_json.specs.Find.{at}
 use Rattle.amber_rows.specs.Lists.{nth}
-use Rattle.amber_rows.specs.Columns.{is_column_name, column_kind_at}
-use Rattle.amber_rows.specs.declared.column.ColKind.{ColKind}
+use Rattle.amber_rows.specs.Columns.{is_column_name}
 use Rattle.amber_rows.specs.declared.column.Column.{Column}
 use Rattle.amber_rows.specs.Chain.{◌>>=◌, require}
 use Rattle.amber_flow.specs.Fields.{text_in}

@@ -5,7 +5,6 @@ use Rattle.serde_json.specs.Data.{Data}
 use Rattle.amber_rows.specs.Suits.{same_kind}
 use Rattle.amber_rows.specs.Columns.{AreIn, kinds_at, column_kind_at}
 use Rattle.amber_rows.specs.declared.column.ColKind.{ColKind}
-use Rattle.amber_rows.specs.declared.column.ColKind.TheVariants.{Int, Text}
 use Rattle.amber_rows.specs.declared.column.Column.{Column}
 use Rattle.amber_rows.specs.declared.flow.What.TheVariants.{Join}
 use Rattle.amber_rows.specs.declared.flow.Operator.{Operator}

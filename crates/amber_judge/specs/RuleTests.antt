@@ -1,12 +1,12 @@
 -- Tests for the rules: each is true exactly where its rule holds.
-use Rattle.std.specs.Prelude.{ℕ, ◌+◌, ◌-◌, ◌==◌, nat_le, nat_lt, ◌&&◌, ◌||◌, not, List, [], ◌∷◌, length, take, drop, Bool, true, false}
+use Rattle.std.specs.Prelude.{ℕ, ◌+◌, ◌-◌, ◌==◌, nat_le, nat_lt, ◌&&◌, ◌||◌, not, length, take, drop, Bool}
 use Rattle.std.specs.List.{list_any}
 use Rattle.amber_rows.specs.Lists.{is_empty}
 use Rattle.amber_log.specs.declared.entry.Entry.{Entry}
 use Rattle.amber_log.specs.declared.entry.Entry.TheVariants as entry
 use Rattle.amber_meaning.specs.Task.{Role}
 use Rattle.amber_meaning.specs.Position.{Position, fed, have_ended, pending_rows, rest_of, taken_from}
-use Rattle.amber_meaning.specs.Rules.{MayFinish, MayGiveBack, MayGo, MayGrant, MayHold, MayPause, MayResume, MayTake, Orders, first_is_watched, may_take_from, pass_by, produced_with, product_with}
+use Rattle.amber_meaning.specs.Rules.{Orders, first_is_watched, may_take_from, pass_by, produced_with, product_with}
 
 -- neither paused nor held nor finished
 abbrev pub is_free : Position → Bool

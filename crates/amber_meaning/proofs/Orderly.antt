@@ -10,7 +10,6 @@ use Rattle.amber_rows.specs.Kinds.{is_scan}
 use Rattle.amber_rows.specs.declared.value.Value.{Value}
 use Rattle.amber_rows.specs.declared.batch.Batch.{Batch}
 use Rattle.amber_rows.specs.declared.flow.What.{What}
-use Rattle.amber_rows.specs.declared.flow.What.TheVariants as what
 use Rattle.amber_meaning.specs.Task.{Arrival, Role, Task}
 use Rattle.amber_meaning.specs.Produce.{produce, yields}
 use Rattle.amber_meaning.specs.Position.{Taken, fed, arrivals_of, has_last, have_ended, product, share_or, taken_from}

@@ -1,22 +1,18 @@
 -- Laws of legal logs.
-use Rattle.std.specs.Prelude.{◌≡◌, ℕ, ◌<◌, ◌≤◌, ◌==◌, ◌↔◌, List, [], ◌∷◌, ◌++◌, length, Bool, true, false}
+use Rattle.std.specs.Prelude.{◌≡◌, ℕ, ◌<◌, ◌≤◌, ◌==◌, List, [], ◌∷◌, ◌++◌, length, Bool, true, false}
 use Rattle.std.specs.List.{list_any}
 use Rattle.amber_rows.specs.Crew.{crew_of, senders_of}
 use Rattle.amber_rows.specs.FlowRules.{IsFlow}
 use Rattle.amber_rows.specs.declared.flow.Operator.{Operator}
 use Rattle.amber_log.specs.Grammar.{IsItem, ends_over}
-use Rattle.amber_log.specs.declared.entry.Entry.{Entry}
 use Rattle.amber_log.specs.declared.leg.Part.{Part}
 use Rattle.amber_log.specs.declared.leg.Close.{Close}
 use Rattle.amber_log.specs.declared.log.Item.{Item}
 use Rattle.amber_log.specs.declared.log.Item.TheVariants as item
 use Rattle.amber_log.specs.declared.log.Log.{Log}
 use Rattle.amber_meaning.specs.Legal.{AreOffered, ClosesEnd, ClosesRun, IsLegal, IsOpen, IsWorked, Makes, Query, Reaches, after_close, leg_start}
-use Rattle.amber_meaning.specs.Position.{Position}
 use Rattle.amber_meaning.specs.Replay.{after_item, after_items, state_after, after_leg}
-use Rattle.amber_meaning.specs.Rules.{Orders, May}
 use Rattle.amber_meaning.specs.State.{State, position_at, steps_in}
-use Rattle.amber_meaning.specs.Task.{Role}
 use Rattle.amber_meaning.specs.Transcript.{reply_of, transcript_of}
 
 -- the first items of a legal log are a legal log

@@ -1,5 +1,5 @@
 -- Which logs a run may write, and the state that each leads to.
-use Rattle.std.specs.Prelude.{◌≡◌, ◌≢◌, ℕ, ◌==◌, ◌<◌, ◌≤◌, List, [], ◌∷◌, ◌++◌, length, filter, not, Some, Result, Bool, true, false, if◌then◌else◌}
+use Rattle.std.specs.Prelude.{◌≡◌, ◌≢◌, ℕ, ◌==◌, ◌<◌, ◌≤◌, List, [], ◌∷◌, length, filter, not, Some, Result, Bool, true, false, if◌then◌else◌}
 use Rattle.std.specs.List.{flat_map, list_all, list_any}
 use Rattle.amber_rows.specs.Lists.{IsPrefix}
 use Rattle.amber_rows.specs.Chunks.{chunks_of}

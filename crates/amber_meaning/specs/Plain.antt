@@ -1,22 +1,16 @@
 -- The sequential answer of a workflow: what each operator gives, as lists over whole files.
-use Rattle.std.specs.Prelude.{◌≡◌, ℕ, ◌+◌, ◌<◌, ◌≤◌, ⊤, List, [], ◌∷◌, ◌++◌, length, filter, map, count_by, sum_by, Option, Some, None, unwrap_or, Result, Ok, Err, Bool, true, false, if◌then◌else◌}
-use Rattle.std.specs.List.{filter_map}
+use Rattle.std.specs.Prelude.{◌≡◌, ℕ, ◌+◌, ◌<◌, ◌≤◌, ⊤, List, [], ◌∷◌, ◌++◌, length, count_by, sum_by, Option, Some, None, Result, Ok, Err, if◌then◌else◌}
 use Rattle.amber_meaning.specs.Kinds.{rows_of, refused_by}
 use Rattle.amber_rows.specs.Kinds.{is_scan}
-use Rattle.amber_rows.specs.Cond.{holds_of}
-use Rattle.amber_rows.specs.Lists.{nth, first_list, later_of, list_at}
+use Rattle.amber_rows.specs.Lists.{first_list, later_of, list_at}
 use Rattle.amber_rows.specs.Columns.{columns_at}
-use Rattle.amber_rows.specs.Operators.{group_result, join_result, project_result, refused_keys}
-use Rattle.amber_rows.specs.Order.{sort_rows}
-use Rattle.amber_rows.specs.Record.{has_header, ok_of, typed_records}
+use Rattle.amber_rows.specs.Record.{has_header, typed_records}
 use Rattle.amber_rows.specs.declared.value.Value.{Value}
 use Rattle.amber_rows.specs.declared.record.RowFault.{RowFault}
 use Rattle.amber_rows.specs.declared.flow.What.{What}
-use Rattle.amber_rows.specs.declared.flow.What.TheVariants as what
 use Rattle.amber_rows.specs.declared.flow.Operator.{Operator}
 use Rattle.amber_meaning.specs.declared.answer.Answer.{Answer}
 use Rattle.amber_meaning.specs.declared.answer.Refusal.{Refusal}
-use Rattle.amber_meaning.specs.declared.answer.Refusal.TheVariants as refusal
 use Rattle.amber_meaning.specs.declared.answer.PlainErr.{PlainErr}
 use Rattle.amber_meaning.specs.declared.answer.PlainErr.TheVariants as plain_err
 

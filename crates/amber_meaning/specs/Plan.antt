@@ -1,5 +1,5 @@
 -- The roles of a workflow's workers, from the typed records of its scans.
-use Rattle.std.specs.Prelude.{ℕ, ◌+◌, ◌-◌, ◌%◌, ◌==◌, List, [], ◌∷◌, filter, Result, Option, Some, None, unwrap_or}
+use Rattle.std.specs.Prelude.{ℕ, ◌-◌, List, [], Result, Option, Some, None, unwrap_or}
 use Rattle.amber_rows.specs.Shares.{share_of, with_numbers}
 use Rattle.amber_rows.specs.Kinds.{build_input, main_input}
 use Rattle.amber_rows.specs.Crew.{first_worker_of, op_of, senders_of, what_at, worker_count, workers_of}

@@ -1,5 +1,5 @@
 -- The state of a run: how far its workers are, and what commands have put in force.
-use Rattle.std.specs.Prelude.{ℕ, suc, ◌+◌, ◌==◌, List, [], ◌∷◌, ◌++◌, length, map, drop, replicate, sum_by, Option, Some, None, is_some, unwrap_or, Bool, true, false, if◌then◌else◌}
+use Rattle.std.specs.Prelude.{ℕ, ◌+◌, List, [], ◌∷◌, ◌++◌, length, map, drop, replicate, sum_by, Option, Some, None, is_some, unwrap_or, Bool, true, false, if◌then◌else◌}
 use Rattle.std.specs.List.{list_all}
 use Rattle.amber_rows.specs.Kinds.{settable_cond}
 use Rattle.amber_rows.specs.Lists.{nth, changed_at}

@@ -1,15 +1,11 @@
 -- What a worker has to do: what it is handed, and which rows of it suit.
-use Rattle.std.specs.Prelude.{ℕ, ◌==◌, List, [], ◌∷◌, ◌++◌, filter, Option, Some, None, Result, Ok, Err, Bool, if◌then◌else◌}
+use Rattle.std.specs.Prelude.{ℕ, ◌==◌, List, filter, Option, Some, None, Result, Ok, Err, Bool, if◌then◌else◌}
 use Rattle.std.specs.List.{filter_map, list_any}
-use Rattle.amber_rows.specs.Cond.{holds_of}
-use Rattle.amber_rows.specs.Operators.{group_result, matches_of, pick_cells}
 use Rattle.amber_rows.specs.Suits.{suits_of}
 use Rattle.amber_rows.specs.declared.value.Value.{Value}
 use Rattle.amber_rows.specs.declared.column.Column.{Column}
-use Rattle.amber_rows.specs.declared.cond.Cond.{Cond}
 use Rattle.amber_rows.specs.declared.record.RowFault.{RowFault}
 use Rattle.amber_rows.specs.declared.flow.What.{What}
-use Rattle.amber_rows.specs.declared.flow.What.TheVariants as what
 
 -- a row that a worker is handed, and the worker that sent it; for a scan a typed record, and its number
 pub record Arrival : Type 0 where

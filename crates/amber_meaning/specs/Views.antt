@@ -1,22 +1,15 @@
 -- What an inspection shows, and the answer in a state.
-use Rattle.std.specs.Prelude.{ℕ, nat_lt, List, [], ◌∷◌, ◌++◌, length, map, take, Option, Some, None, option_map, Result, Ok, Err, if◌then◌else◌}
-use Rattle.std.specs.List.{filter_map, flat_map}
+use Rattle.std.specs.Prelude.{ℕ, nat_lt, List, [], ◌∷◌, ◌++◌, length, map, take, option_map, if◌then◌else◌}
+use Rattle.std.specs.List.{flat_map}
 use Rattle.amber_meaning.specs.Kinds.{extra_of, keys_refused}
 use Rattle.amber_rows.specs.Lists.{first_of}
 use Rattle.amber_rows.specs.Crew.{workers_of}
 use Rattle.amber_rows.specs.Columns.{columns_at}
-use Rattle.amber_rows.specs.Operators.{first_keys, refused_keys}
 use Rattle.amber_rows.specs.Order.{sort_rows}
 use Rattle.amber_rows.specs.declared.value.Value.{Value}
-use Rattle.amber_rows.specs.declared.record.RowFault.{RowFault}
-use Rattle.amber_rows.specs.declared.flow.What.{What}
-use Rattle.amber_rows.specs.declared.flow.What.TheVariants as what
 use Rattle.amber_meaning.specs.declared.answer.Answer.{Answer}
 use Rattle.amber_meaning.specs.declared.answer.Refusal.{Refusal}
-use Rattle.amber_meaning.specs.declared.answer.Refusal.TheVariants as refusal
 use Rattle.amber_meaning.specs.declared.view.Counted.{Counted}
-use Rattle.amber_meaning.specs.declared.view.Extra.{Extra}
-use Rattle.amber_meaning.specs.declared.view.Extra.TheVariants as extra
 use Rattle.amber_meaning.specs.declared.view.Inspected.{Inspected}
 use Rattle.amber_meaning.specs.declared.view.Stand.{Stand}
 use Rattle.amber_meaning.specs.declared.view.Stand.TheVariants as stand
@@ -26,7 +19,7 @@ use Rattle.amber_meaning.specs.Refused.{refused_groups, refused_in}
 use Rattle.amber_meaning.specs.Position.{Position, emitted_count, fed, pending_rows, rest_of}
 use Rattle.amber_meaning.specs.Stops.{op_numbers}
 use Rattle.amber_meaning.specs.State.{Counting, State, arms_at, counted_at, position_at}
-use Rattle.amber_meaning.specs.Task.{Arrival, Role, Task, built_of, suiting, rows_in}
+use Rattle.amber_meaning.specs.Task.{Arrival, Role, rows_in}
 
 -- ---- one worker
 

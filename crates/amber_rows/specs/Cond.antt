@@ -1,5 +1,5 @@
 -- When a condition holds of a row.
-use Rattle.std.specs.Prelude.{ℕ, ◌-◌, ◌==◌, List, Option, Some, None, slice_get, Bool, false, if◌then◌else◌}
+use Rattle.std.specs.Prelude.{List, Option, Some, None, Bool, false}
 use Rattle.std.specs.declared.cmp.Ordering.{Ordering}
 use Rattle.std.specs.Ordering.{is_eq, is_ne, is_lt, is_le, is_gt, is_ge}
 use Rattle.amber_rows.specs.Lists.{nth}

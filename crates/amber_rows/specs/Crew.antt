@@ -1,5 +1,5 @@
 -- The workers of a workflow. They have running numbers from 0: those of the first operator, then those of the second, and so on.
-use Rattle.std.specs.Prelude.{◌≡◌, ℕ, suc, ◌+◌, ◌-◌, ◌%◌, ◌==◌, ◌&&◌, ◌||◌, nat_lt, List, [], ◌∷◌, map, filter, take, sum_by, Option, Some, None, Bool, true, false, if◌then◌else◌, All}
+use Rattle.std.specs.Prelude.{◌≡◌, ℕ, suc, ◌+◌, ◌-◌, ◌%◌, ◌==◌, ◌&&◌, ◌||◌, nat_lt, List, [], ◌∷◌, map, filter, take, sum_by, Option, Some, None, Bool, if◌then◌else◌, All}
 use Rattle.std.specs.List.{list_any}
 use Rattle.amber_rows.specs.Lists.{numbers_below, nth}
 use Rattle.amber_rows.specs.Kinds.{inputs_of, is_keyed, side_keys}
