@@ -113,15 +113,15 @@ total-of query batch one flow legal e long =
     unfinished : (b : Bool) → b ≡ false → b ≡ true → ⊥
     unfinished b pending over = cc
 
-sized : (a b : ℕ) (one : Item) → (a ≡ b) ⊎ (one ∷ [] ≡ []) → a ≡ b
-require_size a b one (inl e) = e
-require_size a b one (inr e) = cc
+same-size : (a b : ℕ) (one : Item) → (a ≡ b) ⊎ (one ∷ [] ≡ []) → a ≡ b
+same-size a b one (inl e) = e
+same-size a b one (inr e) = cc
 
 long-items : (t : RunTask) (batch : ℕ) (items : List Item) (left : List Command) → IsFlow t.flow → IsLegal (query_at t batch) (record { batch = batch; items = items })
     → (batch ≡ t.batch) ⊎ (items ≡ []) → map command_of items ++ left ≡ end_alone → ends_long false items ≡ true → most_steps < step_total (query_at t t.batch)
 long-items t batch [] left flow legal size commands long = cc
 long-items t batch (one ∷ []) left flow legal size commands long =
-    rw (require_size batch t.batch one size) at (total-of (query_at t batch) batch one flow legal (last-end [] one left commands) long)
+    rw (same-size batch t.batch one size) at (total-of (query_at t batch) batch one flow legal (last-end [] one left commands) long)
 long-items t batch (one ∷ two ∷ more) left flow legal size commands long = cc
 
 pub too-long : (t : RunTask) (line : List ℕ) (files : Option Named) (written : Option (List ℕ)) → IsFlow t.flow → t.commands ≡ end_alone
