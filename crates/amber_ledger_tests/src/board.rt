@@ -1,7 +1,9 @@
-ghost use Rattle.std.specs.Prelude.{◌≡◌, ◌-◌, ◌<◌, ◌≤◌, All, IsTrue, length};
+// The ledger: what is granted, claimed and counted, also by workers side by side.
+ghost use Rattle.std.specs.Prelude.{◌≡◌, All, length};
 ghost use Rattle.amber_board.specs.Seats.{IsChiefOf, IsSeatOf, chief_view, work_view, board_workers};
 
-use crate::{Board, ChiefSeat, Totals, WorkSeat, close};
+use crate::seats::{all_empty, claim_and_count, count_times};
+use amber_board::{Board, ChiefSeat, WorkSeat, close};
 use std::test::Fail;
 use std::thread;
 use std::thread::Threads;
@@ -12,36 +14,6 @@ const TURNS: u32 = 4000;
 const WORKERS: u32 = 4;
 
 const TARGET: u64 = 20_000;
-
-fn count_times(board: &Board, seat: &mut WorkSeat, times: u64)
-    requires own { IsSeatOf board.now seat.old }
-    requires has { times ≤ (work_view seat.old).hand }
-    ensures own { IsSeatOf board.now seat.new }
-    ensures hand { (work_view seat.new).hand ≡ (work_view seat.old).hand - times }
-{
-    for _ in 0..times {
-        seat.count(board);
-    }
-}
-
-// The worker at this place claims, and counts each unit of its hand.
-fn claim_and_count(board: &Board, seats: &mut [WorkSeat], worker: usize) -> u64
-    requires within { worker < length seats.old }
-    requires own { All (IsSeatOf board.now) seats.old }
-    ensures { All (IsSeatOf board.now) seats.new }
-{
-    let seat = &mut seats[worker];
-    let claimed = seat.claim(board);
-    let all = seat.hand();
-    count_times(board, seat, all);
-    claimed
-}
-
-fn all_empty(seats: &[WorkSeat]) -> bool
-    ensures { IsTrue result → All (λ seat. (work_view seat).hand ≡ 0) seats.now }
-{
-    seats.iter().all(|seat| seat.hand() == 0)
-}
 
 // A worker's bounded turns: it claims, counts a few units, and now and then gives its hand back.
 fn labour(board: &Board, seat: &mut WorkSeat)
@@ -97,7 +69,8 @@ fn side_by_side<R: Threads + Sync>(
         { divide(board, chief) },
         &mut ||
             requires { All (IsSeatOf board.now) seats.now }
-            ensures { (length seats.exit.now ≡ length seats.entry.now) × All (IsSeatOf board.entry.now) seats.exit.now }
+            ensures { (length seats.exit.now ≡ length seats.entry.now)
+                × All (IsSeatOf board.entry.now) seats.exit.now }
         { thread::for_each_mut(rt, seats, 4, &|_, seat| labour(board, seat)) },
     );
 }
@@ -135,7 +108,8 @@ fn collect(board: &Board, chief: &mut ChiefSeat)
 fn watch_all(board: &Board, chief: &mut ChiefSeat)
     requires chief { IsChiefOf board.now chief.old }
     requires workers { board_workers board.now ≡ WORKERS }
-    ensures chief { IsChiefOf board.now chief.new × ((chief_view chief.new).hand ≡ (chief_view chief.old).hand) }
+    ensures chief { IsChiefOf board.now chief.new
+        × ((chief_view chief.new).hand ≡ (chief_view chief.old).hand) }
 {
     for worker in 0..WORKERS {
         chief.watch(board, worker);
@@ -151,13 +125,7 @@ fn four_workers_count_all_units_beside_a_chief_who_divides_them(
     finish(&board, &mut chief, &mut seats);
     assert!(rt; chief.hit());
     let totals = close(board, chief, seats);
-    assert_eq!(rt;
-        totals,
-        Totals {
-            unassigned: 0,
-            counted: TARGET
-        }
-    );
+    assert_eq!(rt; (totals.unassigned, totals.counted), (0, TARGET));
     Ok(())
 }
 
@@ -172,13 +140,7 @@ fn one_worker_gives_back_what_it_does_not_count(rt: HostRuntime) -> Result<(), F
     assert_eq!(rt; chief.hand(), 2);
     chief.put_back(&board);
     let totals = close(board, chief, seats);
-    assert_eq!(rt;
-        totals,
-        Totals {
-            unassigned: 2,
-            counted: 1
-        }
-    );
+    assert_eq!(rt; (totals.unassigned, totals.counted), (2, 1));
     Ok(())
 }
 
@@ -201,13 +163,7 @@ fn units_go_round_and_a_hit_comes_at_the_target(rt: HostRuntime) -> Result<(), F
     assert_eq!(rt; claim_and_count(&board, &mut seats, 1), 0);
     assert!(rt; all_empty(&seats));
     let totals = close(board, chief, seats);
-    assert_eq!(rt;
-        totals,
-        Totals {
-            unassigned: 0,
-            counted: 5
-        }
-    );
+    assert_eq!(rt; (totals.unassigned, totals.counted), (0, 5));
     Ok(())
 }
 
@@ -215,12 +171,6 @@ fn units_go_round_and_a_hit_comes_at_the_target(rt: HostRuntime) -> Result<(), F
 fn a_board_that_is_closed_at_once_has_all_units_unassigned(rt: HostRuntime) -> Result<(), Fail> {
     let (board, chief, seats) = Board::new(rt.alloc(), 1, 1)?;
     let totals = close(board, chief, seats);
-    assert_eq!(rt;
-        totals,
-        Totals {
-            unassigned: 1,
-            counted: 0
-        }
-    );
+    assert_eq!(rt; (totals.unassigned, totals.counted), (1, 0));
     Ok(())
 }
