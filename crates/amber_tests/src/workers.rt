@@ -1,12 +1,10 @@
-// One query, the numbers of a file that are 2 or more. What the workers show and write down is computed from the definitions in
-// `proofs/ExampleWorkers.antt`.
-mod crew;
-
-use super::*;
+// The workers of one query, the numbers of a file that are 2 or more. What they show and write down is computed from the
+// definitions in `proofs/ExampleWorkers.antt` of `amber_worker`.
+use crate::crew::{drive_first, new_crew, turned, work};
 use amber_log::Entry;
 use amber_meaning::{Refusal, WorkerView};
 use amber_rows::Row;
-use crew::{drive_first, new_crew, turned, work};
+use amber_worker::{Given, NoMemory, Worker};
 use std::alloc::Global;
 use std::process::Abort;
 use std::test::Fail;
