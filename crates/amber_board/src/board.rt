@@ -56,7 +56,10 @@ impl Board {
     fn open(alloc: Global, target: u64, workers: u32) -> Result<(Board, ChiefSeat), NoMemory>
         requires target { target ≤ LARGEST_TARGET }
         requires workers { workers ≤ MOST_WORKERS }
-        ensures { IfOk result (λ made. (target_of made.0 ≡ target) × (board_workers made.0 ≡ workers) × (made.1.seat.table_id ≡ made.0.table.shared.table_id) × (chief_view made.1 ≡ first_view made.0.table.shared.key)) }
+        ensures { IfOk result (λ made. (target_of made.0 ≡ target)
+            × (board_workers made.0 ≡ workers)
+            × (made.1.seat.table_id ≡ made.0.table.shared.table_id)
+            × (chief_view made.1 ≡ first_view made.0.table.shared.key)) }
     {
         let mut words = [0u64; WORDS];
         words[0] = target;
@@ -86,11 +89,16 @@ impl Board {
         requires favoured { favoured < workers }
         requires none { (chief_view chief.old).made ≡ 0 }
         ensures table { chief.new.seat.table_id ≡ chief.old.seat.table_id }
-        ensures chief { IfOk result (λ _. ((chief_view chief.new).target ≡ (chief_view chief.old).target) × ((chief_view chief.new).seen ≡ (chief_view chief.old).seen) × ((chief_view chief.new).made ≡ workers) × ((chief_view chief.new).hand ≡ 0)) }
+        ensures chief { IfOk result
+            (λ _. ((chief_view chief.new).target ≡ (chief_view chief.old).target)
+            × ((chief_view chief.new).seen ≡ (chief_view chief.old).seen)
+            × ((chief_view chief.new).made ≡ workers) × ((chief_view chief.new).hand ≡ 0)) }
         ensures did { IfOk result
             (λ _. (chief_view chief.new).done ≡ splits_after (chief_view chief.old).done workers) }
         ensures all { IfOk result (λ seats. vec_len seats ≡ workers) }
-        ensures seats { IfOk result (λ seats. AreDealt self.now seats.items (λ w. if w == favoured then (chief_view chief.old).hand else 0)) }
+        ensures seats { IfOk result
+            (λ seats. AreDealt self.now seats.items
+            (λ w. if w == favoured then (chief_view chief.old).hand else 0)) }
     {
         let mut seats = Vec::new(alloc);
         for number in 0..workers {
@@ -102,10 +110,16 @@ impl Board {
     // The seat of the next worker, with what the chief has in hand or with nothing.
     fn next_seat(&self, chief: &mut ChiefSeat, with_hand: bool) -> WorkSeat
         requires table { chief.old.seat.table_id ≡ self.now.table.shared.table_id }
-        requires room { ((chief_view chief.old).made < board_workers self.now) × ((chief_view chief.old).made < MOST_WORKERS) }
-        ensures table { (chief.new.seat.table_id ≡ chief.old.seat.table_id) × (result.seat.table_id ≡ chief.old.seat.table_id) }
-        ensures chief { chief_view chief.new ≡ after_split (chief_view chief.old) (if with_hand then 0 else (chief_view chief.old).hand) }
-        ensures seat { work_view result ≡ new_seat (chief_view chief.old).made (if with_hand then (chief_view chief.old).hand else 0) }
+        requires room { ((chief_view chief.old).made < board_workers self.now)
+            × ((chief_view chief.old).made < MOST_WORKERS) }
+        ensures table { (chief.new.seat.table_id ≡ chief.old.seat.table_id)
+            × (result.seat.table_id ≡ chief.old.seat.table_id) }
+        ensures chief { chief_view chief.new
+            ≡ after_split (chief_view chief.old)
+            (if with_hand then 0 else (chief_view chief.old).hand) }
+        ensures seat { work_view result
+            ≡ new_seat (chief_view chief.old).made
+            (if with_hand then (chief_view chief.old).hand else 0) }
     {
         if with_hand {
             self.seat_with_hand(chief)
@@ -116,9 +130,12 @@ impl Board {
 
     fn seat_with_nothing(&self, chief: &mut ChiefSeat) -> WorkSeat
         requires table { chief.old.seat.table_id ≡ self.now.table.shared.table_id }
-        requires room { ((chief_view chief.old).made < board_workers self.now) × ((chief_view chief.old).made < MOST_WORKERS) }
-        ensures table { (chief.new.seat.table_id ≡ chief.old.seat.table_id) × (result.seat.table_id ≡ chief.old.seat.table_id) }
-        ensures chief { chief_view chief.new ≡ after_split (chief_view chief.old) (chief_view chief.old).hand }
+        requires room { ((chief_view chief.old).made < board_workers self.now)
+            × ((chief_view chief.old).made < MOST_WORKERS) }
+        ensures table { (chief.new.seat.table_id ≡ chief.old.seat.table_id)
+            × (result.seat.table_id ≡ chief.old.seat.table_id) }
+        ensures chief { chief_view chief.new
+            ≡ after_split (chief_view chief.old) (chief_view chief.old).hand }
         ensures seat { work_view result ≡ new_seat (chief_view chief.old).made 0 }
     {
         let seat = self.table.shared.split_seat::<WithNothing>(&mut chief.seat);
@@ -134,10 +151,13 @@ impl Board {
 
     fn seat_with_hand(&self, chief: &mut ChiefSeat) -> WorkSeat
         requires table { chief.old.seat.table_id ≡ self.now.table.shared.table_id }
-        requires room { ((chief_view chief.old).made < board_workers self.now) × ((chief_view chief.old).made < MOST_WORKERS) }
-        ensures table { (chief.new.seat.table_id ≡ chief.old.seat.table_id) × (result.seat.table_id ≡ chief.old.seat.table_id) }
+        requires room { ((chief_view chief.old).made < board_workers self.now)
+            × ((chief_view chief.old).made < MOST_WORKERS) }
+        ensures table { (chief.new.seat.table_id ≡ chief.old.seat.table_id)
+            × (result.seat.table_id ≡ chief.old.seat.table_id) }
         ensures chief { chief_view chief.new ≡ after_split (chief_view chief.old) 0 }
-        ensures seat { work_view result ≡ new_seat (chief_view chief.old).made (chief_view chief.old).hand }
+        ensures seat { work_view result
+            ≡ new_seat (chief_view chief.old).made (chief_view chief.old).hand }
     {
         let seat = self.table.shared.split_seat::<WithHand>(&mut chief.seat);
         let number = chief.workers;
@@ -155,8 +175,10 @@ impl Board {
 
 // Takes in a worker's seat, and says how many units it counted.
 fn take_in(board: &Board, chief: &mut Seat<(), View>, worker: WorkSeat) -> u64
-    requires chief { (chief.old.table_id ≡ board.now.table.shared.table_id) × (chief.old.me.0.role ≡ Chief) }
-    requires worker { (worker.seat.table_id ≡ board.now.table.shared.table_id) × ((work_view worker).hand ≡ 0) }
+    requires chief { (chief.old.table_id ≡ board.now.table.shared.table_id)
+        × (chief.old.me.0.role ≡ Chief) }
+    requires worker { (worker.seat.table_id ≡ board.now.table.shared.table_id)
+        × ((work_view worker).hand ≡ 0) }
     ensures chief { (chief.new.table_id ≡ chief.old.table_id) × (chief.new.id ≡ chief.old.id) }
     ensures joined { chief.new.me.0 ≡ after_join chief.old.me.0 (work_view worker) }
     ensures counted { (result ≡ (work_view worker).mine) × (result ≤ 2 ^ 40) }
@@ -173,13 +195,17 @@ fn take_in(board: &Board, chief: &mut Seat<(), View>, worker: WorkSeat) -> u64
 
 // Takes in the seats of all workers, and says how many units they counted.
 fn take_all(board: &Board, chief: &mut Seat<(), View>, seats: Vec<WorkSeat>) -> u64
-    requires chief { (chief.old.table_id ≡ board.now.table.shared.table_id) × (chief.old.me.0.role ≡ Chief) × (chief.old.me.0.kept ≡ []) }
+    requires chief { (chief.old.table_id ≡ board.now.table.shared.table_id)
+        × (chief.old.me.0.role ≡ Chief) × (chief.old.me.0.kept ≡ []) }
     requires seats { All (IsSeatOf board.now) seats.items }
     requires few { vec_len seats ≤ MOST_WORKERS }
     requires empty { All (λ seat. (work_view seat).hand ≡ 0) seats.items }
     ensures chief { (chief.new.table_id ≡ chief.old.table_id) × (chief.new.me.0.role ≡ Chief) }
-    ensures same { (chief.new.me.0.target ≡ chief.old.me.0.target) × (chief.new.me.0.made ≡ chief.old.me.0.made) × (chief.new.me.0.seen ≡ chief.old.me.0.seen) }
-    ensures kept { (length chief.new.me.0.kept ≡ vec_len seats) × (sum_by (λ k. k.count) chief.new.me.0.kept ≡ result) }
+    ensures same { (chief.new.me.0.target ≡ chief.old.me.0.target)
+        × (chief.new.me.0.made ≡ chief.old.me.0.made)
+        × (chief.new.me.0.seen ≡ chief.old.me.0.seen) }
+    ensures kept { (length chief.new.me.0.kept ≡ vec_len seats)
+        × (sum_by (λ k. k.count) chief.new.me.0.kept ≡ result) }
     ensures counted { result ≡ sum_by (λ seat. (work_view seat).mine) seats.items }
 {
     let mut counted = 0;
@@ -199,7 +225,8 @@ pub fn close(board: Board, chief: ChiefSeat, seats: Vec<WorkSeat>) -> Totals
     requires empty { All (λ seat. (work_view seat).hand ≡ 0) seats.items }
     ensures counted { result.counted ≡ sum_by (λ seat. (work_view seat).mine) seats.items }
     ensures total { result.unassigned + result.counted ≡ target_of board }
-    ensures hit { sum (chief_view chief).seen ≡ target_of board → (result.counted ≡ target_of board) × (result.unassigned ≡ 0) }
+    ensures hit { sum (chief_view chief).seen ≡ target_of board
+        → (result.counted ≡ target_of board) × (result.unassigned ≡ 0) }
 {
     let ChiefSeat {
         mut seat,

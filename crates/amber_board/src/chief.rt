@@ -30,7 +30,8 @@ impl ChiefSeat {
         requires { self.old.seat.table_id ≡ board.now.table.shared.table_id }
         ensures table { self.new.seat.table_id ≡ self.old.seat.table_id }
         ensures drew { (n : ℕ) × (chief_view self.new ≡ drawn (chief_view self.old) n) }
-        ensures all { (chief_view self.old).made ≡ 0 → (chief_view self.new).hand ≡ (chief_view self.old).target }
+        ensures all { (chief_view self.old).made ≡ 0
+            → (chief_view self.new).hand ≡ (chief_view self.old).target }
     {
         let found = board
             .table
@@ -99,7 +100,8 @@ impl ChiefSeat {
     /// Whether the counts that the chief saw add up to the target.
     /// If so, every unit is counted, and none is anywhere else.
     pub fn hit(&self) -> bool
-        ensures hit { IsTrue result ↔ (sum (chief_view self.now).seen ≡ (chief_view self.now).target) }
+        ensures hit { IsTrue result
+            ↔ (sum (chief_view self.now).seen ≡ (chief_view self.now).target) }
         ensures exact { IsTrue result → IsExact (chief_view self.now) }
     {
         total_of(&self.seen) == self.target

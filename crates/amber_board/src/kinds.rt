@@ -28,7 +28,8 @@ impl Split<View> for WithHand {
 pub(crate) struct Draw;
 
 impl Play<(), View> for Draw {
-    ghost then = { λ step me n after. (step.word ≡ 1) × (after.0 ≡ drawn me.0 n) × (after.1 ≡ me.1) × (me.0.hand + n ≤ 2 ^ 40) × (me.0.made ≡ 0 → me.0.hand + n ≡ me.0.target) };
+    ghost then = { λ step me n after. (step.word ≡ 1) × (after.0 ≡ drawn me.0 n) × (after.1 ≡ me.1)
+        × (me.0.hand + n ≤ 2 ^ 40) × (me.0.made ≡ 0 → me.0.hand + n ≡ me.0.target) };
 }
 
 /// On the allotment of the worker that the word tells. The next two tell the worker in the same way: a sweep by its
@@ -36,47 +37,58 @@ impl Play<(), View> for Draw {
 pub(crate) struct Grant;
 
 impl Play<(), View> for Grant {
-    ghost then = { λ step me n after. ((w : ℕ) → step.word ≡ 2 + w → after.0 ≡ after_grant me.0 w step.first) × (after.1 ≡ me.1) };
+    ghost then = { λ step me n after.
+        ((w : ℕ) → step.word ≡ 2 + w → after.0 ≡ after_grant me.0 w step.first)
+        × (after.1 ≡ me.1) };
 }
 
 pub(crate) struct Sweep;
 
 impl Play<(), View> for Sweep {
-    ghost then = { λ step me n after. ((w : ℕ) → step.word ≡ 2 + w → after.0 ≡ swept me.0 w n) × (after.1 ≡ me.1) × (me.0.hand + n ≤ 2 ^ 40) };
+    ghost then = { λ step me n after. ((w : ℕ) → step.word ≡ 2 + w → after.0 ≡ swept me.0 w n)
+        × (after.1 ≡ me.1) × (me.0.hand + n ≤ 2 ^ 40) };
 }
 
 pub(crate) struct Watch;
 
 impl Play<(), View> for Watch {
-    ghost then = { λ step me n after. ((w : ℕ) → step.word ≡ 18 + w → after.0 ≡ after_watch me.0 w n) × (after.1 ≡ me.1) × (n ≤ 2 ^ 40) };
+    ghost then = { λ step me n after.
+        ((w : ℕ) → step.word ≡ 18 + w → after.0 ≡ after_watch me.0 w n) × (after.1 ≡ me.1)
+        × (n ≤ 2 ^ 40) };
 }
 
 /// On the unassigned units.
 pub(crate) struct PutBack;
 
 impl Play<(), View> for PutBack {
-    ghost then = { λ step me n after. (step.word ≡ 1) × (after.0 ≡ put_back_of me.0) × (after.1 ≡ me.1) };
+    ghost then = { λ step me n after. (step.word ≡ 1) × (after.0 ≡ put_back_of me.0)
+        × (after.1 ≡ me.1) };
 }
 
 /// On the worker's own allotment.
 pub(crate) struct Claim;
 
 impl Play<(), View> for Claim {
-    ghost then = { λ step me n after. (step.word ≡ 2 + worker_number_of me.0.role) × (after.0 ≡ after_claim me.0 (worker_number_of me.0.role) n) × (after.1 ≡ me.1) × (me.0.hand + n ≤ 2 ^ 40) };
+    ghost then = { λ step me n after. (step.word ≡ 2 + worker_number_of me.0.role)
+        × (after.0 ≡ after_claim me.0 (worker_number_of me.0.role) n) × (after.1 ≡ me.1)
+        × (me.0.hand + n ≤ 2 ^ 40) };
 }
 
 /// On the worker's own count.
 pub(crate) struct Count;
 
 impl Play<(), View> for Count {
-    ghost then = { λ step me n after. (step.word ≡ 18 + worker_number_of me.0.role) × (after.0 ≡ counted_one me.0 (worker_number_of me.0.role)) × (after.1 ≡ me.1) × (me.0.mine + 1 ≤ 2 ^ 40) };
+    ghost then = { λ step me n after. (step.word ≡ 18 + worker_number_of me.0.role)
+        × (after.0 ≡ counted_one me.0 (worker_number_of me.0.role)) × (after.1 ≡ me.1)
+        × (me.0.mine + 1 ≤ 2 ^ 40) };
 }
 
 /// On the unassigned units.
 pub(crate) struct GiveBack;
 
 impl Play<(), View> for GiveBack {
-    ghost then = { λ step me n after. (step.word ≡ 1) × (after.0 ≡ given_back me.0 (worker_number_of me.0.role)) × (after.1 ≡ me.1) };
+    ghost then = { λ step me n after. (step.word ≡ 1)
+        × (after.0 ≡ given_back me.0 (worker_number_of me.0.role)) × (after.1 ≡ me.1) };
 }
 
 /// The chief takes in a worker's seat.

@@ -52,8 +52,6 @@ mod chief;
 mod kinds;
 pub mod laws;
 mod rule;
-#[cfg(test)]
-mod tests;
 mod types;
 mod view;
 mod words;

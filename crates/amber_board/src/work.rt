@@ -12,7 +12,8 @@ impl WorkSeat {
     pub fn claim(&mut self, board: &Board) -> u64
         requires { IsSeatOf board.now self.old }
         ensures own { IsSeatOf board.now self.new }
-        ensures claimed { work_view self.new ≡ after_claim (work_view self.old) (worker_of self.old) result }
+        ensures claimed { work_view self.new
+            ≡ after_claim (work_view self.old) (worker_of self.old) result }
     {
         let found = board
             .table
@@ -27,7 +28,8 @@ impl WorkSeat {
         requires own { IsSeatOf board.now self.old }
         requires has { 0 < (work_view self.old).hand }
         ensures own { IsSeatOf board.now self.new }
-        ensures counted { work_view self.new ≡ counted_one (work_view self.old) (worker_of self.old) }
+        ensures counted { work_view self.new
+            ≡ counted_one (work_view self.old) (worker_of self.old) }
     {
         board
             .table
@@ -41,7 +43,8 @@ impl WorkSeat {
     pub fn give_back(&mut self, board: &Board)
         requires { IsSeatOf board.now self.old }
         ensures own { IsSeatOf board.now self.new }
-        ensures given_back { work_view self.new ≡ given_back (work_view self.old) (worker_of self.old) }
+        ensures given_back { work_view self.new
+            ≡ given_back (work_view self.old) (worker_of self.old) }
     {
         board
             .table

@@ -10,6 +10,7 @@ pub use case_text::{CaseText, Piece};
 pub use compare::{Difference, LineDifference, compare_answer, compare_bytes};
 pub use fault::{Broken, Why};
 pub use reader::Reader;
+pub use std::alloc::AllocError as NoMemory;
 
 mod case;
 mod case_text;

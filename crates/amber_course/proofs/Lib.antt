@@ -1,5 +1,4 @@
 pub mod Following
 pub mod Lines
-pub mod Numbers
 pub mod Scanning
-pub mod Scripts
+pub mod LogScans

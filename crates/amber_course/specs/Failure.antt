@@ -2,8 +2,7 @@
 use Rattle.std.specs.Prelude.{◌≡◌, ◌⊎◌, ℕ, List, [], ◌++◌, codes}
 use Rattle.std.specs.Fmt.{decimal}
 use Rattle.amber_flow.specs.Words.{flow_reason_word}
-use Rattle.amber_course.specs.declared.script.ScriptWhy.{ScriptWhy}
-use Rattle.amber_course.specs.declared.script.ScriptWhy.TheVariants as script_why
+use Rattle.amber_script.specs.Reasons.{script_reason_word}
 use Rattle.amber_course.specs.declared.status.Status.{Status}
 use Rattle.amber_course.specs.declared.status.Status.TheVariants as status
 use Rattle.amber_course.specs.declared.failure.Reason.{Reason}
@@ -34,14 +33,11 @@ reason_word (reason.Flow why) = flow_reason_word why
 reason_word reason.Header = codes "Header"
 reason_word reason.LogName = codes "LogName"
 
-abbrev pub script_word : ScriptWhy → List ℕ
-script_word script_why.Word = codes "Word"
-
 -- the line that is printed after a refusal; a sink that failed gets none
 abbrev pub error_line_of : Failure → List ℕ
 error_line_of failure.Usage = codes "error 1 usage\n"
 error_line_of (failure.BadFlow op why) = codes "error 2 flow " ++ (decimal op ++ (codes " " ++ (reason_word why ++ codes "\n")))
-error_line_of (failure.BadScript line why) = codes "error 3 script " ++ (decimal line ++ (codes " " ++ (script_word why ++ codes "\n")))
+error_line_of (failure.BadScript line why) = codes "error 3 script " ++ (decimal line ++ (codes " " ++ (script_reason_word why ++ codes "\n")))
 error_line_of (failure.ReadFault name) = codes "error 4 read " ++ (name ++ codes "\n")
 error_line_of failure.LogFault = codes "error 5 log write\n"
 error_line_of failure.OutFault = []

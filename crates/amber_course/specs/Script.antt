@@ -1,19 +1,11 @@
 -- The script of a run. So far no command is known, so each line that says something is refused.
-use Rattle.std.specs.Prelude.{ℕ, ◌+◌, ◌==◌, ◌||◌, not, List, [], ◌∷◌, Bool, false, Option, Some, None, Result, Ok, Err, if◌then◌else◌}
+use Rattle.std.specs.Prelude.{ℕ, ◌+◌, ◌==◌, List, Option, Some, None, Result, Ok, Err}
 use Rattle.std.specs.List.{position, slice_split}
 use Rattle.std.specs.Str.Lines.{strip_carriage_return}
-use Rattle.amber_course.specs.declared.script.ScriptWhy.TheVariants as why
+use Rattle.amber_script.specs.Script.{says}
+use Rattle.amber_script.specs.declared.error.ScriptWhy.TheVariants as why
 use Rattle.amber_course.specs.declared.failure.Failure.{Failure}
 use Rattle.amber_course.specs.declared.failure.Failure.TheVariants as failure
-
--- a space or a tab
-abbrev pub is_blank : ℕ → Bool
-is_blank b = (b == 32) || (b == 9)
-
--- a line has a byte other than a blank, and the first such byte is no `#`
-unfoldable pub says : List ℕ → Bool
-says [] = false
-says (b ∷ bs) = if is_blank b then says bs else not (b == 35)
 
 -- the place of the first line that says something. Lines end with a line feed, before which one carriage return is dropped
 unfoldable pub first_said : List ℕ → Option ℕ

@@ -2,16 +2,9 @@
 use Rattle.std.specs.Prelude.{ℕ, ◌<◌, ◌≤◌, ◌&&◌, ◌||◌, nat_le, List, [], ◌∷◌, codes, bytes_eq, Option, Some, None, if◌then◌else◌, ⊤}
 use Rattle.std.specs.Fmt.{decimal}
 use Rattle.std.specs.Str.Parse.{digits_value}
+use Rattle.amber_script.specs.Numbers.{number_up_to}
 use Rattle.amber_course.specs.declared.words.Words.{Words}
 use Rattle.amber_course.specs.declared.words.Words.TheVariants as form
-
--- a number, where it is from 1 to `most` and the word is its decimal
-abbrev pub number_where : ℕ → List ℕ → ℕ → Option ℕ
-number_where most word n = if bytes_eq (decimal n) word && nat_le 1 n && nat_le n most then Some n else None
-
--- the number from 1 to `most` whose decimal, without leading zeros, a word is
-unfoldable pub number_from : ℕ → List ℕ → Option ℕ
-number_from most word = number_where most word (digits_value 10 word)
 
 -- how many threads a run may have, and how many rows a batch
 abbrev pub most_threads : ℕ
@@ -32,7 +25,7 @@ run_words workflow script log (Some threads) (Some batch) =
 unfoldable pub call_words_of : List (List ℕ) → Option Words
 call_words_of (word ∷ workflow ∷ []) = if bytes_eq word (codes "plain") then Some (form.Plain workflow) else None
 call_words_of (word ∷ workflow ∷ script ∷ log ∷ threads ∷ batch ∷ []) =
-    if bytes_eq word (codes "run") then run_words workflow script log (number_from most_threads threads) (number_from most_batch batch) else None
+    if bytes_eq word (codes "run") then run_words workflow script log (number_up_to most_threads threads) (number_up_to most_batch batch) else None
 call_words_of others = None
 
 -- the numbers of a run are in their ranges

@@ -2,10 +2,10 @@ ghost use Rattle.std.specs.Prelude.{◌≡◌};
 ghost use Rattle.amber_course.specs.Failure.{reason_word, status_of};
 ghost use Rattle.amber_course.specs.declared.failure.Failure.TheVariants.{NoMemory};
 
-use crate::script::ScriptWhy;
 use crate::status::Status;
 use amber_flow::FlowWhy;
 use amber_rows::Text;
+use amber_script::ScriptWhy;
 use std::alloc::{AllocError, AllocFailed};
 
 /// Why a workflow is refused.

@@ -16,11 +16,11 @@ pub mod script;
 pub mod status;
 pub mod words;
 
+pub use amber_script::ScriptWhy;
 pub use failure::{Failure, Reason};
 pub use job::Job;
 pub use preparing::prepare;
 pub use refusal::{put_output, refuse};
-pub use script::ScriptWhy;
 pub use status::Status;
 pub use std::alloc::AllocError as NoMemory;
 pub use words::{RunWords, Words, read_words};

@@ -53,7 +53,8 @@ pub(crate) fn load_run_flow<F: Folder>(
     log: &str,
     folder: &mut F,
 ) -> Result<Flow, Failure>
-    ensures course { Follows result (F.files folder.old) (run_flow workflow.now log.now) (F.load_faults folder.old) (F.load_faults folder.new) }
+    ensures course { Follows result (F.files folder.old) (run_flow workflow.now log.now)
+        (F.load_faults folder.old) (F.load_faults folder.new) }
     ensures alone { IfOk result (λ flow. AreAlone flow) }
     ensures named { IfErr result (λ failure. Names failure (λ file. file ≡ workflow.now)) }
     ensures same { F.files folder.new ≡ F.files folder.old }

@@ -17,10 +17,13 @@ use std::alloc::Global;
 
 // To print the answer of the workflow in a file.
 fn prepare_plain<F: Folder>(alloc: Global, workflow: &str, folder: &mut F) -> Result<Job, Failure>
-    ensures course { Follows result (F.files folder.old) (job_of (Words.Plain workflow.now)) (F.load_faults folder.old) (F.load_faults folder.new) }
+    ensures course { Follows result (F.files folder.old) (job_of (Words.Plain workflow.now))
+        (F.load_faults folder.old) (F.load_faults folder.new) }
     ensures ready { IfOk result IsReady }
     ensures form { IfOk result WritesNothing }
-    ensures named { Told (F.files folder.old) (λ files. IfErr result (λ failure. Names failure (IsLoaded (Words.Plain workflow.now) files))) }
+    ensures named { Told (F.files folder.old)
+        (λ files. IfErr result (λ failure. Names failure
+        (IsLoaded (Words.Plain workflow.now) files))) }
     ensures same { F.files folder.new ≡ F.files folder.old }
     ensures writes { F.write_faults folder.new ≡ F.write_faults folder.old }
 {
@@ -32,9 +35,11 @@ fn prepare_plain<F: Folder>(alloc: Global, workflow: &str, folder: &mut F) -> Re
 // To do a run.
 fn prepare_run<F: Folder>(alloc: Global, words: RunWords, folder: &mut F) -> Result<Job, Failure>
     requires { AreSizes words.threads words.batch }
-    ensures course { Follows result (F.files folder.old) (job_of (Words.Run words)) (F.load_faults folder.old) (F.load_faults folder.new) }
+    ensures course { Follows result (F.files folder.old) (job_of (Words.Run words))
+        (F.load_faults folder.old) (F.load_faults folder.new) }
     ensures ready { IfOk result IsReady }
-    ensures named { Told (F.files folder.old) (λ files. IfErr result (λ failure. Names failure (IsLoaded (Words.Run words) files))) }
+    ensures named { Told (F.files folder.old)
+        (λ files. IfErr result (λ failure. Names failure (IsLoaded (Words.Run words) files))) }
     ensures same { F.files folder.new ≡ F.files folder.old }
     ensures writes { F.write_faults folder.new ≡ F.write_faults folder.old }
 {
@@ -60,10 +65,12 @@ fn prepare_run<F: Folder>(alloc: Global, words: RunWords, folder: &mut F) -> Res
 /// The job that words ask for, with all that is to be loaded and read for it.
 pub fn prepare<F: Folder>(alloc: Global, words: Words, folder: &mut F) -> Result<Job, Failure>
     requires { AreSound words }
-    ensures course { Follows result (F.files folder.old) (job_of words) (F.load_faults folder.old) (F.load_faults folder.new) }
+    ensures course { Follows result (F.files folder.old) (job_of words) (F.load_faults folder.old)
+        (F.load_faults folder.new) }
     ensures ready { IfOk result IsReady }
     ensures form { IfOk result (IsAskedBy words) }
-    ensures named { Told (F.files folder.old) (λ files. IfErr result (λ failure. Names failure (IsLoaded words files))) }
+    ensures named { Told (F.files folder.old)
+        (λ files. IfErr result (λ failure. Names failure (IsLoaded words files))) }
     ensures same { F.files folder.new ≡ F.files folder.old }
     ensures writes { F.write_faults folder.new ≡ F.write_faults folder.old }
 {

@@ -11,14 +11,16 @@ use itoa::Buffer;
 
 // One piece of a line.
 fn put_piece<O: Sink>(out: &mut O, piece: &[u8]) -> Result<(), IoErr>
-    ensures { Lined result (O.written out.old) (O.written out.new) (O.faults out.old) (O.faults out.new) piece.now }
+    ensures { Lined result (O.written out.old) (O.written out.new)
+        (O.faults out.old) (O.faults out.new) piece.now }
 {
     out.put(piece)
 }
 
 // The line for a workflow or a script: these words, a number and the reason. It takes no memory.
 fn put_reason_line<O: Sink>(out: &mut O, words: &[u8], number: u64, why: &str) -> Result<(), IoErr>
-    ensures { Lined result (O.written out.old) (O.written out.new) (O.faults out.old) (O.faults out.new)
+    ensures { Lined result (O.written out.old) (O.written out.new)
+        (O.faults out.old) (O.faults out.new)
         (words.now ++ (decimal number ++ (codes " " ++ (why.now ++ codes "\n")))) }
 {
     let mut buffer = Buffer::new();
@@ -32,7 +34,8 @@ fn put_reason_line<O: Sink>(out: &mut O, words: &[u8], number: u64, why: &str) -
 
 // The line for a file: these words, and its name.
 fn put_file_line<O: Sink>(out: &mut O, words: &[u8], name: &str) -> Result<(), IoErr>
-    ensures { Lined result (O.written out.old) (O.written out.new) (O.faults out.old) (O.faults out.new)
+    ensures { Lined result (O.written out.old) (O.written out.new)
+        (O.faults out.old) (O.faults out.new)
         (words.now ++ (name.now ++ codes "\n")) }
 {
     put_piece(out, words)?;
@@ -81,7 +84,8 @@ pub fn refuse<O: Sink>(out: &mut O, failure: &Failure) -> Status
 
 /// Puts the whole output in one call.
 pub fn put_output<O: Sink>(out: &mut O, text: &[u8]) -> Result<(), Failure>
-    ensures { Sent result (O.written out.old) (O.written out.new) (O.faults out.old) (O.faults out.new) text.now }
+    ensures { Sent result (O.written out.old) (O.written out.new)
+        (O.faults out.old) (O.faults out.new) text.now }
 {
     match out.put(text) {
         Ok(()) => Ok(()),

@@ -1,17 +1,18 @@
 ghost use Rattle.std.specs.Prelude.{◌≡◌, ◌<◌, ◌≤◌, map, string_bytes, IfOk, IfSome, Some};
 ghost use Rattle.amber_course.specs.Steps.{AreRead};
-ghost use Rattle.amber_course.specs.Words.{AreSound, number_from, number_where, run_words, call_words_of};
+ghost use Rattle.amber_script.specs.Numbers.{number_up_to};
+ghost use Rattle.amber_course.specs.Words.{AreSound, run_words, call_words_of};
 
 use crate::failure::Failure;
 use amber_rows::Text;
-use itoa::Buffer;
+use amber_script::numbers::read_number;
 use std::alloc::{AllocError, Global};
 
 // How many threads a run may have.
-const MOST_THREADS: u32 = 64;
+const MOST_THREADS: u64 = 64;
 
 // How many rows a batch may have.
-const MOST_BATCH: u32 = 65_536;
+const MOST_BATCH: u64 = 65_536;
 
 /// The words of a run: the names of its workflow, its script and its log, on how many threads it works, from 1 to
 /// 64, and how many rows a batch has, from 1 to 65,536.
@@ -31,29 +32,6 @@ pub enum Words {
     Plain { workflow: Text },
     /// To do a run and to write its log.
     Run(RunWords),
-}
-
-// A number, where it is from 1 to `most` and the word is its decimal.
-fn number_where(word: &str, most: u32, number: u32) -> Option<u32>
-    ensures number { result ≡ number_where most word.now number }
-    ensures range { IfSome result (λ number. (0 < number) × (number ≤ most)) }
-{
-    let mut buffer = Buffer::new();
-    if number == 0 || number > most || buffer.format(number) != word {
-        return None;
-    }
-    Some(number)
-}
-
-// The number from 1 to `most` that a word is, without leading zeros.
-fn read_number(word: &str, most: u32) -> Option<u32>
-    ensures number { result ≡ number_from most word.now }
-    ensures range { IfSome result (λ number. (0 < number) × (number ≤ most)) }
-{
-    match word.parse::<u32>() {
-        Ok(number) => number_where(word, most, number),
-        Err(_) => None,
-    }
 }
 
 // A word as a text of its own.
@@ -81,7 +59,9 @@ fn read_run(
     threads: &str,
     batch: &str,
 ) -> Result<Words, Failure>
-    ensures read { AreRead result (run_words workflow.now script.now log.now (number_from 64 threads.now) (number_from 65536 batch.now)) }
+    ensures read { AreRead result
+        (run_words workflow.now script.now log.now (number_up_to 64 threads.now)
+        (number_up_to 65536 batch.now)) }
     ensures sound { IfOk result AreSound }
 {
     let Some(threads) = read_number(threads, MOST_THREADS) else {
@@ -97,8 +77,8 @@ fn read_run(
         workflow: copied(alloc, workflow)?,
         script: copied(alloc, script)?,
         log: copied(alloc, log)?,
-        threads,
-        batch,
+        threads: threads as u32,
+        batch: batch as u32,
     }))
 }
 

@@ -30,7 +30,14 @@ impl Model for Debugger {
 
     ghost Value = { Session };
 
-    ghost view = { λ a. record { flow = a.home.flow; files = a.home.files; most = a.home.most; threads = a.threads; log = a.home.log; spent = a.spent } };
+    ghost view = { λ a. record {
+      flow = a.home.flow;
+      files = a.home.files;
+      most = a.home.most;
+      threads = a.threads;
+      log = a.home.log;
+      spent = a.spent;
+    } };
 
     ghost use Rattle.amber_debug.specs.Session.{IsKept};
 
@@ -98,7 +105,14 @@ impl Debugger {
 
         // For now every operator has one worker.
         requires alone { AreAlone flow }
-        ensures begins { IfOk result (λ d. d ≡ record { flow = flow; files = files; most = most; threads = threads; log = record { batch = batch; items = [] }; spent = false }) }
+        ensures begins { IfOk result (λ d. d ≡ record {
+          flow = flow;
+          files = files;
+          most = most;
+          threads = threads;
+          log = record { batch = batch; items = [] };
+          spent = false;
+        }) }
         ensures header { BeginsOrNames result flow files }
     {
         let home = Home::new(alloc, flow, files, batch, most)?;

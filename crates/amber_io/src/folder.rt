@@ -25,8 +25,10 @@ pub trait Folder {
         ensures same { files self.new ≡ files self.old }
         ensures gives { IfOk result (λ bytes. Gives (files self.old) name.now most bytes.items) }
         ensures short { IfOk result (λ bytes. vec_len bytes ≤ most) }
-        ensures cause { HasCause result (Lacks (files self.old) name.now) (load_faults self.old) (load_faults self.new) }
-        ensures absent { Lacks (files self.old) name.now → IsErr result × (load_faults self.new ≡ load_faults self.old) }
+        ensures cause { HasCause result (Lacks (files self.old) name.now) (load_faults self.old)
+            (load_faults self.new) }
+        ensures absent { Lacks (files self.old) name.now
+            → IsErr result × (load_faults self.new ≡ load_faults self.old) }
         ensures writes { write_faults self.new ≡ write_faults self.old };
 
     /// Makes the file of this name empty, or makes an empty one. All other files stay.

@@ -12,6 +12,7 @@ pub use mem_sink::MemSink;
 pub use named_files::NamedFiles;
 pub use real::{RealFolder, RealSink};
 pub use sink::Sink;
+pub use std::alloc::AllocError as NoMemory;
 
 mod error;
 mod fails;
@@ -21,5 +22,3 @@ mod mem_sink;
 mod named_files;
 mod real;
 mod sink;
-#[cfg(test)]
-mod tests;

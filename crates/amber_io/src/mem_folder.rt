@@ -52,7 +52,8 @@ impl MemFolder {
         ensures fails { IsErr result }
         ensures cause { HasCause result ⊥ (failed_writes self.old) (failed_writes self.new) }
         ensures counted { IsCounted result (failed_writes self.old) (failed_writes self.new) }
-        ensures kept { EmptiesIf result (Some (held_files self.old)) (Some (held_files self.new)) name.now (folder_plan self.old).keep }
+        ensures kept { EmptiesIf result (Some (held_files self.old)) (Some (held_files self.new))
+            name.now (folder_plan self.old).keep }
         ensures memory { result ≡ Err IoErr.NoMemory → held_files self.new ≡ held_files self.old }
         ensures loads { failed_loads self.new ≡ failed_loads self.old }
         ensures plan { folder_plan self.new ≡ folder_plan self.old }
@@ -74,7 +75,8 @@ impl MemFolder {
 
     /// What the file of this name holds, and `None` exactly where there is none.
     pub fn read(&self, name: &str) -> Option<&[u8]>
-        ensures { option_map (λ bytes. bytes.now) result ≡ finmap.get (held_files self.now) name.now }
+        ensures { option_map (λ bytes. bytes.now) result
+            ≡ finmap.get (held_files self.now) name.now }
     {
         self.files.find(name)
     }
@@ -90,15 +92,19 @@ impl Folder for MemFolder {
     /// As the trait says; the load fails where its number is listed and the file is there.
     fn load(&mut self, alloc: Global, name: &str, most: u64) -> Result<Vec<u8>, IoErr>
         ensures same { Some (held_files self.new) ≡ Some (held_files self.old) }
-        ensures gives { IfOk result (λ bytes. Gives (Some (held_files self.old)) name.now most bytes.items) }
+        ensures gives { IfOk result
+            (λ bytes. Gives (Some (held_files self.old)) name.now most bytes.items) }
         ensures short { IfOk result (λ bytes. vec_len bytes ≤ most) }
-        ensures cause { HasCause result (Lacks (Some (held_files self.old)) name.now) (failed_loads self.old) (failed_loads self.new) }
-        ensures absent { Lacks (Some (held_files self.old)) name.now → IsErr result × (failed_loads self.new ≡ failed_loads self.old) }
+        ensures cause { HasCause result (Lacks (Some (held_files self.old)) name.now)
+            (failed_loads self.old) (failed_loads self.new) }
+        ensures absent { Lacks (Some (held_files self.old)) name.now
+            → IsErr result × (failed_loads self.new ≡ failed_loads self.old) }
         ensures writes { failed_writes self.new ≡ failed_writes self.old }
         ensures plan { folder_plan self.new ≡ folder_plan self.old }
         ensures made { loads_made self.new ≡ next_number (loads_made self.old) }
         ensures planned { IsPlanned result (Lacks (Some (held_files self.old)) name.now)
-            (is_listed (folder_plan self.old).loads (loads_made self.new)) (failed_loads self.old) (failed_loads self.new) }
+            (is_listed (folder_plan self.old).loads (loads_made self.new)) (failed_loads self.old)
+            (failed_loads self.new) }
     {
         self.loads_made = self.loads_made.saturating_add(1);
         let Some(bytes) = self.files.find(name) else {
@@ -118,15 +124,18 @@ impl Folder for MemFolder {
     /// plan keeps no byte, and else empty.
     #[tactic(auto, using(crate::proofs::Told::empty_told))]
     fn create(&mut self, name: &str) -> Result<(), IoErr>
-        ensures creates { Creates result (Some (held_files self.old)) (Some (held_files self.new)) name.now }
+        ensures creates { Creates result (Some (held_files self.old)) (Some (held_files self.new))
+            name.now }
         ensures cause { HasCause result ⊥ (failed_writes self.old) (failed_writes self.new) }
         ensures loads { failed_loads self.new ≡ failed_loads self.old }
         ensures plan { folder_plan self.new ≡ folder_plan self.old }
         ensures loads_made { loads_made self.new ≡ loads_made self.old }
         ensures made { writes_made self.new ≡ next_number (writes_made self.old) }
-        ensures planned { IsPlanned result ⊥ (is_listed (folder_plan self.old).writes (writes_made self.new))
+        ensures planned { IsPlanned result ⊥
+            (is_listed (folder_plan self.old).writes (writes_made self.new))
             (failed_writes self.old) (failed_writes self.new) }
-        ensures kept { EmptiesIf result (Some (held_files self.old)) (Some (held_files self.new)) name.now (folder_plan self.old).keep }
+        ensures kept { EmptiesIf result (Some (held_files self.old)) (Some (held_files self.new))
+            name.now (folder_plan self.old).keep }
     {
         self.writes_made = self.writes_made.saturating_add(1);
         if self.fails.writes.contains(self.writes_made) {
@@ -143,16 +152,19 @@ impl Folder for MemFolder {
     #[tactic(auto, using(crate::proofs::Told::more_told))]
     fn append(&mut self, name: &str, bytes: &[u8]) -> Result<(), IoErr>
         requires { IsThere (Some (held_files self.old)) name.now }
-        ensures extends { Extends result (Some (held_files self.old)) (Some (held_files self.new)) name.now bytes.now }
+        ensures extends { Extends result (Some (held_files self.old)) (Some (held_files self.new))
+            name.now bytes.now }
         ensures cause { HasCause result ⊥ (failed_writes self.old) (failed_writes self.new) }
         ensures loads { failed_loads self.new ≡ failed_loads self.old }
         ensures plan { folder_plan self.new ≡ folder_plan self.old }
         ensures loads_made { loads_made self.new ≡ loads_made self.old }
         ensures made { writes_made self.new ≡ next_number (writes_made self.old) }
-        ensures planned { IsPlanned result ⊥ (is_listed (folder_plan self.old).writes (writes_made self.new))
+        ensures planned { IsPlanned result ⊥
+            (is_listed (folder_plan self.old).writes (writes_made self.new))
             (failed_writes self.old) (failed_writes self.new) }
         ensures counted { IsCounted result (failed_writes self.old) (failed_writes self.new) }
-        ensures kept { ExtendsBy result (Some (held_files self.old)) (Some (held_files self.new)) name.now
+        ensures kept { ExtendsBy result (Some (held_files self.old)) (Some (held_files self.new))
+            name.now
             (take (folder_plan self.old).keep bytes.now) }
     {
         self.writes_made = self.writes_made.saturating_add(1);

@@ -50,11 +50,13 @@ impl Sink for MemSink {
     /// As the trait says; the put fails where its number is listed, and has then written the first
     /// `keep` bytes of its piece, or all of a shorter one.
     fn put(&mut self, bytes: &[u8]) -> Result<(), IoErr>
-        ensures leaves { LeavesPiece result (Some (written_bytes self.old)) (Some (written_bytes self.new)) bytes.now }
+        ensures leaves { LeavesPiece result (Some (written_bytes self.old))
+            (Some (written_bytes self.new)) bytes.now }
         ensures cause { HasCause result ⊥ (failed_puts self.old) (failed_puts self.new) }
         ensures plan { sink_plan self.new ≡ sink_plan self.old }
         ensures made { puts_made self.new ≡ next_number (puts_made self.old) }
-        ensures planned { IsPlanned result ⊥ (is_listed (sink_plan self.old).puts (puts_made self.new))
+        ensures planned { IsPlanned result ⊥
+            (is_listed (sink_plan self.old).puts (puts_made self.new))
             (failed_puts self.old) (failed_puts self.new) }
         ensures kept { KeepsPart result (written_bytes self.old) (written_bytes self.new)
             (take (sink_plan self.old).keep bytes.now) }

@@ -75,7 +75,8 @@ impl NamedFiles {
 
     // Puts more bytes behind the first file of this name, where there is one.
     pub(crate) fn grow(&mut self, name: &str, more: &[u8]) -> Result<(), AllocError>
-        ensures ok { OnOk result (named self.new ≡ grown (named self.old) name.now (finmap.get (named self.old) name.now) more.now) }
+        ensures ok { OnOk result (named self.new
+            ≡ grown (named self.old) name.now (finmap.get (named self.old) name.now) more.now) }
         ensures err { OnErr result (self.new ≡ self.old) }
     {
         match self.place(name) {

@@ -14,9 +14,6 @@ use std::os::unix::fs::MetadataExt;
 use std::rt::Files;
 use std::{fs, io};
 
-#[cfg(test)]
-mod tests;
-
 /// Which file it is, by whatever path it was reached.
 #[derive(Clone, Copy, PartialEq, Eq)]
 struct FileId {
@@ -113,8 +110,10 @@ impl<R: Files> Folder for RealFolder<'_, R> {
         ensures same { ◌≡◌ {A = Option Named} None None }
         ensures gives { IfOk result (λ bytes. Gives None name.now most bytes.items) }
         ensures short { IfOk result (λ bytes. vec_len bytes ≤ most) }
-        ensures cause { HasCause result (Lacks None name.now) (failed_loads self.old) (failed_loads self.new) }
-        ensures absent { Lacks None name.now → IsErr result × (failed_loads self.new ≡ failed_loads self.old) }
+        ensures cause { HasCause result (Lacks None name.now) (failed_loads self.old)
+            (failed_loads self.new) }
+        ensures absent { Lacks None name.now
+            → IsErr result × (failed_loads self.new ≡ failed_loads self.old) }
         ensures writes { failed_writes self.new ≡ failed_writes self.old }
         ensures counted { IsCounted result (failed_loads self.old) (failed_loads self.new) }
     {

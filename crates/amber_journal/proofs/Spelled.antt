@@ -8,27 +8,14 @@ use Rattle.std.proofs.lemmas.Fmt.{IsAscii-decimal, parse-decimal}
 use Rattle.std.proofs.lemmas.Slice.Eq.{bytes_eq-Decides}
 use Rattle.std.proofs.lemmas.Str.{IsUtf8-from_ascii}
 use Rattle.amber_log.specs.ReadWords.{number}
+use Rattle.amber_log.proofs.FoundWords.{IsNumber, number-found}
 use Rattle.amber_log.proofs.WordsRead.{number-decimal}
-
-abbrev IsDecimal : ℕ → List ℕ → ℕ → Type 0
-IsDecimal limit digits n = (digits ≡ decimal n) × (n < limit)
-
-number-found : (limit : ℕ) (digits : List ℕ) → IfSome (number limit digits) (IsDecimal limit digits)
-unfolding number
-number-found limit digits =
-    let n = digits_value 10 digits in
-    let all : Bool = all_ascii_digits digits in
-    cond_both (all && (nat_lt n limit && bytes_eq digits (decimal n))) (Some n) None (λ o. IfSome o (IsDecimal limit digits))
-    (λ e. let parts = and_parts all (nat_lt n limit && bytes_eq digits (decimal n)) e in
-    let later = and_parts (nat_lt n limit) (bytes_eq digits (decimal n)) parts.1 in
-    ((bytes_eq-Decides digits (decimal n)).0 later.1, ltb-true n limit later.0))
-    (λ e. tt)
 
 -- digits that are no number's decimal are no number
 none : (limit : ℕ) (digits : List ℕ) → ((n : ℕ) → n < limit → digits ≡ decimal n → ⊥) → None ≡ number limit digits
 none limit digits never = none_of (number limit digits) (number-found limit digits)
   where
-    none_of : (o : Option ℕ) → IfSome o (IsDecimal limit digits) → None ≡ o
+    none_of : (o : Option ℕ) → IfSome o (IsNumber limit digits) → None ≡ o
     none_of None h = refl
     none_of (Some n) h = absurd (never n h.1 h.0)
 

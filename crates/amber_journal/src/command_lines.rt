@@ -28,7 +28,8 @@ pub fn command_of_one(word: &[u8], op: &[u8]) -> Option<Line>
 
 /// The command that stops behind so many rows.
 fn pause(op: &[u8], n: &[u8]) -> Option<Line>
-    ensures { result ≡ with_two (λ op n. line.Do (command.Pause op n)) (2 ^ 32) (2 ^ 64) op.now n.now }
+    ensures { result ≡ with_two (λ op n. line.Do (command.Pause op n)) (2 ^ 32) (2 ^ 64) op.now
+        n.now }
 {
     let op = number32(op)?;
     let n = number(n, u64::MAX)?;
@@ -37,7 +38,8 @@ fn pause(op: &[u8], n: &[u8]) -> Option<Line>
 
 /// The command that stops behind so many more rows.
 fn count(op: &[u8], n: &[u8]) -> Option<Line>
-    ensures { result ≡ with_two (λ op n. line.Do (command.Count op n)) (2 ^ 32) (2 ^ 64) op.now n.now }
+    ensures { result ≡ with_two (λ op n. line.Do (command.Count op n)) (2 ^ 32) (2 ^ 64) op.now
+        n.now }
 {
     let op = number32(op)?;
     let n = number(n, u64::MAX)?;
@@ -46,7 +48,8 @@ fn count(op: &[u8], n: &[u8]) -> Option<Line>
 
 /// The command that drops a row.
 fn drop_row(op: &[u8], worker: &[u8]) -> Option<Line>
-    ensures { result ≡ with_two (λ op worker. line.Do (command.Drop op worker)) (2 ^ 32) (2 ^ 32) op.now worker.now }
+    ensures { result ≡ with_two (λ op worker. line.Do (command.Drop op worker)) (2 ^ 32) (2 ^ 32)
+        op.now worker.now }
 {
     let op = number32(op)?;
     let worker = number32(worker)?;
@@ -55,7 +58,8 @@ fn drop_row(op: &[u8], worker: &[u8]) -> Option<Line>
 
 /// The command that loses a worker.
 fn lose(op: &[u8], worker: &[u8]) -> Option<Line>
-    ensures { result ≡ with_two (λ op worker. line.Do (command.Lose op worker)) (2 ^ 32) (2 ^ 32) op.now worker.now }
+    ensures { result ≡ with_two (λ op worker. line.Do (command.Lose op worker)) (2 ^ 32) (2 ^ 32)
+        op.now worker.now }
 {
     let op = number32(op)?;
     let worker = number32(worker)?;
@@ -65,7 +69,8 @@ fn lose(op: &[u8], worker: &[u8]) -> Option<Line>
 /// The command that changes a filter's constant.
 fn set(alloc: Global, op: &[u8], word: &[u8]) -> Result<Option<Line>, AllocError>
     ensures { IfOk result (λ made. made ≡ option_and_then
-        (λ op. option_map (λ constant. line.Do (command.Set op constant)) (constant_of word.now)) (number (2 ^ 32) op.now)) }
+        (λ op. option_map (λ constant. line.Do (command.Set op constant)) (constant_of word.now))
+        (number (2 ^ 32) op.now)) }
 {
     let Some(op) = number32(op) else {
         return Ok(None);
@@ -136,7 +141,8 @@ pub fn command_of_four(
     sign: &[u8],
     word: &[u8],
 ) -> Result<Option<Line>, AllocError>
-    ensures { IfOk result (λ made. made ≡ command_four kind.now op.now column.now sign.now word.now) }
+    ensures { IfOk result (λ made. made
+        ≡ command_four kind.now op.now column.now sign.now word.now) }
 {
     if kind != b"when".as_slice() {
         return Ok(None);

@@ -31,7 +31,8 @@ fn push_constant(alloc: Global, out: &mut Vec<u8>, constant: &Value) -> Result<(
 
 /// The command that stops at rows for which a condition holds.
 fn push_when(alloc: Global, out: &mut Vec<u8>, op: u32, cond: &Cond) -> Result<(), AllocError>
-    ensures { OnOk result (out.new.items ≡ out.old.items ++ line_text (Line.Do (Command.When op cond.now))) }
+    ensures { OnOk result (out.new.items
+        ≡ out.old.items ++ line_text (Line.Do (Command.When op cond.now))) }
 {
     out.extend_from_slice(b"do when")?;
     push_number(out, u64::from(op))?;
@@ -45,7 +46,8 @@ fn push_when(alloc: Global, out: &mut Vec<u8>, op: u32, cond: &Cond) -> Result<(
 
 /// The command that changes a filter's constant.
 fn push_set(alloc: Global, out: &mut Vec<u8>, op: u32, value: &Value) -> Result<(), AllocError>
-    ensures { OnOk result (out.new.items ≡ out.old.items ++ line_text (Line.Do (Command.Set op value.now))) }
+    ensures { OnOk result (out.new.items
+        ≡ out.old.items ++ line_text (Line.Do (Command.Set op value.now))) }
 {
     out.extend_from_slice(b"do set")?;
     push_number(out, u64::from(op))?;

@@ -24,7 +24,8 @@ pub fn push_line(out: &mut Vec<u8>, bytes: &[u8]) -> Result<(), AllocError>
 
 /// A line of these bytes and a number.
 pub fn push_one(out: &mut Vec<u8>, bytes: &[u8], number: u64) -> Result<(), AllocError>
-    ensures { OnOk result (out.new.items ≡ out.old.items ++ ((bytes.now ++ 32 ∷ decimal number) ++ 10 ∷ [])) }
+    ensures { OnOk result (out.new.items
+        ≡ out.old.items ++ ((bytes.now ++ 32 ∷ decimal number) ++ 10 ∷ [])) }
 {
     out.extend_from_slice(bytes)?;
     push_number(out, number)?;
@@ -35,7 +36,8 @@ pub fn push_one(out: &mut Vec<u8>, bytes: &[u8], number: u64) -> Result<(), Allo
 /// A line of these bytes and two numbers.
 pub fn push_two(out: &mut Vec<u8>, bytes: &[u8], first: u64, second: u64) -> Result<(), AllocError>
     ensures { OnOk result (out.new.items
-        ≡ out.old.items ++ ((bytes.now ++ 32 ∷ (decimal first ++ 32 ∷ decimal second)) ++ 10 ∷ [])) }
+        ≡ out.old.items ++ ((bytes.now ++ 32 ∷ (decimal first ++ 32 ∷ decimal second))
+        ++ 10 ∷ [])) }
 {
     out.extend_from_slice(bytes)?;
     push_number(out, first)?;

@@ -4,10 +4,12 @@ ghost use Rattle.std.specs.List.{slice_split};
 ghost use Rattle.amber_log.specs.ReadAs.{lines_of};
 
 /// The first line, without its line feed, and what stands behind the feed. Without a feed there is no line.
-#[tactic(auto, using(crate::proofs::Pieces::first_line, crate::proofs::Pieces::lacks_more))]
+#[tactic(auto, using(crate::proofs::Pieces::first_line, amber_log::proofs::Pieces::lacks_more))]
 pub fn next_line(bytes: &[u8]) -> Option<(&[u8], &[u8])>
-    ensures line { MatchOption result (lines_of bytes.now ≡ []) (λ p. lines_of bytes.now ≡ p.0.now ∷ lines_of p.1.now) }
-    ensures shorter { IfSome result (λ p. length bytes.now ≡ length p.0.now + (length p.1.now + 1)) }
+    ensures line { MatchOption result (lines_of bytes.now ≡ [])
+        (λ p. lines_of bytes.now ≡ p.0.now ∷ lines_of p.1.now) }
+    ensures shorter { IfSome result
+        (λ p. length bytes.now ≡ length p.0.now + (length p.1.now + 1)) }
 {
     for place in 0..bytes.len() {
         if bytes[place] == b'\n' {
@@ -18,11 +20,12 @@ pub fn next_line(bytes: &[u8]) -> Option<(&[u8], &[u8])>
 }
 
 /// The first word, up to a space, and what stands behind the space, if there is one.
-#[tactic(auto, using(crate::proofs::Pieces::first_word, crate::proofs::Pieces::lacks_more))]
+#[tactic(auto, using(crate::proofs::Pieces::first_word, amber_log::proofs::Pieces::lacks_more))]
 pub fn next_word(bytes: &[u8]) -> (&[u8], Option<&[u8]>)
     ensures { MatchOption result.1
         (slice_split (λ b. b == 32) bytes.now ≡ result.0.now ∷ [])
-        (λ rest. slice_split (λ b. b == 32) bytes.now ≡ result.0.now ∷ slice_split (λ b. b == 32) rest.now) }
+        (λ rest. slice_split (λ b. b == 32) bytes.now
+        ≡ result.0.now ∷ slice_split (λ b. b == 32) rest.now) }
 {
     for place in 0..bytes.len() {
         if bytes[place] == b' ' {

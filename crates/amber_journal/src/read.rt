@@ -87,7 +87,8 @@ pub fn read_log(alloc: Global, bytes: &[u8]) -> Result<Log, LogErr>
     ensures found { IfOk result (λ log. IsReadAs bytes.now log) }
     ensures bad { IfText result (λ line. IsBadLineOf bytes.now line) }
     ensures reads { (log : Log) → IsReadAs bytes.now log → IsUnlessNoMemory result (Ok log) }
-    ensures refuses { (line : ℕ) → IsBadLineOf bytes.now line → IsUnlessNoMemory result (Err (Text line)) }
+    ensures refuses { (line : ℕ) → IsBadLineOf bytes.now line
+        → IsUnlessNoMemory result (Err (Text line)) }
 {
     let whole = whole_items(bytes);
     read_lines(alloc, &bytes[..whole])

@@ -147,7 +147,8 @@ fn step_inside(
     line: Line,
 ) -> Result<Option<Reading>, AllocError>
     ensures { IfOk result (λ next. next
-        ≡ step_inside (reading_at batch items place.Outside) part.end part.parts part.worker part.entries part.gone line) }
+        ≡ step_inside (reading_at batch items place.Outside) part.end part.parts part.worker
+        part.entries part.gone line) }
 {
     let OpenPart {
         end,

@@ -60,7 +60,8 @@ fn line_of_two(word: &[u8], a: &[u8]) -> Option<Line>
 
 /// A batch is taken of a sender.
 fn take(sender: &[u8], batch: &[u8]) -> Option<Line>
-    ensures { result ≡ with_two (λ sender batch. line.Entry (entry.Take sender batch)) (2 ^ 32) (2 ^ 64) sender.now batch.now }
+    ensures { result ≡ with_two (λ sender batch. line.Entry (entry.Take sender batch)) (2 ^ 32)
+        (2 ^ 64) sender.now batch.now }
 {
     let from = number32(sender)?;
     let batch = number(batch, u64::MAX)?;
@@ -69,7 +70,9 @@ fn take(sender: &[u8], batch: &[u8]) -> Option<Line>
 
 /// Rows are taken, or emitted.
 fn go(rows: &[u8], outs: &[u8]) -> Option<Line>
-    ensures { result ≡ option_and_then (λ rows. option_and_then (moving rows) (number (2 ^ 64) outs.now)) (number (2 ^ 64) rows.now) }
+    ensures { result ≡ option_and_then
+        (λ rows. option_and_then (moving rows) (number (2 ^ 64) outs.now))
+        (number (2 ^ 64) rows.now) }
 {
     let rows = number(rows, u64::MAX)?;
     let outs = number(outs, u64::MAX)?;

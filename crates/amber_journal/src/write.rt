@@ -23,7 +23,8 @@ pub fn write_head(alloc: Global, batch: u32) -> Result<Vec<u8>, AllocError>
 
 /// The line that opens a leg, then the leg.
 fn push_opened(out: &mut Vec<u8>, bytes: &[u8], leg: &Leg) -> Result<(), AllocError>
-    ensures { OnOk result (out.new.items ≡ out.old.items ++ ((bytes.now ++ 10 ∷ []) ++ leg_text leg.now)) }
+    ensures { OnOk result (out.new.items
+        ≡ out.old.items ++ ((bytes.now ++ 10 ∷ []) ++ leg_text leg.now)) }
 {
     push_line(out, bytes)?;
     push_leg(out, leg)

@@ -1,8 +1,8 @@
 // Five units for two workers, divided round by round.
-ghost use Rattle.std.specs.Prelude.{◌≡◌, ◌-◌, ◌<◌, ◌≤◌, All, IsTrue, drop, length};
-ghost use Rattle.amber_board.specs.Seats.{IsSeatOf, work_view};
+ghost use Rattle.std.specs.Prelude.{◌≡◌, All, drop};
 
-use amber_board::{Board, Totals, WorkSeat, close};
+use crate::seats::{all_empty, claim_and_count};
+use amber_board::{Board, close};
 use amber_principal::{Need, Order, Principal, Seen};
 use std::test::Fail;
 
@@ -14,36 +14,6 @@ fn needs(first: Need, second: Need) -> [Need; 16]
     needs[0] = first;
     needs[1] = second;
     needs
-}
-
-fn count_times(board: &Board, seat: &mut WorkSeat, times: u64)
-    requires own { IsSeatOf board.now seat.old }
-    requires has { times ≤ (work_view seat.old).hand }
-    ensures own { IsSeatOf board.now seat.new }
-    ensures hand { (work_view seat.new).hand ≡ (work_view seat.old).hand - times }
-{
-    for _ in 0..times {
-        seat.count(board);
-    }
-}
-
-// The worker at this place claims, and counts each unit of its hand.
-fn claim_and_count(board: &Board, seats: &mut [WorkSeat], worker: usize) -> u64
-    requires within { worker < length seats.old }
-    requires own { All (IsSeatOf board.now) seats.old }
-    ensures { All (IsSeatOf board.now) seats.new }
-{
-    let seat = &mut seats[worker];
-    let claimed = seat.claim(board);
-    let all = seat.hand();
-    count_times(board, seat, all);
-    claimed
-}
-
-fn all_empty(seats: &[WorkSeat]) -> bool
-    ensures { IsTrue result → All (λ seat. (work_view seat).hand ≡ 0) seats.now }
-{
-    seats.iter().all(|seat| seat.hand() == 0)
 }
 
 // Whether a round asks the first two workers for this, and nobody else for anything.
@@ -70,13 +40,7 @@ fn units_are_divided_until_the_target_is_hit(rt: HostRuntime) -> Result<(), Fail
     assert_eq!(rt; claim_and_count(&board, &mut seats, 1), 0);
     assert!(rt; all_empty(&seats));
     let totals = close(board, chief, seats);
-    assert_eq!(rt;
-        totals,
-        Totals {
-            unassigned: 0,
-            counted: 5
-        }
-    );
+    assert_eq!(rt; (totals.unassigned, totals.counted), (0, 5));
     Ok(())
 }
 
@@ -87,12 +51,6 @@ fn a_round_in_which_nobody_is_starved_moves_nothing(rt: HostRuntime) -> Result<(
     let order = principal.round(&mut chief, &board, &[Need::Absent; 16]);
     assert!(rt; asks(&order, Seen::Open, [false, false], [false, false]));
     let totals = close(board, chief, seats);
-    assert_eq!(rt;
-        totals,
-        Totals {
-            unassigned: 1,
-            counted: 0
-        }
-    );
+    assert_eq!(rt; (totals.unassigned, totals.counted), (1, 0));
     Ok(())
 }

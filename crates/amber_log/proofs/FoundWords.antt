@@ -38,10 +38,10 @@ word Q bytes text x y found rest = cond_both (bytes_eq bytes text) x y (λ o. If
 
 -- ---- numbers and constants
 
-abbrev IsNumber : ℕ → List ℕ → ℕ → Type 0
+abbrev pub IsNumber : ℕ → List ℕ → ℕ → Type 0
 IsNumber limit digits n = (digits ≡ decimal n) × (n < limit)
 
-number-found : (limit : ℕ) (digits : List ℕ) → IfSome (number limit digits) (IsNumber limit digits)
+pub number-found : (limit : ℕ) (digits : List ℕ) → IfSome (number limit digits) (IsNumber limit digits)
 unfolding number
 number-found limit digits =
     let n = digits_value 10 digits in

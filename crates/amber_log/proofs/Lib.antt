@@ -4,6 +4,7 @@ pub mod Endings
 pub mod Exact
 pub mod FoundWords
 pub mod Longest
+pub mod Pieces
 pub mod Plain
 pub mod Pushes
 pub mod Sound

@@ -30,8 +30,8 @@ fn is_cell_of(schema: &Schema, column: u32, value: &Value) -> bool
     }
 }
 
-// Whether an operator is there, and not the sink.
-fn is_source(flow: &Flow, op: u32) -> bool
+/// Whether an operator is there, and not the sink.
+pub fn is_source(flow: &Flow, op: u32) -> bool
     ensures { result ≡ is_source (nth flow.now op) }
 {
     match flow.operator(op) {

@@ -18,7 +18,7 @@ mod signs;
 
 pub use command::{Command, Commands};
 pub use entry::{Entries, Entry};
-pub use fitting::fits;
+pub use fitting::{fits, is_source};
 pub use leg::{Close, Leg, Part, Parts};
 pub use line::Line;
 pub use log::{Item, Items, Log};

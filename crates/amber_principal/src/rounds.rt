@@ -66,7 +66,8 @@ fn sweep_other(seat: &mut ChiefSeat, board: &Board, needs: &[Need; PLACES], work
     ensures own { IsChiefOf board.now seat.new }
     ensures seen { (chief_view seat.new).seen ≡ (chief_view seat.old).seen }
     ensures steps { (chief_view seat.new).done
-        ≡ (if is_starved (slice_index_or needs.now worker Need.Absent) then (chief_view seat.old).done
+        ≡ (if is_starved (slice_index_or needs.now worker Need.Absent) then
+        (chief_view seat.old).done
         else Sweep worker ∷ (chief_view seat.old).done) }
 {
     if !needs[worker as usize].is_starved() {

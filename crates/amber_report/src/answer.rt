@@ -36,7 +36,8 @@ fn push_record(
     number: u64,
     fault: RowFault,
 ) -> Result<(), AllocError>
-    ensures { OnOk result (text.new.items ≡ text.old.items ++ refusal_text flow.now (Refusal.Record op number fault)) }
+    ensures { OnOk result (text.new.items
+        ≡ text.old.items ++ refusal_text flow.now (Refusal.Record op number fault)) }
 {
     text.extend_from_slice(b"refused record")?;
     push_word(text, id_of(flow, op))?;
@@ -54,7 +55,8 @@ fn push_group(
     op: u32,
     key: &Row,
 ) -> Result<(), AllocError>
-    ensures { OnOk result (text.new.items ≡ text.old.items ++ refusal_text flow.now (Refusal.Group op key.now)) }
+    ensures { OnOk result (text.new.items
+        ≡ text.old.items ++ refusal_text flow.now (Refusal.Group op key.now)) }
 {
     text.extend_from_slice(b"refused group")?;
     push_word(text, id_of(flow, op))?;
@@ -84,7 +86,8 @@ fn push_refusals(
     flow: &Flow,
     refused: &[Refusal],
 ) -> Result<(), AllocError>
-    ensures { OnOk result (text.new.items ≡ text.old.items ++ flat_map (refusal_text flow.now) refused.now) }
+    ensures { OnOk result (text.new.items
+        ≡ text.old.items ++ flat_map (refusal_text flow.now) refused.now) }
 {
     for refusal in refused {
         push_refusal(alloc, text, flow, refusal)?;
@@ -95,7 +98,8 @@ fn push_refusals(
 // How many rows there are.
 #[tactic(auto, unfolding(amber_meaning::specs::Texts::words_line))]
 fn push_count(text: &mut Vec<u8>, rows: usize) -> Result<(), AllocError>
-    ensures { OnOk result (text.new.items ≡ text.old.items ++ words_line (codes "rows" ∷ decimal rows ∷ [])) }
+    ensures { OnOk result (text.new.items
+        ≡ text.old.items ++ words_line (codes "rows" ∷ decimal rows ∷ [])) }
 {
     text.extend_from_slice(b"rows")?;
     push_number(text, rows as u64)?;

@@ -35,7 +35,8 @@ fn column_name(flow: &Flow, op: u32, column: u32) -> &[u8]
 /// A blank before each: the column's name, the sign and the constant.
 pub fn push_cond(text: &mut Vec<u8>, flow: &Flow, op: u32, cond: &Cond) -> Result<(), AllocError>
     ensures { OnOk result
-        (text.new.items ≡ text.old.items ++ flat_map after_blank (cond_words flow.now op cond.now)) }
+        (text.new.items ≡ text.old.items
+        ++ flat_map after_blank (cond_words flow.now op cond.now)) }
 {
     push_quoted(text, column_name(flow, op, cond.column))?;
     push_word(text, sign(cond.op))?;

@@ -130,7 +130,8 @@ fn push_part(text: &mut Vec<u8>, word: &[u8], number: u64) -> Result<(), AllocEr
 
 // What a worker shows by the kind of its operator.
 fn push_extra(text: &mut Vec<u8>, extra: Extra) -> Result<(), AllocError>
-    ensures { OnOk result (text.new.items ≡ text.old.items ++ flat_map after_blank (extra_words extra)) }
+    ensures { OnOk result (text.new.items
+        ≡ text.old.items ++ flat_map after_blank (extra_words extra)) }
 {
     match extra {
         Extra::Nothing => Ok(()),
@@ -147,7 +148,8 @@ fn push_extra(text: &mut Vec<u8>, extra: Extra) -> Result<(), AllocError>
 // The line of a worker.
 #[tactic(auto, using(crate::proofs::Lines::worker_line))]
 fn push_worker(text: &mut Vec<u8>, worker: u64, view: &WorkerView) -> Result<(), AllocError>
-    ensures { OnOk result (text.new.items ≡ text.old.items ++ words_line (view_words worker view.now)) }
+    ensures { OnOk result (text.new.items
+        ≡ text.old.items ++ words_line (view_words worker view.now)) }
 {
     text.extend_from_slice(b"worker")?;
     push_number(text, worker)?;

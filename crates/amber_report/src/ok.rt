@@ -14,7 +14,8 @@ use std::alloc::{AllocError, Global};
 // A command's word and its operator.
 fn push_op(text: &mut Vec<u8>, word: &[u8], flow: &Flow, op: u32) -> Result<(), AllocError>
     ensures { OnOk result
-        (text.new.items ≡ text.old.items ++ flat_map after_blank (word.now ∷ id_at flow.now op ∷ [])) }
+        (text.new.items ≡ text.old.items
+        ++ flat_map after_blank (word.now ∷ id_at flow.now op ∷ [])) }
 {
     push_word(text, word)?;
     push_word(text, id_of(flow, op))
@@ -29,7 +30,8 @@ fn push_numbered(
     number: u64,
 ) -> Result<(), AllocError>
     ensures { OnOk result (text.new.items
-        ≡ text.old.items ++ flat_map after_blank (word.now ∷ id_at flow.now op ∷ decimal number ∷ [])) }
+        ≡ text.old.items ++ flat_map after_blank
+        (word.now ∷ id_at flow.now op ∷ decimal number ∷ [])) }
 {
     push_op(text, word, flow, op)?;
     push_number(text, number)
@@ -38,7 +40,8 @@ fn push_numbered(
 // The command that stops at rows for which a condition holds.
 fn push_when(text: &mut Vec<u8>, flow: &Flow, op: u32, cond: &Cond) -> Result<(), AllocError>
     ensures { OnOk result (text.new.items
-        ≡ text.old.items ++ flat_map after_blank (reply_words flow.now (Command.When op cond.now))) }
+        ≡ text.old.items ++ flat_map after_blank
+        (reply_words flow.now (Command.When op cond.now))) }
 {
     push_word(text, b"break")?;
     push_op(text, b"when", flow, op)?;
@@ -57,7 +60,8 @@ fn push_count(text: &mut Vec<u8>, flow: &Flow, op: u32, n: u64) -> Result<(), Al
 // The command that changes a filter's constant.
 fn push_set(text: &mut Vec<u8>, flow: &Flow, op: u32, value: &Value) -> Result<(), AllocError>
     ensures { OnOk result (text.new.items
-        ≡ text.old.items ++ flat_map after_blank (reply_words flow.now (Command.Set op value.now))) }
+        ≡ text.old.items ++ flat_map after_blank
+        (reply_words flow.now (Command.Set op value.now))) }
 {
     push_op(text, b"set", flow, op)?;
     push_value(text, value)

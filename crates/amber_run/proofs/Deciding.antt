@@ -4,9 +4,9 @@ use Rattle.amber_io.specs.Counts.{Rose}
 use Rattle.amber_io.specs.Folder.{Named, Told}
 use Rattle.amber_meaning.specs.Legal.{query_over}
 use Rattle.amber_meaning.specs.Total.{step_total}
-use Rattle.amber_run.specs.Answering.{BreaksOff, IsUntouched}
+use Rattle.amber_run.specs.Answering.{BreaksOff, Fulfils, IsUntouched}
 use Rattle.amber_course.specs.Course.{course_of}
-use Rattle.amber_run.specs.Outcome.{Answers, Breaks, Counts, IsJobStatus, IsRunStatus, IsSinkStatus, MeetsLimit, Runs, Succeeds, Worded}
+use Rattle.amber_run.specs.Outcome.{Answers, Breaks, Counts, IsJobStatus, IsRunStatus, IsSinkStatus, MeetsLimit, Runs, Worded}
 use Rattle.amber_run.specs.UnderWay.{Leaves}
 use Rattle.amber_course.specs.Steps.{Tells}
 use Rattle.amber_course.specs.Failure.{status_of}
@@ -60,10 +60,10 @@ answers-failure r s result a b e is = rw e (inl is)
 answers-open : (r : Result Job Failure) (j : Job) (result : Status) (a b : ℕ) → r ≡ Ok j → IsJobStatus j result → Answers r result a b
 answers-open r j result a b e is = rw e (inl is)
 
-pub answers-ok : (words : List (List ℕ)) (told now : Option Named) (before got : Option (List ℕ)) (a b : ℕ) → Told told (λ files. Succeeds words files told now before got)
+pub answers-ok : (words : List (List ℕ)) (told now : Option Named) (before got : Option (List ℕ)) (a b : ℕ) → Told told (λ files. (job : Job) × (course_of words files ≡ Ok job) × Fulfils job told now before got)
     → Told told (λ files. Answers (course_of words files) status.Ok a b)
 answers-ok words told now before got a b =
-    told-map told (λ files. Succeeds words files told now before got) (λ files. Answers (course_of words files) status.Ok a b)
+    told-map told (λ files. (job : Job) × (course_of words files ≡ Ok job) × Fulfils job told now before got) (λ files. Answers (course_of words files) status.Ok a b)
     (λ files p. answers-open (course_of words files) p.0 status.Ok a b p.1 (open-ok p.0))
 
 answers-broken : (words : List (List ℕ)) (s : Failure) (told now : Option Named) (before got : Option (List ℕ)) (a b : ℕ) (result : Status) → Breaks words s [] told now before got

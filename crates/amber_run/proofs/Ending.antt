@@ -8,10 +8,10 @@ use Rattle.amber_io.specs.Counts.{Rose}
 use Rattle.amber_io.specs.Folder.{Named, Told}
 use Rattle.amber_io.specs.Sink.{Begins}
 use Rattle.amber_meaning.specs.Transcript.{transcript_of}
-use Rattle.amber_run.specs.Answering.{BreaksOff, IsUntouched, Works}
+use Rattle.amber_run.specs.Answering.{BreaksOff, Fulfils, IsUntouched, Works}
 use Rattle.amber_course.specs.Ready.{IsAskedBy, WritesNothing}
 use Rattle.amber_course.specs.Course.{IsLoaded, IsReached, course_of, job_of, require_limit, then_on}
-use Rattle.amber_run.specs.Outcome.{AsksNoRun, Breaks, Counts, Ended, IsCause, Runs, Stops, Succeeds, Worded}
+use Rattle.amber_run.specs.Outcome.{AsksNoRun, Breaks, Counts, Ended, IsCause, Runs, Stops, Worded}
 use Rattle.amber_course.specs.Told.{Refuses}
 use Rattle.amber_run.specs.UnderWay.{IsBare, IsLeft, Leaves}
 use Rattle.amber_course.specs.Steps.{AreRead, Follows, Names, Tells}
@@ -88,7 +88,7 @@ pub run-works : (r : Result (Unit {0}) Failure) (words : List (List ℕ)) (read 
     → Follows (Ok job) told (job_of read) a b → Works r job told now before got → Runs r words told now before got a b
 run-works (Ok u) words read told now job before got a b e h done = (
   h.0,
-  told-map told (λ files. job_of read files ≡ Ok job) (λ files. Succeeds words files told now before got) (λ files j. (job, course-job words read files job (Ok job) e j done.0, done.1)) h.1,
+  told-map told (λ files. job_of read files ≡ Ok job) (λ files. (job : Job) × (course_of words files ≡ Ok job) × Fulfils job told now before got) (λ files j. (job, course-job words read files job (Ok job) e j done.0, done.1)) h.1,
 )
 run-works (Err failure.LogFault) words read told now job before got a b e h done = (h.0, broken words read told now job failure.LogFault before got a b e h done.0 done.1)
 run-works (Err failure.OutFault) words read told now job before got a b e h done = (h.0, broken words read told now job failure.OutFault before got a b e h done.0 done.1)

@@ -9,7 +9,7 @@ use Rattle.amber_log.proofs.Torn.{reads-whole}
 use Rattle.amber_meaning.specs.Plain.{row_total}
 use Rattle.amber_run.specs.Answering.{BreaksOff, Fulfils, IsUntouched}
 use Rattle.amber_course.specs.Course.{course_of, require_limit, most_rows}
-use Rattle.amber_run.specs.Outcome.{Answers, AsksFor, Breaks, IsLongWhere, IsPrintStatus, Runs, RunsLong, Succeeds, TellsLong}
+use Rattle.amber_run.specs.Outcome.{Answers, AsksFor, Breaks, IsLongWhere, IsPrintStatus, Runs, RunsLong, TellsLong}
 use Rattle.amber_run.specs.UnderWay.{IsDone, IsLeft}
 use Rattle.amber_course.specs.Failure.{status_of}
 use Rattle.amber_run.specs.RunTask.{run_task_of}
@@ -153,10 +153,10 @@ run-stopped failure.NoMemory words told now before mid a b w x result r m (inl i
     told-all told (IsRunLong words told now result a b w x) (λ files flow inputs log threads batch e read kept. inl is)
 run-stopped other words told now before mid a b w x result r m (inl is) = run-cause other words told now a b w x result r.0.1
 
-run-done : (words : List (List ℕ)) (told now : Option Named) (before mid : Option (List ℕ)) (a b w x : ℕ) → Told told (λ files. Succeeds words files told now before mid)
+run-done : (words : List (List ℕ)) (told now : Option Named) (before mid : Option (List ℕ)) (a b w x : ℕ) → Told told (λ files. (job : Job) × (course_of words files ≡ Ok job) × Fulfils job told now before mid)
     → Told told (IsRunLong words told now status.Ok a b w x)
 run-done words told now before mid a b w x =
-    told-map told (λ files. Succeeds words files told now before mid) (IsRunLong words told now status.Ok a b w x)
+    told-map told (λ files. (job : Job) × (course_of words files ≡ Ok job) × Fulfils job told now before mid) (IsRunLong words told now status.Ok a b w x)
     (λ files p flow inputs log threads batch e read kept. did-short p.0 told now before mid flow inputs log threads batch
     (one-job (course_of words files) p.0 (job.Run flow inputs log threads batch) p.1 e) p.2)
 
@@ -186,6 +186,6 @@ pub long-stopped : (s : Failure) (words : List (List ℕ)) (told now : Option Na
     → Told told (λ files. Answers (course_of words files) result a b) → Told told (IsLongTold words told now result a b w x)
 long-stopped s words told now before mid a b w x result r m tells h = long-of words told now result a b w x h (run-stopped s words told now before mid a b w x result r m tells)
 
-pub long-done : (words : List (List ℕ)) (told now : Option Named) (before mid : Option (List ℕ)) (a b w x : ℕ) → Told told (λ files. Succeeds words files told now before mid)
+pub long-done : (words : List (List ℕ)) (told now : Option Named) (before mid : Option (List ℕ)) (a b w x : ℕ) → Told told (λ files. (job : Job) × (course_of words files ≡ Ok job) × Fulfils job told now before mid)
     → Told told (λ files. Answers (course_of words files) status.Ok a b) → Told told (IsLongTold words told now status.Ok a b w x)
 long-done words told now before mid a b w x p h = long-of words told now status.Ok a b w x h (run-done words told now before mid a b w x p)

@@ -94,9 +94,17 @@ TellsLong (job.Run flow files log threads batch) result told now = RunsLong resu
 
 -- ---- what a call leaves
 
+-- what the folder and the sink show: the files, what was put, and how many loads, writes and puts failed
+pub record World : Type 0 where
+  pub files : Option Named
+  pub got : Option (List ℕ)
+  pub loads : ℕ
+  pub writes : ℕ
+  pub puts : ℕ
+
 -- the course has a job, and it is done
-abbrev pub Succeeds : List (List ℕ) → Named → Option Named → Option Named → Option (List ℕ) → Option (List ℕ) → Type 0
-Succeeds words files told now before got = (job : Job) × (course_of words files ≡ Ok job) × Fulfils job told now before got
+abbrev pub Succeeds : List (List ℕ) → Named → World → World → Type 0
+Succeeds words files before after = (job : Job) × (course_of words files ≡ Ok job) × Fulfils job before.files after.files before.got after.got
 
 -- the course has a job, and it was broken off
 abbrev pub Breaks : List (List ℕ) → Failure → List ℕ → Option Named → Option Named → Option (List ℕ) → Option (List ℕ) → Type 0
@@ -116,14 +124,6 @@ Stops words failure.Long line told now before got old new =
 Stops words failure.NoMemory line told now before got old new = IsUntouched line told now before got ⊎ ((new ≡ old) × Breaks words failure.NoMemory line told now before got)
 Stops words other line told now before got old new = IsCause words told other old new × IsUntouched line told now before got
 
--- what the folder and the sink show: the files, what was put, and how many loads, writes and puts failed
-pub record World : Type 0 where
-  pub files : Option Named
-  pub got : Option (List ℕ)
-  pub loads : ℕ
-  pub writes : ℕ
-  pub puts : ℕ
-
 -- why a call did not end with `Ok`, and what it left; a file in the line is one that the order of work reaches, and the line is whole
 -- unless the sink failed or memory ran out
 pub record Ended (words : List (List ℕ)) (result : Status) (old new : World) : Type 0 where
@@ -137,11 +137,42 @@ pub record Ended (words : List (List ℕ)) (result : Status) (old new : World) :
   pub left : Stops words cause line old.files new.files old.got new.got old.loads new.loads
   pub named : Told old.files (λ files. Names cause (IsReached words files))
 
+-- ---- the whole of it
+
+-- what a call of these words answers, and what it leaves
+pub record Answered (words : List (List ℕ)) (result : Status) (before after : World) : Type 0 where
+  -- what is done, and what is left undone
+  pub ok : result ≡ status.Ok → Told before.files (λ files. Succeeds words files before after)
+  pub ended : result ≢ status.Ok → Ended words result before after
+  -- which status it is, over files that are told
+  pub course : Told before.files (λ files. Answers (course_of words files) result before.loads after.loads)
+  pub complete : Told before.files (λ files. MeetsLimit (course_of words files)
+      → ¬ (Rose before.loads after.loads) → ¬ (Rose before.writes after.writes) → ¬ (Rose before.puts after.puts)
+      → (result ≡ status.Ok) ⊎ (result ≡ status.NoMemory))
+  pub puts_grew : Told before.files (λ files. ¬ (Rose before.loads after.loads) → ¬ (Rose before.writes after.writes)
+      → before.puts < after.puts → IsSinkStatus (course_of words files) result)
+  pub long : Told before.files (λ files. (job : Job) → AsksFor words files job
+      → ¬ (Rose before.loads after.loads) → ¬ (Rose before.writes after.writes) → TellsLong job result before.files after.files)
+  -- which status it is, over any files
+  pub usage : result ≡ status.Usage → call_words_of words ≡ None
+  pub bad_words : call_words_of words ≡ None → (result ≡ status.Usage) ⊎ (result ≡ status.NoMemory)
+  pub read_fault : result ≡ status.ReadFault → Rose before.loads after.loads
+      ⊎ Tells before.files (λ files. (name : List ℕ) × (course_of words files ≡ Err (failure.ReadFault name)))
+  pub loads_grew : before.loads < after.loads → (result ≡ status.ReadFault) ⊎ (result ≡ status.NoMemory)
+  pub log_fault : result ≡ status.LogFault → Rose before.writes after.writes
+  pub writes_grew : before.writes < after.writes → (result ≡ status.LogFault) ⊎ (result ≡ status.NoMemory)
+  pub out_fault : result ≡ status.OutFault → Rose before.puts after.puts
+  pub quiet : result ≡ status.Ok → (after.loads ≡ before.loads) × (after.writes ≡ before.writes) × (after.puts ≡ before.puts)
+  -- what stays where no run is asked for, whatever the status is
+  pub same : AsksNoRun (call_words_of words) → after.files ≡ before.files
+  pub writes : AsksNoRun (call_words_of words) → after.writes ≡ before.writes
+  pub unlogged : AsksNoRun (call_words_of words) → result ≢ status.LogFault
+
 -- ---- the steps of a call
 
 -- a run before its error line
 abbrev pub Runs : {A : Type 0} → Result A Failure → List (List ℕ) → Option Named → Option Named → Option (List ℕ) → Option (List ℕ) → ℕ → ℕ → Type 0
-Runs (Ok x) words told now before got old new = (new ≡ old) × Told told (λ files. Succeeds words files told now before got)
+Runs (Ok x) words told now before got old new = (new ≡ old) × Told told (λ files. (job : Job) × (course_of words files ≡ Ok job) × Fulfils job told now before got)
 Runs (Err s) words told now before got old new = Stops words s [] told now before got old new
 
 -- the count of failed puts stands, unless the sink failed

@@ -58,7 +58,9 @@ fn print_answer<O: Sink>(
     printed: &mut Printed,
 ) -> Result<(), Failure>
     requires { AreInputs flow.now files.now }
-    ensures works { (told : Option Named) → Works result (Job.Plain flow.now files.now) told told (O.written out.old) (O.written out.new) }
+    ensures works { (told : Option Named)
+        → Works result (Job.Plain flow.now files.now) told told (O.written out.old)
+        (O.written out.new) }
     ensures puts { Counts result (O.faults out.old) (O.faults out.new) }
     ensures unlogged { IfErr result (λ failure. failure ≢ Failure.LogFault) }
     ensures still { (writes : ℕ) → CountsWrites result writes writes }
@@ -77,7 +79,8 @@ pub(crate) fn do_job<F: Folder, O: Sink>(
     printed: &mut Printed,
 ) -> Result<(), Failure>
     requires { IsReady job }
-    ensures works { Works result job (F.files folder.old) (F.files folder.new) (O.written out.old) (O.written out.new) }
+    ensures works { Works result job (F.files folder.old) (F.files folder.new) (O.written out.old)
+        (O.written out.new) }
     ensures writes { CountsWrites result (F.write_faults folder.old) (F.write_faults folder.new) }
     ensures puts { Counts result (O.faults out.old) (O.faults out.new) }
     ensures loads { F.load_faults folder.new ≡ F.load_faults folder.old }

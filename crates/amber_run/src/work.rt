@@ -34,7 +34,14 @@ fn begin(
     requires inputs { AreInputs flow files }
     requires sizes { AreSizes threads batch }
     requires alone { AreAlone flow }
-    ensures begins { IfOk result (λ d. d ≡ record { flow = flow; files = files; most = most_steps; threads = threads; log = record { batch = batch; items = [] }; spent = false }) }
+    ensures begins { IfOk result (λ d. d ≡ record {
+      flow = flow;
+      files = files;
+      most = most_steps;
+      threads = threads;
+      log = record { batch = batch; items = [] };
+      spent = false;
+    }) }
     ensures memory { IfErr result (λ failure. failure ≡ Failure.NoMemory) }
 {
     match Debugger::start(alloc, flow, files, batch, threads, MOST_STEPS) {
@@ -75,7 +82,8 @@ fn append_piece<F: Folder>(name: &str, piece: &[u8], folder: &mut F) -> Result<(
 // Makes the log, with its head.
 fn make_log<F: Folder>(alloc: Global, batch: u32, name: &str, folder: &mut F) -> Result<(), Failure>
     requires { IsBatch batch }
-    ensures made { (t : RunTask) (written : Option (List ℕ)) → t.name ≡ name.now → batch ≡ t.batch → F.files folder.old ≡ t.told → Appends t.before written []
+    ensures made { (t : RunTask) (written : Option (List ℕ)) → t.name ≡ name.now → batch ≡ t.batch
+        → F.files folder.old ≡ t.told → Appends t.before written []
         → Opens result t (record { batch = batch; items = [] }) (F.files folder.new) written }
     ensures there { IfOk result (λ made. IsThere (F.files folder.new) name.now) }
     ensures writes { CountsWrites result (F.write_faults folder.old) (F.write_faults folder.new) }
@@ -101,7 +109,8 @@ fn do_command<F: Folder, O: Sink>(
     requires there { IsThere (F.files folder.old) name.now }
     requires open { ends_over false debugger.old.log.items ≡ false }
     ensures did { (t : RunTask) (left : List Command) → t.name ≡ name.now → IsSession t debugger.old
-        → IsUnderWay t (command.now ∷ left) debugger.old.log (F.files folder.old) (O.written out.old)
+        → IsUnderWay t (command.now ∷ left) debugger.old.log
+        (F.files folder.old) (O.written out.old)
         → Did result t left debugger.new (F.files folder.new) (O.written out.new) }
     ensures writes { CountsWrites result (F.write_faults folder.old) (F.write_faults folder.new) }
     ensures puts { Counts result (O.faults out.old) (O.faults out.new) }
@@ -140,7 +149,9 @@ pub(crate) fn work<F: Folder, O: Sink>(
     requires sizes { AreSizes threads batch }
     requires alone { AreAlone flow }
     requires flow { IsFlow flow }
-    ensures worked { Worked result (run_task_of (F.files folder.old) (O.written out.old) flow files name.now batch) (F.files folder.new) (O.written out.new) }
+    ensures worked { Worked result
+        (run_task_of (F.files folder.old) (O.written out.old) flow files name.now batch)
+        (F.files folder.new) (O.written out.new) }
     ensures writes { CountsWrites result (F.write_faults folder.old) (F.write_faults folder.new) }
     ensures puts { Counts result (O.faults out.old) (O.faults out.new) }
     ensures loads { F.load_faults folder.new ≡ F.load_faults folder.old }

@@ -14,7 +14,8 @@ use Rattle.amber_rows.specs.declared.flow.Operator.{Operator}
 use Rattle.amber_log.specs.ReadWords.{comparison_of}
 use Rattle.amber_log.specs.declared.command.Command.{Command}
 use Rattle.amber_log.specs.declared.command.Command.TheVariants as command
-use Rattle.amber_script.specs.Commands.{any_command_of, built_command_of, read_command, is_unbuilt, row_count_of}
+use Rattle.amber_script.specs.Commands.{any_command_of, built_command_of, read_command, is_unbuilt}
+use Rattle.amber_script.specs.Numbers.{number_up_to}
 use Rattle.amber_script.specs.Script.{commands_from, says, script_of}
 use Rattle.amber_script.specs.Words.{words_from, script_words_of}
 use Rattle.amber_script.specs.declared.error.ScriptWhy.{ScriptWhy}
@@ -22,7 +23,7 @@ use Rattle.amber_script.specs.declared.error.ScriptWhy.TheVariants as why
 
 -- what unfolds
 unfoldable pub scripts_on_literals : ⊤
-unfolding any_command_of built_command_of read_command is_unbuilt row_count_of commands_from says script_of words_from read_int_of comparison_of digits is_utf8 chars lib.Utf8.encode
+unfolding any_command_of built_command_of read_command is_unbuilt number_up_to commands_from says script_of words_from read_int_of comparison_of digits is_utf8 chars lib.Utf8.encode
 scripts_on_literals = tt
 
 -- ---- a workflow: orders, those of some quantity by two workers, the sink

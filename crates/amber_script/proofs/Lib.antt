@@ -2,8 +2,8 @@ pub mod Examples
 pub mod Fitting
 pub mod Joining
 pub mod Leading
+pub mod NumberWords
 pub mod Pieces
 pub mod Saying
-pub mod Targets
 pub mod Texts
 pub mod WordLaws

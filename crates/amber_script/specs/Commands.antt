@@ -1,5 +1,5 @@
 -- The command that words mean, or the first reason why they mean none.
-use Rattle.std.specs.Prelude.{ℕ, ◌+◌, ◌||◌, ◌&&◌, List, [], ◌∷◌, codes, decimal, bytes_eq, position, Option, Some, None, option_map, option_and_then, ok_or, Result, Ok, Err, Bool, if◌then◌else◌}
+use Rattle.std.specs.Prelude.{ℕ, ◌+◌, ◌^◌, ◌||◌, ◌&&◌, List, [], ◌∷◌, codes, decimal, bytes_eq, position, Option, Some, None, option_map, option_and_then, ok_or, Result, Ok, Err, Bool, if◌then◌else◌}
 use Rattle.std.specs.List.{list_all}
 use Rattle.std.specs.Str.{is_utf8}
 use Rattle.std.specs.Str.Parse.{digits_value}
@@ -15,11 +15,12 @@ use Rattle.amber_rows.specs.declared.column.ColKind.TheVariants as kind
 use Rattle.amber_rows.specs.declared.column.Column.{Column}
 use Rattle.amber_rows.specs.declared.flow.What.{What}
 use Rattle.amber_rows.specs.declared.flow.Operator.{Operator}
-use Rattle.amber_log.specs.Fits.{has_worker, is_source, is_target}
+use Rattle.amber_log.specs.Fits.{has_worker, is_source}
 use Rattle.amber_log.specs.ReadWords.{comparison_of}
 use Rattle.amber_log.specs.declared.command.Command.{Command}
 use Rattle.amber_log.specs.declared.command.Command.TheVariants as command
 use Rattle.amber_rows.specs.Chain.{◌>>=◌, require}
+use Rattle.amber_script.specs.Numbers.{number_up_to}
 use Rattle.amber_script.specs.declared.error.ScriptWhy.{ScriptWhy}
 use Rattle.amber_script.specs.declared.error.ScriptWhy.TheVariants as why
 
@@ -37,13 +38,9 @@ named_column columns name = ok_or (option_map (λ place. place + 1) (position (�
 abbrev pub canonical : List ℕ → Result ℕ ScriptWhy
 canonical word = if bytes_eq (decimal (digits_value 10 word)) word then Ok (digits_value 10 word) else Err why.Number
 
--- a number of rows, 1 to 2^40, where the word is its decimal
-abbrev pub target_where : List ℕ → ℕ → Option ℕ
-target_where word n = if bytes_eq (decimal n) word && is_target n then Some n else None
-
--- the number of rows that a word is
-unfoldable pub row_count_of : List ℕ → Option ℕ
-row_count_of word = target_where word (digits_value 10 word)
+-- the most rows that a command may ask for
+abbrev pub row_limit : ℕ
+row_limit = 2 ^ 40
 
 -- the number of one of an operator's workers
 abbrev pub one_worker : Option Operator → List ℕ → Result ℕ ScriptWhy
@@ -80,7 +77,7 @@ abbrev pub on_rows : (ℕ → ℕ → Command) → List Operator → List ℕ �
 on_rows make flow id word = do
   op ← operator_named flow id
   emits ← require (is_source (nth flow op)) why.Kind
-  n ← ok_or (row_count_of word) why.Number
+  n ← ok_or (number_up_to row_limit word) why.Number
   Ok (make op n)
 
 -- a command on one of an operator's workers

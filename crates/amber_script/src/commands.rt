@@ -5,11 +5,14 @@ ghost use Rattle.amber_log.specs.declared.command.Command.TheVariants as command
 ghost use Rattle.amber_script.specs.Commands.{built_command_of, is_unbuilt, of_three, of_two, on_rows, set_of};
 
 use crate::error::ScriptWhy;
-use crate::numbers::read_target;
-use crate::operators::{find_operator, is_source, read_constant, settable_kind};
-use amber_log::Command;
+use crate::numbers::read_number;
+use crate::operators::{find_operator, read_constant, settable_kind};
+use amber_log::{Command, is_source};
 use amber_rows::{Flow, Text};
 use std::alloc::AllocError;
+
+// The most rows that a command may ask for.
+const MOST_ROWS: u64 = 1 << 40;
 
 #[tactic(auto, unfolding(amber_log::specs::Fits::fits_of))]
 fn read_pause(flow: &Flow, id: &str, word: &str) -> Result<Command, ScriptWhy>
@@ -23,7 +26,7 @@ fn read_pause(flow: &Flow, id: &str, word: &str) -> Result<Command, ScriptWhy>
     if !is_source(flow, op) {
         return Err(ScriptWhy::Kind);
     }
-    match read_target(word) {
+    match read_number(word, MOST_ROWS) {
         Some(n) => Ok(Command::Pause { op, n }),
         None => Err(ScriptWhy::Number),
     }

@@ -90,7 +90,8 @@ impl Lexer {
 
 /// The words of a line; none where a quote or a backslash stands wrong.
 pub fn read_words(alloc: Global, line: &[u8]) -> Result<Option<Vec<Bytes>>, AllocError>
-    ensures { IfOk result (λ read. option_map (λ words. words.items) read ≡ script_words_of line.now) }
+    ensures { IfOk result (λ read. option_map (λ words. words.items) read
+        ≡ script_words_of line.now) }
 {
     let mut lexer = Lexer::new(alloc);
     for &byte in line {

@@ -8,11 +8,12 @@ mod commands;
 mod error;
 pub mod laws;
 mod lexer;
-mod lines;
-mod numbers;
+pub mod lines;
+pub mod numbers;
 mod operators;
 mod place;
 mod read;
 
 pub use error::{ScriptErr, ScriptWhy};
 pub use read::read_script;
+pub use std::alloc::AllocError as NoMemory;

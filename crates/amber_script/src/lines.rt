@@ -7,11 +7,12 @@ ghost use Rattle.amber_script.specs.Script.{script_lines, says};
 use crate::place::is_blank;
 
 /// The first line, without its line feed, and what stands behind the feed, if there is one.
-#[tactic(auto, using(crate::proofs::Pieces::first_line, crate::proofs::Pieces::one_line, crate::proofs::Pieces::lacks_more))]
+#[tactic(auto, using(crate::proofs::Pieces::first_line, crate::proofs::Pieces::one_line, amber_log::proofs::Pieces::lacks_more))]
 pub fn next_line(bytes: &[u8]) -> (&[u8], Option<&[u8]>)
     ensures line { MatchOption result.1
         (script_lines bytes.now ≡ strip_carriage_return result.0.now ∷ [])
-        (λ rest. script_lines bytes.now ≡ strip_carriage_return result.0.now ∷ script_lines rest.now) }
+        (λ rest. script_lines bytes.now
+        ≡ strip_carriage_return result.0.now ∷ script_lines rest.now) }
     ensures shorter { IfSome result.1
         (λ rest. length bytes.now ≡ length result.0.now + (length rest.now + 1)) }
 {

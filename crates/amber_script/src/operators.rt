@@ -1,10 +1,9 @@
 //! Operators and constants that a command names.
 ghost use Rattle.std.specs.Prelude.{◌≡◌, ◌<◌, bytes_eq, length, position, true, IfOk, IfSome};
 ghost use Rattle.amber_rows.specs.Lists.{nth};
-ghost use Rattle.amber_rows.specs.Columns.{kind_of, column_kind_at};
-ghost use Rattle.amber_rows.specs.Kinds.{is_sink};
+ghost use Rattle.amber_rows.specs.Columns.{column_kind_at, kind_of};
 ghost use Rattle.amber_rows.specs.Suits.{same_kind};
-ghost use Rattle.amber_log.specs.Fits.{is_source, is_there};
+ghost use Rattle.amber_log.specs.Fits.{is_there};
 ghost use Rattle.amber_script.specs.Commands.{script_constant, filtered_kind, operator_named, settable_kind};
 
 use crate::error::ScriptWhy;
@@ -30,16 +29,6 @@ pub fn find_operator(flow: &Flow, id: &str) -> Result<u32, ScriptWhy>
     match place_of(flow, id) {
         None => Err(ScriptWhy::Operator),
         Some(place) => Ok(place as u32 + 1),
-    }
-}
-
-/// Whether an operator is there, and not the sink.
-pub fn is_source(flow: &Flow, op: u32) -> bool
-    ensures { result ≡ is_source (nth flow.now op) }
-{
-    match flow.operator(op) {
-        None => false,
-        Some(operator) => !operator.what.is_sink(),
     }
 }
 

@@ -23,7 +23,8 @@ fn read_line(
     line: &[u8],
     flow: &Flow,
 ) -> Result<Result<Command, ScriptWhy>, AllocError>
-    ensures command { IfOk result (λ read. read ≡ read_command flow.now (script_words_of line.now)) }
+    ensures command { IfOk result
+        (λ read. read ≡ read_command flow.now (script_words_of line.now)) }
     ensures fits { IfOk result (λ read. IfOk read (λ command. fits_of flow.now command ≡ true)) }
 {
     let Some(words) = read_words(alloc, line)? else {

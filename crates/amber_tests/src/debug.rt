@@ -1,54 +1,14 @@
 // A debugger whose runs are short: the numbers of a file that are 2 or more.
-ghost use Rattle.std.specs.Prelude.{◌≡◌, ◌<◌, ◌≤◌, ◌^◌, [], ◌∷◌, codes, length, IfOk};
+ghost use Rattle.std.specs.Prelude.{◌≡◌, ◌<◌, ◌≤◌, ◌^◌, [], length, IfOk};
 ghost use Rattle.amber_meaning.specs.Plain.{scan_count};
 ghost use Rattle.amber_rows.specs.Crew.{AreAlone};
 
-use crate::written::text;
+use crate::query::query;
 use amber_debug::{DebugErr, Debugger, HomeErr, NoMemory};
 use amber_log::Command;
-use amber_rows::{Bytes, Cmp, ColKind, Column, Cond, Files, Flow, Operator, Schema, Value, What};
+use amber_rows::{Bytes, Files, Flow};
 use std::alloc::Global;
 use std::test::Fail;
-
-fn numbers(alloc: Global) -> Result<Schema, NoMemory>
-    ensures { IfOk result (λ columns. columns ≡ record { name = codes "n"; kind = ColKind.Int } ∷ []) }
-{
-    let name = text(alloc, "n")?;
-    let kind = ColKind::Int;
-    Ok(Schema::new(vec![in alloc; Column { name, kind }]?))
-}
-
-fn query(alloc: Global) -> Result<Flow, NoMemory>
-    ensures scans { IfOk result (λ flow. scan_count flow ≡ 1) }
-    ensures alone { IfOk result AreAlone }
-{
-    let scan = Operator {
-        id: text(alloc, "all")?,
-        what: What::Scan {
-            file: text(alloc, "n.csv")?,
-        },
-        schema: numbers(alloc)?,
-        workers: 1,
-    };
-    let cond = Cond {
-        column: 1,
-        op: Cmp::Ge,
-        constant: Value::Int(2),
-    };
-    let filter = Operator {
-        id: text(alloc, "big")?,
-        what: What::Filter { input: 1, cond },
-        schema: numbers(alloc)?,
-        workers: 1,
-    };
-    let sink = Operator {
-        id: text(alloc, "out")?,
-        what: What::Sink { input: 2 },
-        schema: numbers(alloc)?,
-        workers: 1,
-    };
-    Ok(Flow::new(vec![in alloc; scan, filter, sink]?))
-}
 
 fn bytes(alloc: Global, file: &str) -> Result<Bytes, NoMemory> {
     Ok(Bytes::new(Vec::from_slice(alloc, file.as_bytes())?))

@@ -7,21 +7,29 @@
 #[cfg(test)]
 mod cases;
 #[cfg(test)]
+mod crew;
+#[cfg(test)]
 mod debug;
 #[cfg(test)]
 mod flows;
+#[cfg(test)]
+mod folders;
 #[cfg(test)]
 mod groups;
 #[cfg(test)]
 mod joins;
 #[cfg(test)]
-mod journal;
-#[cfg(test)]
 mod keys;
+#[cfg(test)]
+mod memory;
 #[cfg(test)]
 mod ops;
 #[cfg(test)]
 mod plain;
+#[cfg(test)]
+mod query;
+#[cfg(test)]
+mod real;
 #[cfg(test)]
 mod records;
 #[cfg(test)]
@@ -34,5 +42,7 @@ mod rows;
 mod scans;
 #[cfg(test)]
 mod script;
+#[cfg(test)]
+mod workers;
 #[cfg(test)]
 mod written;

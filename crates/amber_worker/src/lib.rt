@@ -29,5 +29,3 @@ pub use std::alloc::AllocError as NoMemory;
 pub use turn::Turn;
 pub use worker::{Worker, settle_workers};
 
-#[cfg(test)]
-mod tests;

@@ -1,7 +1,7 @@
 -- From each operator to the next.
 use Rattle.std.proofs.Common.{◌≡◌, ◌<◌, ◌≤◌, length, get_or, true, false, sym, rules}
 use Rattle.amber_course.specs.Course.{is_scan_of}
-use Rattle.amber_course.proofs.Scripts.{log-end, log-here, log-more}
+use Rattle.amber_course.proofs.LogScans.{log-end, log-here, log-more}
 use Rattle.amber_course.proofs.log_name.log_scan.Goals as goal
 
 pub returns-then-is_scan_of : goal.returns-then-is_scan_of

@@ -1,5 +1,6 @@
 -- Behind the loop the whole text has no such byte.
-use Rattle.amber_journal.proofs.Pieces.{all_lacks, no_line}
+use Rattle.amber_log.proofs.Pieces.{all_lacks}
+use Rattle.amber_journal.proofs.Pieces.{no_line}
 use Rattle.amber_journal.proofs.parting.next_line.Goals as goal
 
 pub returns-clause-line : goal.returns-clause-line

@@ -1,6 +1,6 @@
 -- No line feed so far.
 use Rattle.std.proofs.Common.{◌≡◌, take, true}
-use Rattle.amber_script.proofs.Pieces.{lacks}
+use Rattle.amber_log.proofs.Pieces.{lacks}
 use Rattle.amber_script.proofs.lines.next_line.Given as goal
 
 abbrev pub invariant-loop-place : goal.invariant-loop-place

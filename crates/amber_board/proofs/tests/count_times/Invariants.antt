@@ -1,6 +1,0 @@
-use Rattle.std.proofs.Common.{◌≡◌, ◌+◌}
-use Rattle.amber_board.specs.Seats.{IsSeatOf, work_view}
-use Rattle.amber_board.proofs.tests.count_times.Given as goal
-
-abbrev pub invariant-loop : goal.invariant-loop
-invariant-loop l = IsSeatOf l.board l.seat × ((work_view l.seat).hand + l.counter ≡ (work_view l.initial.seat).hand)

@@ -1,0 +1,65 @@
+// One query, the numbers of a file that are 2 or more: a scan, a filter and a sink.
+ghost use Rattle.std.specs.Prelude.{◌≡◌, ◌++◌, ◌∷◌, [], true, false, codes, IfOk, OnOk};
+ghost use Rattle.amber_rows.specs.Crew.{AreAlone, crew_of, op_of, what_at};
+ghost use Rattle.amber_rows.specs.Kinds.{is_scan};
+ghost use Rattle.amber_meaning.specs.Plain.{scan_count};
+
+use crate::written::text;
+use amber_rows::{Cmp, ColKind, Column, Cond, Flow, NoMemory, Operator, Schema, Value, What};
+use std::alloc::Global;
+
+/// One column of numbers.
+pub fn columns(alloc: Global) -> Result<Schema, NoMemory>
+    ensures { IfOk result (λ columns. columns ≡ record { name = codes "n"; kind = ColKind.Int } ∷ []) }
+{
+    let name = text(alloc, "n")?;
+    let kind = ColKind::Int;
+    Ok(Schema::new(vec![in alloc; Column { name, kind }]?))
+}
+
+// Puts an operator with one worker behind the others.
+fn add(alloc: Global, operators: &mut Vec<Operator>, id: &str, what: What) -> Result<(), NoMemory>
+    ensures { OnOk result (operators.new.items ≡ operators.old.items ++ record {
+      id = id.now;
+      what = what;
+      schema = record { name = codes "n"; kind = ColKind.Int } ∷ [];
+      workers = 1;
+    } ∷ []) }
+{
+    let id = text(alloc, id)?;
+    let schema = columns(alloc)?;
+    operators.push(Operator {
+        id,
+        what,
+        schema,
+        workers: 1,
+    })?;
+    Ok(())
+}
+
+/// The workflow.
+pub fn query(alloc: Global) -> Result<Flow, NoMemory>
+    ensures crew { IfOk result (λ flow. crew_of flow ≡ 3) }
+    ensures scans { IfOk result (λ flow. scan_count flow ≡ 1) }
+    ensures alone { IfOk result (λ flow. AreAlone flow) }
+    ensures scan { IfOk result (λ flow. is_scan (what_at flow (op_of flow 0)) ≡ true) }
+    ensures filter { IfOk result (λ flow. is_scan (what_at flow (op_of flow 1)) ≡ false) }
+    ensures sink { IfOk result (λ flow. is_scan (what_at flow (op_of flow 2)) ≡ false) }
+{
+    let mut operators = Vec::new(alloc);
+    let file = text(alloc, "n.csv")?;
+    add(alloc, &mut operators, "all", What::Scan { file })?;
+    let cond = Cond {
+        column: 1,
+        op: Cmp::Ge,
+        constant: Value::Int(2),
+    };
+    add(
+        alloc,
+        &mut operators,
+        "big",
+        What::Filter { input: 1, cond },
+    )?;
+    add(alloc, &mut operators, "out", What::Sink { input: 2 })?;
+    Ok(Flow::new(operators))
+}

@@ -1,0 +1,230 @@
+// The workers of one query, the numbers of a file that are 2 or more. What they show and write down is computed from the
+// definitions in `proofs/ExampleWorkers.antt` of `amber_worker`.
+use crate::crew::{drive_first, new_crew, turned, work};
+use amber_log::Entry;
+use amber_meaning::{Refusal, WorkerView};
+use amber_rows::Row;
+use amber_worker::{Given, NoMemory, Worker};
+use std::alloc::Global;
+use std::process::Abort;
+use std::test::Fail;
+
+fn append_entry(alloc: Global, told: &mut String, entry: &Entry) -> Result<(), NoMemory> {
+    match entry {
+        Entry::Take { from, batch } => told.push_str(&format!(in alloc; "t {from} {batch} ")?),
+        Entry::Go { rows, outs } => told.push_str(&format!(in alloc; "g {rows} {outs} ")?),
+        Entry::Finish => told.push_str("f "),
+        _ => told.push_str("? "),
+    }
+}
+
+fn append_journal(alloc: Global, told: &mut String, worker: &Worker) -> Result<(), NoMemory> {
+    for entry in worker.journal() {
+        append_entry(alloc, told, entry)?;
+    }
+    told.push_str("| ")
+}
+
+fn append_row(alloc: Global, told: &mut String, row: &Row) -> Result<(), NoMemory> {
+    for cell in row.get() {
+        told.push_str(&format!(in alloc; "{cell} ")?)?;
+    }
+    Ok(())
+}
+
+fn append_refusal(alloc: Global, told: &mut String, refusal: &Refusal) -> Result<(), NoMemory> {
+    match refusal {
+        Refusal::Record { op, number, .. } => {
+            told.push_str(&format!(in alloc; "refused {op} {number} ")?)
+        }
+        Refusal::Group { .. } => told.push_str("? "),
+    }
+}
+
+// What a worker has refused, and the rows that it gives.
+fn append_given(alloc: Global, told: &mut String, given: &Given) -> Result<(), NoMemory> {
+    for refusal in given.refused.get() {
+        append_refusal(alloc, told, refusal)?;
+    }
+    for row in given.rows.get() {
+        append_row(alloc, told, row)?;
+    }
+    Ok(())
+}
+
+// What all of them give, the last one's first.
+fn append_all_given(
+    alloc: Global,
+    told: &mut String,
+    workers: &mut Vec<Worker>,
+) -> Result<(), NoMemory> {
+    for _ in 0..3 {
+        if let Some(worker) = workers.pop() {
+            append_given(alloc, told, &worker.into_given()?)?;
+        }
+    }
+    Ok(())
+}
+
+// The journals of all workers over a file, and what they give.
+fn told(alloc: Global, file: &str, batch: u32) -> Result<String, Fail> {
+    let mut workers = new_crew(alloc, file, batch)?;
+    work(workers.as_mut_slice())?;
+    let mut told = String::new(alloc);
+    for worker in &workers {
+        append_journal(alloc, &mut told, worker)?;
+    }
+    append_all_given(alloc, &mut told, &mut workers)?;
+    Ok(told)
+}
+
+const CASES: [(&str, u32, &str); 4] = [
+    (
+        "n\n3\n1\n2\n5\n0\n",
+        400,
+        "g 5 5 f | t 0 0 g 5 3 f | t 1 0 g 3 0 f | 2 3 5 ",
+    ),
+    (
+        "n\n3\n1\n3\n",
+        2,
+        "g 3 3 f | t 0 0 g 2 1 t 0 1 g 1 1 f | t 1 0 g 2 0 t 1 1 f | 3 3 ",
+    ),
+    ("n\n", 400, "f | t 0 0 f | t 1 0 f | "),
+    (
+        "n\nx\n1\n2,2\n",
+        400,
+        "g 3 1 f | t 0 0 g 1 0 f | t 1 0 f | refused 1 1 refused 1 3 ",
+    ),
+];
+
+fn check(rt: &impl Abort, alloc: Global, cases: &[(&str, u32, &str)]) -> Result<(), Fail> {
+    for (file, batch, want) in cases {
+        let told = told(alloc, file, *batch)?;
+        assert_eq!(rt; told.as_str(), *want, "at {file:?}");
+    }
+    Ok(())
+}
+
+#[test]
+fn journals_say_what_the_workers_did(rt: HostRuntime) -> Result<(), Fail> {
+    check(&rt, rt.alloc(), &CASES)
+}
+
+// A file of as many threes.
+fn threes(alloc: Global, count: u32) -> Result<String, NoMemory> {
+    let mut file = String::from_str(alloc, "n\n")?;
+    for _ in 0..count {
+        file.push_str("3\n")?;
+    }
+    Ok(file)
+}
+
+// The journal of the filter over 400 threes.
+fn filtered(alloc: Global, batch: u32) -> Result<String, Fail> {
+    let file = threes(alloc, 400)?;
+    let mut workers = new_crew(alloc, &file, batch)?;
+    work(workers.as_mut_slice())?;
+    let mut told = String::new(alloc);
+    if let Some(filter) = workers.get(1) {
+        append_journal(alloc, &mut told, filter)?;
+    }
+    Ok(told)
+}
+
+// The entries of 400 batches of one row that is passed on, and of the last one, of none.
+fn ones(alloc: Global) -> Result<String, NoMemory> {
+    let mut told = String::new(alloc);
+    for number in 0..400 {
+        told.push_str(&format!(in alloc; "t 0 {number} g 1 1 ")?)?;
+    }
+    told.push_str("t 0 400 f | ")?;
+    Ok(told)
+}
+
+#[test]
+fn one_batch_of_many_rows_is_taken_whole(rt: HostRuntime) -> Result<(), Fail> {
+    let told = filtered(rt.alloc(), 400)?;
+    assert_eq!(rt; told.as_str(), "t 0 0 g 400 400 t 0 1 f | ");
+    Ok(())
+}
+
+#[test]
+fn many_batches_of_one_row_are_taken_one_by_one(rt: HostRuntime) -> Result<(), Fail> {
+    let told = filtered(rt.alloc(), 1)?;
+    let want = ones(rt.alloc())?;
+    assert_eq!(rt; told.as_str(), want.as_str());
+    Ok(())
+}
+
+// Rows taken, rows left, rows emitted, how it stands, and the pending row.
+fn append_view(alloc: Global, told: &mut String, view: &WorkerView) -> Result<(), NoMemory> {
+    let stand = view.stand;
+    told.push_str(&format!(in alloc; "{} {} {} {stand:?} ", view.taken, view.rest, view.out)?)?;
+    match &view.next {
+        None => {}
+        Some(row) => append_row(alloc, told, row)?,
+    }
+    told.push_str("| ")
+}
+
+// A turn, and what the worker shows then.
+fn append_turn(alloc: Global, told: &mut String, worker: &mut Worker) -> Result<(), Fail> {
+    let turn = turned(worker)?;
+    told.push_str(&format!(in alloc; "{turn:?} ")?)?;
+    append_view(alloc, told, &worker.view()?)?;
+    Ok(())
+}
+
+// So many turns of the second worker.
+fn append_turns(
+    alloc: Global,
+    told: &mut String,
+    workers: &mut [Worker],
+    turns: u32,
+) -> Result<(), Fail> {
+    for _ in 0..turns {
+        if let Some(filter) = workers.get_mut(1) {
+            append_turn(alloc, told, filter)?;
+        }
+    }
+    Ok(())
+}
+
+// The steps of the filter: before there is a batch, and then to the end.
+fn steps(alloc: Global) -> Result<String, Fail> {
+    let mut workers = new_crew(alloc, "n\n3\n1\n2\n5\n0\n", 400)?;
+    let mut told = String::new(alloc);
+    append_turns(alloc, &mut told, workers.as_mut_slice(), 1)?;
+    drive_first(workers.as_mut_slice())?;
+    append_turns(alloc, &mut told, workers.as_mut_slice(), 11)?;
+    Ok(told)
+}
+
+#[test]
+fn a_filter_has_its_rest_and_its_pending_row_after_each_step(rt: HostRuntime) -> Result<(), Fail> {
+    let told = steps(rt.alloc())?;
+    assert_eq!(rt;
+        told.as_str(),
+        "Idle 0 0 0 Ready | Moved 0 5 0 Ready | Moved 1 4 0 Ready 3 | Moved 1 4 1 Ready | Moved 2 3 1 Ready | Moved 3 2 1 Ready 2 | Moved 3 2 2 Ready | Moved 4 1 2 Ready 5 | Moved 4 1 3 Ready | Moved 5 0 3 Ready | Moved 5 0 3 Finished | Ended 5 0 3 Finished | "
+    );
+    Ok(())
+}
+
+// The first worker has finished and has made nothing that is not moved; its journal is handed out, and is empty then.
+fn hands_out(workers: &mut [Worker]) -> bool {
+    match workers.first_mut() {
+        None => false,
+        Some(scan) => {
+            let over = scan.is_finished() && scan.waits_for().is_none();
+            over && scan.take_journal().get().len() == 2 && scan.journal().is_empty()
+        }
+    }
+}
+
+#[test]
+fn a_journal_is_handed_out_once(rt: HostRuntime) -> Result<(), Fail> {
+    let mut workers = new_crew(rt.alloc(), "n\n3\n", 400)?;
+    work(workers.as_mut_slice())?;
+    assert!(rt; hands_out(workers.as_mut_slice()));
+    Ok(())
+}
