@@ -28,4 +28,3 @@ pub use operator_state::OperatorState;
 pub use std::alloc::AllocError as NoMemory;
 pub use turn::Turn;
 pub use worker::{Worker, settle_workers};
-
