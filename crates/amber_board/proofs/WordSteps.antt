@@ -4,7 +4,7 @@ use Rattle.std.proofs.lemmas.Bool.{cases_eq, ne_eqb}
 use Rattle.amber_board.specs.declared.view.Role.{Role}
 use Rattle.amber_board.specs.declared.view.Role.TheVariants.{Worker}
 use Rattle.amber_board.specs.declared.view.View.{View}
-use Rattle.amber_board.specs.Ledger.{free_units, allotment, counted, total_below}
+use Rattle.amber_board.specs.Ledger.{free_units, allotment, units_counted, total_below}
 use Rattle.amber_board.proofs.Sums.{total_below-ext, total_below-change}
 use Rattle.amber_board.proofs.Stays.{Steps, mine_if}
 
@@ -14,13 +14,13 @@ record Moves (words words' : List ℕ) (made hand hand' : ℕ) : Type 0 where
   pub target : get_or words' 0 0 ≡ get_or words 0 0
   pub units : free_units words' + total_below 16 (allotment words') + hand' ≡ free_units words + total_below 16 (allotment words) + hand
   pub unmade : (w : ℕ) → made ≤ w → w < 16 → allotment words' w ≡ allotment words w
-  pub counts : (w : ℕ) → w < 16 → counted words' w ≡ counted words w
+  pub counts : (w : ℕ) → w < 16 → units_counted words' w ≡ units_counted words w
 
 moving : (words words' : List ℕ) (made : ℕ) (v v' : View) → v'.role ≡ v.role → v'.mine ≡ v.mine → Moves words words' made v.hand v'.hand → Steps words words' made v v'
 moving words words' made v v' role mine m = record {
   size = m.size;
   target = m.target;
-  units = let same = total_below-ext 16 (counted words') (counted words) m.counts in let move = m.units in omega arith;
+  units = let same = total_below-ext 16 (units_counted words') (units_counted words) m.counts in let move = m.units in omega arith;
   unmade = λ w le l. (m.unmade w le l, m.counts w l);
   mine = λ w l.
       let same = m.counts w l in
@@ -92,12 +92,12 @@ mine_other k w m n = subst (λ b. cond b m 0 ≡ 0) (sym (ne_eqb w k (λ e. n (s
 
 -- worker w counts n units of its hand
 pub count_steps : (words : List ℕ) (made w n : ℕ) (v v' : View) → length words ≡ 34 → v.role ≡ Worker w → v'.role ≡ v.role → w < made → w < 16 → v'.hand + n ≡ v.hand → v'.mine ≡ v.mine + n
-    → Steps words (set words (18 + w) (counted words w + n)) made v v'
+    → Steps words (set words (18 + w) (units_counted words w + n)) made v v'
 count_steps words made w n v v' size is role lt l hand mine = record {
   size = length-set words (18 + w) x;
   target = get_or-set_other words (18 + w) 0 x 0 (λ q. omega arith);
   units =
-      let change = total_below-change 16 w (counted words) (counted words') l others in
+      let change = total_below-change 16 w (units_counted words) (units_counted words') l others in
       let same = total_below-ext 16 (allotment words') (allotment words) allotments in
       let other = get_or-set_other words (18 + w) 1 x 0 (λ q. omega arith) in
       let here = here_is in
@@ -106,23 +106,23 @@ count_steps words made w n v v' size is role lt l hand mine = record {
   mine = λ k m.
       let first = ap (λ (r : Role). mine_if k r v.mine) is in
       let then = ap (λ (r : Role). mine_if k r v'.mine) (role ∙ is) in
-      ⊎_elim (λ e. let here = here_is in let move = ap (counted words') e in let was = ap (counted words) e in
+      ⊎_elim (λ e. let here = here_is in let move = ap (units_counted words') e in let was = ap (units_counted words) e in
       let own = ap (λ (j : ℕ). mine_if j (Worker w) v.mine) e ∙ mine_own w v.mine in
       let now = ap (λ (j : ℕ). mine_if j (Worker w) v'.mine) e ∙ mine_own w v'.mine in omega arith)
       (λ q. let other = others k m q in let own = mine_other k w v.mine q in let now = mine_other k w v'.mine q in omega arith)
       (cases_eq k w);
-  more = λ k m. ⊎_elim (λ e. let here = here_is in let move = ap (counted words') e in let was = ap (counted words) e in omega arith) (λ q. let other = others k m q in omega arith) (cases_eq k w);
+  more = λ k m. ⊎_elim (λ e. let here = here_is in let move = ap (units_counted words') e in let was = ap (units_counted words) e in omega arith) (λ q. let other = others k m q in omega arith) (cases_eq k w);
 } where
   x : ℕ
-  x = counted words w + n
+  x = units_counted words w + n
 
   words' : List ℕ
   words' = set words (18 + w) x
 
-  here_is : counted words' w ≡ counted words w + n
+  here_is : units_counted words' w ≡ units_counted words w + n
   here_is = get_or-set_same words (18 + w) x 0 (omega arith)
 
-  others : (k : ℕ) → k < 16 → k ≢ w → counted words' k ≡ counted words k
+  others : (k : ℕ) → k < 16 → k ≢ w → units_counted words' k ≡ units_counted words k
   others k m q = get_or-set_other words (18 + w) (18 + k) x 0 (λ e. q (omega arith))
 
   allotments : (k : ℕ) → k < 16 → allotment words' k ≡ allotment words k

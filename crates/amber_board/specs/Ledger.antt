@@ -18,8 +18,8 @@ abbrev pub allotment : List ℕ → ℕ → ℕ
 allotment words w = slice_index words (2 + w)
 
 -- the units that worker w counted
-abbrev pub counted : List ℕ → ℕ → ℕ
-counted words w = slice_index words (18 + w)
+abbrev pub units_counted : List ℕ → ℕ → ℕ
+units_counted words w = slice_index words (18 + w)
 
 -- f 0 + f 1 + .. + f (n - 1)
 unfoldable pub total_below : ℕ → (ℕ → ℕ) → ℕ
@@ -66,7 +66,7 @@ flag false = 0
 -- the rule, where the chief's view stands at this place
 pub record ConservedBy (terms : Terms) (words : List ℕ) (views : List View) (place : ℕ) (chief : View) : Type 0 where
   -- no unit is made or lost
-  pub units : free_units words + total_below 16 (allotment words) + total_below 16 (counted words) + hands views ≡ terms.target
+  pub units : free_units words + total_below 16 (allotment words) + total_below 16 (units_counted words) + hands views ≡ terms.target
   -- exactly one view is the chief's
   pub there : get_elem? views place ≡ some chief
   pub is_chief : chief.role ≡ Chief
@@ -74,12 +74,12 @@ pub record ConservedBy (terms : Terms) (words : List ℕ) (views : List View) (p
   -- each worker below `made` has one seat, which is out or was taken in, and no other worker has one
   pub seats : (w : ℕ) → seats_of w views + times_kept w chief.kept ≡ flag (nat_lt w chief.made)
   pub made : chief.made ≤ terms.workers
-  pub unmade : (w : ℕ) → chief.made ≤ w → w < 16 → (allotment words w ≡ 0) × (counted words w ≡ 0)
+  pub unmade : (w : ℕ) → chief.made ≤ w → w < 16 → (allotment words w ≡ 0) × (units_counted words w ≡ 0)
   pub spent : (k : ℕ) (v : View) → get_elem? views k ≡ some v → v.role ≡ Spent → v.hand ≡ 0
   -- a worker's word is what its seat counted, or had counted when it was taken in
-  pub mine : (w : ℕ) → w < 16 → counted words w ≡ mine_of w views + kept_of w chief.kept
+  pub mine : (w : ℕ) → w < 16 → units_counted words w ≡ mine_of w views + kept_of w chief.kept
   -- what the chief saw of a worker is at most what that worker counted
-  pub seen : (w : ℕ) → w < 16 → slice_index chief.seen w ≤ counted words w
+  pub seen : (w : ℕ) → w < 16 → slice_index chief.seen w ≤ units_counted words w
   pub all_seen : length chief.seen ≡ 16
   -- what the words and the chief say of the target, and how large a board may be
   pub target : (slice_index words 0 ≡ terms.target) × (chief.target ≡ terms.target)
@@ -92,7 +92,7 @@ Conserved terms words views = (place : ℕ) × (chief : View) × ConservedBy ter
 
 -- every unit is counted, and none is anywhere else
 pub record IsAllCounted (target : ℕ) (words : List ℕ) (views : List View) : Type 0 where
-  pub counted_all : total_below 16 (counted words) ≡ target
+  pub counted_all : total_below 16 (units_counted words) ≡ target
   pub none_unassigned : free_units words ≡ 0
   pub none_allotted : total_below 16 (allotment words) ≡ 0
   pub none_in_hand : hands views ≡ 0
@@ -103,11 +103,11 @@ first_view terms = record { role = Chief; hand = 0; mine = 0; target = terms.tar
 
 -- in every state that meets the rule and has this view of a worker's seat, that worker's word is what the seat counted
 abbrev pub IsWord : View → Type 0
-IsWord v = (terms : Terms) (words : List ℕ) (views : List View) (k : ℕ) → Conserved terms words views → get_elem? views k ≡ some v → counted words (worker_number_of v.role) ≡ v.mine
+IsWord v = (terms : Terms) (words : List ℕ) (views : List View) (k : ℕ) → Conserved terms words views → get_elem? views k ≡ some v → units_counted words (worker_number_of v.role) ≡ v.mine
 
 -- in every state that meets the rule and has this view of the chief, no worker counted less than the chief saw
 abbrev pub IsSeen : View → Type 0
-IsSeen v = (terms : Terms) (words : List ℕ) (views : List View) (k : ℕ) → Conserved terms words views → get_elem? views k ≡ some v → (w : ℕ) → w < 16 → slice_index v.seen w ≤ counted words w
+IsSeen v = (terms : Terms) (words : List ℕ) (views : List View) (k : ℕ) → Conserved terms words views → get_elem? views k ≡ some v → (w : ℕ) → w < 16 → slice_index v.seen w ≤ units_counted words w
 
 -- in every state that meets the rule and has this view of the chief, every unit is counted
 abbrev pub IsExact : View → Type 0

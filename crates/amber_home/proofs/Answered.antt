@@ -17,7 +17,7 @@ use Rattle.amber_meaning.specs.declared.answer.Answer.{Answer}
 use Rattle.amber_meaning.specs.Legal.{Query, role_in}
 use Rattle.amber_meaning.specs.Refused.{refused_groups, refusal_in, refused_in}
 use Rattle.amber_meaning.specs.Plan.{role_of, task_of}
-use Rattle.amber_meaning.specs.Position.{Position, Taken, fed, arrivals_of, share_or}
+use Rattle.amber_meaning.specs.Position.{Position, Taken, all_arrivals, arrivals_of, share_or}
 use Rattle.amber_meaning.specs.State.{position_at}
 use Rattle.amber_meaning.specs.Task.{Arrival, Task, rows_in}
 use Rattle.amber_meaning.specs.Views.{answer_in, by_number, insert_numbered, op_refuses, sink_rows, taken_by, taken_of, worker_refuses}
@@ -26,7 +26,7 @@ use Rattle.amber_meaning.specs.Kinds.{kept_rows}
 use Rattle.amber_worker.specs.WorkerState.{WorkerState}
 use Rattle.amber_worker.proofs.Shares.{by_number-share}
 use Rattle.amber_home.specs.Answers.{IsGatheredFrom, ShowAll, refused_at, rows_before}
-use Rattle.amber_home.specs.Parts.{reached}
+use Rattle.amber_home.specs.Parts.{state_reached}
 use Rattle.amber_home.proofs.Alone.{crew-alone, op-alone, workers-alone}
 use Rattle.amber_meaning.proofs.Lists.{nth-next}
 use Rattle.amber_home.proofs.Reached.{listed-at}
@@ -105,29 +105,29 @@ ordered op n (what.Sink input) share taken rising =
 -- ---- one operator
 
 taken-alone : (query : Query) (positions : ℕ → Position) (worker : ℕ) → AreAlone query.flow → worker < length query.flow
-    → taken_by query (reached query positions) (worker + 1) ≡ taken_of (role_in query worker) (positions worker)
+    → taken_by query (state_reached query positions) (worker + 1) ≡ taken_of (role_in query worker) (positions worker)
 unfolding taken_by
 taken-alone query positions worker alone inside =
     let here : worker < crew_of query.flow = rw (crew-alone query.flow alone) inside in
-    ap (flat_map (λ one. taken_of (role_in query one) (position_at (reached query positions).positions one))) (workers-alone query.flow worker alone inside)
-    ∙ append-nil (taken_of (role_in query worker) (position_at (reached query positions).positions worker))
+    ap (flat_map (λ one. taken_of (role_in query one) (position_at (state_reached query positions).positions one))) (workers-alone query.flow worker alone inside)
+    ∙ append-nil (taken_of (role_in query worker) (position_at (state_reached query positions).positions worker))
     ∙ ap (taken_of (role_in query worker)) (listed-at positions (crew_of query.flow) worker here)
 
 refuses-alone : (query : Query) (positions : ℕ → Position) (worker : ℕ) → AreAlone query.flow → worker < length query.flow
-    → op_refuses query (reached query positions) (worker + 1) ≡ refused_at query positions worker
-unfolding refused_at placement_of fed
+    → op_refuses query (state_reached query positions) (worker + 1) ≡ refused_at query positions worker
+unfolding refused_at placement_of all_arrivals
 refuses-alone query positions worker alone inside =
     let here : worker < crew_of query.flow = rw (crew-alone query.flow alone) inside in
     let op : op_of query.flow worker ≡ worker + 1 = op-alone query.flow worker alone inside in
     let role = role_in query worker in
     let p = positions worker in
     ap (λ arrivals. refused_in (worker + 1) (by_number arrivals) ++ refused_groups (worker + 1)
-    (flat_map (λ one. worker_refuses (role_in query one) (position_at (reached query positions).positions one)) (workers_of query.flow (worker + 1)))) (taken-alone query positions worker alone inside)
-    ∙ ap (λ xs. xs ++ refused_groups (worker + 1) (flat_map (λ one. worker_refuses (role_in query one) (position_at (reached query positions).positions one)) (workers_of query.flow (worker + 1))))
+    (flat_map (λ one. worker_refuses (role_in query one) (position_at (state_reached query positions).positions one)) (workers_of query.flow (worker + 1)))) (taken-alone query positions worker alone inside)
+    ∙ ap (λ xs. xs ++ refused_groups (worker + 1) (flat_map (λ one. worker_refuses (role_in query one) (position_at (state_reached query positions).positions one)) (workers_of query.flow (worker + 1))))
     (ordered (worker + 1) (length p.constants) role.task.kind role.share p.taken (by_number-share query.flow query.records worker (length p.constants)))
     ∙ ap (λ keys. refused_in (worker + 1) (taken_of role p) ++ refused_groups (worker + 1) keys)
-    (ap (flat_map (λ one. worker_refuses (role_in query one) (position_at (reached query positions).positions one))) (workers-alone query.flow worker alone inside)
-    ∙ append-nil (worker_refuses role (position_at (reached query positions).positions worker)) ∙ ap (worker_refuses role) (listed-at positions (crew_of query.flow) worker here))
+    (ap (flat_map (λ one. worker_refuses (role_in query one) (position_at (state_reached query positions).positions one))) (workers-alone query.flow worker alone inside)
+    ∙ append-nil (worker_refuses role (position_at (state_reached query positions).positions worker)) ∙ ap (worker_refuses role) (listed-at positions (crew_of query.flow) worker here))
     ∙ ap (λ n. refused_in n (taken_of role p) ++ refused_groups n (worker_refuses role p)) (sym op)
 
 -- ---- all operators
@@ -170,7 +170,7 @@ sink-last query positions m ok alone long =
     ap (λ op. is_sink (what_at query.flow op)) (op-alone query.flow m alone (omega arith)) ∙ last-sink query.flow m ok.ends long in
     ap sort_rows (kept-sink (what_at query.flow (op_of query.flow m)) (role_in query m).task (taken_of (role_in query m) (positions m)) kind)
 
-sink-alone : (query : Query) (positions : ℕ → Position) → IsFlow query.flow → AreAlone query.flow → rows_before query positions (length query.flow) ≡ sink_rows query (reached query positions)
+sink-alone : (query : Query) (positions : ℕ → Position) → IsFlow query.flow → AreAlone query.flow → rows_before query positions (length query.flow) ≡ sink_rows query (state_reached query positions)
 sink-alone query positions ok alone =
     let m = length query.flow - 1 in
     let some = ok.some in
@@ -178,7 +178,7 @@ sink-alone query positions ok alone =
     let count : length query.flow ≡ suc m = omega arith in
     let inside : m < length query.flow = omega arith in
     let here : m < crew_of query.flow = rw (crew-alone query.flow alone) inside in
-    let rows : ℕ → List (List Value) = λ worker. rows_in (role_in query worker).task (taken_of (role_in query worker) (position_at (reached query positions).positions worker)) in
+    let rows : ℕ → List (List Value) = λ worker. rows_in (role_in query worker).task (taken_of (role_in query worker) (position_at (state_reached query positions).positions worker)) in
     ap (rows_before query positions) count ∙ sink-last query positions m ok alone (sym number)
     ∙ sym (ap (λ op. sort_rows (flat_map rows (workers_of query.flow op))) (sym number)
     ∙ ap (λ workers. sort_rows (flat_map rows workers)) (workers-alone query.flow m alone inside)
@@ -187,13 +187,13 @@ sink-alone query positions ok alone =
 -- ---- together
 
 pub answered : (query : Query) (crew : List WorkerState) (positions : ℕ → Position) (answer : Answer) → IsFlow query.flow → AreAlone query.flow → length crew ≡ length query.flow
-    → ShowAll query crew positions → IsGatheredFrom query.flow crew answer → answer ≡ answer_in query (reached query positions)
+    → ShowAll query crew positions → IsGatheredFrom query.flow crew answer → answer ≡ answer_in query (state_reached query positions)
 unfolding IsGatheredFrom answer_in
 answered query crew positions answer ok alone long shows gathered =
     let parts = gathered query positions shows in
     λ i. record {
       refused = (parts.0 ∙ ap (λ n. flat_map (refused_at query positions) (numbers_below n)) long
-          ∙ sym (each-below (op_refuses query (reached query positions)) (refused_at query positions) (length query.flow) (λ k below. refuses-alone query positions k alone below))) i;
+          ∙ sym (each-below (op_refuses query (state_reached query positions)) (refused_at query positions) (length query.flow) (λ k below. refuses-alone query positions k alone below))) i;
       columns = parts.1 i;
       rows = (parts.2 ∙ ap (rows_before query positions) long ∙ sink-alone query positions ok alone) i;
     }

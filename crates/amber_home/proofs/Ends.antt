@@ -23,7 +23,7 @@ use Rattle.amber_worker.proofs.Settling.{sent-made, steps-shown}
 use Rattle.amber_home.specs.HomeState.{end_item}
 use Rattle.amber_home.specs.Finish.{IsClosed}
 use Rattle.amber_home.specs.Leg.{IsLegDone}
-use Rattle.amber_home.specs.Parts.{parts_from, reached}
+use Rattle.amber_home.specs.Parts.{parts_from, state_reached}
 use Rattle.amber_home.specs.AtWork.{AreAtWork, AreAtPositions, sent_by, worker_state_at, steps_by}
 use Rattle.amber_home.proofs.Links.{receives}
 use Rattle.amber_home.proofs.PartFacts.{are-parts, entries-at, part-above}
@@ -38,7 +38,7 @@ unfolding AreItems Reaches
 empty-legal query batch = record { text = record { batch = batch; items = tt }; batch = refl; after = start_of query.flow; reached = refl }
 
 -- what each worker took of each sender are the first batches that the sender has made for it
-offered : (query : Query) (crew : List WorkerState) (positions : ℕ → Position) → AreAtPositions query crew positions → AreOffered query (reached query positions).positions
+offered : (query : Query) (crew : List WorkerState) (positions : ℕ → Position) → AreAtPositions query crew positions → AreOffered query (state_reached query positions).positions
 unfolding AreOffered batches_for stream_of placement_of role_of
 offered query crew positions at_positions receiver inside sender known =
     let member = receives query.flow sender receiver inside known in
@@ -58,7 +58,7 @@ entries-here : (crew : List WorkerState) (worker : ℕ) → entries_of (parts_fr
 entries-here crew worker = ap (entries_of (parts_from 0 crew)) (sym (zero-add worker)) ∙ entries-at 0 crew worker
 
 worked : (query : Query) (crew : List WorkerState) (positions : ℕ → Position) → AreAtPositions query crew positions
-    → IsWorked query (begin_last_leg (start_of query.flow)) (parts_from 0 crew) (reached query positions)
+    → IsWorked query (begin_last_leg (start_of query.flow)) (parts_from 0 crew) (state_reached query positions)
 worked query crew positions at_positions = record {
   same_arms = refl;
   crew = length-listed positions (crew_of query.flow);
@@ -69,7 +69,7 @@ worked query crew positions at_positions = record {
   offered = offered query crew positions at_positions;
 }
 
-settled : (query : Query) (crew : List WorkerState) (positions : ℕ → Position) → AreAtPositions query crew positions → IsSettled query (reached query positions)
+settled : (query : Query) (crew : List WorkerState) (positions : ℕ → Position) → AreAtPositions query crew positions → IsSettled query (state_reached query positions)
 settled query crew positions at_positions = record {
   hands = λ worker inside.
       ap (λ p. p.hand) (listed-at positions (crew_of query.flow) worker inside)
@@ -79,7 +79,7 @@ settled query crew positions at_positions = record {
 }
 
 -- the steps of the state are those of the workers
-steps-reached : (query : Query) (crew : List WorkerState) (positions : ℕ → Position) → AreAtPositions query crew positions → steps_in (reached query positions) ≡ steps_by crew
+steps-reached : (query : Query) (crew : List WorkerState) (positions : ℕ → Position) → AreAtPositions query crew positions → steps_in (state_reached query positions) ≡ steps_by crew
 unfolding steps_in
 steps-reached query crew positions at_positions =
     steps-listed crew positions (crew_of query.flow) (let all = at_positions.all in omega arith)
@@ -87,7 +87,7 @@ steps-reached query crew positions at_positions =
     ∙ ap steps_by (take_all (crew_of query.flow) crew (let all = at_positions.all in omega arith))
 
 closed-as : (query : Query) (crew : List WorkerState) (positions : ℕ → Position) → AreAtPositions query crew positions → (closed : Close) → IsLegDone closed query.most crew
-    → IsClosed query (reached query positions) closed
+    → IsClosed query (state_reached query positions) closed
 closed-as query crew positions at_positions close.Cut done = (
   all-finished positions (crew_of query.flow) (λ k below. sym (at_positions.each k below).shows.finished ∙ done.0 k (rw at_positions.all below)),
   rw (steps-reached query crew positions at_positions) done.1,
@@ -109,8 +109,8 @@ ended_log query crew closed = record { batch = query.size; items = end_item (par
 -- a run that has ended: its log is legal, and leads to where the workers stand, as it was closed
 pub record HasEnded (query : Query) (crew : List WorkerState) (positions : ℕ → Position) (closed : Close) : Type 0 where
   pub legal : IsLegal query (ended_log query crew closed)
-  pub state : state_after query (ended_log query crew closed).items ≡ reached query positions
-  pub is : IsClosed query (reached query positions) closed
+  pub state : state_after query (ended_log query crew closed).items ≡ state_reached query positions
+  pub is : IsClosed query (state_reached query positions) closed
 
 pub has-ended : (query : Query) (crew : List WorkerState) (closed : Close) → IsBatch query.size → (work : AreAtWork query crew) → length crew ≤ 2 ^ 32
     → IsLegDone closed query.most crew → HasEnded query crew work.positions closed
@@ -119,10 +119,10 @@ has-ended query crew closed batch work few done =
     let is = closed-as query crew work.positions work.at_positions closed done in
     let text : AreParts 0 (parts_from 0 crew) = are-parts 0 crew (rw zero-add few)
     (λ i below. (work.at_positions.each i (rw (← work.at_positions.all) below)).text) in
-    let grown = legal_logs_grow query query.size [] (end_item (parts_from 0 crew) closed) (reached query work.positions) (empty-legal query batch) refl text (
-      reached query work.positions,
+    let grown = legal_logs_grow query query.size [] (end_item (parts_from 0 crew) closed) (state_reached query work.positions) (empty-legal query batch) refl text (
+      state_reached query work.positions,
       worked query crew work.positions work.at_positions,
-      closes query (reached query work.positions) closed (settled query crew work.positions work.at_positions) is,
+      closes query (state_reached query work.positions) closed (settled query crew work.positions work.at_positions) is,
       refl,
     ) in
     record {

@@ -19,7 +19,7 @@ use Rattle.amber_worker.proofs.Settling.{IsAtPosition-without_journal, steps-sho
 use Rattle.amber_home.specs.Answers.{IsGatheredFrom, ShowAll}
 use Rattle.amber_home.specs.Finish.{Finishes, IsClosed, IsRun, IsStart, leg_log}
 use Rattle.amber_home.specs.Leg.{IsLegDone}
-use Rattle.amber_home.specs.Parts.{parts_from, reached, without_journal}
+use Rattle.amber_home.specs.Parts.{parts_from, state_reached, without_journal}
 use Rattle.amber_home.specs.Start.{HasNotBegun}
 use Rattle.amber_home.specs.AtWork.{AreAtWork, IsCrew, StayAtWork, AreAtPositions, no_worker_state, sent_by, worker_state_at, steps_by}
 use Rattle.amber_home.proofs.Alone.{crew-alone}
@@ -75,7 +75,7 @@ show-all query crew positions at_positions k below =
 
 has-run : (query : Query) (old crew : List WorkerState) (parts : List Part) (closed : Close) → IsBatch query.size → HasNotBegun query old → (stay : StayAtWork old crew) → IsLegDone closed query.most crew
     → parts ≡ parts_from 0 crew → (positions : ℕ → Position) × AreAtPositions query crew positions × IsRun query parts closed
-    × (answer_in query (reached query positions) ≡ answer_in query (state_after query (leg_log query parts closed).items))
+    × (answer_in query (state_reached query positions) ≡ answer_in query (state_after query (leg_log query parts closed).items))
 unfolding StayAtWork
 has-run query old crew parts closed batch start stay done is =
     let work = stay query (at-work query old start) in

@@ -24,5 +24,5 @@ abbrev pub without_journal : WorkerState → WorkerState
 without_journal w = record w { journal = [] }
 
 -- the state of workers at these positions in a leg to the end from the start
-abbrev pub reached : Query → (ℕ → Position) → State
-reached query positions = record (begin_last_leg (start_of query.flow)) { positions = map positions (numbers_below (crew_of query.flow)) }
+abbrev pub state_reached : Query → (ℕ → Position) → State
+state_reached query positions = record (begin_last_leg (start_of query.flow)) { positions = map positions (numbers_below (crew_of query.flow)) }

@@ -11,7 +11,7 @@ use Rattle.std.proofs.lemmas.Bool.{true≢false}
 use Rattle.std.proofs.lemmas.Option.{none-some}
 use Rattle.std.proofs.lemmas.Cmp.{eq_by_cmp_equiv}
 use Rattle.std.specs.FinMap.{find, get, get-from_entries, get-insert, insert, same_map, from_entries_push, slice_cmp-IsAntisymmetric, nat_cmp-IsAntisymmetric}
-use Rattle.amber_io.specs.Folder.{grown, named}
+use Rattle.amber_io.specs.Folder.{grown, files_of}
 use Rattle.amber_io.specs.Memory.{IsPlace, entry_bytes, lacks_name}
 
 abbrev pub tied : List ℕ → List ℕ → Bool
@@ -79,25 +79,25 @@ found-changed name q (file ∷ front) behind held bytes none =
     let parts = cond-none (tied name file.0) file.1 (found name front) none in
     changed-by name q file _ _ bytes (tied q file.0) refl parts.0 (found-changed name q front behind held bytes parts.1)
 
-pub named-changed : (name : List ℕ) (front behind : List File) (held bytes : List ℕ) → lacks_name name front
-    → named (front ++ (name, bytes) ∷ behind) ≡ insert (named (front ++ (name, held) ∷ behind)) name bytes
-named-changed name front behind held bytes none =
+pub files_of-changed : (name : List ℕ) (front behind : List File) (held bytes : List ℕ) → lacks_name name front
+    → files_of (front ++ (name, bytes) ∷ behind) ≡ insert (files_of (front ++ (name, held) ∷ behind)) name bytes
+files_of-changed name front behind held bytes none =
     same_map nat_list_cmp_total (slice_cmp-IsAntisymmetric nat_cmp-IsAntisymmetric) _ _ (λ q.
     get-from_entries nat_list_cmp_total (front ++ (name, bytes) ∷ behind) q ∙ found-changed name q front behind held bytes none
-    ∙ sym (get-insert nat_list_cmp_total (named (front ++ (name, held) ∷ behind)) name bytes q
+    ∙ sym (get-insert nat_list_cmp_total (files_of (front ++ (name, held) ∷ behind)) name bytes q
     ∙ ap (cond (tied q name) (Some bytes)) (get-from_entries nat_list_cmp_total (front ++ (name, held) ∷ behind) q)))
 
 -- ---- as the functions use it
 
-pub get-placed : (name : List ℕ) (files : List File) (place : ℕ) → (at : IsPlace name files place) → get (named files) name ≡ Some at.held
+pub get-placed : (name : List ℕ) (files : List File) (place : ℕ) → (at : IsPlace name files place) → get (files_of files) name ≡ Some at.held
 get-placed name files place at =
     rw at.split (get-from_entries nat_list_cmp_total (at.front ++ (name, at.held) ∷ at.behind) name ∙ found-at name at.front at.behind at.held at.first)
 
-pub get-lacking : (name : List ℕ) (files : List File) → lacks_name name files → get (named files) name ≡ None
+pub get-lacking : (name : List ℕ) (files : List File) → lacks_name name files → get (files_of files) name ≡ None
 get-lacking name files none = get-from_entries nat_list_cmp_total files name ∙ none
 
-pub named-pushed : (name bytes : List ℕ) (files : List File) → lacks_name name files → named (files ++ (name, bytes) ∷ []) ≡ insert (named files) name bytes
-named-pushed name bytes files none = from_entries_push nat_list_cmp_total (slice_cmp-IsAntisymmetric nat_cmp-IsAntisymmetric) files name bytes none
+pub files_of-pushed : (name bytes : List ℕ) (files : List File) → lacks_name name files → files_of (files ++ (name, bytes) ∷ []) ≡ insert (files_of files) name bytes
+files_of-pushed name bytes files none = from_entries_push nat_list_cmp_total (slice_cmp-IsAntisymmetric nat_cmp-IsAntisymmetric) files name bytes none
 
 -- ---- the loop over the files that are held
 
@@ -158,48 +158,48 @@ placed-entry name items i e at is =
     ∙ ap (λ n. get_or (at.front ++ (name, at.held) ∷ at.behind) n (entry_bytes e)) at.at
     ∙ get_or-append_seam at.front (name, at.held) at.behind (entry_bytes e)
 
-pub named-set : (name bytes : List ℕ) (items : List Held) (i : ℕ) (e : Held) → (at : IsPlace name (map entry_bytes items) i) → entry_bytes e ≡ (name, bytes)
-    → named (map entry_bytes (set items i e)) ≡ insert (named (map entry_bytes items)) name bytes
-named-set name bytes items i e at is =
-    ap named (map-set entry_bytes items i e ∙ ap (λ x. set (map entry_bytes items) i x) is
+pub files_of-set : (name bytes : List ℕ) (items : List Held) (i : ℕ) (e : Held) → (at : IsPlace name (map entry_bytes items) i) → entry_bytes e ≡ (name, bytes)
+    → files_of (map entry_bytes (set items i e)) ≡ insert (files_of (map entry_bytes items)) name bytes
+files_of-set name bytes items i e at is =
+    ap files_of (map-set entry_bytes items i e ∙ ap (λ x. set (map entry_bytes items) i x) is
     ∙ ap (λ files. set files i (name, bytes)) at.split ∙ ap (λ n. set (at.front ++ (name, at.held) ∷ at.behind) n (name, bytes)) at.at
     ∙ set-append_seam at.front (name, at.held) at.behind (name, bytes))
-    ∙ named-changed name at.front at.behind at.held bytes at.first
-    ∙ ap (λ files. insert (named files) name bytes) (sym at.split)
+    ∙ files_of-changed name at.front at.behind at.held bytes at.first
+    ∙ ap (λ files. insert (files_of files) name bytes) (sym at.split)
 
-pub named-emptied : (name : List ℕ) (files : List File) (items : List Held) (i : ℕ) (e : Held) (bytes : Vec ℕ Global)
+pub files_of-emptied : (name : List ℕ) (files : List File) (items : List Held) (i : ℕ) (e : Held) (bytes : Vec ℕ Global)
     → map entry_bytes items ≡ files → IsPlace name files i → e ≡ get_or items i e → bytes.items ≡ []
-    → named (map entry_bytes (set items i (e.0, bytes))) ≡ insert (named files) name []
-named-emptied name files items i e bytes view at is none =
+    → files_of (map entry_bytes (set items i (e.0, bytes))) ≡ insert (files_of files) name []
+files_of-emptied name files items i e bytes view at is none =
     let here : IsPlace name (map entry_bytes items) i = subst (λ list. IsPlace name list i) (sym view) at in
-    named-set name [] items i (e.0, bytes) here (λ k. ((placed-entry name items i e here is k).0, none k))
-    ∙ ap (λ list. insert (named list) name []) view
+    files_of-set name [] items i (e.0, bytes) here (λ k. ((placed-entry name items i e here is k).0, none k))
+    ∙ ap (λ list. insert (files_of list) name []) view
 
-pub named-grown : (name more : List ℕ) (files : List File) (items : List Held) (i : ℕ) (e : Held) (bytes : Vec ℕ Global)
+pub files_of-grown : (name more : List ℕ) (files : List File) (items : List Held) (i : ℕ) (e : Held) (bytes : Vec ℕ Global)
     → map entry_bytes items ≡ files → IsPlace name files i → e ≡ get_or items i e → bytes.items ≡ e.1.items ++ more
-    → named (map entry_bytes (set items i (e.0, bytes))) ≡ grown (named files) name (get (named files) name) more
-named-grown name more files items i e bytes view at is longer =
+    → files_of (map entry_bytes (set items i (e.0, bytes))) ≡ grown (files_of files) name (get (files_of files) name) more
+files_of-grown name more files items i e bytes view at is longer =
     let here : IsPlace name (map entry_bytes items) i = subst (λ list. IsPlace name list i) (sym view) at in
     let entry = placed-entry name items i e here is in
-    named-set name (here.held ++ more) items i (e.0, bytes) here (λ k. ((entry k).0, (longer ∙ ap (λ x. x.1 ++ more) entry) k))
-    ∙ ap (λ found. grown (named (map entry_bytes items)) name found more) (sym (get-placed name (map entry_bytes items) i here))
-    ∙ ap (λ list. grown (named list) name (get (named list) name) more) view
+    files_of-set name (here.held ++ more) items i (e.0, bytes) here (λ k. ((entry k).0, (longer ∙ ap (λ x. x.1 ++ more) entry) k))
+    ∙ ap (λ found. grown (files_of (map entry_bytes items)) name found more) (sym (get-placed name (map entry_bytes items) i here))
+    ∙ ap (λ list. grown (files_of list) name (get (files_of list) name) more) view
 
-pub named-kept : (name more : List ℕ) (files : List File) → lacks_name name files → named files ≡ grown (named files) name (get (named files) name) more
-named-kept name more files none = ap (λ found. grown (named files) name found more) (sym (get-lacking name files none))
+pub files_of-kept : (name more : List ℕ) (files : List File) → lacks_name name files → files_of files ≡ grown (files_of files) name (get (files_of files) name) more
+files_of-kept name more files none = ap (λ found. grown (files_of files) name found more) (sym (get-lacking name files none))
 
 pub found-held : (name : List ℕ) (files : List File) (items : List Held) (i : ℕ) (e : Held)
-    → map entry_bytes items ≡ files → IsPlace name files i → e ≡ get_or items i e → Some e.1.items ≡ get (named files) name
+    → map entry_bytes items ≡ files → IsPlace name files i → e ≡ get_or items i e → Some e.1.items ≡ get (files_of files) name
 found-held name files items i e view at is =
     let here : IsPlace name (map entry_bytes items) i = subst (λ list. IsPlace name list i) (sym view) at in
     ap (λ x. Some x.1) (placed-entry name items i e here is) ∙ sym (get-placed name (map entry_bytes items) i here)
-    ∙ ap (λ list. get (named list) name) view
+    ∙ ap (λ list. get (files_of list) name) view
 
-pub named-appended : (name : List ℕ) (files : List File) (items longer : List Held) (text : String Global) (bytes : Vec ℕ Global)
+pub files_of-appended : (name : List ℕ) (files : List File) (items longer : List Held) (text : String Global) (bytes : Vec ℕ Global)
     → map entry_bytes items ≡ files → lacks_name name files → string_bytes text ≡ name → bytes.items ≡ [] → longer ≡ items ++ (text, bytes) ∷ []
-    → named (map entry_bytes longer) ≡ insert (named files) name []
-named-appended name files items longer text bytes view none text-is empty is =
-    ap (λ list. named (map entry_bytes list)) is ∙ ap named (map-append entry_bytes items ((text, bytes) ∷ []))
-    ∙ ap (λ list. named (list ++ (string_bytes text, bytes.items) ∷ [])) view
-    ∙ ap (λ one. named (files ++ one ∷ [])) (λ k. (text-is k, empty k))
-    ∙ named-pushed name [] files none
+    → files_of (map entry_bytes longer) ≡ insert (files_of files) name []
+files_of-appended name files items longer text bytes view none text-is empty is =
+    ap (λ list. files_of (map entry_bytes list)) is ∙ ap files_of (map-append entry_bytes items ((text, bytes) ∷ []))
+    ∙ ap (λ list. files_of (list ++ (string_bytes text, bytes.items) ∷ [])) view
+    ∙ ap (λ one. files_of (files ++ one ∷ [])) (λ k. (text-is k, empty k))
+    ∙ files_of-pushed name [] files none

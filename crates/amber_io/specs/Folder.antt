@@ -11,8 +11,8 @@ abbrev pub Named : Type 0
 Named = finmap.FinMap (slice_cmp nat_cmp) (List ℕ)
 
 -- the files of a list, of which the first of two with one name counts
-abbrev pub named : List (List ℕ × List ℕ) → Named
-named entries = finmap.from_entries entries
+abbrev pub files_of : List (List ℕ × List ℕ) → Named
+files_of entries = finmap.from_entries entries
 
 -- a fact about the files, where they are told
 abbrev pub Told : Option Named → (Named → Type 0) → Type 0

@@ -1,12 +1,12 @@
 -- What a folder in memory shows.
 use Rattle.std.specs.Prelude.{ℕ}
-use Rattle.amber_io.specs.Folder.{Named, named}
+use Rattle.amber_io.specs.Folder.{Named, files_of}
 use Rattle.amber_io.specs.declared.fails.Fails.{Fails}
 use Rattle.amber_io.specs.declared.mem_folder.MemFolder.{MemFolder}
 
 -- the files
 abbrev pub held_files : MemFolder → Named
-held_files folder = named folder.files
+held_files folder = files_of folder.files
 
 -- which of its calls fail
 abbrev pub folder_plan : MemFolder → Fails

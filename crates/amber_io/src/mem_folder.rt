@@ -1,7 +1,7 @@
 ghost use Rattle.std.specs.Prelude.{◌≡◌, ℕ, ◌≤◌, Option, Some, IsErr, IfOk, take, vec_len, option_map};
 ghost use Rattle.std.specs.FinMap as finmap;
 ghost use Rattle.amber_io.specs.Counts.{HasCause, next_number};
-ghost use Rattle.amber_io.specs.Folder.{Named, Lacks, Gives, Creates, Extends, IsThere, named};
+ghost use Rattle.amber_io.specs.Folder.{Named, Lacks, Gives, Creates, Extends, IsThere, files_of};
 ghost use Rattle.amber_io.specs.Memory.{IsPlanned, EmptiesIf, ExtendsBy, is_listed};
 ghost use Rattle.amber_io.specs.MemFolder.{held_files, folder_plan, loads_made, writes_made, failed_loads, failed_writes};
 ghost use Rattle.amber_io.specs.Real.{IsCounted};
@@ -28,7 +28,7 @@ pub struct MemFolder {
 impl MemFolder {
     /// A folder of these files, whose loads and writes fail as `fails` says.
     pub fn new(alloc: Global, files: NamedFiles, fails: Fails) -> MemFolder
-        ensures files { held_files result ≡ named files }
+        ensures files { held_files result ≡ files_of files }
         ensures plan { folder_plan result ≡ fails }
         ensures loads_made { loads_made result ≡ 0 }
         ensures writes_made { writes_made result ≡ 0 }

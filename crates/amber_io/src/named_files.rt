@@ -1,6 +1,6 @@
 ghost use Rattle.std.specs.Prelude.{◌≡◌, [], map, MatchOption, OnErr, OnOk, option_map};
 ghost use Rattle.std.specs.FinMap as finmap;
-ghost use Rattle.amber_io.specs.Folder.{grown, named};
+ghost use Rattle.amber_io.specs.Folder.{grown, files_of};
 ghost use Rattle.amber_io.specs.Memory.{IsPlace, entry_bytes, lacks_name};
 
 use std::alloc::{AllocError, Global};
@@ -50,7 +50,7 @@ impl NamedFiles {
 
     /// The bytes of the first file of this name.
     pub fn find(&self, name: &str) -> Option<&[u8]>
-        ensures { option_map (λ bytes. bytes.now) result ≡ finmap.get (named self.now) name.now }
+        ensures { option_map (λ bytes. bytes.now) result ≡ finmap.get (files_of self.now) name.now }
     {
         match self.place(name) {
             Some(place) => Some(self.inner[place].1.as_slice()),
@@ -60,7 +60,7 @@ impl NamedFiles {
 
     // Makes the first file of this name empty, or puts an empty one behind all others.
     pub(crate) fn make_empty(&mut self, alloc: Global, name: &str) -> Result<(), AllocError>
-        ensures ok { OnOk result (named self.new ≡ finmap.insert (named self.old) name.now []) }
+        ensures ok { OnOk result (files_of self.new ≡ finmap.insert (files_of self.old) name.now []) }
         ensures err { OnErr result (self.new ≡ self.old) }
     {
         match self.place(name) {
@@ -75,8 +75,8 @@ impl NamedFiles {
 
     // Puts more bytes behind the first file of this name, where there is one.
     pub(crate) fn grow(&mut self, name: &str, more: &[u8]) -> Result<(), AllocError>
-        ensures ok { OnOk result (named self.new
-            ≡ grown (named self.old) name.now (finmap.get (named self.old) name.now) more.now) }
+        ensures ok { OnOk result (files_of self.new
+            ≡ grown (files_of self.old) name.now (finmap.get (files_of self.old) name.now) more.now) }
         ensures err { OnErr result (self.new ≡ self.old) }
     {
         match self.place(name) {

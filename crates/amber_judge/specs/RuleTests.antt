@@ -5,7 +5,7 @@ use Rattle.amber_rows.specs.Lists.{is_empty}
 use Rattle.amber_log.specs.declared.entry.Entry.{Entry}
 use Rattle.amber_log.specs.declared.entry.Entry.TheVariants as entry
 use Rattle.amber_meaning.specs.Task.{Role}
-use Rattle.amber_meaning.specs.Position.{Position, fed, have_ended, pending_rows, rest_of, taken_from}
+use Rattle.amber_meaning.specs.Position.{Position, all_arrivals, have_ended, pending_rows, rest_of, taken_from}
 use Rattle.amber_meaning.specs.Rules.{Orders, first_is_watched, may_take_from, pass_by, produced_with, product_with}
 
 -- neither paused nor held nor finished
@@ -19,7 +19,7 @@ may_take role p from number =
 
 unfoldable pub may_go : Role → Orders → Position → ℕ → ℕ → Bool
 may_go role orders p rows outs =
-    is_free p && (nat_le (length p.constants + rows) (length (fed role p.taken))
+    is_free p && (nat_le (length p.constants + rows) (length (all_arrivals role p.taken))
     && (nat_le (length p.outcomes + outs) (produced_with role orders p rows)
     && ((not (nat_lt 0 rows) || nat_le (produced_with role orders p (rows - 1)) (length p.outcomes + outs))
     && ((not orders.counted || nat_le outs p.hand)

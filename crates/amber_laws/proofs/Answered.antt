@@ -24,7 +24,7 @@ use Rattle.amber_meaning.specs.Plan.{role_of, task_of}
 use Rattle.amber_meaning.specs.State.{State, have_finished}
 use Rattle.amber_meaning.specs.Stops.{op_numbers}
 use Rattle.amber_meaning.specs.Task.{Arrival, Task, suiting, rows_in}
-use Rattle.amber_meaning.specs.Total.{dealt_to, given, arrivals_from}
+use Rattle.amber_meaning.specs.Total.{dealt_to, total_arrivals, arrivals_from}
 use Rattle.amber_meaning.specs.Views.{answer_in, by_number, op_refuses, sink_rows, taken_by, taken_of, worker_refuses}
 use Rattle.amber_meaning.specs.declared.answer.Refusal.{Refusal}
 use Rattle.amber_meaning.specs.declared.answer.Refusal.TheVariants as refusal
@@ -45,7 +45,7 @@ use Rattle.amber_laws.proofs.Recorded.{ordered-same, records-ordered, records-re
 -- ---- what the workers of an operator are given together: the keys that its groups refuse, and the rows of the sink
 
 abbrev pub rows_given : Query → ℕ → List (List Value)
-rows_given query worker = rows_in (role_in query worker).task (given query (dealt_to query) worker)
+rows_given query worker = rows_in (role_in query worker).task (total_arrivals query (dealt_to query) worker)
 
 abbrev pub plain_rows : Query → ℕ → List (List Value)
 plain_rows query op = list_at (outputs query.records [] query.flow) op
@@ -72,14 +72,14 @@ pub record IsDone (query : Query) (state : State) : Type 0 where
   pub done : AreDone query state
 
 took-given : (query : Query) (state : State) → IsDone query state → (worker : ℕ) → worker < crew_of query.flow
-    → Same (taken_of (role_in query worker) (stands state worker)) (given query (dealt_to query) worker)
+    → Same (taken_of (role_in query worker) (stands state worker)) (total_arrivals query (dealt_to query) worker)
 took-given query state h worker less = finished-given query state (flows_send_forward query.flow h.flow) h.run worker less (h.done worker less)
 
 taken-together : (query : Query) (state : State) → IsDone query state → (op : ℕ)
-    → Same (taken_by query state op) (flat_map (given query (dealt_to query)) (workers_of query.flow op))
+    → Same (taken_by query state op) (flat_map (total_arrivals query (dealt_to query)) (workers_of query.flow op))
 unfolding taken_by
 taken-together query state h op =
-    same-among (λ worker. taken_of (role_in query worker) (stands state worker)) (given query (dealt_to query)) (workers_of query.flow op)
+    same-among (λ worker. taken_of (role_in query worker) (stands state worker)) (total_arrivals query (dealt_to query)) (workers_of query.flow op)
     (λ worker mine. took-given query state h worker (worker-known query.flow op worker mine))
 
 role-kind : (query : Query) (op worker : ℕ) → among worker (workers_of query.flow op) ≡ true → (role_in query worker).task.kind ≡ what_at query.flow op
@@ -128,10 +128,10 @@ keys-same (what.Sink input) task h = same-self []
 
 keys-together : (query : Query) (state : State) → IsDone query state → (op : ℕ) (kind : What) → what_at query.flow op ≡ kind
     → Same (flat_map (λ worker. worker_refuses (role_in query worker) (stands state worker)) (workers_of query.flow op))
-    (flat_map (λ worker. keys_refused kind (role_in query worker).task (given query (dealt_to query) worker)) (workers_of query.flow op))
+    (flat_map (λ worker. keys_refused kind (role_in query worker).task (total_arrivals query (dealt_to query) worker)) (workers_of query.flow op))
 keys-together query state h op kind e =
     same-among (λ worker. worker_refuses (role_in query worker) (stands state worker))
-    (λ worker. keys_refused kind (role_in query worker).task (given query (dealt_to query) worker)) (workers_of query.flow op)
+    (λ worker. keys_refused kind (role_in query worker).task (total_arrivals query (dealt_to query) worker)) (workers_of query.flow op)
     (λ worker mine.
     let task : Task = (role_in query worker).task in
     let own : task.kind ≡ kind = role-kind query op worker mine ∙ e in

@@ -12,12 +12,12 @@ use Rattle.amber_meaning.specs.Legal.{Query, role_in}
 use Rattle.amber_rows.specs.Lists.{list_at}
 use Rattle.amber_meaning.specs.Plan.{role_of}
 use Rattle.amber_meaning.specs.Position.{share_or}
-use Rattle.amber_meaning.specs.Total.{dealt_by, dealt_stream, dealt_to, given, gives, arrivals_from}
+use Rattle.amber_meaning.specs.Total.{dealt_by, dealt_stream, dealt_to, total_arrivals, gives, arrivals_from}
 use Rattle.amber_laws.proofs.Bags.{among, equal-among}
 
 -- what a worker gives, from what those before it give
 abbrev next_dealt : Query → ℕ → List (List Value)
-next_dealt query worker = gives (role_in query worker).task (given query (λ sender. list_at (dealt_by query worker) (sender + 1)) worker)
+next_dealt query worker = gives (role_in query worker).task (total_arrivals query (λ sender. list_at (dealt_by query worker) (sender + 1)) worker)
 
 length_dealt : (query : Query) (n : ℕ) → length (dealt_by query n) ≡ n
 unfolding dealt_by
@@ -43,8 +43,8 @@ dealt_number query n worker less = numbered_or (dealt_by query n) worker [] ∙ 
 
 -- what a worker is given depends on what its senders give alone
 pub given-same : (query : Query) (worker : ℕ) (f g : ℕ → List (List Value))
-    → ((sender : ℕ) → among sender (role_in query worker).senders ≡ true → f sender ≡ g sender) → given query f worker ≡ given query g worker
-unfolding given
+    → ((sender : ℕ) → among sender (role_in query worker).senders ≡ true → f sender ≡ g sender) → total_arrivals query f worker ≡ total_arrivals query g worker
+unfolding total_arrivals
 given-same query worker f g same =
     let role = role_in query worker in
     ap (share_or role.task.kind role.share)
@@ -53,7 +53,7 @@ given-same query worker f g same =
 
 -- each worker gives what its task makes of what its senders give
 pub dealt-from : (query : Query) → SendersFirst query.flow → (worker : ℕ) → worker < crew_of query.flow
-    → dealt_to query worker ≡ gives (role_in query worker).task (given query (dealt_to query) worker)
+    → dealt_to query worker ≡ gives (role_in query worker).task (total_arrivals query (dealt_to query) worker)
 unfolding dealt_to role_of
 dealt-from query first worker less =
     dealt_number query (crew_of query.flow) worker less
@@ -64,5 +64,5 @@ dealt-from query first worker less =
     dealt_number query worker sender before ∙ sym (dealt_number query (crew_of query.flow) sender (omega (arith, before, less)))))
 
 pub dealt-is : (query : Query) → IsFlow query.flow → (worker : ℕ) → worker < crew_of query.flow
-    → dealt_to query worker ≡ gives (role_in query worker).task (given query (dealt_to query) worker)
+    → dealt_to query worker ≡ gives (role_in query worker).task (total_arrivals query (dealt_to query) worker)
 dealt-is query flow = dealt-from query (flows_send_forward query.flow flow)

@@ -9,11 +9,11 @@ use Rattle.amber_meaning.specs.Laws.{SendersFirst}
 use Rattle.amber_meaning.specs.Legal.{AreOffered, Query, batches_for, role_in, stream_of}
 use Rattle.amber_rows.specs.Lists.{IsPrefix}
 use Rattle.amber_meaning.specs.Plan.{role_of}
-use Rattle.amber_meaning.specs.Position.{Position, Taken, emitted_rows, fed, has_last, have_ended, is_complete, kept, produced_rows, product, share_or, taken_from}
+use Rattle.amber_meaning.specs.Position.{Position, Taken, emitted_rows, all_arrivals, has_last, have_ended, is_complete, kept, produced_rows, product, share_or, taken_from}
 use Rattle.amber_meaning.specs.State.{State, first_constants, position_at}
 use Rattle.amber_meaning.specs.Task.{Arrival, Role}
 use Rattle.amber_meaning.specs.Produce.{closing, produce, yields}
-use Rattle.amber_meaning.specs.Total.{dealt_stream, dealt_to, given, gives, arrivals_from, task_constants}
+use Rattle.amber_meaning.specs.Total.{dealt_stream, dealt_to, total_arrivals, gives, arrivals_from, task_constants}
 use Rattle.amber_meaning.specs.Views.{taken_of}
 use Rattle.amber_meaning.proofs.Lists.{list_all-member}
 use Rattle.amber_laws.proofs.Bags.{Join, Part, Same, among, part-begin, part-both, part-filter, part-flat_map, part-none, part-same, part-then, same-filter}
@@ -70,10 +70,10 @@ has-ended senders taken sender e known = list_all-member (has_last taken) sender
 
 -- what a worker was handed, sender by sender
 fed-each : (query : Query) (state : State) → IsRun query state → (worker : ℕ) → worker < crew_of query.flow
-    → Same (fed (role_in query worker) (stands state worker).taken)
+    → Same (all_arrivals (role_in query worker) (stands state worker).taken)
     (share_or (role_in query worker).task.kind (role_in query worker).share
     (flat_map (λ sender. arrivals_from sender (rows_taken state worker sender)) (role_in query worker).senders))
-unfolding fed
+unfolding all_arrivals
 fed-each query state run worker less =
     share-same (role_in query worker).task.kind (role_in query worker).share
     (taken-each (role_in query worker).senders (stands state worker).taken (senders-apart query worker) (run.sound worker less).known)
@@ -84,8 +84,8 @@ fed-each query state run worker less =
 given-by : (query : Query) (state : State) → IsRun query state → (worker : ℕ) → worker < crew_of query.flow
     → have_ended (role_in query worker).senders (stands state worker).taken ≡ true
     → ((sender : ℕ) → among sender (role_in query worker).senders ≡ true → (stands state sender).finished ≡ true → Same (emitted_at query state sender) (dealt_to query sender))
-    → Same (fed (role_in query worker) (stands state worker).taken) (given query (dealt_to query) worker)
-unfolding given
+    → Same (all_arrivals (role_in query worker) (stands state worker).taken) (total_arrivals query (dealt_to query) worker)
+unfolding total_arrivals
 given-by query state run worker less ended dealt =
     let role = role_in query worker in
     Join _ _ _ (fed-each query state run worker less)
@@ -119,7 +119,7 @@ finished-dealt query state first run worker less e = finished-below query state 
 -- a worker of which all batches were sent and taken was handed what it is given
 pub ended-given : (query : Query) (state : State) → SendersFirst query.flow → IsRun query state → (worker : ℕ) → worker < crew_of query.flow
     → have_ended (role_in query worker).senders (stands state worker).taken ≡ true
-    → Same (fed (role_in query worker) (stands state worker).taken) (given query (dealt_to query) worker)
+    → Same (all_arrivals (role_in query worker) (stands state worker).taken) (total_arrivals query (dealt_to query) worker)
 ended-given query state first run worker less ended =
     given-by query state run worker less ended
     (λ sender known over.
@@ -128,7 +128,7 @@ ended-given query state first run worker less ended =
 
 -- a finished worker has taken what it is given
 pub finished-given : (query : Query) (state : State) → SendersFirst query.flow → IsRun query state → (worker : ℕ) → worker < crew_of query.flow
-    → (stands state worker).finished ≡ true → Same (taken_of (role_in query worker) (stands state worker)) (given query (dealt_to query) worker)
+    → (stands state worker).finished ≡ true → Same (taken_of (role_in query worker) (stands state worker)) (total_arrivals query (dealt_to query) worker)
 finished-given query state first run worker less e =
     let sound = run.sound worker less in
     rw (taken-all (role_in query worker) (stands state worker) sound e) (ended-given query state first run worker less (sound.ended e))
@@ -137,8 +137,8 @@ finished-given query state first run worker less e =
 
 part-by : (query : Query) (state : State) → IsRun query state → (worker : ℕ) → worker < crew_of query.flow
     → ((sender : ℕ) → among sender (role_in query worker).senders ≡ true → Part (emitted_at query state sender) (dealt_to query sender))
-    → Part (fed (role_in query worker) (stands state worker).taken) (given query (dealt_to query) worker)
-unfolding given
+    → Part (all_arrivals (role_in query worker) (stands state worker).taken) (total_arrivals query (dealt_to query) worker)
+unfolding total_arrivals
 part-by query state run worker less dealt =
     let role = role_in query worker in
     part-then (part-same (fed-each query state run worker less))
@@ -149,25 +149,25 @@ part-by query state run worker less dealt =
     (part-filter (λ row. eqb (receiver_of query.flow sender row) worker) (dealt sender known)))))
 
 -- what was produced is part of what all yields
-product-part : (role : Role) (p : Position) (all : List Arrival) → IsSound role p → Part (fed role p.taken) all
-    → (have_ended role.senders p.taken ≡ true → Same (fed role p.taken) all) → Part (produced_rows role p) (gives role.task all)
+product-part : (role : Role) (p : Position) (all : List Arrival) → IsSound role p → Part (all_arrivals role p.taken) all
+    → (have_ended role.senders p.taken ≡ true → Same (all_arrivals role p.taken) all) → Part (produced_rows role p) (gives role.task all)
 unfolding product gives
 product-part role p all s part whole =
     part-both first (by (is_complete role p.taken (length p.constants)) refl)
   where
-    own : flat_map (λ one. yields role.task all one (first_constants role.task.kind)) (fed role p.taken)
-        ≡ flat_map (λ one. yields role.task all one (task_constants role.task)) (fed role p.taken)
+    own : flat_map (λ one. yields role.task all one (first_constants role.task.kind)) (all_arrivals role p.taken)
+        ≡ flat_map (λ one. yields role.task all one (task_constants role.task)) (all_arrivals role p.taken)
     own = flat_map-same (λ one. yields role.task all one (first_constants role.task.kind)) (λ one. yields role.task all one (task_constants role.task))
-        (yields-constant role.task all) (fed role p.taken)
+        (yields-constant role.task all) (all_arrivals role p.taken)
 
-    so-far : Part (produce role.task [] (fed role p.taken) (replicate (length p.constants) (first_constants role.task.kind)))
-        (flat_map (λ one. yields role.task all one (task_constants role.task)) (fed role p.taken))
-    so-far = rw (← own) (produce-part role.task [] (fed role p.taken) all (first_constants role.task.kind) (length p.constants) part)
+    so-far : Part (produce role.task [] (all_arrivals role p.taken) (replicate (length p.constants) (first_constants role.task.kind)))
+        (flat_map (λ one. yields role.task all one (task_constants role.task)) (all_arrivals role p.taken))
+    so-far = rw (← own) (produce-part role.task [] (all_arrivals role p.taken) all (first_constants role.task.kind) (length p.constants) part)
 
-    first : Part (produce role.task [] (fed role p.taken) p.constants) (flat_map (λ one. yields role.task all one (task_constants role.task)) all)
+    first : Part (produce role.task [] (all_arrivals role p.taken) p.constants) (flat_map (λ one. yields role.task all one (task_constants role.task)) all)
     first = part-then (rw s.steady so-far) (part-flat_map (λ one. yields role.task all one (task_constants role.task)) part)
 
-    by : (b : Bool) → is_complete role p.taken (length p.constants) ≡ b → Part (if b then closing role.task (fed role p.taken) else []) (closing role.task all)
+    by : (b : Bool) → is_complete role p.taken (length p.constants) ≡ b → Part (if b then closing role.task (all_arrivals role p.taken) else []) (closing role.task all)
     by true e = part-same (closing-same role.task (whole (and_parts _ _ e).0))
     by false e = part-none (closing role.task all)
 
@@ -192,7 +192,7 @@ emitted-below query state first run (suc n) worker below less =
     (λ sender known.
     let before = sender-before query first worker sender known in
     emitted-below query state first run n sender (omega arith) (omega arith)) in
-    let made = product-part role (stands state worker) (given query (dealt_to query) worker) sound arrivals (ended-given query state first run worker less) in
+    let made = product-part role (stands state worker) (total_arrivals query (dealt_to query) worker) sound arrivals (ended-given query state first run worker less) in
     let produced : List (List Value) = produced_rows role (stands state worker) in
     let gone : ℕ = length (stands state worker).outcomes in
     let begin : Part (take gone produced) produced = rw (take-append-drop gone produced) at (part-begin (take gone produced) (drop gone produced)) in
@@ -205,7 +205,7 @@ emitted-part query state first run worker less = emitted-below query state first
 
 -- what a worker was handed is part of what it is given
 pub fed-part : (query : Query) (state : State) → SendersFirst query.flow → IsRun query state → (worker : ℕ) → worker < crew_of query.flow
-    → Part (fed (role_in query worker) (stands state worker).taken) (given query (dealt_to query) worker)
+    → Part (all_arrivals (role_in query worker) (stands state worker).taken) (total_arrivals query (dealt_to query) worker)
 fed-part query state first run worker less =
     part-by query state run worker less
     (λ sender known.

@@ -12,7 +12,7 @@ use Rattle.amber_rows.specs.declared.flow.What.TheVariants as what
 use Rattle.amber_meaning.specs.Task.{Arrival, Role, Task, built_of, is_builder, suiting}
 use Rattle.amber_meaning.specs.Produce.{closing, produce, yields, yields_if}
 use Rattle.amber_meaning.specs.Kinds.{yields_row}
-use Rattle.amber_meaning.specs.Position.{Position, Taken, emitted_rows, fed, arrivals_of, have_ended, is_complete, kept, produced_rows, product, share_or}
+use Rattle.amber_meaning.specs.Position.{Position, Taken, emitted_rows, all_arrivals, arrivals_of, have_ended, is_complete, kept, produced_rows, product, share_or}
 use Rattle.amber_meaning.specs.State.{first_constants}
 use Rattle.amber_meaning.specs.Total.{gives, task_constants}
 use Rattle.amber_meaning.specs.Views.{taken_of}
@@ -166,27 +166,27 @@ kept-all (x ∷ xs) = ap (λ l. x ∷ l) (kept-all xs)
 -- ---- a finished worker
 
 -- it took all that it was handed
-pub took-all : (role : Role) (p : Position) → IsSound role p → p.finished ≡ true → length p.constants ≡ length (fed role p.taken)
+pub took-all : (role : Role) (p : Position) → IsSound role p → p.finished ≡ true → length p.constants ≡ length (all_arrivals role p.taken)
 took-all role p s e =
-    let none : length (drop (length p.constants) (fed role p.taken)) ≡ 0 = ap length (s.no_rest e) in
-    omega (arith, length-drop (length p.constants) (fed role p.taken), s.within)
+    let none : length (drop (length p.constants) (all_arrivals role p.taken)) ≡ 0 = ap length (s.no_rest e) in
+    omega (arith, length-drop (length p.constants) (all_arrivals role p.taken), s.within)
 
-pub taken-all : (role : Role) (p : Position) → IsSound role p → p.finished ≡ true → taken_of role p ≡ fed role p.taken
-taken-all role p s e = take_all (length p.constants) (fed role p.taken) (omega (arith, took-all role p s e))
+pub taken-all : (role : Role) (p : Position) → IsSound role p → p.finished ≡ true → taken_of role p ≡ all_arrivals role p.taken
+taken-all role p s e = take_all (length p.constants) (all_arrivals role p.taken) (omega (arith, took-all role p s e))
 
 -- with all batches and all rows it has produced what the task gives
-pub product-whole : (role : Role) (p : Position) → IsSound role p → have_ended role.senders p.taken ≡ true → length p.constants ≡ length (fed role p.taken)
-    → produced_rows role p ≡ gives role.task (fed role p.taken)
-unfolding product gives fed
+pub product-whole : (role : Role) (p : Position) → IsSound role p → have_ended role.senders p.taken ≡ true → length p.constants ≡ length (all_arrivals role p.taken)
+    → produced_rows role p ≡ gives role.task (all_arrivals role p.taken)
+unfolding product gives all_arrivals
 product-whole role p s ended all =
-    let arrivals : List Arrival = fed role p.taken in
+    let arrivals : List Arrival = all_arrivals role p.taken in
     let complete : is_complete role p.taken (length p.constants) ≡ true = and_from _ _ ended (eq-eqb _ _ all) in
     let steady : p.constants ≡ replicate (length arrivals) (first_constants role.task.kind) = s.steady ∙ ap (λ n. replicate n (first_constants role.task.kind)) all in
     let first = produce-settled role.task [] arrivals (first_constants role.task.kind) (fed-first role.task.kind role.task role.share p.taken s.build_first) in
     let own = flat_map-same (λ one. yields role.task arrivals one (first_constants role.task.kind)) (λ one. yields role.task arrivals one (task_constants role.task)) (yields-constant role.task arrivals) arrivals in
     rw complete (ap (λ l. l ++ closing role.task arrivals) (ap (produce role.task [] arrivals) steady ∙ first ∙ own))
 
-pub emitted-whole : (role : Role) (p : Position) → IsSound role p → p.finished ≡ true → emitted_rows role p ≡ gives role.task (fed role p.taken)
+pub emitted-whole : (role : Role) (p : Position) → IsSound role p → p.finished ≡ true → emitted_rows role p ≡ gives role.task (all_arrivals role p.taken)
 emitted-whole role p s e =
     let all = took-all role p s e in
     let none : length (drop (length p.outcomes) (produced_rows role p)) ≡ 0 = ap length (s.no_pending e) in

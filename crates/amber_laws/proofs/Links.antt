@@ -22,7 +22,7 @@ use Rattle.amber_meaning.specs.Plan.{role_of, task_of, numbered_record, record_n
 use Rattle.amber_rows.specs.Shares.{share_of, turn_of, with_numbers}
 use Rattle.amber_meaning.specs.Position.{share_or}
 use Rattle.amber_meaning.specs.Task.{Arrival}
-use Rattle.amber_meaning.specs.Total.{dealt_stream, given, arrivals_from}
+use Rattle.amber_meaning.specs.Total.{dealt_stream, total_arrivals, arrivals_from}
 use Rattle.amber_laws.proofs.Bags.{Same, Join, among, among-first, among-more, are_different, equal-among, same-among, same-dealt, same-flat_map, same-is, sent_to}
 use Rattle.amber_laws.proofs.Numbers.{among-cases, among-flat, among-kept, below-in, different-below, different-both, different-kept, in-below, kept-among, same-members}
 use Rattle.amber_laws.proofs.Crews.{different-workers, own-worker, place-worker, worker-known, worker-op, worker-within}
@@ -162,8 +162,8 @@ share-rows kind share arrivals e = rw e refl
 -- a scan's worker is given the records whose turn is its own
 pub scan-given : (query : Query) (dealt : ℕ → List (List Value)) (op worker : ℕ) → is_scan (what_at query.flow op) ≡ true
     → among worker (workers_of query.flow op) ≡ true
-    → given query dealt worker ≡ sent_to (scan_route query.flow op) (with_numbers numbered_record 1 (list_at query.records op)) worker
-unfolding given role_of share_of task_of
+    → total_arrivals query dealt worker ≡ sent_to (scan_route query.flow op) (with_numbers numbered_record 1 (list_at query.records op)) worker
+unfolding total_arrivals role_of share_of task_of
 scan-given query dealt op worker scan mine =
     let own : op_of query.flow worker ≡ op = worker-op query.flow op worker mine in
     let low = (worker-within query.flow op worker mine).0 in
@@ -228,8 +228,8 @@ only_senders f test (n ∷ ns) h = by (test n) refl (only_senders f test ns (λ 
 -- a worker is given the rows of the feeders that go to it
 pub rows-given : (query : Query) → IsFlow query.flow → (dealt : ℕ → List (List Value)) (op worker : ℕ) → 0 < op → op ≤ length query.flow
     → is_scan (what_at query.flow op) ≡ false → among worker (workers_of query.flow op) ≡ true
-    → Same (given query dealt worker) (sent_to (row_route query.flow) (fed_by dealt (feeders_of query.flow op)) worker)
-unfolding given role_of task_of fed_by
+    → Same (total_arrivals query dealt worker) (sent_to (row_route query.flow) (fed_by dealt (feeders_of query.flow op)) worker)
+unfolding total_arrivals role_of task_of fed_by
 rows-given query is dealt op worker some within rows mine =
     let flow = query.flow in
     let own : op_of flow worker ≡ op = worker-op flow op worker mine in
@@ -271,22 +271,22 @@ rows-routed query is dealt op some within =
 -- a scan's workers are given its records
 pub scan-whole : (query : Query) → IsFlow query.flow → (dealt : ℕ → List (List Value)) (op : ℕ) → 0 < op → op ≤ length query.flow
     → is_scan (what_at query.flow op) ≡ true
-    → Same (flat_map (given query dealt) (workers_of query.flow op)) (with_numbers numbered_record 1 (list_at query.records op))
+    → Same (flat_map (total_arrivals query dealt) (workers_of query.flow op)) (with_numbers numbered_record 1 (list_at query.records op))
 scan-whole query is dealt op some within scan =
     let all = with_numbers numbered_record 1 (list_at query.records op) in
     let workers = workers_of query.flow op in
-    Join (flat_map (given query dealt) workers) (flat_map (sent_to (scan_route query.flow op) all) workers) all
-    (same-among (given query dealt) (sent_to (scan_route query.flow op) all) workers
-    (λ worker mine. same-is (given query dealt worker) (sent_to (scan_route query.flow op) all worker) (scan-given query dealt op worker scan mine)))
+    Join (flat_map (total_arrivals query dealt) workers) (flat_map (sent_to (scan_route query.flow op) all) workers) all
+    (same-among (total_arrivals query dealt) (sent_to (scan_route query.flow op) all) workers
+    (λ worker mine. same-is (total_arrivals query dealt worker) (sent_to (scan_route query.flow op) all worker) (scan-given query dealt op worker scan mine)))
     (same-dealt (scan_route query.flow op) workers (different-workers query.flow op) all (scan-routed query is op some within all))
 
 -- the workers of another operator are given what its feeders give
 pub rows-whole : (query : Query) → IsFlow query.flow → (dealt : ℕ → List (List Value)) (op : ℕ) → 0 < op → op ≤ length query.flow
     → is_scan (what_at query.flow op) ≡ false
-    → Same (flat_map (given query dealt) (workers_of query.flow op)) (fed_by dealt (feeders_of query.flow op))
+    → Same (flat_map (total_arrivals query dealt) (workers_of query.flow op)) (fed_by dealt (feeders_of query.flow op))
 rows-whole query is dealt op some within rows =
     let all = fed_by dealt (feeders_of query.flow op) in
     let workers = workers_of query.flow op in
-    Join (flat_map (given query dealt) workers) (flat_map (sent_to (row_route query.flow) all) workers) all
-    (same-among (given query dealt) (sent_to (row_route query.flow) all) workers (λ worker mine. rows-given query is dealt op worker some within rows mine))
+    Join (flat_map (total_arrivals query dealt) workers) (flat_map (sent_to (row_route query.flow) all) workers) all
+    (same-among (total_arrivals query dealt) (sent_to (row_route query.flow) all) workers (λ worker mine. rows-given query is dealt op worker some within rows mine))
     (same-dealt (row_route query.flow) workers (different-workers query.flow op) all (rows-routed query is dealt op some within))

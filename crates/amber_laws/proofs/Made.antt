@@ -26,7 +26,7 @@ use Rattle.amber_meaning.specs.Plan.{built_columns, builders_in, arrival_columns
 use Rattle.amber_meaning.specs.Task.{Arrival, Task, built_of, columns_from, is_builder, row_in, suiting}
 use Rattle.amber_meaning.specs.Produce.{closing, yields, yields_if}
 use Rattle.amber_meaning.specs.Kinds.{yields_row}
-use Rattle.amber_meaning.specs.Total.{dealt_to, given, gives}
+use Rattle.amber_meaning.specs.Total.{dealt_to, total_arrivals, gives}
 use Rattle.amber_laws.proofs.Crews.{op-within}
 use Rattle.amber_laws.proofs.Dealt.{dealt-is}
 use Rattle.amber_laws.proofs.Flows.{columns-there, kind-there, there}
@@ -203,4 +203,4 @@ pub dealt-suit : (query : Query) → IsFlow query.flow → (worker : ℕ) → wo
     → list_all (suits_of (columns_at query.flow (op_of query.flow worker))) (dealt_to query worker) ≡ true
 dealt-suit query is worker known =
     let op = op-within query.flow worker known in
-    rw (dealt-is query is worker known, role-task query worker) (gives-suit query.flow is (op_of query.flow worker) op.0 op.1 (given query (dealt_to query) worker))
+    rw (dealt-is query is worker known, role-task query worker) (gives-suit query.flow is (op_of query.flow worker) op.0 op.1 (total_arrivals query (dealt_to query) worker))

@@ -35,7 +35,7 @@ use Rattle.amber_meaning.specs.Kinds.{rows_of}
 use Rattle.amber_rows.specs.Shares.{with_numbers}
 use Rattle.amber_meaning.specs.Task.{Arrival, rows_in}
 use Rattle.amber_meaning.specs.Produce.{closing, yields}
-use Rattle.amber_meaning.specs.Total.{dealt_to, given, gives}
+use Rattle.amber_meaning.specs.Total.{dealt_to, total_arrivals, gives}
 use Rattle.amber_laws.proofs.Answered.{IsDealtOut, plain_rows, rows_given}
 use Rattle.amber_laws.proofs.Bags.{Same, Join, among, among-first, among-more, equal-among, same-each, same-filter, same-flat_map, same-is, same-map}
 use Rattle.amber_laws.proofs.Flows.{columns-there, input-earlier, kind-there, no-sink, there}
@@ -233,8 +233,8 @@ input_together query op kind h typed input r =
 -- ---- groups and the sink
 
 given_is : (query : Query) (op : ℕ) (kind : What) → IsOperator query op kind → (worker : ℕ) → among worker (workers_of query.flow op) ≡ true
-    → rows_given query worker ≡ rows_in (task_with query.flow op kind) (given query (dealt_to query) worker)
-given_is query op kind h worker mine = ap (λ task. rows_in task (given query (dealt_to query) worker)) (worker-task query op kind worker h mine)
+    → rows_given query worker ≡ rows_in (task_with query.flow op kind) (total_arrivals query (dealt_to query) worker)
+given_is query op kind h worker mine = ap (λ task. rows_in task (total_arrivals query (dealt_to query) worker)) (worker-task query op kind worker h mine)
 
 pub dealt-out : (query : Query) → IsFlow query.flow → AreTyped query → IsDealtOut query
 dealt-out query is typed = record {
@@ -243,7 +243,7 @@ dealt-out query is typed = record {
       let h : IsOperator query op kind = record { flow = is; some = some; within = within; is = e } in
       let workers = workers_of query.flow op in
       let whole = λ (worker : ℕ). refused_keys keys aggs (rows_given query worker) in
-      let parts = λ (worker : ℕ). refused_keys keys aggs (rows_in (task_with query.flow op kind) (given query (dealt_to query) worker)) in
+      let parts = λ (worker : ℕ). refused_keys keys aggs (rows_in (task_with query.flow op kind) (total_arrivals query (dealt_to query) worker)) in
       Join (flat_map whole workers) (flat_map parts workers) (refused_keys keys aggs (plain_rows query input))
       (same-is _ _ (equal-among whole parts workers (λ worker mine. ap (refused_keys keys aggs) (given_is query op kind h worker mine))))
       (Join (flat_map parts workers) (refused_keys keys aggs (flat_map (dealt_to query) (workers_of query.flow input))) (refused_keys keys aggs (plain_rows query input))
@@ -254,7 +254,7 @@ dealt-out query is typed = record {
       let op = length query.flow in
       let h : IsOperator query op kind = record { flow = is; some = omega (arith, is.some); within = omega arith; is = e } in
       let workers = workers_of query.flow op in
-      let parts = λ (worker : ℕ). rows_in (task_with query.flow op kind) (given query (dealt_to query) worker) in
+      let parts = λ (worker : ℕ). rows_in (task_with query.flow op kind) (total_arrivals query (dealt_to query) worker) in
       Join (flat_map (rows_given query) workers) (flat_map parts workers) (plain_rows query input)
       (same-is _ _ (equal-among (rows_given query) parts workers (λ worker mine. given_is query op kind h worker mine)))
       (Join (flat_map parts workers) (flat_map (dealt_to query) (workers_of query.flow input)) (plain_rows query input)

@@ -8,7 +8,7 @@ use Rattle.amber_rows.specs.declared.batch.Batch.{Batch}
 use Rattle.amber_log.specs.declared.entry.Entry.{Entry}
 use Rattle.amber_log.specs.declared.entry.Entry.TheVariants as entry
 use Rattle.amber_meaning.specs.Task.{Role, Task, is_builder}
-use Rattle.amber_meaning.specs.Position.{Position, Taken, fed, has_last, have_ended, origin, pending_rows, produced_rows, rest_of, taken_from}
+use Rattle.amber_meaning.specs.Position.{Position, Taken, all_arrivals, has_last, have_ended, origin, pending_rows, produced_rows, rest_of, taken_from}
 use Rattle.amber_meaning.specs.Rules.{Leads, MayFinish, MayGo, MayTake, Moves, Orders, with_batch, with_rows}
 use Rattle.amber_meaning.specs.State.{first_constants, let_go}
 use Rattle.amber_meaning.proofs.Lists.{list_all-member}
@@ -41,7 +41,7 @@ build_first-builder task (x ∷ xs) t e =
 -- ---- a position all along
 
 pub record IsSound (role : Role) (p : Position) : Type 0 where
-  pub within : length p.constants ≤ length (fed role p.taken)
+  pub within : length p.constants ≤ length (all_arrivals role p.taken)
   pub produced : length p.outcomes ≤ length (produced_rows role p)
   pub steady : p.constants ≡ replicate (length p.constants) (first_constants role.task.kind)
   pub all_kept : p.outcomes ≡ replicate (length p.outcomes) true
@@ -131,7 +131,7 @@ with_batch-sound role p from number batch orderly s may =
     let longer = product-grows role p.taken (record { from = from; batch = batch }) p.constants s.within early in
     let before = s.produced in
     record {
-      within = rw (more.1, length-append (fed role p.taken) more.0) (omega (arith, s.within));
+      within = rw (more.1, length-append (all_arrivals role p.taken) more.0) (omega (arith, s.within));
       produced = omega arith;
       steady = s.steady;
       all_kept = s.all_kept;

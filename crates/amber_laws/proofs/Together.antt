@@ -24,7 +24,7 @@ use Rattle.amber_meaning.specs.Legal.{Query, role_in}
 use Rattle.amber_meaning.specs.Plan.{task_of}
 use Rattle.amber_meaning.specs.Task.{Arrival, Task, columns_from, suiting, rows_in}
 use Rattle.amber_meaning.specs.Produce.{closing, yields}
-use Rattle.amber_meaning.specs.Total.{dealt_to, given, gives, arrivals_from}
+use Rattle.amber_meaning.specs.Total.{dealt_to, total_arrivals, gives, arrivals_from}
 use Rattle.amber_laws.proofs.Bags.{Same, Join, among, equal-among, same-among, same-filter_map, same-flat_map, same-is, sent_to}
 use Rattle.amber_laws.proofs.Crews.{different-workers, place-worker, worker-known, worker-op}
 use Rattle.amber_laws.proofs.Dealt.{dealt-is}
@@ -57,10 +57,10 @@ worker-task query op kind worker h mine =
     role-task query worker ∙ ap (task_of query.flow) (worker-op query.flow op worker mine) ∙ task_is query op kind h
 
 worker_gives : (query : Query) (op : ℕ) (kind : What) (worker : ℕ) → IsOperator query op kind → among worker (workers_of query.flow op) ≡ true
-    → dealt_to query worker ≡ gives (task_with query.flow op kind) (given query (dealt_to query) worker)
+    → dealt_to query worker ≡ gives (task_with query.flow op kind) (total_arrivals query (dealt_to query) worker)
 worker_gives query op kind worker h mine =
     dealt-is query h.flow worker (worker-known query.flow op worker mine)
-    ∙ ap (λ task. gives task (given query (dealt_to query) worker)) (worker-task query op kind worker h mine)
+    ∙ ap (λ task. gives task (total_arrivals query (dealt_to query) worker)) (worker-task query op kind worker h mine)
 
 -- ---- rows that suit
 
@@ -120,11 +120,11 @@ apart_sides query op build probe build_keys probe_keys h sender k =
 -- what the workers give together, where a task makes the same of each row, whatever else it is handed
 pub one-by-one : (query : Query) (op : ℕ) (kind : What) → IsOperator query op kind → (make : Arrival → List (List Value))
     → ((arrivals : List Arrival) → gives (task_with query.flow op kind) arrivals ≡ flat_map make arrivals) → (all : List Arrival)
-    → Same (flat_map (given query (dealt_to query)) (workers_of query.flow op)) all
+    → Same (flat_map (total_arrivals query (dealt_to query)) (workers_of query.flow op)) all
     → Same (flat_map (dealt_to query) (workers_of query.flow op)) (gives (task_with query.flow op kind) all)
 one-by-one query op kind h make e all whole =
     let workers = workers_of query.flow op in
-    let arrivals = given query (dealt_to query) in
+    let arrivals = total_arrivals query (dealt_to query) in
     let each : flat_map (dealt_to query) workers ≡ flat_map make (flat_map arrivals workers) =
     equal-among (dealt_to query) (λ worker. flat_map make (arrivals worker)) workers (λ worker mine. worker_gives query op kind worker h mine ∙ e (arrivals worker))
     ∙ flat-flat make arrivals workers in
@@ -154,7 +154,7 @@ unfolding feeders_of
 feeders_are query op kind h = ap (λ k. flat_map (workers_of query.flow) (inputs_of k)) h.is
 
 pub whole_rows : (query : Query) (op : ℕ) (kind : What) → IsOperator query op kind → is_scan kind ≡ false
-    → Same (flat_map (given query (dealt_to query)) (workers_of query.flow op)) (fed_by (dealt_to query) (flat_map (workers_of query.flow) (inputs_of kind)))
+    → Same (flat_map (total_arrivals query (dealt_to query)) (workers_of query.flow op)) (fed_by (dealt_to query) (flat_map (workers_of query.flow) (inputs_of kind)))
 whole_rows query op kind h rows =
     rw (← feeders_are query op kind h) (rows-whole query h.flow (dealt_to query) op h.some h.within (ap is_scan h.is ∙ rows))
 
@@ -229,7 +229,7 @@ sent_keyed query route keys senders worker h =
 
 -- what a worker is given, where rows go by their keys
 keyed_given : (query : Query) (op : ℕ) (kind : What) (worker : ℕ) → IsOperator query op kind → is_scan kind ≡ false → among worker (workers_of query.flow op) ≡ true
-    → Same (given query (dealt_to query) worker) (fed_by (sent_rows query worker) (flat_map (workers_of query.flow) (inputs_of kind)))
+    → Same (total_arrivals query (dealt_to query) worker) (fed_by (sent_rows query worker) (flat_map (workers_of query.flow) (inputs_of kind)))
 keyed_given query op kind worker h rows mine =
     rw (← sent_fed query (flat_map (workers_of query.flow) (inputs_of kind)) worker, ← feeders_are query op kind h)
     (rows-given query h.flow (dealt_to query) op worker h.some h.within (ap is_scan h.is ∙ rows) mine)
@@ -267,7 +267,7 @@ group-together query op input keys aggs h =
 
 -- the keys that an operator's workers refuse
 pub keys-together : (query : Query) (op input : ℕ) (keys : List ℕ) (aggs : List Agg) → IsOperator query op (what.Group input keys aggs)
-    → Same (flat_map (λ worker. refused_keys keys aggs (rows_in (task_with query.flow op (what.Group input keys aggs)) (given query (dealt_to query) worker))) (workers_of query.flow op))
+    → Same (flat_map (λ worker. refused_keys keys aggs (rows_in (task_with query.flow op (what.Group input keys aggs)) (total_arrivals query (dealt_to query) worker))) (workers_of query.flow op))
     (refused_keys keys aggs (flat_map (dealt_to query) (workers_of query.flow input)))
 keys-together query op input keys aggs h =
     let kind = what.Group input keys aggs in
@@ -275,7 +275,7 @@ keys-together query op input keys aggs h =
     let workers = workers_of query.flow op in
     let senders = only_input query.flow input in
     let rows = flat_map (dealt_to query) senders in
-    let whole = λ (worker : ℕ). refused_keys keys aggs (rows_in task (given query (dealt_to query) worker)) in
+    let whole = λ (worker : ℕ). refused_keys keys aggs (rows_in task (total_arrivals query (dealt_to query) worker)) in
     let parts = λ (worker : ℕ). refused_keys keys aggs (sent_to (by_key (key_route query.flow op) keys) rows worker) in
     let each : Same (flat_map whole workers) (flat_map parts workers) =
     same-among whole parts workers (λ worker mine.
@@ -343,12 +343,12 @@ join-together query op build probe build_keys probe_keys h =
 
 -- the rows that the sink's workers are given
 pub sink-together : (query : Query) (op input : ℕ) → IsOperator query op (what.Sink input)
-    → Same (flat_map (λ worker. rows_in (task_with query.flow op (what.Sink input)) (given query (dealt_to query) worker)) (workers_of query.flow op))
+    → Same (flat_map (λ worker. rows_in (task_with query.flow op (what.Sink input)) (total_arrivals query (dealt_to query) worker)) (workers_of query.flow op))
     (flat_map (dealt_to query) (workers_of query.flow input))
 sink-together query op input h =
     let task = task_with query.flow op (what.Sink input) in
     let workers = workers_of query.flow op in
-    let arrivals = given query (dealt_to query) in
+    let arrivals = total_arrivals query (dealt_to query) in
     let senders = only_input query.flow input in
     Join (flat_map (λ worker. rows_in task (arrivals worker)) workers) (rows_in task (flat_map arrivals workers)) (flat_map (dealt_to query) (workers_of query.flow input))
     (same-is _ _ (found-flat (suiting task) arrivals workers))

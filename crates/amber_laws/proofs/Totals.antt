@@ -17,7 +17,7 @@ use Rattle.amber_meaning.specs.Legal.{Query, query_over}
 use Rattle.amber_meaning.specs.Plain.{records_of}
 use Rattle.amber_rows.specs.Shares.{with_numbers}
 use Rattle.amber_meaning.specs.Stops.{op_numbers}
-use Rattle.amber_meaning.specs.Total.{dealt_to, given, arrivals_from, step_total, work_of}
+use Rattle.amber_meaning.specs.Total.{dealt_to, total_arrivals, arrivals_from, step_total, work_of}
 use Rattle.amber_laws.proofs.Answered.{plain_rows}
 use Rattle.amber_laws.proofs.Bags.{Same, among, among-first, among-more, are_different, same-length, same-sum, same_times}
 use Rattle.amber_laws.proofs.Crews.{different-workers, op-within, own-worker, worker-known, worker-op}
@@ -52,9 +52,9 @@ nth-length number [] = refl
 nth-length number (one ∷ records) = ap suc (nth-length (number + 1) records)
 
 scan-taken : (query : Query) (op : ℕ) → IsFlow query.flow → 0 < op → op ≤ length query.flow → is_scan (what_at query.flow op) ≡ true
-    → sum_by (λ worker. length (given query (dealt_to query) worker)) (workers_of query.flow op) ≡ length (list_at query.records op)
+    → sum_by (λ worker. length (total_arrivals query (dealt_to query) worker)) (workers_of query.flow op) ≡ length (list_at query.records op)
 scan-taken query op is some within scan =
-    sym (length-flat_map (given query (dealt_to query)) (workers_of query.flow op))
+    sym (length-flat_map (total_arrivals query (dealt_to query)) (workers_of query.flow op))
     ∙ same-length (scan-whole query is (dealt_to query) op some within scan) ∙ nth-length 1 (list_at query.records op)
 
 fed-length : (dealt : ℕ → List (List Value)) (feeders : List ℕ) → length (fed_by dealt feeders) ≡ sum_by (λ sender. length (dealt sender)) feeders
@@ -72,11 +72,11 @@ input-length query op is typed some within input r =
     ∙ same-length (operators-together query is typed input earlier.0 (omega (arith, earlier.1, within)))
 
 rows-taken : (query : Query) (op : ℕ) → IsFlow query.flow → AreTyped query → 0 < op → op ≤ length query.flow → is_scan (what_at query.flow op) ≡ false
-    → sum_by (λ worker. length (given query (dealt_to query) worker)) (workers_of query.flow op)
+    → sum_by (λ worker. length (total_arrivals query (dealt_to query) worker)) (workers_of query.flow op)
     ≡ sum_by (λ input. length (plain_rows query input)) (inputs_of (what_at query.flow op))
 unfolding feeders_of
 rows-taken query op is typed some within rows =
-    sym (length-flat_map (given query (dealt_to query)) (workers_of query.flow op))
+    sym (length-flat_map (total_arrivals query (dealt_to query)) (workers_of query.flow op))
     ∙ same-length (rows-whole query is (dealt_to query) op some within rows)
     ∙ fed-length (dealt_to query) (feeders_of query.flow op)
     ∙ sum-flat (λ sender. length (dealt_to query sender)) (workers_of query.flow) (inputs_of (what_at query.flow op))
@@ -90,7 +90,7 @@ taken_rows_come_in flow files size most op is some within = by (is_scan (what_at
     query = query_over flow files size most
 
     by : (b : Bool) → is_scan (what_at flow op) ≡ b
-        → sum_by (λ worker. length (given query (dealt_to query) worker)) (workers_of flow op)
+        → sum_by (λ worker. length (total_arrivals query (dealt_to query) worker)) (workers_of flow op)
         ≡ (if b then length (list_at (records_of files flow) op) else sum_by (λ input. length (plain_rows query input)) (inputs_of (what_at flow op)))
     by true e = scan-taken query op is some within e
     by false e = rows-taken query op is (typed-over flow files size most is) some within e

@@ -11,7 +11,7 @@ use Rattle.amber_meaning.specs.Legal.{Query, query_over}
 use Rattle.amber_meaning.specs.Plain.{outputs, records_of}
 use Rattle.amber_rows.specs.Lists.{list_at}
 use Rattle.amber_meaning.specs.Stops.{op_numbers}
-use Rattle.amber_meaning.specs.Total.{dealt_to, given, step_total, work_of}
+use Rattle.amber_meaning.specs.Total.{dealt_to, total_arrivals, step_total, work_of}
 
 -- the rows of an operator in the sequential answer
 abbrev pub operator_rows : List Operator → List (List ℕ) → ℕ → List (List Value)

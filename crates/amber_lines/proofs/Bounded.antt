@@ -9,7 +9,7 @@ use Rattle.amber_rows.specs.declared.cond.Cond.{Cond}
 use Rattle.amber_log.specs.declared.entry.Entry.{Entry}
 use Rattle.amber_log.specs.declared.entry.Entry.TheVariants as entry
 use Rattle.amber_rows.specs.Lists.{IsPrefix}
-use Rattle.amber_meaning.specs.Position.{Position, Taken, fed, has_last, have_ended, is_complete, origin, pending_rows, produced_rows, product}
+use Rattle.amber_meaning.specs.Position.{Position, Taken, all_arrivals, has_last, have_ended, is_complete, origin, pending_rows, produced_rows, product}
 use Rattle.amber_meaning.specs.Rules.{Leads, MayGo, MayHold, MayTake, Moves, Orders, first_is_watched, with_batch, with_rows}
 use Rattle.amber_meaning.specs.State.{let_go, without_held}
 use Rattle.amber_meaning.specs.Task.{Arrival, Role, Task}
@@ -19,14 +19,14 @@ use Rattle.amber_meaning.proofs.OneState.{Leads-keeps}
 use Rattle.amber_meaning.proofs.Orderly.{IsOrderly, fed-more, marked-front, not-ended, produce-more, product-before}
 
 pub record IsBounded (role : Role) (p : Position) : Type 0 where
-  pub within : length p.constants ≤ length (fed role p.taken)
+  pub within : length p.constants ≤ length (all_arrivals role p.taken)
   pub produced : length p.outcomes ≤ length (produced_rows role p)
   pub held : p.held ≡ true → length p.outcomes < length (produced_rows role p)
 
 -- ---- what was produced only grows
 
 -- as batches are taken
-pub product-taken : (role : Role) (taken : List Taken) (from : ℕ) (batch : Batch) (ks : List (List Value)) → length ks ≤ length (fed role taken)
+pub product-taken : (role : Role) (taken : List Taken) (from : ℕ) (batch : Batch) (ks : List (List Value)) → length ks ≤ length (all_arrivals role taken)
     → IsOrderly role (taken ++ record { from = from; batch = batch } ∷ []) → list_any (λ one. eqb one from) role.senders ≡ true
     → IsPrefix (product role taken ks) (product role (taken ++ record { from = from; batch = batch } ∷ []) ks)
 unfolding product have_ended
@@ -35,10 +35,10 @@ product-taken role taken from batch ks within orderly known =
     false_from_ne_true _ (λ e. not-ended role taken from batch orderly known (list_all-member (has_last taken) role.senders from e known)) in
     let all = taken ++ record { from = from; batch = batch } ∷ [] in
     let more = fed-more role taken (record { from = from; batch = batch } ∷ []) in
-    let same : produce role.task [] (fed role all) ks ≡ produce role.task [] (fed role taken) ks =
-    ap (λ (hs : List Arrival). produce role.task [] hs ks) more.1 ∙ produce-more role.task [] (fed role taken) more.0 ks within in (
-      if is_complete role all (length ks) then closing role.task (fed role all) else [],
-      ap (λ (rows : List (List Value)). rows ++ (if is_complete role all (length ks) then closing role.task (fed role all) else []))
+    let same : produce role.task [] (all_arrivals role all) ks ≡ produce role.task [] (all_arrivals role taken) ks =
+    ap (λ (hs : List Arrival). produce role.task [] hs ks) more.1 ∙ produce-more role.task [] (all_arrivals role taken) more.0 ks within in (
+      if is_complete role all (length ks) then closing role.task (all_arrivals role all) else [],
+      ap (λ (rows : List (List Value)). rows ++ (if is_complete role all (length ks) then closing role.task (all_arrivals role all) else []))
           (product-before role taken ks early ∙ sym same),
     )
 
@@ -55,27 +55,27 @@ produce-later task before (one ∷ hs) (k ∷ ks) later =
           ∙ sym (append_assoc (yields task before one k) (produce task (before ++ one ∷ []) hs ks) rest.0),
     )
 
-incomplete : (role : Role) (taken : List Taken) (rows : ℕ) → rows < length (fed role taken) → is_complete role taken rows ≡ false
+incomplete : (role : Role) (taken : List Taken) (rows : ℕ) → rows < length (all_arrivals role taken) → is_complete role taken rows ≡ false
 incomplete role taken rows less =
-    false_from_ne_true _ (λ e. let all = eqb-true rows (length (fed role taken)) ((and_parts _ _ e).1) in absurd (omega arith))
+    false_from_ne_true _ (λ e. let all = eqb-true rows (length (all_arrivals role taken)) ((and_parts _ _ e).1) in absurd (omega arith))
 
-some-later : (role : Role) (taken : List Taken) (ks later : List (List Value)) → length ks < length (fed role taken)
+some-later : (role : Role) (taken : List Taken) (ks later : List (List Value)) → length ks < length (all_arrivals role taken)
     → (more : List (List Value)) × (product role taken (ks ++ later) ≡ product role taken ks ++ more)
 unfolding product
 some-later role taken ks later within =
     let all = ks ++ later in
-    let rest = produce-later role.task [] (fed role taken) ks later in
-    let closed : List (List Value) = if is_complete role taken (length all) then closing role.task (fed role taken) else [] in
-    let early : product role taken ks ≡ produce role.task [] (fed role taken) ks =
-    ap (λ (b : Bool). produce role.task [] (fed role taken) ks ++ (if b then closing role.task (fed role taken) else [])) (incomplete role taken (length ks) within)
-    ∙ append-nil (produce role.task [] (fed role taken) ks) in (
+    let rest = produce-later role.task [] (all_arrivals role taken) ks later in
+    let closed : List (List Value) = if is_complete role taken (length all) then closing role.task (all_arrivals role taken) else [] in
+    let early : product role taken ks ≡ produce role.task [] (all_arrivals role taken) ks =
+    ap (λ (b : Bool). produce role.task [] (all_arrivals role taken) ks ++ (if b then closing role.task (all_arrivals role taken) else [])) (incomplete role taken (length ks) within)
+    ∙ append-nil (produce role.task [] (all_arrivals role taken) ks) in (
       rest.0 ++ closed,
       ap (λ (rows : List (List Value)). rows ++ closed) rest.1
-          ∙ append_assoc (produce role.task [] (fed role taken) ks) rest.0 closed
+          ∙ append_assoc (produce role.task [] (all_arrivals role taken) ks) rest.0 closed
           ∙ ap (λ (rows : List (List Value)). rows ++ (rest.0 ++ closed)) (sym early),
     )
 
-pub product-later : (role : Role) (taken : List Taken) (ks : List (List Value)) (n : ℕ) (now : List Value) → length ks + n ≤ length (fed role taken)
+pub product-later : (role : Role) (taken : List Taken) (ks : List (List Value)) (n : ℕ) (now : List Value) → length ks + n ≤ length (all_arrivals role taken)
     → (more : List (List Value)) × (product role taken (ks ++ replicate n now) ≡ product role taken ks ++ more)
 product-later role taken ks zero now within = ([], ap (product role taken) (append-nil ks) ∙ sym (append-nil (product role taken ks)))
 product-later role taken ks (suc n) now within = some-later role taken ks (replicate (suc n) now) (omega arith)
@@ -115,7 +115,7 @@ with_batch-bounded : (role : Role) (p : Position) (from number : ℕ) (batch : B
     → IsBounded role p → IsBounded role (with_batch from batch p)
 with_batch-bounded role p from number batch orderly may h =
     let more = fed-more role p.taken (record { from = from; batch = batch } ∷ []) in
-    let size : length (fed role (with_batch from batch p).taken) ≡ length (fed role p.taken) + length more.0 = ap length more.1 ∙ length-append (fed role p.taken) more.0 in
+    let size : length (all_arrivals role (with_batch from batch p).taken) ≡ length (all_arrivals role p.taken) + length more.0 = ap length more.1 ∙ length-append (all_arrivals role p.taken) more.0 in
     let within = h.within in
     let before = h.produced in
     let longer = begins-length (product role p.taken p.constants) (product role (with_batch from batch p).taken p.constants)

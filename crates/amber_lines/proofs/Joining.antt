@@ -8,7 +8,7 @@ use Rattle.std.proofs.lemmas.List.Folds.{list_all-append}
 use Rattle.amber_rows.specs.declared.value.Value.{Value}
 use Rattle.amber_rows.specs.declared.cond.Cond.{Cond}
 use Rattle.amber_log.specs.declared.entry.Entry.TheVariants as entry
-use Rattle.amber_meaning.specs.Position.{Position, fed, product}
+use Rattle.amber_meaning.specs.Position.{Position, all_arrivals, product}
 use Rattle.amber_meaning.specs.Rules.{Leads, MayGo, Orders, is_watched, pass_by, produced_with, product_with, with_rows}
 use Rattle.amber_meaning.specs.Task.{Role}
 use Rattle.amber_meaning.proofs.Led.{Leads-parts, Leads-push, no_batch}
@@ -98,7 +98,7 @@ go-both role orders p rows outs more others a b =
     made : (n : ℕ) → produced_with role orders (with_rows orders rows outs p) n ≡ produced_with role orders p (rows + n)
     made n = ap length (product-both role orders p rows outs n)
 
-    within : length p.constants + (rows + more) ≤ length (fed role p.taken)
+    within : length p.constants + (rows + more) ≤ length (all_arrivals role p.taken)
     within = let h = b.within in let size = taken in omega arith
 
     produced : length p.outcomes + (outs + others) ≤ produced_with role orders p (rows + more)

@@ -33,14 +33,14 @@ use Rattle.amber_log.specs.declared.log.Item.TheVariants as item
 use Rattle.amber_meaning.specs.Legal.{Query, batches_for, entries_of, stream_of}
 use Rattle.amber_meaning.specs.Plan.{role_of, task_of}
 use Rattle.amber_rows.specs.Shares.{share_of, with_numbers}
-use Rattle.amber_meaning.specs.Position.{fed, have_ended, kept, product, taken_from}
+use Rattle.amber_meaning.specs.Position.{all_arrivals, have_ended, kept, product, taken_from}
 use Rattle.amber_meaning.specs.Replay.{after_item, after_items, led_by, positions_after, state_after, after_leg}
 use Rattle.amber_meaning.specs.State.{begin_leg, begin_last_leg, after_command, counted_by, crew_at, emitted_by, start_of, steps_in}
 use Rattle.amber_meaning.specs.Stops.{count_stops, held_stops, pause_stops, stops_of, without_stops}
 use Rattle.amber_meaning.specs.Task.{built_of}
 use Rattle.amber_meaning.specs.Produce.{closing, produce, yields}
 use Rattle.amber_meaning.specs.Texts.{answer_text, drop_text, inspected_text, ok_text, stops_text, views_text, word_of, words_before, words_line}
-use Rattle.amber_meaning.specs.Total.{dealt_by, dealt_to, given, gives, step_total, work_of}
+use Rattle.amber_meaning.specs.Total.{dealt_by, dealt_to, total_arrivals, gives, step_total, work_of}
 use Rattle.amber_meaning.specs.Transcript.{replies, reply_of, transcript_of}
 use Rattle.amber_meaning.specs.Views.{answer_in, by_number, insert_numbered, inspected_of, taken_by, view_of}
 
@@ -58,7 +58,7 @@ crews_on_literals = tt
 
 -- what workers have done
 unfoldable pub positions_on_literals : ⊤
-unfolding crews_on_literals fed product produce yields closing built_of kept have_ended taken_from
+unfolding crews_on_literals all_arrivals product produce yields closing built_of kept have_ended taken_from
 positions_on_literals = tt
 
 -- what logs lead to
@@ -68,7 +68,7 @@ states_on_literals = tt
 
 -- how many steps a query has
 unfoldable pub totals_on_literals : ⊤
-unfolding positions_on_literals step_total work_of dealt_to dealt_by given gives
+unfolding positions_on_literals step_total work_of dealt_to dealt_by total_arrivals gives
 totals_on_literals = tt
 
 -- what is printed

@@ -12,7 +12,7 @@ use Rattle.amber_rows.specs.declared.batch.Batch.{Batch}
 use Rattle.amber_rows.specs.declared.flow.What.{What}
 use Rattle.amber_meaning.specs.Task.{Arrival, Role, Task}
 use Rattle.amber_meaning.specs.Produce.{produce, yields}
-use Rattle.amber_meaning.specs.Position.{Taken, fed, arrivals_of, has_last, have_ended, product, share_or, taken_from}
+use Rattle.amber_meaning.specs.Position.{Taken, all_arrivals, arrivals_of, has_last, have_ended, product, share_or, taken_from}
 use Rattle.amber_meaning.proofs.OneState.{taken_from-push}
 
 -- ---- lists of batches of which only the last may be marked
@@ -88,8 +88,8 @@ share_or-more kind share xs ys = by (is_scan kind)
     by true = ([], sym (append-nil share))
     by false = (ys, refl)
 
-pub fed-more : (role : Role) (xs ys : List Taken) → (more : List Arrival) × (fed role (xs ++ ys) ≡ fed role xs ++ more)
-unfolding fed
+pub fed-more : (role : Role) (xs ys : List Taken) → (more : List Arrival) × (all_arrivals role (xs ++ ys) ≡ all_arrivals role xs ++ more)
+unfolding all_arrivals
 fed-more role xs ys =
     let some = share_or-more role.task.kind role.share (flat_map arrivals_of xs) (flat_map arrivals_of ys) in
     (some.0, rw (flat_map-append arrivals_of xs ys) some.1)
@@ -106,14 +106,14 @@ produce-more task before (x ∷ hs) more (k ∷ ks) h =
 
 -- before the senders have ended nothing is produced at the end
 pub product-before : (role : Role) (taken : List Taken) (ks : List (List Value)) → have_ended role.senders taken ≡ false
-    → product role taken ks ≡ produce role.task [] (fed role taken) ks
+    → product role taken ks ≡ produce role.task [] (all_arrivals role taken) ks
 unfolding product
 product-before role taken ks e = rw e (append-nil _)
 
-pub product-grows : (role : Role) (taken : List Taken) (t : Taken) (ks : List (List Value)) → length ks ≤ length (fed role taken)
+pub product-grows : (role : Role) (taken : List Taken) (t : Taken) (ks : List (List Value)) → length ks ≤ length (all_arrivals role taken)
     → have_ended role.senders taken ≡ false → length (product role taken ks) ≤ length (product role (taken ++ t ∷ []) ks)
 unfolding product
 product-grows role taken t ks within e =
     let more = fed-more role taken (t ∷ []) in
-    rw (product-before role taken ks e, more.1, produce-more role.task [] (fed role taken) more.0 ks within)
-    (rw (length-append (produce role.task [] (fed role taken) ks) _) (omega arith))
+    rw (product-before role taken ks e, more.1, produce-more role.task [] (all_arrivals role taken) more.0 ks within)
+    (rw (length-append (produce role.task [] (all_arrivals role taken) ks) _) (omega arith))

@@ -43,8 +43,8 @@ abbrev pub share_or : What → List Arrival → List Arrival → List Arrival
 share_or kind share arrivals = if is_scan kind then share else arrivals
 
 -- all that a worker was handed: the rows of the batches that it took, one after the other, or a scan's share
-unfoldable pub fed : Role → List Taken → List Arrival
-fed role taken = share_or role.task.kind role.share (flat_map arrivals_of taken)
+unfoldable pub all_arrivals : Role → List Taken → List Arrival
+all_arrivals role taken = share_or role.task.kind role.share (flat_map arrivals_of taken)
 
 -- the batches taken from one sender
 unfoldable pub taken_from : List Taken → ℕ → List Batch
@@ -62,19 +62,19 @@ have_ended senders taken = list_all (has_last taken) senders
 
 -- all batches of all senders were taken, and so many rows of them that none is left
 abbrev pub is_complete : Role → List Taken → ℕ → Bool
-is_complete role taken rows = have_ended role.senders taken && (rows == length (fed role taken))
+is_complete role taken rows = have_ended role.senders taken && (rows == length (all_arrivals role taken))
 
 -- what a worker has produced that took these batches, and rows of them under these constants
 unfoldable pub product : Role → List Taken → List (List Value) → List (List Value)
 product role taken constants =
-    produce role.task [] (fed role taken) constants ++ (if is_complete role taken (length constants) then closing role.task (fed role taken) else [])
+    produce role.task [] (all_arrivals role taken) constants ++ (if is_complete role taken (length constants) then closing role.task (all_arrivals role taken) else [])
 
 abbrev pub produced_rows : Role → Position → List (List Value)
 produced_rows role p = product role p.taken p.constants
 
 -- what was handed and not yet taken
 abbrev pub rest_of : Role → Position → List Arrival
-rest_of role p = drop (length p.constants) (fed role p.taken)
+rest_of role p = drop (length p.constants) (all_arrivals role p.taken)
 
 -- the rows that were produced and are not gone
 abbrev pub pending_rows : Role → Position → List (List Value)

@@ -8,7 +8,7 @@ use Rattle.amber_rows.specs.declared.cond.Cond.{Cond}
 use Rattle.amber_log.specs.declared.entry.Entry.{Entry}
 use Rattle.amber_log.specs.declared.entry.Entry.TheVariants as entry
 use Rattle.amber_meaning.specs.Task.{Role, is_builder}
-use Rattle.amber_meaning.specs.Position.{Position, Taken, fed, have_ended, pending_rows, product, rest_of, taken_from}
+use Rattle.amber_meaning.specs.Position.{Position, Taken, all_arrivals, have_ended, pending_rows, product, rest_of, taken_from}
 
 -- what commands have put in force for a leg: a filter's constants, the operator's condition, and whether a count is armed
 pub record Orders : Type 0 where
@@ -66,7 +66,7 @@ pub record MayTake (role : Role) (p : Position) (from number : ℕ) : Type 0 whe
 -- taking rows and emitting rows
 pub record MayGo (role : Role) (orders : Orders) (p : Position) (rows outs : ℕ) : Type 0 where
   pub free : IsFree p
-  pub within : length p.constants + rows ≤ length (fed role p.taken)
+  pub within : length p.constants + rows ≤ length (all_arrivals role p.taken)
   pub produced : length p.outcomes + outs ≤ produced_with role orders p rows
   -- a row is taken only where all that was produced before it is gone
   pub drained : 0 < rows → produced_with role orders p (rows - 1) ≤ length p.outcomes + outs

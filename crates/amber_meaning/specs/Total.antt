@@ -18,8 +18,8 @@ abbrev pub dealt_stream : Query → (ℕ → List (List Value)) → ℕ → ℕ 
 dealt_stream query dealt receiver sender = filter (λ row. receiver_of query.flow sender row == receiver) (dealt sender)
 
 -- what a worker is handed in all: a scan its share, others what their senders give them, one sender after the other
-unfoldable pub given : Query → (ℕ → List (List Value)) → ℕ → List Arrival
-given query dealt worker =
+unfoldable pub total_arrivals : Query → (ℕ → List (List Value)) → ℕ → List Arrival
+total_arrivals query dealt worker =
     let role = role_in query worker in
     share_or role.task.kind role.share (flat_map (λ sender. arrivals_from sender (dealt_stream query dealt worker sender)) role.senders)
 
@@ -35,7 +35,7 @@ unfoldable pub dealt_by : Query → ℕ → List (List (List Value))
 dealt_by query zero = []
 dealt_by query (suc worker) =
     let before = dealt_by query worker in
-    before ++ gives (role_in query worker).task (given query (λ sender. list_at before (sender + 1)) worker) ∷ []
+    before ++ gives (role_in query worker).task (total_arrivals query (λ sender. list_at before (sender + 1)) worker) ∷ []
 
 -- what a worker gives
 unfoldable pub dealt_to : Query → ℕ → List (List Value)
@@ -44,7 +44,7 @@ dealt_to query worker = list_at (dealt_by query (crew_of query.flow)) (worker + 
 -- the steps of a worker: the rows that it takes, those that it gives, a batch more than the full ones from each sender, and the end
 unfoldable pub work_of : Query → ℕ → ℕ
 work_of query worker =
-    length (given query (dealt_to query) worker) + length (dealt_to query worker)
+    length (total_arrivals query (dealt_to query) worker) + length (dealt_to query worker)
     + sum_by (λ sender. length (dealt_stream query (dealt_to query) worker sender) / query.size + 1) (role_in query worker).senders + 1
 
 -- the steps of a query

@@ -16,7 +16,7 @@ use Rattle.amber_meaning.specs.declared.view.Stand.TheVariants as stand
 use Rattle.amber_meaning.specs.declared.view.WorkerView.{WorkerView}
 use Rattle.amber_meaning.specs.Legal.{Query, role_in}
 use Rattle.amber_meaning.specs.Refused.{refused_groups, refused_in}
-use Rattle.amber_meaning.specs.Position.{Position, emitted_count, fed, pending_rows, rest_of}
+use Rattle.amber_meaning.specs.Position.{Position, emitted_count, all_arrivals, pending_rows, rest_of}
 use Rattle.amber_meaning.specs.Stops.{op_numbers}
 use Rattle.amber_meaning.specs.State.{Counting, State, arms_at, counted_at, position_at}
 use Rattle.amber_meaning.specs.Task.{Arrival, Role, rows_in}
@@ -25,7 +25,7 @@ use Rattle.amber_meaning.specs.Task.{Arrival, Role, rows_in}
 
 -- what a worker has taken of what it was handed
 abbrev pub taken_of : Role → Position → List Arrival
-taken_of role p = take (length p.constants) (fed role p.taken)
+taken_of role p = take (length p.constants) (all_arrivals role p.taken)
 
 abbrev pub stand_of : Position → Stand
 stand_of p = if p.finished then stand.Finished else (if p.held then stand.Held else stand.Ready)

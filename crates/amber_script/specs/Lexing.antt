@@ -35,12 +35,12 @@ onto_word [] words = words
 onto_word (byte ∷ bytes) words = onto_first byte (onto_word bytes words)
 
 -- the words read so far, then those whose first goes on the word that has begun
-abbrev pub joined : List (List ℕ) → List ℕ → Option (List (List ℕ)) → Option (List (List ℕ))
-joined words begun more = option_map (λ rest. words ++ onto_word begun rest) more
+abbrev pub with_words : List (List ℕ) → List ℕ → Option (List (List ℕ)) → Option (List (List ℕ))
+with_words words begun more = option_map (λ rest. words ++ onto_word begun rest) more
 
 -- the words of a line of which this has been read, and this is left
 abbrev pub words_with : Lexer → List ℕ → Option (List (List ℕ))
-words_with lexer rest = joined lexer.words.items lexer.begun.items (words_from lexer.place rest)
+words_with lexer rest = with_words lexer.words.items lexer.begun.items (words_from lexer.place rest)
 
 -- between words no word has begun
 abbrev pub IsClear : Lexer → Type 0

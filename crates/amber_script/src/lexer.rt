@@ -47,7 +47,7 @@ impl Lexer {
     }
 
     // Reads a byte; false where it must not stand there.
-    #[tactic(auto, using(crate::proofs::Joining::joined_add, crate::proofs::Joining::joined_end))]
+    #[tactic(auto, using(crate::proofs::Joining::with_words_add, crate::proofs::Joining::with_words_end))]
     fn step(&mut self, byte: u8) -> Result<bool, AllocError>
         requires { IsClear self.old }
         ensures words { IfOk result (λ good. Reads good byte self.old self.new) }
@@ -66,7 +66,7 @@ impl Lexer {
     }
 
     // The words of a line that ends here; none where it must not end.
-    #[tactic(auto, using(crate::proofs::Joining::joined_last), unfolding(crate::specs::Words::words_from))]
+    #[tactic(auto, using(crate::proofs::Joining::with_words_last), unfolding(crate::specs::Words::words_from))]
     fn finish(self) -> Result<Option<Vec<Bytes>>, AllocError>
         requires { IsClear self }
         ensures { IfOk result (λ read.

@@ -23,7 +23,7 @@ use Rattle.amber_meaning.specs.Legal.{Query, batches_for, entries_of, role_in, s
 use Rattle.amber_judge.specs.LegalTests.{are_offered, begins, is_settled, may_close_end, may_lead, may_make, may_reach, may_work, same_rows}
 use Rattle.amber_meaning.specs.Plan.{role_of, task_of}
 use Rattle.amber_rows.specs.Shares.{share_of, with_numbers}
-use Rattle.amber_meaning.specs.Position.{Position, fed, have_ended, kept, origin, product, taken_from}
+use Rattle.amber_meaning.specs.Position.{Position, all_arrivals, have_ended, kept, origin, product, taken_from}
 use Rattle.amber_meaning.specs.Replay.{after_item, after_items, led_by, positions_after, state_after, after_leg}
 use Rattle.amber_judge.specs.RuleTests.{may_finish, may_go, may_take}
 use Rattle.amber_meaning.specs.State.{begin_leg, begin_last_leg, start_of, steps_in}
@@ -42,7 +42,7 @@ use Rattle.amber_worker.proofs.ExampleFlow.{from_two, numbers}
 -- ---- what unfolds
 
 workers_on_literals : ⊤
-unfolding holds_of suits_of pick_cells group_result sort_rows insert_row numbers_below chunks_of crew_of first_worker_of workers_of op_of reader_from follower_of receiver_of sends_to senders_of role_of task_of share_of with_numbers fed product produce yields closing built_of kept have_ended taken_from view_of
+unfolding holds_of suits_of pick_cells group_result sort_rows insert_row numbers_below chunks_of crew_of first_worker_of workers_of op_of reader_from follower_of receiver_of sends_to senders_of role_of task_of share_of with_numbers all_arrivals product produce yields closing built_of kept have_ended taken_from view_of
 workers_on_literals = tt
 
 logs_on_literals : ⊤

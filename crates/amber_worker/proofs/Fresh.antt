@@ -21,7 +21,7 @@ use Rattle.amber_rows.specs.declared.flow.Operator.{Operator}
 use Rattle.amber_log.specs.Grammar.{AreEntries}
 use Rattle.amber_log.specs.declared.entry.Entry.{Entry}
 use Rattle.amber_meaning.specs.Plan.{builders_in, arrival_columns, role_of, task_of}
-use Rattle.amber_meaning.specs.Position.{fed, is_complete, kept, origin, product, share_or, taken_from}
+use Rattle.amber_meaning.specs.Position.{all_arrivals, is_complete, kept, origin, product, share_or, taken_from}
 use Rattle.amber_meaning.specs.Rules.{Leads}
 use Rattle.amber_meaning.specs.State.{first_constants}
 use Rattle.amber_meaning.specs.Task.{Arrival, Role, Task, built_of, suiting}
@@ -98,12 +98,12 @@ kept-first (what.Group input keys aggs) task = refl
 kept-first (what.Sink input) task = refl
 
 -- nothing was produced before anything was taken
-product-first : (role : Role) → closing role.task (fed role []) ≡ [] → product role [] [] ≡ []
+product-first : (role : Role) → closing role.task (all_arrivals role []) ≡ [] → product role [] [] ≡ []
 product-first role none =
     product-is role [] []
     ∙ rw produce-none (by (is_complete role [] 0))
   where
-    by : (b : Bool) → (if b then closing role.task (fed role []) else []) ≡ []
+    by : (b : Bool) → (if b then closing role.task (all_arrivals role []) else []) ≡ []
     by true = none
     by false = refl
 
@@ -304,7 +304,7 @@ shows-first : (flow : List Operator) (records : List (List (Result (List Value) 
     → is_some share ≡ is_scan (what_at flow (op_of flow worker))
     → HasShare share (role_of flow records worker) → IsFresh flow worker size share w
     → Shows (placement_of flow records size worker) (first_orders flow worker) w origin (λ _. [])
-unfolding placement_of first_orders role_of task_of fed closing kept
+unfolding placement_of first_orders role_of task_of all_arrivals closing kept
 shows-first flow records size worker share w is alone there some op shared has fresh =
     let kind : What = what_at flow (op_of flow worker) in
     let task : Task = task_of flow (op_of flow worker) in

@@ -13,7 +13,7 @@ use Rattle.amber_rows.specs.declared.column.Column.{Column}
 use Rattle.amber_rows.specs.declared.flow.What.{What}
 use Rattle.amber_rows.specs.declared.flow.What.TheVariants as what
 use Rattle.amber_log.specs.declared.entry.Entry.TheVariants as entry
-use Rattle.amber_meaning.specs.Position.{Position, Taken, emitted_rows, fed, have_ended, is_complete, is_emitted, product}
+use Rattle.amber_meaning.specs.Position.{Position, Taken, emitted_rows, all_arrivals, have_ended, is_complete, is_emitted, product}
 use Rattle.amber_meaning.specs.Rules.{IsFree, MayFinish, MayGo, Orders, product_with, produced_with, with_rows}
 use Rattle.amber_meaning.specs.Task.{Arrival, Role, Task, columns_from, is_builder, row_in, suiting, rows_in}
 use Rattle.amber_meaning.specs.Produce.{closing, produce, yields, yields_if}
@@ -136,8 +136,8 @@ becomes-is placement orders w p sent one later now last takes =
     subst Q (sym builds) (subst P (found-is placement orders w p sent one later now last takes) takes.becomes)
 
 taken-now : (placement : Placement) (orders : Orders) (w : WorkerState) (p : Position) (sent : ℕ → List Batch) (one : Arrival) (later : List Arrival) (now : OperatorState) (last : List (List Value))
-    → TakesOne placement orders w p sent one later now last → take (length p.constants + 1) (fed placement.role p.taken) ≡ taken_of placement.role p ++ one ∷ []
-taken-now placement orders w p sent one later now last takes = take-next (length p.constants) (fed placement.role p.taken) one later (sym takes.shows.rest ∙ takes.rest)
+    → TakesOne placement orders w p sent one later now last → take (length p.constants + 1) (all_arrivals placement.role p.taken) ≡ taken_of placement.role p ++ one ∷ []
+taken-now placement orders w p sent one later now last takes = take-next (length p.constants) (all_arrivals placement.role p.taken) one later (sym takes.shows.rest ∙ takes.rest)
 
 pub all-ended : (senders : List ℕ) (taken : List Taken) (ins : List Incoming) → ReceiveAll senders taken ins → have_all_ended ins ≡ have_ended senders taken
 unfolding ReceiveAll have_ended
@@ -157,17 +157,17 @@ over-is : (placement : Placement) (orders : Orders) (w : WorkerState) (p : Posit
     → TakesOne placement orders w p sent one later now last → (eqb (length w.rest) 1 && have_all_ended w.ins) ≡ is_complete placement.role p.taken (length p.constants + 1)
 over-is placement orders w p sent one later now last takes =
     let shows = takes.shows in
-    let within = left-within (length p.constants) (fed placement.role p.taken) one later (sym shows.rest ∙ takes.rest) in
-    let left : length w.rest ≡ length (fed placement.role p.taken) - length p.constants = ap length shows.rest ∙ length-drop (length p.constants) (fed placement.role p.taken) in
+    let within = left-within (length p.constants) (all_arrivals placement.role p.taken) one later (sym shows.rest ∙ takes.rest) in
+    let left : length w.rest ≡ length (all_arrivals placement.role p.taken) - length p.constants = ap length shows.rest ∙ length-drop (length p.constants) (all_arrivals placement.role p.taken) in
     and-turned (eqb (length w.rest) 1) (have_all_ended w.ins)
     ∙ ap (λ b. b && eqb (length w.rest) 1) (all-ended placement.role.senders p.taken w.ins shows.ins)
     ∙ ap (λ b. have_ended placement.role.senders p.taken && b)
-    (same-test (length w.rest) 1 (length p.constants + 1) (length (fed placement.role p.taken)) (λ e. omega arith) (λ e. omega arith))
+    (same-test (length w.rest) 1 (length p.constants + 1) (length (all_arrivals placement.role p.taken)) (λ e. omega arith) (λ e. omega arith))
 
 -- the rows that are given at the end
 last-is : (placement : Placement) (orders : Orders) (w : WorkerState) (p : Position) (sent : ℕ → List Batch) (one : Arrival) (later : List Arrival) (now : OperatorState) (last : List (List Value))
     → TakesOne placement orders w p sent one later now last
-    → last ≡ (if is_complete placement.role p.taken (length p.constants + 1) then closing placement.role.task (fed placement.role p.taken) else [])
+    → last ≡ (if is_complete placement.role p.taken (length p.constants + 1) then closing placement.role.task (all_arrivals placement.role p.taken) else [])
 unfolding closing
 last-is placement orders w p sent one later now last takes =
     let shows = takes.shows in
@@ -178,10 +178,10 @@ last-is placement orders w p sent one later now last takes =
     let over = over-is placement orders w p sent one later now last takes in
     closing-is now task.kind orders.constants placement.role task (taken_of placement.role p ++ one ∷ []) (is_complete placement.role p.taken (length p.constants + 1)) last does has
     (subst (λ b. Closes now b last) over takes.closes)
-    ∙ closing-same (is_complete placement.role p.taken (length p.constants + 1)) task.kind task (taken_of placement.role p ++ one ∷ []) (fed placement.role p.taken)
+    ∙ closing-same (is_complete placement.role p.taken (length p.constants + 1)) task.kind task (taken_of placement.role p ++ one ∷ []) (all_arrivals placement.role p.taken)
     (λ e. let end = and_parts (have_ended placement.role.senders p.taken) _ e in
-    let here = eqb-true (length p.constants + 1) (length (fed placement.role p.taken)) end.1 in
-    sym (taken-now placement orders w p sent one later now last takes) ∙ take_all (length p.constants + 1) (fed placement.role p.taken) (omega arith))
+    let here = eqb-true (length p.constants + 1) (length (all_arrivals placement.role p.taken)) end.1 in
+    sym (taken-now placement orders w p sent one later now last takes) ∙ take_all (length p.constants + 1) (all_arrivals placement.role p.taken) (omega arith))
 
 -- what was produced with this row
 product-one : (placement : Placement) (orders : Orders) (w : WorkerState) (p : Position) (sent : ℕ → List Batch) (one : Arrival) (later : List Arrival) (now : OperatorState) (last : List (List Value))
@@ -191,18 +191,18 @@ product-one : (placement : Placement) (orders : Orders) (w : WorkerState) (p : P
 product-one placement orders w p sent one later now last takes =
     let shows = takes.shows in
     let task : Task = placement.role.task in
-    let left : drop (length p.constants) (fed placement.role p.taken) ≡ one ∷ later = sym shows.rest ∙ takes.rest in
-    let within = left-within (length p.constants) (fed placement.role p.taken) one later left in
+    let left : drop (length p.constants) (all_arrivals placement.role p.taken) ≡ one ∷ later = sym shows.rest ∙ takes.rest in
+    let within = left-within (length p.constants) (all_arrivals placement.role p.taken) one later left in
     let more : length (p.constants ++ orders.constants ∷ []) ≡ length p.constants + 1 = omega (arith, length-append p.constants (orders.constants ∷ [])) in
     let builds : is_builder task one.from ≡ w.building = side-is placement orders w p sent one later now last takes 0 one (omega arith) in
-    let yielded : yields task (take (length p.constants) (fed placement.role p.taken)) one orders.constants ≡ gives_if w.operator_state w.building (row_in (columns_at_hand w) one.what) =
+    let yielded : yields task (take (length p.constants) (all_arrivals placement.role p.taken)) one orders.constants ≡ gives_if w.operator_state w.building (row_in (columns_at_hand w) one.what) =
     yields-all w.operator_state task orders.constants placement.role (taken_of placement.role p) one shows.operator_state shows.state
     ∙ ap (λ b. gives_if w.operator_state b (suiting task one)) builds
     ∙ ap (λ found. gives_if w.operator_state w.building found) (sym (found-is placement orders w p sent one later now last takes)) in
-    let before : produce task [] (fed placement.role p.taken) p.constants ≡ product placement.role p.taken p.constants =
+    let before : produce task [] (all_arrivals placement.role p.taken) p.constants ≡ product placement.role p.taken p.constants =
     sym (product-open placement.role p.taken p.constants (not-complete placement.role p.taken (length p.constants) (omega arith))) in
     product-is placement.role p.taken (p.constants ++ orders.constants ∷ [])
-    ∙ rw (more, produce-next task [] (fed placement.role p.taken) p.constants one later orders.constants left, yielded, before, ← last-is placement orders w p sent one later now last takes)
+    ∙ rw (more, produce-next task [] (all_arrivals placement.role p.taken) p.constants one later orders.constants left, yielded, before, ← last-is placement orders w p sent one later now last takes)
     (append_assoc (product placement.role p.taken p.constants) (gives_if w.operator_state w.building (row_in (columns_at_hand w) one.what)) last)
 
 -- all that was produced is gone
@@ -217,7 +217,7 @@ may-take_row : (placement : Placement) (orders : Orders) (w : WorkerState) (p : 
     → TakesOne placement orders w p sent one later now last → IsWorking w → MayGo placement.role orders p 1 0
 may-take_row placement orders w p sent one later now_does last takes works =
     let shows = takes.shows in
-    let within = left-within (length p.constants) (fed placement.role p.taken) one later (sym shows.rest ∙ takes.rest) in
+    let within = left-within (length p.constants) (all_arrivals placement.role p.taken) one later (sym shows.rest ∙ takes.rest) in
     let gone = all-gone placement orders w p sent shows takes.pending in
     let before : produced_with placement.role orders p 0 ≡ length (product placement.role p.taken p.constants) =
     ap (λ (constants : List (List Value)). length (product placement.role p.taken constants)) (append-nil p.constants) in
@@ -246,15 +246,15 @@ shows-row_taken : (placement : Placement) (orders : Orders) (w : WorkerState) (p
 shows-row_taken placement orders w p sent one later now last takes =
     let shows = takes.shows in
     let task : Task = placement.role.task in
-    let left : drop (length p.constants) (fed placement.role p.taken) ≡ one ∷ later = sym shows.rest ∙ takes.rest in
-    let within = left-within (length p.constants) (fed placement.role p.taken) one later left in
+    let left : drop (length p.constants) (all_arrivals placement.role p.taken) ≡ one ∷ later = sym shows.rest ∙ takes.rest in
+    let within = left-within (length p.constants) (all_arrivals placement.role p.taken) one later left in
     let more : length (p.constants ++ orders.constants ∷ []) ≡ length p.constants + 1 = omega (arith, length-append p.constants (orders.constants ∷ [])) in
     let grown = product-one placement orders w p sent one later now last takes in
     let gone = all-gone placement orders w p sent shows takes.pending in
     let no_fate : p.outcomes ++ [] ≡ p.outcomes = append-nil p.outcomes in
     let still : length p.outcomes ≤ length (product placement.role p.taken p.constants) = shows.produced in
     let lengths = length-append (product placement.role p.taken p.constants) (gives_if w.operator_state w.building (row_in (columns_at_hand w) one.what) ++ last) in
-    let now_taken : take (length (p.constants ++ orders.constants ∷ [])) (fed placement.role p.taken) ≡ taken_of placement.role p ++ one ∷ [] =
+    let now_taken : take (length (p.constants ++ orders.constants ∷ [])) (all_arrivals placement.role p.taken) ≡ taken_of placement.role p ++ one ∷ [] =
     rw more (taken-now placement orders w p sent one later now last takes) in
     let becomes = becomes-is placement orders w p sent one later now last takes in
     let found = found-is placement orders w p sent one later now last takes in
@@ -269,7 +269,7 @@ shows-row_taken placement orders w p sent one later now last takes =
       builders = shows.builders;
       building = λ k d less. side-is placement orders w p sent one later now last takes (suc k) d (omega arith);
       plain = shows.plain;
-      rest = sym (rw more (left-next (length p.constants) (fed placement.role p.taken) one later left));
+      rest = sym (rw more (left-next (length p.constants) (all_arrivals placement.role p.taken) one later left));
       pending = rw (takes.pending, no_fate, grown) (sym (left-behind (length p.outcomes) (product placement.role p.taken p.constants) _ gone));
       taken = rw (more, shows.taken) refl;
       emitted = rw no_fate shows.emitted;

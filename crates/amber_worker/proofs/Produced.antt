@@ -3,7 +3,7 @@ use Rattle.std.proofs.Common.{◌≡◌, ℕ, zero, suc, ◌+◌, ◌<◌, ◌�
 use Rattle.std.proofs.lemmas.Bool.{eq-eqb, eqb-true, false≢true}
 use Rattle.std.proofs.lemmas.List.{append-nil}
 use Rattle.amber_rows.specs.declared.value.Value.{Value}
-use Rattle.amber_meaning.specs.Position.{Taken, fed, have_ended, is_complete, kept, product}
+use Rattle.amber_meaning.specs.Position.{Taken, all_arrivals, have_ended, is_complete, kept, product}
 use Rattle.amber_meaning.specs.Task.{Arrival, Role, Task}
 use Rattle.amber_meaning.specs.Produce.{closing, produce, yields}
 
@@ -76,23 +76,23 @@ produce-longer task before (x ∷ arrivals) more (k ∷ constants) h =
 
 -- a worker to whom more can come has produced what its rows yield
 pub product-open : (role : Role) (taken : List Taken) (constants : List (List Value)) → is_complete role taken (length constants) ≡ false
-    → product role taken constants ≡ produce role.task [] (fed role taken) constants
+    → product role taken constants ≡ produce role.task [] (all_arrivals role taken) constants
 unfolding product
 product-open role taken constants e = rw e (append-nil _)
 
 -- and at the end the closing rows besides
 pub product-is : (role : Role) (taken : List Taken) (constants : List (List Value))
     → product role taken constants
-    ≡ produce role.task [] (fed role taken) constants ++ (if is_complete role taken (length constants) then closing role.task (fed role taken) else [])
+    ≡ produce role.task [] (all_arrivals role taken) constants ++ (if is_complete role taken (length constants) then closing role.task (all_arrivals role taken) else [])
 unfolding product
 product-is role taken constants = refl
 
 -- where something is left, more can come
-pub not-complete : (role : Role) (taken : List Taken) (rows : ℕ) → rows < length (fed role taken) → is_complete role taken rows ≡ false
-not-complete role taken rows less = by (eqb rows (length (fed role taken))) (have_ended role.senders taken) refl
+pub not-complete : (role : Role) (taken : List Taken) (rows : ℕ) → rows < length (all_arrivals role taken) → is_complete role taken rows ≡ false
+not-complete role taken rows less = by (eqb rows (length (all_arrivals role taken))) (have_ended role.senders taken) refl
   where
-    by : (b ended : Bool) → eqb rows (length (fed role taken)) ≡ b → (ended && b) ≡ false
-    by true ended e = let same = eqb-true rows (length (fed role taken)) e in absurd (omega arith)
+    by : (b ended : Bool) → eqb rows (length (all_arrivals role taken)) ≡ b → (ended && b) ≡ false
+    by true ended e = let same = eqb-true rows (length (all_arrivals role taken)) e in absurd (omega arith)
     by false true e = refl
     by false false e = refl
 

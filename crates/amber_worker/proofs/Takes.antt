@@ -12,7 +12,7 @@ use Rattle.amber_rows.specs.declared.batch.Batch.{Batch}
 use Rattle.amber_rows.specs.declared.flow.What.{What}
 use Rattle.amber_rows.specs.declared.flow.What.TheVariants as what
 use Rattle.amber_log.specs.declared.entry.Entry.TheVariants as entry
-use Rattle.amber_meaning.specs.Position.{Position, Taken, fed, arrivals_of, has_last, have_ended, is_complete, product, share_or, taken_from}
+use Rattle.amber_meaning.specs.Position.{Position, Taken, all_arrivals, arrivals_of, has_last, have_ended, is_complete, product, share_or, taken_from}
 use Rattle.amber_meaning.specs.Rules.{MayTake, Orders, may_take_from, with_batch}
 use Rattle.amber_meaning.specs.Task.{Arrival, Role, Task, is_builder}
 use Rattle.amber_meaning.specs.Produce.{closing, produce}
@@ -193,8 +193,8 @@ not-scan d (what.Group input keys aggs) constants role share arrivals more does 
 not-scan d (what.Sink input) constants role share arrivals more does some = refl
 
 fed-more : (d : OperatorState) (constants : List Value) (role : Role) (taken : List Taken) (from : ℕ) (batch : Batch) → DoesKind d role.task.kind constants role → (role.senders ≡ [] → ⊥)
-    → fed role (taken ++ as_taken from batch ∷ []) ≡ fed role taken ++ map (row_from from) batch.rows
-unfolding fed
+    → all_arrivals role (taken ++ as_taken from batch ∷ []) ≡ all_arrivals role taken ++ map (row_from from) batch.rows
+unfolding all_arrivals
 fed-more d constants role taken from batch does some =
     ap (λ arrivals. share_or role.task.kind role.share arrivals)
     (flat_map-append arrivals_of taken (as_taken from batch ∷ []) ∙ ap (λ l. flat_map arrivals_of taken ++ l) (append-nil _))
@@ -317,7 +317,7 @@ may-take placement orders w p sent one batch ins last shows takes works =
 -- what was handed with this batch
 fed-now : (placement : Placement) (orders : Orders) (w : WorkerState) (p : Position) (sent : ℕ → List Batch) (one : Incoming) (batch : Batch) (ins : List Incoming) (last : List (List Value))
     → Shows placement orders w p sent → TakesOne w one batch ins last
-    → fed placement.role (p.taken ++ as_taken one.from batch ∷ []) ≡ fed placement.role p.taken ++ map (row_from one.from) batch.rows
+    → all_arrivals placement.role (p.taken ++ as_taken one.from batch ∷ []) ≡ all_arrivals placement.role p.taken ++ map (row_from one.from) batch.rows
 fed-now placement orders w p sent one batch ins last shows takes =
     let so = takes.taken_so in
     let all = received-all placement orders w p sent one batch ins last shows takes in
@@ -326,9 +326,9 @@ fed-now placement orders w p sent one batch ins last shows takes =
 
 -- all that was handed before was taken
 all-taken : (placement : Placement) (orders : Orders) (w : WorkerState) (p : Position) (sent : ℕ → List Batch) → Shows placement orders w p sent → w.rest ≡ []
-    → length p.constants ≡ length (fed placement.role p.taken)
+    → length p.constants ≡ length (all_arrivals placement.role p.taken)
 all-taken placement orders w p sent shows none =
-    let nothing_left = left-nothing (length p.constants) (fed placement.role p.taken) (sym shows.rest ∙ none) in
+    let nothing_left = left-nothing (length p.constants) (all_arrivals placement.role p.taken) (sym shows.rest ∙ none) in
     let within = shows.within in
     omega arith
 
@@ -343,7 +343,7 @@ open-before : (placement : Placement) (orders : Orders) (w : WorkerState) (p : P
     → Shows placement orders w p sent → TakesOne w one batch ins last → is_complete placement.role p.taken (length p.constants) ≡ false
 open-before placement orders w p sent one batch ins last shows takes =
     let so = takes.taken_so in
-    ap (λ b. b && eqb (length p.constants) (length (fed placement.role p.taken)))
+    ap (λ b. b && eqb (length p.constants) (length (all_arrivals placement.role p.taken)))
     (sym (all-ended placement.role.senders p.taken w.ins shows.ins) ∙ ap have_all_ended so.found ∙ unended-there so.front so.back one so.unended)
 
 -- nothing more can come behind this batch
@@ -353,27 +353,27 @@ over-is : (placement : Placement) (orders : Orders) (w : WorkerState) (p : Posit
 over-is placement orders w p sent one batch ins last shows takes =
     let whole = all-taken placement orders w p sent shows takes.rest in
     let lengths = ap length (fed-now placement orders w p sent one batch ins last shows takes) in
-    let sum = length-append (fed placement.role p.taken) (map (row_from one.from) batch.rows) in
+    let sum = length-append (all_arrivals placement.role p.taken) (map (row_from one.from) batch.rows) in
     let mapped = length-map batch.rows (row_from one.from) in
     and-turned (eqb (length batch.rows) 0) (have_all_ended ins)
     ∙ ap (λ b. b && eqb (length batch.rows) 0)
     (all-ended placement.role.senders (p.taken ++ as_taken one.from batch ∷ []) ins (received-next placement orders w p sent one batch ins last shows takes))
     ∙ ap (λ b. have_ended placement.role.senders (p.taken ++ as_taken one.from batch ∷ []) && b)
-    (same-test (length batch.rows) 0 (length p.constants) (length (fed placement.role (p.taken ++ as_taken one.from batch ∷ []))) (λ e. omega arith) (λ e. omega arith))
+    (same-test (length batch.rows) 0 (length p.constants) (length (all_arrivals placement.role (p.taken ++ as_taken one.from batch ∷ []))) (λ e. omega arith) (λ e. omega arith))
 
 -- as much was taken as before
 taken-same : (placement : Placement) (orders : Orders) (w : WorkerState) (p : Position) (sent : ℕ → List Batch) (one : Incoming) (batch : Batch) (ins : List Incoming) (last : List (List Value))
     → Shows placement orders w p sent → TakesOne w one batch ins last
-    → take (length p.constants) (fed placement.role (p.taken ++ as_taken one.from batch ∷ [])) ≡ taken_of placement.role p
+    → take (length p.constants) (all_arrivals placement.role (p.taken ++ as_taken one.from batch ∷ [])) ≡ taken_of placement.role p
 taken-same placement orders w p sent one batch ins last shows takes =
     rw (fed-now placement orders w p sent one batch ins last shows takes)
-    (take-append-le (length p.constants) (fed placement.role p.taken) (map (row_from one.from) batch.rows) shows.within)
+    (take-append-le (length p.constants) (all_arrivals placement.role p.taken) (map (row_from one.from) batch.rows) shows.within)
 
 -- the rows that are given at the end
 last-is : (placement : Placement) (orders : Orders) (w : WorkerState) (p : Position) (sent : ℕ → List Batch) (one : Incoming) (batch : Batch) (ins : List Incoming) (last : List (List Value))
     → Shows placement orders w p sent → TakesOne w one batch ins last
     → last ≡ (if is_complete placement.role (p.taken ++ as_taken one.from batch ∷ []) (length p.constants)
-    then closing placement.role.task (fed placement.role (p.taken ++ as_taken one.from batch ∷ [])) else [])
+    then closing placement.role.task (all_arrivals placement.role (p.taken ++ as_taken one.from batch ∷ [])) else [])
 unfolding closing
 last-is placement orders w p sent one batch ins last shows takes =
     let task : Task = placement.role.task in
@@ -381,10 +381,10 @@ last-is placement orders w p sent one batch ins last shows takes =
     let over = over-is placement orders w p sent one batch ins last shows takes in
     closing-is w.operator_state task.kind orders.constants placement.role task (taken_of placement.role p) (is_complete placement.role later (length p.constants)) last shows.operator_state shows.state
     (subst (λ b. Closes w.operator_state b last) over takes.closes)
-    ∙ closing-same (is_complete placement.role later (length p.constants)) task.kind task (taken_of placement.role p) (fed placement.role later)
+    ∙ closing-same (is_complete placement.role later (length p.constants)) task.kind task (taken_of placement.role p) (all_arrivals placement.role later)
     (λ e. let end = and_parts (have_ended placement.role.senders later) _ e in
-    let here = eqb-true (length p.constants) (length (fed placement.role later)) end.1 in
-    sym (taken-same placement orders w p sent one batch ins last shows takes) ∙ take_all (length p.constants) (fed placement.role later) (omega arith))
+    let here = eqb-true (length p.constants) (length (all_arrivals placement.role later)) end.1 in
+    sym (taken-same placement orders w p sent one batch ins last shows takes) ∙ take_all (length p.constants) (all_arrivals placement.role later) (omega arith))
 
 -- what was produced with this batch
 product-now : (placement : Placement) (orders : Orders) (w : WorkerState) (p : Position) (sent : ℕ → List Batch) (one : Incoming) (batch : Batch) (ins : List Incoming) (last : List (List Value))
@@ -392,13 +392,13 @@ product-now : (placement : Placement) (orders : Orders) (w : WorkerState) (p : P
     → product placement.role (p.taken ++ as_taken one.from batch ∷ []) p.constants ≡ product placement.role p.taken p.constants ++ last
 product-now placement orders w p sent one batch ins last shows takes =
     let before = product-open placement.role p.taken p.constants (open-before placement orders w p sent one batch ins last shows takes) in
-    let same : produce placement.role.task [] (fed placement.role (p.taken ++ as_taken one.from batch ∷ [])) p.constants ≡ product placement.role p.taken p.constants =
+    let same : produce placement.role.task [] (all_arrivals placement.role (p.taken ++ as_taken one.from batch ∷ [])) p.constants ≡ product placement.role p.taken p.constants =
     ap (λ arrivals. produce placement.role.task [] arrivals p.constants) (fed-now placement orders w p sent one batch ins last shows takes)
-    ∙ produce-longer placement.role.task [] (fed placement.role p.taken) (map (row_from one.from) batch.rows) p.constants shows.within
+    ∙ produce-longer placement.role.task [] (all_arrivals placement.role p.taken) (map (row_from one.from) batch.rows) p.constants shows.within
     ∙ sym before in
     product-is placement.role (p.taken ++ as_taken one.from batch ∷ []) p.constants
     ∙ ap (λ rows. rows ++ (if is_complete placement.role (p.taken ++ as_taken one.from batch ∷ []) (length p.constants)
-    then closing placement.role.task (fed placement.role (p.taken ++ as_taken one.from batch ∷ [])) else [])) same
+    then closing placement.role.task (all_arrivals placement.role (p.taken ++ as_taken one.from batch ∷ [])) else [])) same
     ∙ ap (λ rows. product placement.role p.taken p.constants ++ rows) (sym (last-is placement orders w p sent one batch ins last shows takes))
 
 shows-batch_taken : (placement : Placement) (orders : Orders) (w : WorkerState) (p : Position) (sent : ℕ → List Batch) (one : Incoming) (batch : Batch) (ins : List Incoming) (last : List (List Value))
@@ -426,12 +426,12 @@ shows-batch_taken placement orders w p sent one batch ins last shows takes =
       builders = shows.builders;
       building = one-side placement.role.task one.from one.builds batch.rows (sym side);
       plain = shows.plain;
-      rest = rw more (sym (left-behind (length p.constants) (fed placement.role p.taken) (map (row_from one.from) batch.rows) whole));
+      rest = rw more (sym (left-behind (length p.constants) (all_arrivals placement.role p.taken) (map (row_from one.from) batch.rows) whole));
       pending = rw grown (sym (left-behind (length p.outcomes) (product placement.role p.taken p.constants) last gone));
       taken = shows.taken;
       emitted = shows.emitted;
       batches = omega (arith, length-append p.taken (as_taken one.from batch ∷ []));
-      within = rw more (omega (arith, length-append (fed placement.role p.taken) (map (row_from one.from) batch.rows)));
+      within = rw more (omega (arith, length-append (all_arrivals placement.role p.taken) (map (row_from one.from) batch.rows)));
       produced = rw grown (omega arith);
       refused = rw taken_same shows.refused;
       kept = rw taken_same shows.kept;

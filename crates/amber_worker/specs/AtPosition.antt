@@ -14,7 +14,7 @@ use Rattle.amber_rows.specs.declared.flow.Operator.{Operator}
 use Rattle.amber_log.specs.Grammar.{AreEntries}
 use Rattle.amber_group.specs.Group.{IsFedWith}
 use Rattle.amber_meaning.specs.Plan.{role_of}
-use Rattle.amber_meaning.specs.Position.{Position, Taken, emitted_count, emitted_rows, fed, has_last, pending_rows, produced_rows, rest_of, taken_from}
+use Rattle.amber_meaning.specs.Position.{Position, Taken, emitted_count, emitted_rows, all_arrivals, has_last, pending_rows, produced_rows, rest_of, taken_from}
 use Rattle.amber_meaning.specs.Rules.{Leads, Orders}
 use Rattle.amber_meaning.specs.State.{first_constants}
 use Rattle.amber_meaning.specs.Task.{Arrival, Role, Task, built_of, is_builder, rows_in}
@@ -147,7 +147,7 @@ pub record Shows (placement : Placement) (orders : Orders) (w : WorkerState) (p 
   pub taken : w.taken ≡ length p.constants
   pub emitted : w.emitted ≡ emitted_count p.outcomes
   pub batches : w.batches ≡ length p.taken
-  pub within : length p.constants ≤ length (fed placement.role p.taken)
+  pub within : length p.constants ≤ length (all_arrivals placement.role p.taken)
   pub produced : length p.outcomes ≤ length (produced_rows placement.role p)
   pub refused : w.refused ≡ refused_in placement.op (taken_of placement.role p)
   pub kept : w.kept ≡ kept_rows placement.role.task.kind placement.role.task (taken_of placement.role p)
