@@ -31,7 +31,7 @@ DealtRowsAreTheOperators = (flow : List Operator) (files : List (List ℕ)) (siz
 -- and those that they take together are as many as come into it
 abbrev pub TakenRowsComeIn : Type 0
 TakenRowsComeIn = (flow : List Operator) (files : List (List ℕ)) (size most op : ℕ) → IsFlow flow → 0 < op → op ≤ length flow
-    → sum_by (λ worker. length (given (query_over flow files size most) (dealt_to (query_over flow files size most)) worker)) (workers_of flow op) ≡ rows_into flow files op
+    → sum_by (λ worker. length (total_arrivals (query_over flow files size most) (dealt_to (query_over flow files size most)) worker)) (workers_of flow op) ≡ rows_into flow files op
 
 -- the steps of a query are those of its operators' workers, operator by operator
 abbrev pub TotalIsByOperator : Type 0
