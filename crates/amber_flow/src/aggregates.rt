@@ -58,7 +58,9 @@ pub fn read_aggs(
     texts: &[&str],
 ) -> Result<Option<Vec<Agg>>, AllocError>
     requires { length columns.now ≤ 64 }
-    ensures { IfOk result (λ read. option_map (λ aggs. aggs.items) read ≡ each (agg_of columns.now) (map (λ text. text.now) texts.now)) }
+    ensures { IfOk result
+        (λ read. option_map (λ aggs. aggs.items) read
+        ≡ each (agg_of columns.now) (map (λ text. text.now) texts.now)) }
 {
     let mut aggs = Vec::new(alloc);
     for text in texts {
@@ -121,7 +123,9 @@ pub fn add_agg_columns(
     texts: &[&str],
 ) -> Result<(), AllocError>
     requires { length columns.now ≤ 64 }
-    ensures { OnOk result (made.new.items ≡ made.old.items ++ filter_map (agg_column columns.now) (map (λ text. text.now) texts.now)) }
+    ensures { OnOk result (made.new.items
+        ≡ made.old.items ++ filter_map (agg_column columns.now)
+        (map (λ text. text.now) texts.now)) }
 {
     for text in texts {
         let column = column_of_agg(alloc, columns, text)?;

@@ -45,7 +45,8 @@ pub fn read_columns(
     ensures columns { IfOk result (λ read. MatchResult read
         (λ columns. columns_of (map view trees.now) ≡ Ok columns.items)
         (λ why. columns_of (map view trees.now) ≡ Err why)) }
-    ensures named { IfOk result (λ read. IfOk read (λ columns. list_all is_column_name (names_of columns.items) ≡ true)) }
+    ensures named { IfOk result
+        (λ read. IfOk read (λ columns. list_all is_column_name (names_of columns.items) ≡ true)) }
 {
     let mut columns = Vec::new(alloc);
     for tree in trees {
@@ -156,7 +157,9 @@ pub fn add_named(
     names: &[&str],
 ) -> Result<(), AllocError>
     requires { length columns.now ≤ 64 }
-    ensures { OnOk result (made.new.items ≡ made.old.items ++ filter_map (column_named columns.now) (map (λ name. name.now) names.now)) }
+    ensures { OnOk result (made.new.items
+        ≡ made.old.items ++ filter_map (column_named columns.now)
+        (map (λ name. name.now) names.now)) }
 {
     for name in names {
         let column = copy_named(columns, name)?;

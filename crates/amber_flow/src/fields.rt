@@ -15,21 +15,25 @@ pub fn text_field<'v>(object: &'v Value, key: &str) -> Option<&'v str>
 }
 
 fn items_field<'v>(object: &'v Value, key: &str) -> Option<&'v Vec<Value>>
-    ensures { option_map (λ list. items_view list.now.items) result ≡ option_and_then as_array (get key.now (view object.now)) }
+    ensures { option_map (λ list. items_view list.now.items) result
+        ≡ option_and_then as_array (get key.now (view object.now)) }
 {
     object.get(key).and_then(Value::as_array)
 }
 
 /// The list at a key of an object.
 pub fn list_field<'v>(object: &'v Value, key: &str) -> Option<&'v Vec<Value>>
-    ensures { option_map (λ list. map view list.now.items) result ≡ array_at key.now (view object.now) }
+    ensures { option_map (λ list. map view list.now.items) result
+        ≡ array_at key.now (view object.now) }
 {
     items_field(object, key)
 }
 
 /// The texts of a list, if each value is one.
 fn read_texts(alloc: Global, trees: &[Value]) -> Result<Option<Vec<&str>>, AllocError>
-    ensures { IfOk result (λ read. option_map (λ texts. map (λ text. text.now) texts.items) read ≡ each as_str (map view trees.now)) }
+    ensures { IfOk result
+        (λ read. option_map (λ texts. map (λ text. text.now) texts.items) read
+        ≡ each as_str (map view trees.now)) }
 {
     let mut texts = Vec::new(alloc);
     for tree in trees {
@@ -47,7 +51,9 @@ pub fn texts_field<'v>(
     object: &'v Value,
     key: &str,
 ) -> Result<Option<Vec<&'v str>>, AllocError>
-    ensures { IfOk result (λ read. option_map (λ texts. map (λ text. text.now) texts.items) read ≡ texts_at key.now (view object.now)) }
+    ensures { IfOk result
+        (λ read. option_map (λ texts. map (λ text. text.now) texts.items) read
+        ≡ texts_at key.now (view object.now)) }
 {
     match list_field(object, key) {
         None => Ok(None),

@@ -70,7 +70,8 @@ pub fn read_filter(
     requires few { length before.now < 32 }
     requires narrow { All IsNarrow before.now }
     ensures parts { IfOk result (λ read. read ≡ filter_of before.now (view tree.now)) }
-    ensures kind { IfOk result (λ read. IfOk read (λ parts. IsKind before.now parts.what parts.schema)) }
+    ensures kind { IfOk result
+        (λ read. IfOk read (λ parts. IsKind before.now parts.what parts.schema)) }
     ensures sink { IfOk result (λ read. IfOk read (λ parts. is_sink parts.what ≡ false)) }
 {
     let Some(id) = text_field(tree, "input") else {

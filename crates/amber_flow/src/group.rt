@@ -27,7 +27,8 @@ fn group_columns(
     texts: &[&str],
 ) -> Result<Schema, AllocError>
     requires { length columns.now ≤ 64 }
-    ensures { IfOk result (λ schema. schema ≡ filter_map (column_named columns.now) (map (λ name. name.now) names.now)
+    ensures { IfOk result
+        (λ schema. schema ≡ filter_map (column_named columns.now) (map (λ name. name.now) names.now)
         ++ filter_map (agg_column columns.now) (map (λ text. text.now) texts.now)) }
 {
     let mut made = Vec::new(alloc);
@@ -46,8 +47,12 @@ fn read_over(
     texts: &[&str],
 ) -> Result<Result<Parts, FlowWhy>, AllocError>
     requires { length columns.now ≤ 64 }
-    ensures parts { IfOk result (λ read. read ≡ group_over input columns.now (map (λ name. name.now) names.now) (map (λ text. text.now) texts.now)) }
-    ensures kind { IfOk result (λ read. IfOk read (λ parts. (before : List OneOperator) → IsEarlier before input → HasInput before input columns.now
+    ensures parts { IfOk result
+        (λ read. read ≡ group_over input columns.now (map (λ name. name.now) names.now)
+        (map (λ text. text.now) texts.now)) }
+    ensures kind { IfOk result
+        (λ read. IfOk read (λ parts. (before : List OneOperator) → IsEarlier before input
+        → HasInput before input columns.now
         → IsKind before parts.what parts.schema)) }
     ensures sink { IfOk result (λ read. IfOk read (λ parts. is_sink parts.what ≡ false)) }
 {
@@ -81,7 +86,8 @@ pub fn read_group(
     requires few { length before.now < 32 }
     requires narrow { All IsNarrow before.now }
     ensures parts { IfOk result (λ read. read ≡ group_of before.now (view tree.now)) }
-    ensures kind { IfOk result (λ read. IfOk read (λ parts. IsKind before.now parts.what parts.schema)) }
+    ensures kind { IfOk result
+        (λ read. IfOk read (λ parts. IsKind before.now parts.what parts.schema)) }
     ensures sink { IfOk result (λ read. IfOk read (λ parts. is_sink parts.what ≡ false)) }
 {
     let Some(id) = text_field(tree, "input") else {

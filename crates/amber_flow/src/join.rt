@@ -25,7 +25,8 @@ pub struct JoinKeys {
 
 /// Whether there is a key, and as many on each side.
 fn may_be_keys(build: &[&str], probe: &[&str]) -> bool
-    ensures paired { result ≡ are_paired (map (λ name. name.now) build.now) (map (λ name. name.now) probe.now) }
+    ensures paired { result
+        ≡ are_paired (map (λ name. name.now) build.now) (map (λ name. name.now) probe.now) }
     ensures some { result ≡ true → 0 < length build.now }
 {
     !build.is_empty() && build.len() == probe.len()
@@ -44,7 +45,8 @@ fn is_same(kind: ColKind, other: ColKind) -> bool
 
 /// The kinds of the columns with these numbers.
 fn kinds_of(alloc: Global, columns: &[Column], numbers: &[u32]) -> Result<Vec<ColKind>, AllocError>
-    ensures { IfOk result (λ kinds. kinds.items ≡ filter_map (column_kind_at columns.now) numbers.now) }
+    ensures { IfOk result
+        (λ kinds. kinds.items ≡ filter_map (column_kind_at columns.now) numbers.now) }
 {
     numbers
         .iter()
@@ -80,7 +82,9 @@ fn read_keys(
     requires narrow_probe { length probe.now ≤ 64 }
     ensures keys { IfOk result (λ read. read ≡ keys_of build.now probe.now
         (map (λ name. name.now) build_names.now) (map (λ name. name.now) probe_names.now)) }
-    ensures fit { IfOk result (λ read. IfOk read (λ keys. AreKeys build.now probe.now (map (λ name. name.now) build_names.now) keys)) }
+    ensures fit { IfOk result
+        (λ read. IfOk read (λ keys. AreKeys build.now probe.now
+        (map (λ name. name.now) build_names.now) keys)) }
 {
     let Some(build_keys) = find_columns(alloc, build, build_names)? else {
         return Ok(Err(FlowWhy::Column));
@@ -119,7 +123,8 @@ pub fn read_join(
     requires few { length before.now < 32 }
     requires narrow { All IsNarrow before.now }
     ensures parts { IfOk result (λ read. read ≡ join_of before.now (view tree.now)) }
-    ensures kind { IfOk result (λ read. IfOk read (λ parts. IsKind before.now parts.what parts.schema)) }
+    ensures kind { IfOk result
+        (λ read. IfOk read (λ parts. IsKind before.now parts.what parts.schema)) }
     ensures sink { IfOk result (λ read. IfOk read (λ parts. is_sink parts.what ≡ false)) }
 {
     let Some(build_id) = text_field(tree, "build") else {

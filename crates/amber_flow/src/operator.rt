@@ -25,7 +25,8 @@ pub fn read_operator(
     requires narrow { All IsNarrow before.now }
     ensures operator { IfOk result (λ read. read ≡ operator_of count before.now (view tree.now)) }
     ensures next { IfOk result (λ read. IfOk read (λ operator. IsNext before.now operator)) }
-    ensures placed { IfOk result (λ read. IfOk read (λ operator. is_sink operator.what ≡ (length before.now + 1 == count))) }
+    ensures placed { IfOk result
+        (λ read. IfOk read (λ operator. is_sink operator.what ≡ (length before.now + 1 == count))) }
     ensures alone { IfOk result (λ read. IfOk read (λ operator. operator.workers ≡ 1)) }
 {
     let Some(id) = text_field(tree, "id") else {

@@ -36,8 +36,10 @@ pub fn read_parts(
     requires few { length before.now < 32 }
     requires narrow { All IsNarrow before.now }
     ensures parts { IfOk result (λ read. read ≡ parts_of kind before.now (view tree.now)) }
-    ensures kind { IfOk result (λ read. IfOk read (λ parts. IsKind before.now parts.what parts.schema)) }
-    ensures sink { IfOk result (λ read. IfOk read (λ parts. is_sink parts.what ≡ is_sink_kind kind)) }
+    ensures kind { IfOk result
+        (λ read. IfOk read (λ parts. IsKind before.now parts.what parts.schema)) }
+    ensures sink { IfOk result
+        (λ read. IfOk read (λ parts. is_sink parts.what ≡ is_sink_kind kind)) }
 {
     match kind {
         Kind::Scan => read_scan(alloc, tree),

@@ -40,7 +40,9 @@ fn source(pair: &Value) -> Option<&str>
 
 /// The names of the columns that pairs rename, if each value is such a pair.
 fn read_sources(alloc: Global, pairs: &[Value]) -> Result<Option<Vec<&str>>, AllocError>
-    ensures { IfOk result (λ read. option_map (λ names. map (λ name. name.now) names.items) read ≡ each source_of (map view pairs.now)) }
+    ensures { IfOk result
+        (λ read. option_map (λ names. map (λ name. name.now) names.items) read
+        ≡ each source_of (map view pairs.now)) }
 {
     let mut names = Vec::new(alloc);
     for pair in pairs {
@@ -75,7 +77,8 @@ fn rename(alloc: Global, columns: &[Column], pair: &Value) -> Result<Option<Colu
 /// The columns that pairs name, under their new names.
 fn rename_all(alloc: Global, columns: &[Column], pairs: &[Value]) -> Result<Vec<Column>, AllocError>
     requires { length columns.now ≤ 64 }
-    ensures { IfOk result (λ made. made.items ≡ filter_map (renaming_of columns.now) (map view pairs.now)) }
+    ensures { IfOk result
+        (λ made. made.items ≡ filter_map (renaming_of columns.now) (map view pairs.now)) }
 {
     let mut made = Vec::new(alloc);
     for pair in pairs {
@@ -95,7 +98,8 @@ pub fn read_project(
     requires few { length before.now < 32 }
     requires narrow { All IsNarrow before.now }
     ensures parts { IfOk result (λ read. read ≡ project_of before.now (view tree.now)) }
-    ensures kind { IfOk result (λ read. IfOk read (λ parts. IsKind before.now parts.what parts.schema)) }
+    ensures kind { IfOk result
+        (λ read. IfOk read (λ parts. IsKind before.now parts.what parts.schema)) }
     ensures sink { IfOk result (λ read. IfOk read (λ parts. is_sink parts.what ≡ false)) }
 {
     let Some(id) = text_field(tree, "input") else {

@@ -36,11 +36,15 @@ fn read_operators(
 ) -> Result<Result<Vec<Operator>, Fault>, AllocError>
     requires { length trees.now ≤ 32 }
     ensures operators { IfOk result (λ read. MatchResult read
-        (λ operators. operators_from (length trees.now) [] (map view trees.now) ≡ Ok operators.items)
+        (λ operators. operators_from (length trees.now) [] (map view trees.now)
+        ≡ Ok operators.items)
         (λ fault. operators_from (length trees.now) [] (map view trees.now) ≡ Err fault)) }
-    ensures count { IfOk result (λ read. IfOk read (λ operators. length operators.items ≡ length trees.now)) }
+    ensures count { IfOk result
+        (λ read. IfOk read (λ operators. length operators.items ≡ length trees.now)) }
     ensures next { IfOk result (λ read. IfOk read (λ operators. AreNext [] operators.items)) }
-    ensures ends { IfOk result (λ read. IfOk read (λ operators. 0 < length trees.now → ends_in_sink operators.items ≡ true)) }
+    ensures ends { IfOk result
+        (λ read. IfOk read (λ operators. 0 < length trees.now → ends_in_sink operators.items
+        ≡ true)) }
     ensures alone { IfOk result (λ read. IfOk read (λ operators. AreAlone operators.items)) }
 {
     let mut operators = Vec::new(alloc);

@@ -51,7 +51,8 @@ pub fn find_unread(operators: &[Operator]) -> Option<u32>
     requires some { 0 < length operators.now }
     requires few { length operators.now ≤ 32 }
     ensures unread { result ≡ first_unread operators.now }
-    ensures read_once { IfNone result ((op : ℕ) → 0 < op → op < length operators.now → reader_count operators.now op ≡ 1) }
+    ensures read_once { IfNone result ((op : ℕ) → 0 < op → op < length operators.now
+        → reader_count operators.now op ≡ 1) }
 {
     for op in 1..operators.len() as u32 {
         let readers = count_readers(operators, op);

@@ -16,7 +16,9 @@ use std::alloc::{AllocError, Global};
 #[tactic(auto, unfolding(crate::specs::Operators::scan_of))]
 pub fn read_scan(alloc: Global, tree: &Value) -> Result<Result<Parts, FlowWhy>, AllocError>
     ensures parts { IfOk result (λ read. read ≡ scan_of (view tree.now)) }
-    ensures kind { IfOk result (λ read. IfOk read (λ parts. (before : List OneOperator) → IsKind before parts.what parts.schema)) }
+    ensures kind { IfOk result
+        (λ read. IfOk read (λ parts. (before : List OneOperator)
+        → IsKind before parts.what parts.schema)) }
     ensures sink { IfOk result (λ read. IfOk read (λ parts. is_sink parts.what ≡ false)) }
 {
     let Some(file) = text_field(tree, "file") else {

@@ -23,7 +23,9 @@ fn with_values(
     mut cells: Vec<Value>,
     runnings: &[Running],
 ) -> Result<Option<Vec<Value>>, AllocError>
-    ensures { IfOk result (λ found. option_map (λ all. all.items) found ≡ option_map (λ values. cells.items ++ values) (aggregate_values runnings.now)) }
+    ensures { IfOk result
+        (λ found. option_map (λ all. all.items) found
+        ≡ option_map (λ values. cells.items ++ values) (aggregate_values runnings.now)) }
 {
     for running in runnings {
         let value = running.value()?;
@@ -42,8 +44,10 @@ fn add_group(
     rows: &mut Vec<Row>,
     refused: &mut Vec<Row>,
 ) -> Result<(), AllocError>
-    ensures rows { OnOk result (rows.new.items ≡ rows.old.items ++ finished_rows ((key.now, runnings.now) ∷ [])) }
-    ensures refused { OnOk result (refused.new.items ≡ refused.old.items ++ refused_of ((key.now, runnings.now) ∷ [])) }
+    ensures rows { OnOk result (rows.new.items
+        ≡ rows.old.items ++ finished_rows ((key.now, runnings.now) ∷ [])) }
+    ensures refused { OnOk result (refused.new.items
+        ≡ refused.old.items ++ refused_of ((key.now, runnings.now) ∷ [])) }
 {
     let cells = key.copy()?.into_inner();
     let values = with_values(cells, runnings)?;
@@ -61,8 +65,10 @@ fn add_group_at(
     rows: &mut Vec<Row>,
     refused: &mut Vec<Row>,
 ) -> Result<(), AllocError>
-    ensures rows { OnOk result (rows.new.items ≡ rows.old.items ++ finished_rows (option_to_list (slice_get groups.now.entries place))) }
-    ensures refused { OnOk result (refused.new.items ≡ refused.old.items ++ refused_of (option_to_list (slice_get groups.now.entries place))) }
+    ensures rows { OnOk result (rows.new.items
+        ≡ rows.old.items ++ finished_rows (option_to_list (slice_get groups.now.entries place))) }
+    ensures refused { OnOk result (refused.new.items
+        ≡ refused.old.items ++ refused_of (option_to_list (slice_get groups.now.entries place))) }
 {
     match groups.get_index(place) {
         Some((key, totals)) => add_group(key.row(), totals.get(), rows, refused),
@@ -72,8 +78,10 @@ fn add_group_at(
 
 /// The rows of the groups, and the keys of those that have none.
 pub fn finish(alloc: Global, groups: &IndexMap<Key, Totals>) -> Result<Grouped, AllocError>
-    ensures rows { IfOk result (λ group_result. group_result.rows ≡ finished_rows groups.now.entries) }
-    ensures refused { IfOk result (λ group_result. group_result.refused ≡ refused_of groups.now.entries) }
+    ensures rows { IfOk result
+        (λ group_result. group_result.rows ≡ finished_rows groups.now.entries) }
+    ensures refused { IfOk result
+        (λ group_result. group_result.refused ≡ refused_of groups.now.entries) }
 {
     let mut rows = Vec::with_capacity(alloc, groups.len())?;
     let mut refused = Vec::new(alloc);

@@ -134,7 +134,8 @@ fn number_at(row: &Row, column: u32) -> i64
 
 // A cell where it is less than the least so far, or the first.
 fn lesser(best: &Option<Value>, cell: Option<&Value>) -> Result<Option<Value>, AllocError>
-    ensures { IfOk result (λ change. change ≡ winner is_lt best.now (option_map (λ one. one.now) cell.entry)) }
+    ensures { IfOk result
+        (λ change. change ≡ winner is_lt best.now (option_map (λ one. one.now) cell.entry)) }
 {
     match (best, cell) {
         (_, None) => Ok(None),
@@ -151,7 +152,8 @@ fn lesser(best: &Option<Value>, cell: Option<&Value>) -> Result<Option<Value>, A
 
 // A cell where it is greater than the greatest so far, or the first.
 fn greater(best: &Option<Value>, cell: Option<&Value>) -> Result<Option<Value>, AllocError>
-    ensures { IfOk result (λ change. change ≡ winner is_gt best.now (option_map (λ one. one.now) cell.entry)) }
+    ensures { IfOk result
+        (λ change. change ≡ winner is_gt best.now (option_map (λ one. one.now) cell.entry)) }
 {
     match (best, cell) {
         (_, None) => Ok(None),

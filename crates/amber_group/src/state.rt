@@ -30,7 +30,8 @@ impl Model for GroupState {
 
     ghost Value = { Group };
 
-    ghost view = { λ a. record { keys = a.keys; aggs = a.aggs; fed = a.fed; groups = a.groups.entries } };
+    ghost view = { λ a.
+        record { keys = a.keys; aggs = a.aggs; fed = a.fed; groups = a.groups.entries } };
 
     ghost invariant = { λ a. GroupsWithin a.fed a.groups.entries };
 }
@@ -56,7 +57,8 @@ impl GroupState {
     /// Takes in a row. A column that it does not have adds nothing to an aggregate, nor does a text to a sum.
     pub fn feed(&mut self, row: &Row) -> Result<(), AllocError>
         requires { self.old.fed < 2 ^ 40 }
-        ensures ok { OnOk result ((rows : List (List Cell)) → IsFedWith self.old rows → IsFedWith self.new (rows ++ row.now ∷ [])) }
+        ensures ok { OnOk result ((rows : List (List Cell)) → IsFedWith self.old rows
+            → IsFedWith self.new (rows ++ row.now ∷ [])) }
         ensures fed { OnOk result (self.new.fed ≡ self.old.fed + 1) }
         ensures same_keys { self.new.keys ≡ self.old.keys }
         ensures same_aggs { self.new.aggs ≡ self.old.aggs }
@@ -79,8 +81,12 @@ impl GroupState {
     /// bits do not hold, or with an aggregate of a column that none of its rows has, stands in `refused` instead.
     /// Keys stand in the order in which they came first.
     pub fn finish(&self) -> Result<Grouped, AllocError>
-        ensures rows { IfOk result (λ groups. (rows : List (List Cell)) → IsFedWith self.now rows → groups.rows ≡ group_result self.now.keys self.now.aggs rows) }
-        ensures refused { IfOk result (λ groups. (rows : List (List Cell)) → IsFedWith self.now rows → groups.refused ≡ refused_keys self.now.keys self.now.aggs rows) }
+        ensures rows { IfOk result
+            (λ groups. (rows : List (List Cell)) → IsFedWith self.now rows → groups.rows
+            ≡ group_result self.now.keys self.now.aggs rows) }
+        ensures refused { IfOk result
+            (λ groups. (rows : List (List Cell)) → IsFedWith self.now rows → groups.refused
+            ≡ refused_keys self.now.keys self.now.aggs rows) }
     {
         finish(self.alloc, &self.groups)
     }
@@ -94,7 +100,8 @@ impl GroupState {
 
     /// How many groups there are.
     pub fn groups(&self) -> u64
-        ensures { (rows : List (List Cell)) → IsFedWith self.now rows → result ≡ length (first_keys self.now.keys rows) }
+        ensures { (rows : List (List Cell)) → IsFedWith self.now rows → result
+            ≡ length (first_keys self.now.keys rows) }
     {
         self.groups.len() as u64
     }

@@ -46,7 +46,8 @@ impl Totals {
         row: &Row,
         changes: &mut Vec<Option<Value>>,
     ) -> Result<Self, AllocError>
-        ensures value { IfOk result (λ totals. totals ≡ map (running_after row.now) (map (running_of []) aggs.now)) }
+        ensures value { IfOk result
+            (λ totals. totals ≡ map (running_after row.now) (map (running_of []) aggs.now)) }
         ensures within { IfOk result (AreWithin 1) }
     {
         let mut totals = Totals::new(alloc, aggs)?;
@@ -58,7 +59,8 @@ impl Totals {
     fn add(&mut self, row: &Row, changes: &mut Vec<Option<Value>>) -> Result<(), AllocError>
         requires { (rows : ℕ) × (rows < 2 ^ 40) × AreWithin rows self.old }
         ensures ok { OnOk result (self.new ≡ map (running_after row.now) self.old) }
-        ensures within { OnOk result ((rows : ℕ) → AreWithin rows self.old → AreWithin (rows + 1) self.new) }
+        ensures within { OnOk result ((rows : ℕ) → AreWithin rows self.old
+            → AreWithin (rows + 1) self.new) }
         ensures same { OnErr result (self.new ≡ self.old) }
     {
         find_changes(self.inner.as_slice(), row, changes)?;
@@ -104,7 +106,8 @@ fn settle_all(runnings: &mut Vec<Running>, row: &Row, changes: &mut Vec<Option<V
     requires changes { changes.old.items ≡ map (change_of row.now) runnings.old.items }
     requires within { (rows : ℕ) × (rows < 2 ^ 40) × AreWithin rows runnings.old.items }
     ensures value { runnings.new.items ≡ map (running_after row.now) runnings.old.items }
-    ensures within { (rows : ℕ) → AreWithin rows runnings.old.items → AreWithin (rows + 1) runnings.new.items }
+    ensures within { (rows : ℕ) → AreWithin rows runnings.old.items
+        → AreWithin (rows + 1) runnings.new.items }
 {
     for i in 0..runnings.len() {
         let change = changes[i].take();
@@ -122,8 +125,11 @@ pub fn take_in(
     changes: &mut Vec<Option<Value>>,
 ) -> Result<(), AllocError>
     requires { (fed : ℕ) × (fed < 2 ^ 40) × GroupsWithin fed groups.old.entries }
-    ensures ok { OnOk result ((keys : List ℕ) (rows : List (List Cell)) → groups.old.entries ≡ groups_of keys aggs.now rows → key ≡ pick_cells keys row.now → groups.new.entries ≡ groups_of keys aggs.now (rows ++ row.now ∷ [])) }
-    ensures within { OnOk result ((fed : ℕ) → GroupsWithin fed groups.old.entries → GroupsWithin (fed + 1) groups.new.entries) }
+    ensures ok { OnOk result ((keys : List ℕ) (rows : List (List Cell)) → groups.old.entries
+        ≡ groups_of keys aggs.now rows → key ≡ pick_cells keys row.now → groups.new.entries
+        ≡ groups_of keys aggs.now (rows ++ row.now ∷ [])) }
+    ensures within { OnOk result ((fed : ℕ) → GroupsWithin fed groups.old.entries
+        → GroupsWithin (fed + 1) groups.new.entries) }
     ensures same { OnErr result (groups.new.entries ≡ groups.old.entries) }
 {
     match groups.get_index_of(&key) {

@@ -60,7 +60,8 @@ impl NamedFiles {
 
     // Makes the first file of this name empty, or puts an empty one behind all others.
     pub(crate) fn make_empty(&mut self, alloc: Global, name: &str) -> Result<(), AllocError>
-        ensures ok { OnOk result (files_of self.new ≡ finmap.insert (files_of self.old) name.now []) }
+        ensures ok { OnOk result (files_of self.new
+            ≡ finmap.insert (files_of self.old) name.now []) }
         ensures err { OnErr result (self.new ≡ self.old) }
     {
         match self.place(name) {
@@ -76,7 +77,8 @@ impl NamedFiles {
     // Puts more bytes behind the first file of this name, where there is one.
     pub(crate) fn grow(&mut self, name: &str, more: &[u8]) -> Result<(), AllocError>
         ensures ok { OnOk result (files_of self.new
-            ≡ grown (files_of self.old) name.now (finmap.get (files_of self.old) name.now) more.now) }
+            ≡ grown (files_of self.old) name.now
+            (finmap.get (files_of self.old) name.now) more.now) }
         ensures err { OnErr result (self.new ≡ self.old) }
     {
         match self.place(name) {

@@ -40,7 +40,9 @@ fn add_match(
     place: usize,
     made: &mut Vec<Row>,
 ) -> Result<(), AllocError>
-    ensures { OnOk result (made.new.items ≡ made.old.items ++ map (λ other. probe.now ++ other) (filter_map (slice_get build.now) (place ∷ []))) }
+    ensures { OnOk result (made.new.items
+        ≡ made.old.items ++ map
+        (λ other. probe.now ++ other) (filter_map (slice_get build.now) (place ∷ []))) }
 {
     let found = row_at(build, place);
     if let Some(other) = found {
@@ -56,7 +58,9 @@ pub fn matches(
     build: &[Row],
     places: &[usize],
 ) -> Result<Vec<Row>, AllocError>
-    ensures { IfOk result (λ made. made.items ≡ map (λ other. probe.now ++ other) (filter_map (slice_get build.now) places.now)) }
+    ensures { IfOk result
+        (λ made. made.items ≡ map
+        (λ other. probe.now ++ other) (filter_map (slice_get build.now) places.now)) }
 {
     let mut made = Vec::with_capacity(alloc, places.len())?;
     for place in places {

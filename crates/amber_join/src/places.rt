@@ -67,7 +67,9 @@ pub fn note(
     key: Key,
     place: usize,
 ) -> Result<(), AllocError>
-    ensures ok { OnOk result ((keys : List ℕ) (rows : List (List Cell)) (row : List Cell) → table.old.entries ≡ table_of keys rows → key ≡ pick_cells keys row → place ≡ length rows → table.new.entries ≡ table_of keys (rows ++ row ∷ [])) }
+    ensures ok { OnOk result ((keys : List ℕ) (rows : List (List Cell)) (row : List Cell)
+        → table.old.entries ≡ table_of keys rows → key ≡ pick_cells keys row → place ≡ length rows
+        → table.new.entries ≡ table_of keys (rows ++ row ∷ [])) }
     ensures same { OnErr result (table.new.entries ≡ table.old.entries) }
 {
     match table.get_index_of(&key) {

@@ -29,7 +29,12 @@ impl Model for JoinState {
 
     ghost Value = { Join };
 
-    ghost view = { λ a. record { build_keys = a.build_keys; probe_keys = a.probe_keys; rows = a.rows.items; sealed = a.sealed } };
+    ghost view = { λ a. record {
+      build_keys = a.build_keys;
+      probe_keys = a.probe_keys;
+      rows = a.rows.items;
+      sealed = a.sealed;
+    } };
 
     ghost invariant = { λ a. a.table.entries ≡ table_of a.build_keys a.rows.items };
 }
@@ -38,7 +43,12 @@ impl JoinState {
     /// The state of a join on these columns of its two sides, with no build row. Columns are numbered from 1.
     #[tactic(auto, unfolding(crate::specs::Places::table_of, amber_rows::specs::Operators::first_keys))]
     pub fn new(alloc: Global, build_keys: Cols, probe_keys: Cols) -> Self
-        ensures { result ≡ record { build_keys = build_keys; probe_keys = probe_keys; rows = []; sealed = false } }
+        ensures { result ≡ record {
+          build_keys = build_keys;
+          probe_keys = probe_keys;
+          rows = [];
+          sealed = false;
+        } }
     {
         JoinState {
             alloc,
@@ -81,7 +91,9 @@ impl JoinState {
     /// came. No row where no key is equal.
     pub fn probe(&self, row: &Row) -> Result<Rows, AllocError>
         requires { self.now.sealed ≡ true }
-        ensures { IfOk result (λ rows. rows ≡ matches_of self.now.build_keys self.now.probe_keys self.now.rows row.now) }
+        ensures { IfOk result
+            (λ rows. rows ≡ matches_of self.now.build_keys self.now.probe_keys
+            self.now.rows row.now) }
     {
         let key = Key::of(self.alloc, row, &self.probe_keys)?;
         match self.table.get(&key) {

@@ -41,7 +41,8 @@ fn keep(cond: &Cond, rows: &mut Vec<Row>)
 
 /// Refuses the groups with these keys.
 fn refuse_groups(op: u32, keys: &[Row], refused: &mut Vec<Refusal>) -> Result<(), AllocError>
-    ensures { OnOk result (refused.new.items ≡ refused.old.items ++ map (refusal.Group op) keys.now) }
+    ensures { OnOk result (refused.new.items
+        ≡ refused.old.items ++ map (refusal.Group op) keys.now) }
 {
     for key in keys {
         let key = key.copy()?;
@@ -60,7 +61,8 @@ fn group_refused(
     refused: &mut Vec<Refusal>,
 ) -> Result<Vec<Row>, AllocError>
     ensures rows { IfOk result (λ made. made.items ≡ group_result keys.now aggs.now rows.items) }
-    ensures refused { OnOk result (refused.new.items ≡ refused.old.items ++ refused_groups op (refused_keys keys.now aggs.now rows.items)) }
+    ensures refused { OnOk result (refused.new.items
+        ≡ refused.old.items ++ refused_groups op (refused_keys keys.now aggs.now rows.items)) }
 {
     let Grouped {
         rows: made,
@@ -84,8 +86,12 @@ fn rows_of(
 ) -> Result<Vec<Row>, AllocError>
     requires inputs { HasInputs lists.old.items operator.now.what }
     requires few { length operator.now.schema < 2 ^ 32 }
-    ensures rows { IfOk result (λ rows. rows.items ≡ rows_of operator.now.what (records_at operator.now.what operator.now.schema file.now) lists.old.items) }
-    ensures refused { OnOk result (refused.new.items ≡ refused.old.items ++ refused_by op operator.now.what (records_at operator.now.what operator.now.schema file.now) lists.old.items) }
+    ensures rows { IfOk result
+        (λ rows. rows.items ≡ rows_of operator.now.what
+        (records_at operator.now.what operator.now.schema file.now) lists.old.items) }
+    ensures refused { OnOk result (refused.new.items
+        ≡ refused.old.items ++ refused_by op operator.now.what
+        (records_at operator.now.what operator.now.schema file.now) lists.old.items) }
     ensures lists { OnOk result (lists.new.items ≡ lists_after operator.now.what lists.old.items) }
 {
     match &operator.what {
@@ -132,9 +138,16 @@ fn evaluate(
 ) -> Result<u64, AllocError>
     requires inputs { HasInputs lists.old.items operator.now.what }
     requires few { length operator.now.schema < 2 ^ 32 }
-    ensures count { IfOk result (λ count. count ≡ length (rows_of operator.now.what (records_at operator.now.what operator.now.schema file.now) lists.old.items)) }
-    ensures refused { OnOk result (refused.new.items ≡ refused.old.items ++ refused_by op operator.now.what (records_at operator.now.what operator.now.schema file.now) lists.old.items) }
-    ensures lists { OnOk result (lists.new.items ≡ lists_after operator.now.what lists.old.items ++ rows_of operator.now.what (records_at operator.now.what operator.now.schema file.now) lists.old.items ∷ []) }
+    ensures count { IfOk result
+        (λ count. count ≡ length
+        (rows_of operator.now.what
+        (records_at operator.now.what operator.now.schema file.now) lists.old.items)) }
+    ensures refused { OnOk result (refused.new.items
+        ≡ refused.old.items ++ refused_by op operator.now.what
+        (records_at operator.now.what operator.now.schema file.now) lists.old.items) }
+    ensures lists { OnOk result (lists.new.items
+        ≡ lists_after operator.now.what lists.old.items ++ rows_of operator.now.what
+        (records_at operator.now.what operator.now.schema file.now) lists.old.items ∷ []) }
 {
     let rows = rows_of(alloc, op, operator, file, lists, refused)?;
     let count = rows.len() as u64;
@@ -151,7 +164,8 @@ fn answer(
 ) -> Result<Answer, AllocError>
     requires { length lists.items ≡ length flow.now }
     ensures refused { IfOk result (λ answer. answer.refused ≡ refused.items) }
-    ensures columns { IfOk result (λ answer. answer.columns ≡ columns_at flow.now (length flow.now)) }
+    ensures columns { IfOk result
+        (λ answer. answer.columns ≡ columns_at flow.now (length flow.now)) }
     ensures rows { IfOk result (λ answer. answer.rows ≡ list_at lists.items (length flow.now)) }
 {
     let operators = flow.get();

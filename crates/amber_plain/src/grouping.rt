@@ -10,7 +10,8 @@ use std::alloc::{AllocError, Global};
 
 // Feeds a group a row. More rows than it counts are as want of memory.
 fn add_row(state: &mut GroupState, row: &Row) -> Result<(), AllocError>
-    ensures ok { OnOk result ((rows : List (List Cell)) → IsFedWith state.old rows → IsFedWith state.new (rows ++ row.now ∷ [])) }
+    ensures ok { OnOk result ((rows : List (List Cell)) → IsFedWith state.old rows
+        → IsFedWith state.new (rows ++ row.now ∷ [])) }
     ensures keys { state.new.keys ≡ state.old.keys }
     ensures aggs { state.new.aggs ≡ state.old.aggs }
 {
@@ -49,7 +50,8 @@ pub fn group_rows(
     rows: Vec<Row>,
 ) -> Result<Grouped, AllocError>
     ensures rows { IfOk result (λ groups. groups.rows ≡ group_result keys.now aggs.now rows.items) }
-    ensures refused { IfOk result (λ groups. groups.refused ≡ refused_keys keys.now aggs.now rows.items) }
+    ensures refused { IfOk result
+        (λ groups. groups.refused ≡ refused_keys keys.now aggs.now rows.items) }
 {
     let state = fed_with(alloc, keys, aggs, rows)?;
     state.finish()

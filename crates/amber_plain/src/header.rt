@@ -9,7 +9,8 @@ use std::alloc::{AllocError, Global};
 
 /// Whether an operator is no scan, or this file begins with the names of its columns.
 fn is_headed(alloc: Global, operator: &Operator, file: &[u8]) -> Result<bool, AllocError>
-    ensures { IfOk result (λ headed. headed ≡ is_headed operator.now.what operator.now.schema file.now) }
+    ensures { IfOk result
+        (λ headed. headed ≡ is_headed operator.now.what operator.now.schema file.now) }
 {
     if !operator.what.is_scan() {
         return Ok(true);

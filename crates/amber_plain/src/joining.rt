@@ -31,7 +31,13 @@ fn built(
     probe_keys: &Cols,
     build: Vec<Row>,
 ) -> Result<JoinState, AllocError>
-    ensures { IfOk result (λ state. state ≡ record { build_keys = build_keys.now; probe_keys = probe_keys.now; rows = build.items; sealed = true }) }
+    ensures { IfOk result
+        (λ state. state ≡ record {
+          build_keys = build_keys.now;
+          probe_keys = probe_keys.now;
+          rows = build.items;
+          sealed = true;
+        }) }
 {
     let build_columns = copied(alloc, build_keys)?;
     let probe_columns = copied(alloc, probe_keys)?;
@@ -46,7 +52,9 @@ fn built(
 // The matches of the probe rows in the build rows of a state.
 fn probed(alloc: Global, state: &JoinState, probe: Vec<Row>) -> Result<Vec<Row>, AllocError>
     requires { state.now.sealed ≡ true }
-    ensures { IfOk result (λ made. made.items ≡ join_result state.now.build_keys state.now.probe_keys state.now.rows probe.items) }
+    ensures { IfOk result
+        (λ made. made.items ≡ join_result state.now.build_keys state.now.probe_keys
+        state.now.rows probe.items) }
 {
     let mut made = Vec::new(alloc);
     for row in probe {
@@ -64,7 +72,8 @@ pub fn join_rows(
     build: Vec<Row>,
     probe: Vec<Row>,
 ) -> Result<Vec<Row>, AllocError>
-    ensures { IfOk result (λ made. made.items ≡ join_result build_keys.now probe_keys.now build.items probe.items) }
+    ensures { IfOk result
+        (λ made. made.items ≡ join_result build_keys.now probe_keys.now build.items probe.items) }
 {
     let state = built(alloc, build_keys, probe_keys, build)?;
     probed(alloc, &state, probe)

@@ -19,7 +19,8 @@ fn add_record(
     refused: &mut Vec<Refusal>,
 ) -> Result<(), AllocError>
     ensures rows { OnOk result (rows.new.items ≡ rows.old.items ++ filter_map ok_of (typed ∷ [])) }
-    ensures refused { OnOk result (refused.new.items ≡ refused.old.items ++ refused_records op number (typed ∷ [])) }
+    ensures refused { OnOk result (refused.new.items
+        ≡ refused.old.items ++ refused_records op number (typed ∷ [])) }
 {
     match typed {
         Ok(row) => rows.push(row)?,
@@ -40,8 +41,10 @@ pub fn scan(
     refused: &mut Vec<Refusal>,
 ) -> Result<Vec<Row>, AllocError>
     requires { length schema.now < 2 ^ 32 }
-    ensures rows { IfOk result (λ rows. rows.items ≡ filter_map ok_of (typed_records schema.now file.now)) }
-    ensures refused { OnOk result (refused.new.items ≡ refused.old.items ++ refused_records op 1 (typed_records schema.now file.now)) }
+    ensures rows { IfOk result
+        (λ rows. rows.items ≡ filter_map ok_of (typed_records schema.now file.now)) }
+    ensures refused { OnOk result (refused.new.items
+        ≡ refused.old.items ++ refused_records op 1 (typed_records schema.now file.now)) }
 {
     let mut rows = Vec::new(alloc);
     let mut reader = RecordReader::open(alloc, file);

@@ -17,7 +17,8 @@ fn workers_in(operators: &[Operator]) -> u32
 
 // Puts a number behind the others, if it is wanted.
 fn push_if(numbers: &mut Vec<u32>, number: u32, wanted: bool) -> Result<(), AllocError>
-    ensures { OnOk result (numbers.new.items ≡ numbers.old.items ++ (if wanted then number ∷ [] else [])) }
+    ensures { OnOk result (numbers.new.items
+        ≡ numbers.old.items ++ (if wanted then number ∷ [] else [])) }
 {
     if wanted {
         numbers.push(number)?;

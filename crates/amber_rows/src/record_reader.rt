@@ -28,12 +28,19 @@ impl<'a> RecordReader<'a> {
 
     /// Reads the next record into `fields`, and answers whether there was one.
     pub fn next(&mut self, fields: &mut ByteRecord) -> Result<bool, AllocError>
-        ensures more { IfOk result (λ found. (bytes : List ℕ) (done : List (List (List ℕ))) → HasRead bytes self.old done → found ≡ true
+        ensures more { IfOk result
+            (λ found. (bytes : List ℕ) (done : List (List (List ℕ))) → HasRead bytes self.old done
+            → found ≡ true
             → HasRead bytes self.new (done ++ fields_of fields.new ∷ [])) }
-        ensures all { IfOk result (λ found. (bytes : List ℕ) (done : List (List (List ℕ))) → HasRead bytes self.old done → found ≡ false
+        ensures all { IfOk result
+            (λ found. (bytes : List ℕ) (done : List (List (List ℕ))) → HasRead bytes self.old done
+            → found ≡ false
             → file_records bytes ≡ done) }
-        ensures place { IfOk result (λ found. (bytes : List ℕ) (done : List (List (List ℕ))) → HasRead bytes self.old done → found ≡ true
-            → (later : List (List (List ℕ))) × (file_records bytes ≡ done ++ fields_of fields.new ∷ later)) }
+        ensures place { IfOk result
+            (λ found. (bytes : List ℕ) (done : List (List (List ℕ))) → HasRead bytes self.old done
+            → found ≡ true
+            → (later : List (List (List ℕ)))
+            × (file_records bytes ≡ done ++ fields_of fields.new ∷ later)) }
     {
         // Bytes in memory never fail to be read, and a record may have any number of fields. So what an
         // error can mean here is want of memory alone.

@@ -23,7 +23,8 @@ fn open_text(text: Vec<u8>) -> Writer<Vec<u8>>
 // Writes one record behind what was written. A `Vec` refuses bytes for want of memory alone, and so does the
 // writer, since records may differ in length.
 fn write_fields(writer: &mut Writer<Vec<u8>>, fields: &ByteRecord) -> Result<(), AllocError>
-    ensures { OnOk result ((text : List ℕ) → HasWritten text writer.old → HasWritten (text ++ fields_text_of (fields_of fields.now)) writer.new) }
+    ensures { OnOk result ((text : List ℕ) → HasWritten text writer.old
+        → HasWritten (text ++ fields_text_of (fields_of fields.now)) writer.new) }
 {
     let Ok(()) = writer.write_byte_record(fields) else {
         return Err(AllocError);
@@ -33,7 +34,8 @@ fn write_fields(writer: &mut Writer<Vec<u8>>, fields: &ByteRecord) -> Result<(),
 
 // The text that was written.
 fn close_text(writer: Writer<Vec<u8>>) -> Result<Vec<u8>, AllocError>
-    ensures { IfOk result (λ written. (text : List ℕ) → HasWritten text writer → written.items ≡ text) }
+    ensures { IfOk result
+        (λ written. (text : List ℕ) → HasWritten text writer → written.items ≡ text) }
 {
     match writer.into_inner() {
         Ok(written) => Ok(written),
@@ -43,7 +45,8 @@ fn close_text(writer: Writer<Vec<u8>>) -> Result<Vec<u8>, AllocError>
 
 // Adds a cell's text as the next field.
 fn push_cell(fields: &mut ByteRecord, cell: &Value) -> Result<(), AllocError>
-    ensures fields { OnOk result (partial_of fields.old ≡ [] → fields_of fields.new ≡ fields_of fields.old ++ value_text cell.now ∷ []) }
+    ensures fields { OnOk result (partial_of fields.old ≡ [] → fields_of fields.new
+        ≡ fields_of fields.old ++ value_text cell.now ∷ []) }
     ensures whole { OnOk result (partial_of fields.new ≡ []) }
 {
     match cell {
@@ -122,7 +125,8 @@ fn fill_near(
 
 // A text with one record behind it.
 fn append_fields(text: Vec<u8>, fields: &ByteRecord) -> Result<Vec<u8>, AllocError>
-    ensures { IfOk result (λ longer. longer.items ≡ text.items ++ fields_text_of (fields_of fields.now)) }
+    ensures { IfOk result
+        (λ longer. longer.items ≡ text.items ++ fields_text_of (fields_of fields.now)) }
 {
     let mut writer = open_text(text);
     write_fields(&mut writer, fields)?;
@@ -154,7 +158,8 @@ pub fn append_rows(alloc: Global, text: Vec<u8>, rows: &[Row]) -> Result<Vec<u8>
 
 /// A text with the record of the columns' names behind it.
 pub fn append_names(alloc: Global, text: Vec<u8>, schema: &Schema) -> Result<Vec<u8>, AllocError>
-    ensures { IfOk result (λ longer. longer.items ≡ text.items ++ fields_text_of (names_of schema.now)) }
+    ensures { IfOk result
+        (λ longer. longer.items ≡ text.items ++ fields_text_of (names_of schema.now)) }
 {
     let mut fields = ByteRecord::new(alloc);
     fill_names(&mut fields, schema.get())?;

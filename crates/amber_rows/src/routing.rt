@@ -39,7 +39,8 @@ fn append_piece(bytes: &mut Vec<u8>, cell: &Value) -> Result<(), AllocError>
 
 // Puts the bytes of the cell of a column behind the others, if there is one.
 fn append_column(bytes: &mut Vec<u8>, row: &Row, column: u32) -> Result<(), AllocError>
-    ensures { OnOk result (bytes.new.items ≡ bytes.old.items ++ flat_map key_piece (filter_map (nth row.now) (column ∷ []))) }
+    ensures { OnOk result (bytes.new.items
+        ≡ bytes.old.items ++ flat_map key_piece (filter_map (nth row.now) (column ∷ []))) }
 {
     match row.cell(column) {
         None => Ok(()),

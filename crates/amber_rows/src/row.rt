@@ -85,7 +85,8 @@ impl Row {
 
     // Puts the cell of a column behind the others, if there is one.
     fn add_cell(&self, column: u32, cells: &mut Vec<Value>) -> Result<(), AllocError>
-        ensures { OnOk result (cells.new.items ≡ cells.old.items ++ filter_map (nth self.now) (column ∷ [])) }
+        ensures { OnOk result (cells.new.items
+            ≡ cells.old.items ++ filter_map (nth self.now) (column ∷ [])) }
     {
         let found = self.cell(column);
         if let Some(cell) = found {

@@ -43,7 +43,8 @@ fn give(shares: &mut [Share], workers: u32, one: Scanned) -> Result<(), AllocErr
     requires one_each { length shares.old ≡ workers }
     requires nth { 0 < one.number }
     ensures { let turn = turn_of workers one.number in
-        OnOk result (shares.new ≡ slice_set shares.old turn (slice_index_or shares.old turn [] ++ one ∷ [])) }
+        OnOk result (shares.new
+        ≡ slice_set shares.old turn (slice_index_or shares.old turn [] ++ one ∷ [])) }
 {
     let turn = (one.number - 1) % u64::from(workers);
     let share = &mut shares[turn as usize];
@@ -69,7 +70,8 @@ pub fn deal(
         → slice_index_or shares.items worker []
         ≡ share_of scanned_number workers worker (scanned_records schema.now bytes.now)) }
     ensures headed { IfOk result (λ _. has_header schema.now bytes.now ≡ true) }
-    ensures header { IfErr result (λ why. why ≡ ScanErr.Header → has_header schema.now bytes.now ≡ false) }
+    ensures header { IfErr result
+        (λ why. why ≡ ScanErr.Header → has_header schema.now bytes.now ≡ false) }
 {
     let mut reader = RecordReader::open(alloc, bytes);
     let mut fields = ByteRecord::new(alloc);

@@ -63,7 +63,8 @@ impl Share {
 
     /// Takes the first record that is left, and answers `None` exactly where none is left.
     pub fn next(&mut self) -> Option<Scanned>
-        ensures { MatchOption result ((self.old ≡ []) × (self.new ≡ [])) (λ one. self.old ≡ one ∷ self.new) }
+        ensures { MatchOption result ((self.old ≡ []) × (self.new ≡ []))
+            (λ one. self.old ≡ one ∷ self.new) }
     {
         self.records.pop_front()
     }
