@@ -2,12 +2,19 @@
 use crate::folders::loaded;
 use amber_io::{Folder, IoErr, RealFolder, RealSink, Sink};
 use std::os::unix::fs::symlink;
+use std::rt::{Env, Files};
 use std::test::Fail;
-use std::{env, fs};
+use std::{env, fs, io};
+
+// The path of a file of this name in the system's temporary folder.
+fn temporary<R: Env + AllocGlobal>(rt: &R, name: &str) -> io::Result<String> {
+    let path = env::temp_dir(rt)?.join(rt.alloc(), name)?;
+    Ok(String::from_str(rt.alloc(), path.as_str())?)
+}
 
 #[test]
 fn real_folder_loads_what_a_file_holds(rt: HostRuntime) -> Result<(), Fail> {
-    let path = env::temp_dir(&rt)?.join(rt.alloc(), "amber_io_real_folder")?;
+    let path = temporary(&rt, "amber_io_real_folder")?;
     let name = path.as_str();
     fs::write(&rt, name, "pausable")?;
     let mut folder = RealFolder::new(rt.alloc(), &rt);
@@ -22,43 +29,57 @@ fn real_folder_loads_what_a_file_holds(rt: HostRuntime) -> Result<(), Fail> {
 
 #[test]
 fn real_folder_writes_behind_what_it_made(rt: HostRuntime) -> Result<(), Fail> {
-    let path = env::temp_dir(&rt)?.join(rt.alloc(), "amber_io_real_writes")?;
+    let path = temporary(&rt, "amber_io_real_writes")?;
     let name = path.as_str();
     fs::write(&rt, name, "older and longer")?;
     let mut folder = RealFolder::new(rt.alloc(), &rt);
     folder.create(name)?;
     folder.append(name, b"head")?;
     folder.append(name, b"+tail")?;
-    let held = fs::read(&rt, name)?;
-    assert!(rt; held.as_slice() == b"head+tail".as_slice());
+    assert!(rt; loaded(rt.alloc(), &mut folder, name, 99)?.as_str() == "head+tail");
     fs::remove_file(&rt, name)?;
     assert!(rt; folder.append(name, b"x") == Err(IoErr::Failed));
     Ok(())
 }
 
+// Makes a file, a link to it and a second name of it.
+fn make_names<R: Files + AllocGlobal + Clone + Drop>(
+    rt: &R,
+    path: &str,
+    link: &str,
+    second: &str,
+) -> io::Result<()> {
+    fs::write(rt, path, "input")?;
+    symlink(rt, path, link)?;
+    fs::hard_link(rt, path, second)
+}
+
+// Removes a file, where it is there.
+fn clear<R: Files + AllocGlobal + Clone + Drop>(rt: &R, path: &str) {
+    let _ = fs::remove_file(rt, path);
+}
+
+fn refuses<F: Folder>(folder: &mut F, name: &str) -> bool {
+    folder.create(name) == Err(IoErr::Failed)
+}
+
 #[test]
 fn real_folder_keeps_a_loaded_file_under_each_of_its_names(rt: HostRuntime) -> Result<(), Fail> {
-    let folder_path = env::temp_dir(&rt)?;
-    let path = folder_path.join(rt.alloc(), "amber_io_real_input")?;
-    let spelled = folder_path.join(rt.alloc(), "./amber_io_real_input")?;
-    let link = folder_path.join(rt.alloc(), "amber_io_real_link")?;
-    let second = folder_path.join(rt.alloc(), "amber_io_real_second")?;
-    fs::write(&rt, path.as_str(), "input")?;
-    let _ = fs::remove_file(&rt, link.as_str());
-    let _ = fs::remove_file(&rt, second.as_str());
-    symlink(&rt, path.as_str(), link.as_str())?;
-    fs::hard_link(&rt, path.as_str(), second.as_str())?;
+    let path = temporary(&rt, "amber_io_real_input")?;
+    let spelled = temporary(&rt, "./amber_io_real_input")?;
+    let link = temporary(&rt, "amber_io_real_link")?;
+    let second = temporary(&rt, "amber_io_real_second")?;
+    clear(&rt, &link);
+    clear(&rt, &second);
+    make_names(&rt, &path, &link, &second)?;
     let mut folder = RealFolder::new(rt.alloc(), &rt);
-    folder.load(rt.alloc(), path.as_str(), 9)?;
-    assert!(rt; folder.create(path.as_str()) == Err(IoErr::Failed));
-    assert!(rt; folder.create(spelled.as_str()) == Err(IoErr::Failed));
-    assert!(rt; folder.create(link.as_str()) == Err(IoErr::Failed));
-    assert!(rt; folder.create(second.as_str()) == Err(IoErr::Failed));
-    let kept = fs::read(&rt, path.as_str())?;
-    assert!(rt; kept.as_slice() == b"input".as_slice());
-    fs::remove_file(&rt, second.as_str())?;
-    fs::remove_file(&rt, link.as_str())?;
-    fs::remove_file(&rt, path.as_str())?;
+    let before = loaded(rt.alloc(), &mut folder, &path, 9)?;
+    assert!(rt; refuses(&mut folder, &path) && refuses(&mut folder, &spelled));
+    assert!(rt; refuses(&mut folder, &link) && refuses(&mut folder, &second));
+    assert!(rt; before == loaded(rt.alloc(), &mut folder, &path, 9)?);
+    clear(&rt, &second);
+    clear(&rt, &link);
+    clear(&rt, &path);
     Ok(())
 }
 
