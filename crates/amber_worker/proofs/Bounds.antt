@@ -12,8 +12,8 @@ use Rattle.amber_meaning.specs.Position.{one_if}
 use Rattle.amber_meaning.specs.Task.{Arrival, row_in}
 use Rattle.amber_meaning.specs.Refused.{refusal_in}
 use Rattle.amber_scan.specs.declared.share.Scanned.{Scanned}
-use Rattle.amber_link.specs.Incoming.{Incoming, IsTaken, have_all_ended, have_builders_ended}
-use Rattle.amber_link.specs.Outgoing.{Outgoing, with_row}
+use Rattle.amber_queue.specs.Incoming.{Incoming, IsTaken, have_all_ended, have_builders_ended}
+use Rattle.amber_queue.specs.Outgoing.{Outgoing, with_row}
 use Rattle.amber_worker.specs.Fields.{AreFew, row_from, rows_moved}
 use Rattle.amber_worker.specs.WorkerState.{WorkerState}
 use Rattle.amber_worker.specs.Steps.{Becomes, Closes, TakesBatch, TakesRow, columns_at_hand, gives_if, gone_on, keeps_if, turned_to, with_go}

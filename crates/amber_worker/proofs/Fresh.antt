@@ -30,8 +30,8 @@ use Rattle.amber_meaning.specs.Kinds.{closing_rows, kept_rows}
 use Rattle.amber_meaning.proofs.Lists.{nth-next}
 use Rattle.amber_scan.specs.declared.share.Scanned.{Scanned}
 use Rattle.amber_join.specs.Join.{Join}
-use Rattle.amber_link.specs.Incoming.{Incoming}
-use Rattle.amber_link.specs.Outgoing.{Outgoing}
+use Rattle.amber_queue.specs.Incoming.{Incoming}
+use Rattle.amber_queue.specs.Outgoing.{Outgoing}
 use Rattle.amber_worker.specs.Fields.{AreFew, IsInOrder, rest_in}
 use Rattle.amber_worker.specs.Made.{IsOperatorStateOf, IsFresh, IsReceiver, fresh_inbox, fresh_inboxes, fresh_outbox, handing_operator, is_join}
 use Rattle.amber_worker.specs.AtPosition.{DoesKind, HasShare, HasTaken, Placement, ReceiveAll, Receives, SendAll, Sends, Shows, IsAtPosition, first_orders, placement_of}

@@ -10,7 +10,7 @@ use Rattle.amber_rows.specs.declared.batch.Batch.{Batch}
 use Rattle.amber_meaning.specs.Position.{Position, Taken, has_last, taken_from}
 use Rattle.amber_meaning.specs.Rules.{Orders}
 use Rattle.amber_meaning.specs.Task.{Task, is_builder}
-use Rattle.amber_link.specs.Incoming.{Incoming, has_some, have_all_ended, have_builders_ended, is_ready, may_come}
+use Rattle.amber_queue.specs.Incoming.{Incoming, has_some, have_all_ended, have_builders_ended, is_ready, may_come}
 use Rattle.amber_worker.specs.Links.{waiting_from}
 use Rattle.amber_worker.specs.AtPosition.{Placement, ReceiveAll, Shows}
 use Rattle.amber_worker.specs.WorkerState.{WorkerState, next_turn, has_ready}

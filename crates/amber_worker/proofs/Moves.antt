@@ -20,8 +20,8 @@ use Rattle.amber_meaning.specs.Produce.{closing, produce, yields, yields_if}
 use Rattle.amber_meaning.specs.Kinds.{closing_rows, yields_row, kept_rows}
 use Rattle.amber_meaning.specs.Views.{taken_of}
 use Rattle.amber_meaning.specs.Refused.{refusal_in, refused_in}
-use Rattle.amber_link.specs.Incoming.{Incoming, have_all_ended}
-use Rattle.amber_link.specs.Outgoing.{Outgoing, with_end, with_row}
+use Rattle.amber_queue.specs.Incoming.{Incoming, have_all_ended}
+use Rattle.amber_queue.specs.Outgoing.{Outgoing, with_end, with_row}
 use Rattle.amber_worker.specs.Fields.{rows_moved}
 use Rattle.amber_worker.specs.AtPosition.{DoesKind, HasTaken, Keeps, Placement, ReceiveAll, SendAll, Sends, Shows, stream_to}
 use Rattle.amber_worker.specs.WorkerState.{WorkerState}

@@ -5,8 +5,8 @@ use Rattle.std.specs.Option.{option_to_list}
 use Rattle.std.proofs.lemmas.Bool.{eq-eqb, false≢true}
 use Rattle.std.proofs.Math.ListN.{set}
 use Rattle.amber_rows.specs.declared.batch.Batch.{Batch}
-use Rattle.amber_link.specs.Incoming.{Incoming, have_builders_ended}
-use Rattle.amber_link.specs.Outgoing.{Outgoing}
+use Rattle.amber_queue.specs.Incoming.{Incoming, have_builders_ended}
+use Rattle.amber_queue.specs.Outgoing.{Outgoing}
 use Rattle.amber_worker.specs.Links.{waiting_for, with_batches}
 
 neither : (a b : Bool) → (a || b) ≡ false → (a ≡ false) × (b ≡ false)

@@ -12,8 +12,8 @@ use Rattle.amber_log.specs.declared.entry.Entry.{Entry}
 use Rattle.amber_meaning.specs.Position.{Position, emitted_rows, steps_of}
 use Rattle.amber_meaning.specs.Rules.{Leads, Orders}
 use Rattle.amber_meaning.specs.Task.{Task, is_builder}
-use Rattle.amber_link.specs.Incoming.{Incoming}
-use Rattle.amber_link.specs.Outgoing.{Outgoing}
+use Rattle.amber_queue.specs.Incoming.{Incoming}
+use Rattle.amber_queue.specs.Outgoing.{Outgoing}
 use Rattle.amber_worker.specs.Links.{waiting_for, waiting_from, with_batches, without_batches}
 use Rattle.amber_worker.specs.AtPosition.{Placement, ReceiveAll, SendAll, Sends, Shows, IsAtPosition, stream_to}
 use Rattle.amber_worker.specs.WorkerState.{WorkerState, steps_made}

@@ -13,7 +13,7 @@ use Rattle.amber_group.specs.Group.{Group, IsFedWith}
 use Rattle.amber_join.specs.Join.{Join}
 use Rattle.amber_meaning.specs.Task.{Arrival, Role, Task, built_of, is_builder, suiting, rows_in}
 use Rattle.amber_meaning.specs.Kinds.{closing_rows}
-use Rattle.amber_link.specs.Incoming.{Incoming, IsTaken, have_builders_ended, without_first}
+use Rattle.amber_queue.specs.Incoming.{Incoming, IsTaken, have_builders_ended, without_first}
 use Rattle.amber_worker.specs.Fields.{IsInOrder}
 use Rattle.amber_worker.specs.AtPosition.{DoesKind, HasTaken}
 use Rattle.amber_worker.specs.Steps.{Becomes, Closes, GivesGroups, MayTakeRow, built_with, turned_to}

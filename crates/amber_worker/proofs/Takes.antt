@@ -17,7 +17,7 @@ use Rattle.amber_meaning.specs.Rules.{MayTake, Orders, may_take_from, with_batch
 use Rattle.amber_meaning.specs.Task.{Arrival, Role, Task, is_builder}
 use Rattle.amber_meaning.specs.Produce.{closing, produce}
 use Rattle.amber_meaning.specs.Views.{taken_of}
-use Rattle.amber_link.specs.Incoming.{Incoming, IsTaken, have_all_ended, have_builders_ended, without_first}
+use Rattle.amber_queue.specs.Incoming.{Incoming, IsTaken, have_all_ended, have_builders_ended, without_first}
 use Rattle.amber_worker.specs.Fields.{row_from}
 use Rattle.amber_worker.specs.Links.{waiting_from}
 use Rattle.amber_worker.specs.AtPosition.{DoesKind, Keeps, Placement, ReceiveAll, Receives, Shows}

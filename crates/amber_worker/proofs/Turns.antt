@@ -1,7 +1,7 @@
 -- Each kind of turn leaves a worker where its journal leads.
 use Rattle.std.proofs.Common.{◌≡◌, List, [], ◌∷◌, Bool, true, false, MatchBool, refl, sym, ap, ◌∙◌, subst}
 use Rattle.std.proofs.lemmas.Bool.{false≢true}
-use Rattle.amber_link.specs.Incoming.{has_some, have_all_ended}
+use Rattle.amber_queue.specs.Incoming.{has_some, have_all_ended}
 use Rattle.amber_worker.specs.AtPosition.{Keeps}
 use Rattle.amber_worker.specs.WorkerState.{WorkerState}
 use Rattle.amber_worker.specs.Steps.{IsCalm, TakesBatch, TakesRow, all_done, row_emitted_from}

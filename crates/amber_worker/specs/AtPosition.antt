@@ -23,8 +23,8 @@ use Rattle.amber_meaning.specs.Refused.{refused_groups, refused_in}
 use Rattle.amber_meaning.specs.Views.{taken_of, view_of, worker_refuses}
 use Rattle.amber_meaning.specs.declared.view.WorkerView.{WorkerView}
 use Rattle.amber_scan.specs.declared.share.Scanned.{Scanned}
-use Rattle.amber_link.specs.Incoming.{Incoming}
-use Rattle.amber_link.specs.Outgoing.{Outgoing}
+use Rattle.amber_queue.specs.Incoming.{Incoming}
+use Rattle.amber_queue.specs.Outgoing.{Outgoing}
 use Rattle.amber_worker.specs.Fields.{arrival_of}
 use Rattle.amber_worker.specs.Links.{waiting_from}
 use Rattle.amber_worker.specs.WorkerState.{WorkerState, steps_made}

@@ -1,5 +1,5 @@
-pub use Rattle.amber_link.specs.Incoming
-pub use Rattle.amber_link.specs.Outgoing
+pub use Rattle.amber_queue.specs.Incoming
+pub use Rattle.amber_queue.specs.Outgoing
 pub mod Fields
 pub mod Links
 pub mod Made

@@ -1,8 +1,8 @@
 -- The batches that wait at a worker, by sender and by receiver.
 use Rattle.std.specs.Prelude.{ℕ, ◌==◌, List, [], ◌∷◌, ◌++◌, map, if◌then◌else◌}
 use Rattle.amber_rows.specs.declared.batch.Batch.{Batch}
-use Rattle.amber_link.specs.Incoming.{Incoming}
-use Rattle.amber_link.specs.Outgoing.{Outgoing}
+use Rattle.amber_queue.specs.Incoming.{Incoming}
+use Rattle.amber_queue.specs.Outgoing.{Outgoing}
 
 -- the batches of a sender that wait to be taken
 abbrev pub waiting_from : ℕ → List Incoming → List Batch

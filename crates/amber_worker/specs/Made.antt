@@ -8,8 +8,8 @@ use Rattle.amber_rows.specs.declared.flow.What.TheVariants as what
 use Rattle.amber_group.specs.Group.{IsFedWith}
 use Rattle.amber_meaning.specs.Plan.{built_columns}
 use Rattle.amber_scan.specs.declared.share.Scanned.{Scanned}
-use Rattle.amber_link.specs.Incoming.{Incoming}
-use Rattle.amber_link.specs.Outgoing.{Outgoing}
+use Rattle.amber_queue.specs.Incoming.{Incoming}
+use Rattle.amber_queue.specs.Outgoing.{Outgoing}
 use Rattle.amber_worker.specs.Fields.{rest_in}
 use Rattle.amber_worker.specs.WorkerState.{WorkerState}
 use Rattle.amber_worker.specs.declared.operator_state.OperatorState.{OperatorState}

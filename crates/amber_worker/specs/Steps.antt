@@ -17,8 +17,8 @@ use Rattle.amber_meaning.specs.declared.view.Extra.TheVariants as extra
 use Rattle.amber_meaning.specs.declared.view.Stand.TheVariants as stand
 use Rattle.amber_meaning.specs.declared.view.WorkerView.{WorkerView}
 use Rattle.amber_scan.specs.declared.share.Scanned.{Scanned}
-use Rattle.amber_link.specs.Incoming.{Incoming, IsTaken, have_all_ended}
-use Rattle.amber_link.specs.Outgoing.{Outgoing, with_end, with_row}
+use Rattle.amber_queue.specs.Incoming.{Incoming, IsTaken, have_all_ended}
+use Rattle.amber_queue.specs.Outgoing.{Outgoing, with_end, with_row}
 use Rattle.amber_worker.specs.Fields.{row_from, rows_moved}
 use Rattle.amber_worker.specs.WorkerState.{WorkerState}
 use Rattle.amber_worker.specs.declared.operator_state.OperatorState.{OperatorState}

@@ -7,8 +7,8 @@ use Rattle.amber_log.specs.declared.entry.Entry.{Entry}
 use Rattle.amber_meaning.specs.Position.{one_if}
 use Rattle.amber_meaning.specs.Task.{Arrival}
 use Rattle.amber_meaning.specs.declared.answer.Refusal.{Refusal}
-use Rattle.amber_link.specs.Incoming.{Incoming, has_some, have_all_ended, have_builders_ended, may_come}
-use Rattle.amber_link.specs.Outgoing.{Outgoing}
+use Rattle.amber_queue.specs.Incoming.{Incoming, has_some, have_all_ended, have_builders_ended, may_come}
+use Rattle.amber_queue.specs.Outgoing.{Outgoing}
 use Rattle.amber_worker.specs.declared.operator_state.OperatorState.{OperatorState}
 use Rattle.amber_worker.specs.declared.turn.Turn.{Turn}
 use Rattle.amber_worker.specs.declared.turn.Turn.TheVariants as turn

@@ -2,12 +2,12 @@
 
 ghost use Rattle.std.specs.Prelude.{◌≤◌, ℕ, ◌==◌, All, MatchOption, ◌≡◌, ◌+◌, ◌^◌, ◌<◌, [], false, true, map, option_to_list, IfErr, IfSome, OnErr, OnOk};
 ghost use Rattle.std.specs.List.{list_any};
-ghost use Rattle.amber_link.specs.Incoming.{has_some, have_builders_ended};
-ghost use Rattle.amber_link.specs.Outgoing.{with_end, with_row};
+ghost use Rattle.amber_queue.specs.Incoming.{has_some, have_builders_ended};
+ghost use Rattle.amber_queue.specs.Outgoing.{with_end, with_row};
 ghost use Rattle.amber_worker.specs.Links.{waiting_for, with_batches, without_batches};
 ghost use Rattle.amber_worker.specs.Steps.{Emits};
 
-use amber_link::{Inbox, Outbox, place_of, settle};
+use amber_queue::{Inbox, Outbox, place_of, settle};
 use amber_rows::Row;
 use std::alloc::AllocError;
 use std::collections::VecDeque;

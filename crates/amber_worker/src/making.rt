@@ -10,8 +10,8 @@ ghost use Rattle.amber_worker.specs.Made.{IsOperatorStateOf, fresh_inbox, fresh_
 use crate::operator_state::OperatorState;
 use amber_group::GroupState;
 use amber_join::JoinState;
-use amber_link::{Inbox, Outbox};
 use amber_ops::{FilterState, ProjectState};
+use amber_queue::{Inbox, Outbox};
 use amber_rows::{Aggs, Cols, Cond, Flow, Operator, Schema, What};
 use std::alloc::{AllocError, Global};
 

@@ -4,15 +4,15 @@ ghost use Rattle.std.specs.Prelude.{◌≡◌, ◌==◌, ◌&&◌, [], if◌then
 ghost use Rattle.std.specs.VecDeque.{deque_capacity, deque_len};
 ghost use Rattle.amber_meaning.specs.Task.{row_in};
 ghost use Rattle.amber_meaning.specs.Refused.{refusal_in};
-ghost use Rattle.amber_link.specs.Incoming.{has_some, have_all_ended};
+ghost use Rattle.amber_queue.specs.Incoming.{has_some, have_all_ended};
 ghost use Rattle.amber_worker.specs.Fields.{arrivals_in};
 ghost use Rattle.amber_worker.specs.Steps.{AreSame, Closes, GainsAny, GainsNext, GainsRecord, GainsRow, MayTakeRow, gives_if, has_state, held_back_of, keeps_if, passed_of, turned_to};
 
 use crate::grouping::{rows_of_groups, take_grouped};
 use crate::joining::take_joined;
 use crate::operator_state::OperatorState;
-use amber_link::{Inbox, have_ended};
 use amber_meaning::Refusal;
+use amber_queue::{Inbox, have_ended};
 use amber_rows::{Row, Schema, suits};
 use amber_scan::{Scanned, Share};
 use std::alloc::{AllocError, Global};

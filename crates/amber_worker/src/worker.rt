@@ -5,7 +5,7 @@ ghost use Rattle.amber_rows.specs.declared.record.RowFault.{RowFault as Fault};
 ghost use Rattle.amber_rows.specs.Crew.{crew_of, op_of, what_at, AreAlone};
 ghost use Rattle.amber_meaning.specs.Position.{origin};
 ghost use Rattle.amber_meaning.specs.Plan.{role_of};
-ghost use Rattle.amber_link.specs.Incoming.{has_some, have_all_ended};
+ghost use Rattle.amber_queue.specs.Incoming.{has_some, have_all_ended};
 ghost use Rattle.amber_worker.specs.Links.{waiting_for, with_batches, without_batches};
 ghost use Rattle.amber_worker.specs.WorkerState.{next_turn, has_ready, steps_made};
 ghost use Rattle.amber_worker.specs.Steps.{IsCalm, IsShown, TakesBatch, TakesRow, all_done, row_emitted_from};
@@ -23,11 +23,11 @@ use crate::operator_state::OperatorState;
 use crate::shown::{extra_of, first_copy, stand_of};
 use crate::taking::{Gains, Rest, close, closing_of, is_last, side_columns, take_next, turn_to};
 use crate::turn::Turn;
-use amber_link::{
-    Found, Inbox, Outbox, has_sender, have_built, have_ended, is_empty_at, ready_place, take_at,
-};
 use amber_log::{Entries, Entry};
 use amber_meaning::{Refusals, WorkerView};
+use amber_queue::{
+    Found, Inbox, Outbox, has_sender, have_built, have_ended, is_empty_at, ready_place, take_at,
+};
 use amber_rows::{Flow, Rows, Schema, sort};
 use amber_scan::Share;
 use std::alloc::{AllocError, Global};

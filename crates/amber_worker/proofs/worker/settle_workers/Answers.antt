@@ -1,5 +1,5 @@
 use Rattle.std.proofs.Common.{◌≡◌, ◌∙◌, length, ap, arith}
-use Rattle.amber_link.specs.Incoming.{have_builders_ended}
+use Rattle.amber_queue.specs.Incoming.{have_builders_ended}
 use Rattle.amber_worker.proofs.Bounds.{few-settled, written-back}
 use Rattle.amber_worker.proofs.worker.settle_workers.Goals as goal
 

@@ -1,5 +1,5 @@
 use Rattle.std.proofs.Common.{◌≡◌, ◌<◌, ◌∙◌, false, length, ap, arith, rules, refl, sym}
-use Rattle.amber_link.specs.Incoming.{Incoming, have_all_ended}
+use Rattle.amber_queue.specs.Incoming.{Incoming, have_all_ended}
 use Rattle.amber_worker.specs.Made.{fresh_inbox}
 use Rattle.amber_worker.proofs.Bounds.{few-batch, no-share, takes-batch, written-back}
 use Rattle.amber_worker.proofs.worker.Worker.take_batch.Goals as goal

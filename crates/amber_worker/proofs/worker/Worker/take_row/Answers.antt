@@ -1,5 +1,5 @@
 use Rattle.std.proofs.Common.{◌^◌, ◌<◌, ◌&&◌, eqb, length, refl, ◌∙◌, ap, arith}
-use Rattle.amber_link.specs.Incoming.{have_all_ended}
+use Rattle.amber_queue.specs.Incoming.{have_all_ended}
 use Rattle.amber_worker.specs.Fields.{arrivals_in}
 use Rattle.amber_worker.specs.Steps.{with_go}
 use Rattle.amber_worker.proofs.Bounds.{few-row, takes-row}
