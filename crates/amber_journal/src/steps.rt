@@ -59,6 +59,19 @@ fn with_leg(batch: u32, mut items: Items, end: bool, leg: Leg) -> Result<Reading
     })
 }
 
+/// Behind the line of a worker, whose part has no entry yet.
+fn begin_part(alloc: Global, end: bool, parts: Parts, worker: u32) -> Place
+    ensures { result ≡ place.Inside end parts worker [] false }
+{
+    Place::Inside {
+        end,
+        parts,
+        worker,
+        entries: Entries::new(Vec::new(alloc)),
+        gone: false,
+    }
+}
+
 /// Behind the start of a leg: a worker's part begins, or the leg ends.
 fn step_opened(
     alloc: Global,
@@ -73,14 +86,7 @@ fn step_opened(
     let parts = Parts::new(Vec::new(alloc));
     match line {
         Line::Worker(worker) => {
-            let entries = Entries::new(Vec::new(alloc));
-            let place = Place::Inside {
-                end,
-                parts,
-                worker,
-                entries,
-                gone: false,
-            };
+            let place = begin_part(alloc, end, parts, worker);
             Ok(Some(Reading {
                 batch,
                 items,
@@ -182,14 +188,7 @@ fn step_inside(
                 return Ok(None);
             }
             let parts = with_part(parts, worker, entries)?;
-            let entries = Entries::new(Vec::new(alloc));
-            let place = Place::Inside {
-                end,
-                parts,
-                worker: next,
-                entries,
-                gone: false,
-            };
+            let place = begin_part(alloc, end, parts, next);
             Ok(Some(Reading {
                 batch,
                 items,
