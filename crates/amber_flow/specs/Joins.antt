@@ -43,6 +43,14 @@ pub record AreKeys (build probe : List Column) (names : List (List ℕ)) (keys :
   pub count : length keys.build ≡ length names
   pub kinds : kinds_at build keys.build ≡ kinds_at probe keys.probe
 
+-- a join of the rows of two earlier operators, whose keys have these names
+unfoldable pub join_over : List Operator → ℕ → ℕ → List (List ℕ) → List (List ℕ) → Result Parts FlowWhy
+join_over before build probe build_names probe_names = do
+  built ← ok_or (operator_columns before build) Forward
+  probed ← ok_or (operator_columns before probe) Forward
+  keys ← keys_of built probed build_names probe_names
+  Ok (record { what = Join build probe keys.build keys.probe; schema = probed ++ built })
+
 unfoldable pub join_of : List Operator → Data → Result Parts FlowWhy
 join_of before tree = do
   build_id ← ok_or (text_at (codes "build") tree) Shape
@@ -52,7 +60,4 @@ join_of before tree = do
   paired ← require (are_paired build_names probe_names) Shape
   build ← ok_or (operator_number before build_id) Forward
   probe ← ok_or (operator_number before probe_id) Forward
-  built ← ok_or (operator_columns before build) Forward
-  probed ← ok_or (operator_columns before probe) Forward
-  keys ← keys_of built probed build_names probe_names
-  Ok (record { what = Join build probe keys.build keys.probe; schema = probed ++ built })
+  join_over before build probe build_names probe_names

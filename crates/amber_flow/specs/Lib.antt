@@ -7,5 +7,6 @@ pub mod Inputs
 pub mod Joins
 pub mod Names
 pub mod Operators
+pub mod Parts
 pub mod Words
 pub mod Workflow

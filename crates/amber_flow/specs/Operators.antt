@@ -1,9 +1,10 @@
 -- The operators of a workflow.
-use Rattle.std.specs.Prelude.{ℕ, ◌+◌, ◌==◌, ◌&&◌, not, nat_lt, nat_le, List, length, map, codes, Option, Some, None, ok_or, option_map, option_and_then, Result, Ok, Bool, if◌then◌else◌, ⊤}
+use Rattle.std.specs.Prelude.{◌≡◌, ℕ, ◌+◌, ◌==◌, ◌&&◌, not, nat_lt, nat_le, List, length, map, codes, Option, Some, None, ok_or, option_map, option_and_then, Result, Ok, Bool, if◌then◌else◌, ⊤}
 use Rattle.std.specs.List.{filter_map}
 use Rattle.serde_json.specs.Data.{Data}
 use Rattle.serde_json.specs.Find.{as_i64, as_number, as_str, as_u64, get}
 use Rattle.amber_rows.specs.Columns.{names_of, are_apart, is_among, is_id}
+use Rattle.amber_rows.specs.Kinds.{is_sink}
 use Rattle.amber_rows.specs.Lists.{nth}
 use Rattle.amber_rows.specs.declared.value.Value.{Value}
 use Rattle.amber_rows.specs.declared.value.Value.TheVariants as value
@@ -134,6 +135,10 @@ check_columns columns = do
   require (are_apart (names_of columns)) why.Duplicate
 
 -- ---- an operator
+
+-- of `count` operators the last is a sink, and no other
+abbrev pub SinkIsLast : ℕ → List Operator → Operator → Type 0
+SinkIsLast count before operator = is_sink operator.what ≡ (length before + 1 == count)
 
 -- the operator that a value means, where it comes after these and there are `count` in all
 unfoldable pub operator_of : ℕ → List Operator → Data → Result Operator FlowWhy

@@ -1,9 +1,9 @@
 ghost use Rattle.std.specs.Prelude.{◌≡◌, ◌<◌, ◌≤◌, All, IfOk, IfSome, false, length, true};
 ghost use Rattle.serde_json.specs.View.{view};
 ghost use Rattle.amber_rows.specs.Columns.{IsCondOn, kind_of};
-ghost use Rattle.amber_rows.specs.Kinds.{is_sink, IsKind};
 ghost use Rattle.amber_flow.specs.Inputs.{IsNarrow};
 ghost use Rattle.amber_flow.specs.Operators.{cond_of, flow_constant, filter_of};
+ghost use Rattle.amber_flow.specs.Parts.{IsMeant};
 
 use crate::columns::find_column;
 use crate::error::FlowWhy;
@@ -69,10 +69,7 @@ pub fn read_filter(
 ) -> Result<Result<Parts, FlowWhy>, AllocError>
     requires few { length before.now < 32 }
     requires narrow { All IsNarrow before.now }
-    ensures parts { IfOk result (λ read. read ≡ filter_of before.now (view tree.now)) }
-    ensures kind { IfOk result
-        (λ read. IfOk read (λ parts. IsKind before.now parts.what parts.schema)) }
-    ensures sink { IfOk result (λ read. IfOk read (λ parts. is_sink parts.what ≡ false)) }
+    ensures { IfOk result (IsMeant before.now (filter_of before.now (view tree.now))) }
 {
     let Some(id) = text_field(tree, "input") else {
         return Ok(Err(FlowWhy::Shape));

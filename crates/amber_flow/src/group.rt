@@ -8,6 +8,7 @@ ghost use Rattle.amber_flow.specs.Aggregates.{agg_column};
 ghost use Rattle.amber_flow.specs.Columns.{column_named};
 ghost use Rattle.amber_flow.specs.Groups.{group_of, group_over};
 ghost use Rattle.amber_flow.specs.Inputs.{IsNarrow};
+ghost use Rattle.amber_flow.specs.Parts.{IsMeant};
 
 use crate::aggregates::{add_agg_columns, are_aggregates, are_summable, read_aggs};
 use crate::columns::{add_named, find_columns};
@@ -85,10 +86,7 @@ pub fn read_group(
 ) -> Result<Result<Parts, FlowWhy>, AllocError>
     requires few { length before.now < 32 }
     requires narrow { All IsNarrow before.now }
-    ensures parts { IfOk result (λ read. read ≡ group_of before.now (view tree.now)) }
-    ensures kind { IfOk result
-        (λ read. IfOk read (λ parts. IsKind before.now parts.what parts.schema)) }
-    ensures sink { IfOk result (λ read. IfOk read (λ parts. is_sink parts.what ≡ false)) }
+    ensures { IfOk result (IsMeant before.now (group_of before.now (view tree.now))) }
 {
     let Some(id) = text_field(tree, "input") else {
         return Ok(Err(FlowWhy::Shape));

@@ -1,11 +1,11 @@
 ghost use Rattle.std.specs.Prelude.{◌≡◌, ◌++◌, ◌<◌, ◌≤◌, All, IfOk, OnOk, false, length, map, true};
 ghost use Rattle.std.specs.List.{filter_map};
 ghost use Rattle.serde_json.specs.View.{view};
-ghost use Rattle.amber_rows.specs.Columns.{column_kind_at};
-ghost use Rattle.amber_rows.specs.Kinds.{is_sink, IsKind};
+ghost use Rattle.amber_rows.specs.Columns.{IsEarlier, column_kind_at};
 ghost use Rattle.amber_flow.specs.Inputs.{IsNarrow};
-ghost use Rattle.amber_flow.specs.Joins.{AreKeys, are_alike, are_paired, join_of, keys_of};
+ghost use Rattle.amber_flow.specs.Joins.{AreKeys, are_alike, are_paired, join_of, join_over, keys_of};
 ghost use Rattle.amber_rows.specs.Suits.{same_kind};
+ghost use Rattle.amber_flow.specs.Parts.{IsMeant};
 
 use crate::columns::{add_columns, find_columns, kind_of_column};
 use crate::error::FlowWhy;
@@ -113,50 +113,26 @@ fn join_columns(alloc: Global, probe: &[Column], build: &[Column]) -> Result<Sch
     Ok(Schema::new(columns))
 }
 
-/// What a join does.
-#[tactic(auto, unfolding(crate::specs::Joins::join_of))]
-pub fn read_join(
+/// What a join of the rows of two earlier operators does.
+#[tactic(auto, unfolding(crate::specs::Joins::join_over))]
+fn read_over(
     alloc: Global,
     before: &[Operator],
-    tree: &Value,
+    build: u32,
+    probe: u32,
+    build_names: &[&str],
+    probe_names: &[&str],
 ) -> Result<Result<Parts, FlowWhy>, AllocError>
-    requires few { length before.now < 32 }
     requires narrow { All IsNarrow before.now }
-    ensures parts { IfOk result (λ read. read ≡ join_of before.now (view tree.now)) }
-    ensures kind { IfOk result
-        (λ read. IfOk read (λ parts. IsKind before.now parts.what parts.schema)) }
-    ensures sink { IfOk result (λ read. IfOk read (λ parts. is_sink parts.what ≡ false)) }
+    requires build { IsEarlier before.now build }
+    requires probe { IsEarlier before.now probe }
+    requires some { 0 < length build_names.now }
+    ensures { IfOk result (IsMeant before.now (join_over before.now build probe
+        (map (λ name. name.now) build_names.now) (map (λ name. name.now) probe_names.now))) }
 {
-    let Some(build_id) = text_field(tree, "build") else {
-        return Ok(Err(FlowWhy::Shape));
-    };
-    let Some(probe_id) = text_field(tree, "probe") else {
-        return Ok(Err(FlowWhy::Shape));
-    };
-    let Some(build_names) = texts_field(alloc, tree, "build_keys")? else {
-        return Ok(Err(FlowWhy::Shape));
-    };
-    let Some(probe_names) = texts_field(alloc, tree, "probe_keys")? else {
-        return Ok(Err(FlowWhy::Shape));
-    };
-    if !may_be_keys(build_names.as_slice(), probe_names.as_slice()) {
-        return Ok(Err(FlowWhy::Shape));
-    }
-    let Some(build) = find_operator(before, build_id) else {
-        return Ok(Err(FlowWhy::Forward));
-    };
-    let Some(probe) = find_operator(before, probe_id) else {
-        return Ok(Err(FlowWhy::Forward));
-    };
     let built = schema_at(before, build).get();
     let probed = schema_at(before, probe).get();
-    let keys = match read_keys(
-        alloc,
-        built,
-        probed,
-        build_names.as_slice(),
-        probe_names.as_slice(),
-    )? {
+    let keys = match read_keys(alloc, built, probed, build_names, probe_names)? {
         Ok(keys) => keys,
         Err(why) => return Ok(Err(why)),
     };
@@ -170,4 +146,41 @@ pub fn read_join(
         },
         schema,
     }))
+}
+
+/// What a join does.
+#[tactic(auto, unfolding(crate::specs::Joins::join_of))]
+pub fn read_join(
+    alloc: Global,
+    before: &[Operator],
+    tree: &Value,
+) -> Result<Result<Parts, FlowWhy>, AllocError>
+    requires few { length before.now < 32 }
+    requires narrow { All IsNarrow before.now }
+    ensures { IfOk result (IsMeant before.now (join_of before.now (view tree.now))) }
+{
+    let Some(build_id) = text_field(tree, "build") else {
+        return Ok(Err(FlowWhy::Shape));
+    };
+    let Some(probe_id) = text_field(tree, "probe") else {
+        return Ok(Err(FlowWhy::Shape));
+    };
+    let Some(build_names) = texts_field(alloc, tree, "build_keys")? else {
+        return Ok(Err(FlowWhy::Shape));
+    };
+    let Some(probe_names) = texts_field(alloc, tree, "probe_keys")? else {
+        return Ok(Err(FlowWhy::Shape));
+    };
+    let build_names = build_names.as_slice();
+    let probe_names = probe_names.as_slice();
+    if !may_be_keys(build_names, probe_names) {
+        return Ok(Err(FlowWhy::Shape));
+    }
+    let Some(build) = find_operator(before, build_id) else {
+        return Ok(Err(FlowWhy::Forward));
+    };
+    let Some(probe) = find_operator(before, probe_id) else {
+        return Ok(Err(FlowWhy::Forward));
+    };
+    read_over(alloc, before, build, probe, build_names, probe_names)
 }

@@ -1,9 +1,8 @@
-ghost use Rattle.std.specs.Prelude.{All, true, ◌≡◌, ◌+◌, ◌<◌, ◌≤◌, ◌==◌, length, IfOk};
+ghost use Rattle.std.specs.Prelude.{All, true, ◌≡◌, ◌<◌, length, IfOk};
 ghost use Rattle.serde_json.specs.View.{view};
 ghost use Rattle.amber_rows.specs.FlowRules.{IsNext};
-ghost use Rattle.amber_rows.specs.Kinds.{is_sink};
 ghost use Rattle.amber_flow.specs.Inputs.{IsNarrow};
-ghost use Rattle.amber_flow.specs.Operators.{operator_of};
+ghost use Rattle.amber_flow.specs.Operators.{operator_of, SinkIsLast};
 
 use crate::error::FlowWhy;
 use crate::fields::text_field;
@@ -25,8 +24,7 @@ pub fn read_operator(
     requires narrow { All IsNarrow before.now }
     ensures operator { IfOk result (λ read. read ≡ operator_of count before.now (view tree.now)) }
     ensures next { IfOk result (λ read. IfOk read (λ operator. IsNext before.now operator)) }
-    ensures placed { IfOk result
-        (λ read. IfOk read (λ operator. is_sink operator.what ≡ (length before.now + 1 == count))) }
+    ensures placed { IfOk result (λ read. IfOk read (SinkIsLast count before.now)) }
     ensures alone { IfOk result (λ read. IfOk read (λ operator. operator.workers ≡ 1)) }
 {
     let Some(id) = text_field(tree, "id") else {
@@ -49,9 +47,8 @@ pub fn read_operator(
     if let Err(why) = check_schema(&parts.schema) {
         return Ok(Err(why));
     }
-    let id = Text::new(String::from_str(alloc, id)?);
     Ok(Ok(Operator {
-        id,
+        id: Text::new(String::from_str(alloc, id)?),
         what: parts.what,
         schema: parts.schema,
         workers: head.workers,

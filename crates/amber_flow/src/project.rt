@@ -1,12 +1,12 @@
 ghost use Rattle.std.specs.Prelude.{◌≡◌, ◌<◌, ◌≤◌, All, IfOk, false, length, map, option_map, true};
 ghost use Rattle.std.specs.List.{filter_map};
 ghost use Rattle.serde_json.specs.View.{view};
-ghost use Rattle.amber_rows.specs.Kinds.{is_sink, IsKind};
 ghost use Rattle.amber_rows.specs.Chain.{each};
 ghost use Rattle.amber_flow.specs.Columns.{is_new_name, renaming_of, source_of};
 ghost use Rattle.amber_flow.specs.Fields.{text_in};
 ghost use Rattle.amber_flow.specs.Inputs.{IsNarrow};
 ghost use Rattle.amber_flow.specs.Operators.{project_of};
+ghost use Rattle.amber_flow.specs.Parts.{IsMeant};
 
 use crate::columns::{add_column, column_with, find_columns};
 use crate::error::FlowWhy;
@@ -97,10 +97,7 @@ pub fn read_project(
 ) -> Result<Result<Parts, FlowWhy>, AllocError>
     requires few { length before.now < 32 }
     requires narrow { All IsNarrow before.now }
-    ensures parts { IfOk result (λ read. read ≡ project_of before.now (view tree.now)) }
-    ensures kind { IfOk result
-        (λ read. IfOk read (λ parts. IsKind before.now parts.what parts.schema)) }
-    ensures sink { IfOk result (λ read. IfOk read (λ parts. is_sink parts.what ≡ false)) }
+    ensures { IfOk result (IsMeant before.now (project_of before.now (view tree.now))) }
 {
     let Some(id) = text_field(tree, "input") else {
         return Ok(Err(FlowWhy::Shape));

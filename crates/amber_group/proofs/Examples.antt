@@ -1,24 +1,16 @@
 -- Groups on literals, each named by what it shows.
 use Rattle.std.specs.Prelude.{⊤}
-use Rattle.std.proofs.Common.{◌≡◌, ℕ, ◌-◌, pos, negsuc, List, [], ◌∷◌, ◌++◌, length, codes, refl}
+use Rattle.std.proofs.Common.{◌≡◌, ℕ, List, [], ◌∷◌, ◌++◌, codes, refl}
 use Rattle.amber_rows.specs.Operators.{agg_value, agg_values, first_keys, greatest_of, group_result, least_of, pick_cells, refused_keys, total_of}
 use Rattle.amber_rows.specs.declared.agg.Agg.{Agg}
 use Rattle.amber_rows.specs.declared.agg.Agg.TheVariants.{Count, Sum, Min, Max}
 use Rattle.amber_rows.specs.declared.value.Value.{Value}
-use Rattle.amber_rows.specs.declared.value.Value.TheVariants.{Int, Text}
+use Rattle.amber_rows.specs.declared.value.Value.TheVariants.{Text}
+use Rattle.amber_keys.proofs.ExampleRows.{Rows, a, accented, b, c, decomposed, int, key_count, minus, one, three, two, w, x, y}
 
 unfoldable groups_on_literals : ⊤
 unfolding pick_cells first_keys group_result refused_keys total_of least_of greatest_of agg_value agg_values
 groups_on_literals = tt
-
--- ---- cells and rows
-
--- a number, and one below 0
-abbrev int : ℕ → Value
-int n = Int (pos n)
-
-abbrev minus : ℕ → Value
-minus n = Int (negsuc (n - 1))
 
 -- the greatest number of 64 bits, and the least
 abbrev greatest : Value
@@ -27,49 +19,9 @@ greatest = int 9223372036854775807
 abbrev least : Value
 least = minus 9223372036854775808
 
-abbrev a : Value
-a = Text (codes "a")
-
-abbrev b : Value
-b = Text (codes "b")
-
-abbrev c : Value
-c = Text (codes "c")
-
-abbrev w : Value
-w = Text (codes "w")
-
-abbrev x : Value
-x = Text (codes "x")
-
-abbrev y : Value
-y = Text (codes "y")
-
--- an e with an acute accent, as one code point and as two
-abbrev accented : Value
-accented = Text (195 ∷ 169 ∷ [])
-
-abbrev decomposed : Value
-decomposed = Text (101 ∷ 204 ∷ 129 ∷ [])
-
-abbrev one : Value → List Value
-one p = p ∷ []
-
-abbrev two : Value → Value → List Value
-two p q = p ∷ q ∷ []
-
-abbrev three : Value → Value → Value → List Value
-three p q r = p ∷ q ∷ r ∷ []
-
-abbrev Rows : Type 0
-Rows = List (List Value)
-
--- the rows of the groups and the refused keys, and how many groups there are
+-- the rows of the groups and the refused keys
 abbrev finished : List ℕ → List Agg → Rows → Rows × Rows
 finished keys aggs rows = (group_result keys aggs rows, refused_keys keys aggs rows)
-
-abbrev group_count : List ℕ → Rows → ℕ
-group_count keys rows = length (first_keys keys rows)
 
 -- ---- the least and the greatest, of numbers and of texts
 
@@ -85,7 +37,7 @@ least_and_greatest : finished (1 ∷ []) (Count ∷ Sum 2 ∷ Min 3 ∷ Max 3 �
 unfolding groups_on_literals
 least_and_greatest = refl
 
-count_least_and_greatest : group_count (1 ∷ []) mixed ≡ 2
+count_least_and_greatest : key_count (1 ∷ []) mixed ≡ 2
 unfolding groups_on_literals
 count_least_and_greatest = refl
 
@@ -98,7 +50,7 @@ no_key_column : finished [] (Count ∷ Min 1 ∷ Max 1 ∷ []) numbers ≡ (thre
 unfolding groups_on_literals
 no_key_column = refl
 
-count_no_key_column : group_count [] numbers ≡ 1
+count_no_key_column : key_count [] numbers ≡ 1
 unfolding groups_on_literals
 count_no_key_column = refl
 
@@ -106,7 +58,7 @@ no_key_column_and_no_row : finished [] (Count ∷ []) [] ≡ ([], [])
 unfolding groups_on_literals
 no_key_column_and_no_row = refl
 
-count_no_key_column_and_no_row : group_count [] [] ≡ 0
+count_no_key_column_and_no_row : key_count [] [] ≡ 0
 unfolding groups_on_literals
 count_no_key_column_and_no_row = refl
 
@@ -114,7 +66,7 @@ no_row : finished (1 ∷ []) (Count ∷ Sum 2 ∷ []) [] ≡ ([], [])
 unfolding groups_on_literals
 no_row = refl
 
-count_no_row : group_count (1 ∷ []) [] ≡ 0
+count_no_row : key_count (1 ∷ []) [] ≡ 0
 unfolding groups_on_literals
 count_no_row = refl
 
@@ -128,7 +80,7 @@ keys_of_two_columns : finished (2 ∷ 1 ∷ []) (Count ∷ []) pairs
 unfolding groups_on_literals
 keys_of_two_columns = refl
 
-count_keys_of_two_columns : group_count (2 ∷ 1 ∷ []) pairs ≡ 3
+count_keys_of_two_columns : key_count (2 ∷ 1 ∷ []) pairs ≡ 3
 unfolding groups_on_literals
 count_keys_of_two_columns = refl
 
@@ -141,7 +93,7 @@ sums_refused : finished (1 ∷ []) (Count ∷ Sum 2 ∷ []) too_far ≡ (three b
 unfolding groups_on_literals
 sums_refused = refl
 
-count_sums_refused : group_count (1 ∷ []) too_far ≡ 3
+count_sums_refused : key_count (1 ∷ []) too_far ≡ 3
 unfolding groups_on_literals
 count_sums_refused = refl
 
@@ -153,7 +105,7 @@ sums_come_back : finished (1 ∷ []) (Sum 2 ∷ Max 2 ∷ []) there_and_back
 unfolding groups_on_literals
 sums_come_back = refl
 
-count_sums_come_back : group_count (1 ∷ []) there_and_back ≡ 3
+count_sums_come_back : key_count (1 ∷ []) there_and_back ≡ 3
 unfolding groups_on_literals
 count_sums_come_back = refl
 
@@ -166,7 +118,7 @@ texts_add_nothing : finished (1 ∷ []) (Sum 2 ∷ []) some_text ≡ (two a (int
 unfolding groups_on_literals
 texts_add_nothing = refl
 
-count_texts_add_nothing : group_count (1 ∷ []) some_text ≡ 2
+count_texts_add_nothing : key_count (1 ∷ []) some_text ≡ 2
 unfolding groups_on_literals
 count_texts_add_nothing = refl
 
@@ -177,7 +129,7 @@ no_such_column : finished (1 ∷ []) (Min 3 ∷ []) short ≡ (two b (int 9) ∷
 unfolding groups_on_literals
 no_such_column = refl
 
-count_no_such_column : group_count (1 ∷ []) short ≡ 2
+count_no_such_column : key_count (1 ∷ []) short ≡ 2
 unfolding groups_on_literals
 count_no_such_column = refl
 
@@ -191,7 +143,7 @@ bytes_alone : finished (1 ∷ []) (Count ∷ []) accents
 unfolding groups_on_literals
 bytes_alone = refl
 
-count_bytes_alone : group_count (1 ∷ []) accents ≡ 3
+count_bytes_alone : key_count (1 ∷ []) accents ≡ 3
 unfolding groups_on_literals
 count_bytes_alone = refl
 
@@ -202,6 +154,6 @@ number_against_text : finished (1 ∷ []) (Count ∷ []) ones ≡ (two (int 1) (
 unfolding groups_on_literals
 number_against_text = refl
 
-count_number_against_text : group_count (1 ∷ []) ones ≡ 2
+count_number_against_text : key_count (1 ∷ []) ones ≡ 2
 unfolding groups_on_literals
 count_number_against_text = refl

@@ -1,4 +1,3 @@
-pub mod Answers
 pub mod Examples
 pub mod Finishing
 pub mod GroupTables

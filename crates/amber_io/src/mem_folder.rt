@@ -3,7 +3,7 @@ ghost use Rattle.std.specs.FinMap as finmap;
 ghost use Rattle.amber_io.specs.Counts.{HasCause, next_number};
 ghost use Rattle.amber_io.specs.Folder.{Named, Lacks, Gives, Creates, Extends, IsThere, files_of};
 ghost use Rattle.amber_io.specs.Memory.{IsPlanned, EmptiesIf, ExtendsBy, is_listed};
-ghost use Rattle.amber_io.specs.MemFolder.{held_files, folder_plan, loads_made, writes_made, failed_loads, failed_writes};
+ghost use Rattle.amber_io.specs.MemFolder.{IsWrite, held_files, folder_plan, loads_made, writes_made, failed_loads, failed_writes};
 ghost use Rattle.amber_io.specs.Real.{IsCounted};
 
 use crate::error::IoErr;
@@ -128,12 +128,7 @@ impl Folder for MemFolder {
             name.now }
         ensures cause { HasCause result ⊥ (failed_writes self.old) (failed_writes self.new) }
         ensures loads { failed_loads self.new ≡ failed_loads self.old }
-        ensures plan { folder_plan self.new ≡ folder_plan self.old }
-        ensures loads_made { loads_made self.new ≡ loads_made self.old }
-        ensures made { writes_made self.new ≡ next_number (writes_made self.old) }
-        ensures planned { IsPlanned result ⊥
-            (is_listed (folder_plan self.old).writes (writes_made self.new))
-            (failed_writes self.old) (failed_writes self.new) }
+        ensures write { IsWrite result self.old self.new }
         ensures kept { EmptiesIf result (Some (held_files self.old)) (Some (held_files self.new))
             name.now (folder_plan self.old).keep }
     {
@@ -156,12 +151,7 @@ impl Folder for MemFolder {
             name.now bytes.now }
         ensures cause { HasCause result ⊥ (failed_writes self.old) (failed_writes self.new) }
         ensures loads { failed_loads self.new ≡ failed_loads self.old }
-        ensures plan { folder_plan self.new ≡ folder_plan self.old }
-        ensures loads_made { loads_made self.new ≡ loads_made self.old }
-        ensures made { writes_made self.new ≡ next_number (writes_made self.old) }
-        ensures planned { IsPlanned result ⊥
-            (is_listed (folder_plan self.old).writes (writes_made self.new))
-            (failed_writes self.old) (failed_writes self.new) }
+        ensures write { IsWrite result self.old self.new }
         ensures counted { IsCounted result (failed_writes self.old) (failed_writes self.new) }
         ensures kept { ExtendsBy result (Some (held_files self.old)) (Some (held_files self.new))
             name.now

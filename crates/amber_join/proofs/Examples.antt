@@ -1,66 +1,17 @@
 -- Joins on literals, each named by what it shows.
 use Rattle.std.specs.Prelude.{⊤}
-use Rattle.std.proofs.Common.{◌≡◌, ℕ, ◌-◌, pos, negsuc, List, [], ◌∷◌, length, codes, refl}
+use Rattle.std.proofs.Common.{◌≡◌, [], ◌∷◌, codes, refl}
 use Rattle.amber_rows.specs.Operators.{first_keys, join_result, matches_of, pick_cells}
 use Rattle.amber_rows.specs.declared.value.Value.{Value}
-use Rattle.amber_rows.specs.declared.value.Value.TheVariants.{Int, Text}
+use Rattle.amber_rows.specs.declared.value.Value.TheVariants.{Text}
+use Rattle.amber_keys.proofs.ExampleRows.{Row, Rows, a, accented, b, decomposed, int, key_count, minus, one, three, two, x, y, z}
 
 unfoldable joins_on_literals : ⊤
 unfolding pick_cells matches_of join_result first_keys
 joins_on_literals = tt
 
--- ---- cells and rows
-
--- a number, and one below 0
-abbrev int : ℕ → Value
-int n = Int (pos n)
-
-abbrev minus : ℕ → Value
-minus n = Int (negsuc (n - 1))
-
-abbrev a : Value
-a = Text (codes "a")
-
-abbrev b : Value
-b = Text (codes "b")
-
-abbrev x : Value
-x = Text (codes "x")
-
-abbrev y : Value
-y = Text (codes "y")
-
-abbrev z : Value
-z = Text (codes "z")
-
--- an e with an acute accent, as one code point and as two
-abbrev accented : Value
-accented = Text (195 ∷ 169 ∷ [])
-
-abbrev decomposed : Value
-decomposed = Text (101 ∷ 204 ∷ 129 ∷ [])
-
-abbrev Row : Type 0
-Row = List Value
-
-abbrev one : Value → Row
-one c = c ∷ []
-
-abbrev two : Value → Value → Row
-two c d = c ∷ d ∷ []
-
-abbrev three : Value → Value → Value → Row
-three c d e = c ∷ d ∷ e ∷ []
-
 abbrev five : Value → Value → Value → Value → Value → Row
 five c d e f g = c ∷ d ∷ three e f g
-
-abbrev Rows : Type 0
-Rows = List (List Value)
-
--- how many different keys rows have
-abbrev key_count : List ℕ → Rows → ℕ
-key_count keys rows = length (first_keys keys rows)
 
 -- ---- the first two columns of a build row are the second and the first of a probe row
 

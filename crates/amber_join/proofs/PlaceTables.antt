@@ -1,5 +1,5 @@
 -- The table of the places as a row is added, and what the places of a key lead to.
-use Rattle.std.proofs.Common.{◌≡◌, ℕ, zero, suc, ◌+◌, ◌||◌, Bool, true, false, cond, List, [], ◌∷◌, ◌++◌, length, filter, map, Option, Some, None, Result, Ok, Err, OnErr, OnOk, is_some, position, slice_get, refl, sym, ap, ◌∙◌, append_assoc, arith, length-append}
+use Rattle.std.proofs.Common.{◌≡◌, ℕ, zero, suc, ◌+◌, ◌||◌, Bool, true, false, cond, List, [], ◌∷◌, ◌++◌, length, filter, map, Some, None, position, slice_get, refl, sym, ap, ◌∙◌, append_assoc, arith, length-append}
 use Rattle.std.specs.List.{filter_map, list_any, IsDistinct}
 use Rattle.std.specs.Map.{keys_of, lookup, values_of}
 use Rattle.std.proofs.lemmas.List.{append-nil, length-map}
@@ -140,20 +140,6 @@ probe-none build_keys probe_keys build row entries is none =
     let ks = first_keys build_keys build in
     let absent : among k ks ≡ false = cond_none (among k ks) _ (sym (lookup-entries (places_of build_keys build) k ks) ∙ ap (lookup (same_row k)) (sym is) ∙ none) in
     ap (map (λ other. row ++ other)) (sym (rows_with-absent build_keys build k absent))
-
--- ---- answers
-
-pub on_ok : {T E : Type 0} (r : Result T E) (P Q : Type 0) → OnOk r P → (P → Q) → OnOk r Q
-on_ok (Ok x) P Q h f = f h
-on_ok (Err e) P Q h f = tt
-
-pub on_err : {T E : Type 0} (r : Result T E) (P Q : Type 0) → OnErr r P → (P → Q) → OnErr r Q
-on_err (Ok x) P Q h f = tt
-on_err (Err e) P Q h f = f h
-
-pub none_is : {A : Type 0} (r : Option A) → false ≡ is_some r → r ≡ None
-none_is None e = refl
-none_is (Some x) e = absurd (cc)
 
 -- a value that is written where it stands changes nothing
 pub set-same : {A : Type 0} (entries : List (Row × A)) (i : ℕ) (v : A) → slice_get (values_of entries) i ≡ Some v → set_value_at entries i v ≡ entries

@@ -2,6 +2,7 @@
 ghost use Rattle.std.specs.Prelude.{◌≡◌, ◌++◌, ◌∷◌, [], length, IfOk, Some, false, MatchOption, ℕ, Ok, Err};
 ghost use Rattle.amber_log.specs.ReadLines.{with_leg, finish, part_of, start, step, step_at, step_inside, step_opened, step_outside};
 ghost use Rattle.amber_log.specs.Grammar.{is_go};
+ghost use Rattle.amber_log.specs.declared.line.Line.TheVariants as one;
 ghost use Rattle.amber_log.specs.declared.reading.Place.TheVariants as place;
 ghost use Rattle.amber_journal.specs.ReadBack.{reading_at};
 
@@ -23,6 +24,17 @@ pub fn start(alloc: Global, line: Line) -> Option<Reading>
     }
 }
 
+/// What was read so far, in its parts.
+fn reading_at(batch: u32, items: Items, place: Place) -> Reading
+    ensures { result ≡ reading_at batch items place }
+{
+    Reading {
+        batch,
+        items,
+        place,
+    }
+}
+
 /// Behind an item: a command, or the start of a leg.
 fn step_outside(batch: u32, mut items: Items, line: Line) -> Result<Option<Reading>, AllocError>
     ensures { IfOk result (λ next. next
@@ -37,11 +49,7 @@ fn step_outside(batch: u32, mut items: Items, line: Line) -> Result<Option<Readi
         Line::End => Place::Opened { end: true },
         Line::Head(_) | Line::Worker(_) | Line::Entry(_) | Line::Close(_) => return Ok(None),
     };
-    Ok(Some(Reading {
-        batch,
-        items,
-        place,
-    }))
+    Ok(Some(reading_at(batch, items, place)))
 }
 
 /// Behind the end of a leg of these parts.
@@ -52,11 +60,20 @@ fn with_leg(batch: u32, mut items: Items, end: bool, leg: Leg) -> Result<Reading
     let over = end || leg.close == Close::Long;
     items.push(if end { Item::End(leg) } else { Item::Run(leg) })?;
     let place = if over { Place::Over } else { Place::Outside };
-    Ok(Reading {
-        batch,
-        items,
-        place,
-    })
+    Ok(reading_at(batch, items, place))
+}
+
+/// Behind the line of a worker, whose part has no entry yet.
+fn begin_part(alloc: Global, end: bool, parts: Parts, worker: u32) -> Place
+    ensures { result ≡ place.Inside end parts worker [] false }
+{
+    Place::Inside {
+        end,
+        parts,
+        worker,
+        entries: Entries::new(Vec::new(alloc)),
+        gone: false,
+    }
 }
 
 /// Behind the start of a leg: a worker's part begins, or the leg ends.
@@ -73,19 +90,8 @@ fn step_opened(
     let parts = Parts::new(Vec::new(alloc));
     match line {
         Line::Worker(worker) => {
-            let entries = Entries::new(Vec::new(alloc));
-            let place = Place::Inside {
-                end,
-                parts,
-                worker,
-                entries,
-                gone: false,
-            };
-            Ok(Some(Reading {
-                batch,
-                items,
-                place,
-            }))
+            let place = begin_part(alloc, end, parts, worker);
+            Ok(Some(reading_at(batch, items, place)))
         }
         Line::Close(close) => {
             let next = with_leg(batch, items, end, Leg { parts, close })?;
@@ -130,12 +136,39 @@ fn with_entry(entries: Entries, entry: Entry) -> Result<Entries, AllocError>
 }
 
 /// The part of a worker.
+#[derive(Drop)]
 struct OpenPart {
     end: bool,
     parts: Parts,
     worker: u32,
     entries: Entries,
     gone: bool,
+}
+
+/// Behind one more entry of a worker's part.
+fn step_entry(
+    batch: u32,
+    items: Items,
+    part: OpenPart,
+    entry: Entry,
+) -> Result<Option<Reading>, AllocError>
+    ensures { IfOk result (λ next. next
+        ≡ step_inside (reading_at batch items place.Outside) part.end part.parts part.worker
+        part.entries part.gone (one.Entry entry)) }
+{
+    let goes = is_go(entry);
+    if part.gone && goes {
+        return Ok(None);
+    }
+    let entries = with_entry(part.entries, entry)?;
+    let place = Place::Inside {
+        end: part.end,
+        parts: part.parts,
+        worker: part.worker,
+        entries,
+        gone: goes,
+    };
+    Ok(Some(reading_at(batch, items, place)))
 }
 
 /// Behind a line of the part at hand: one more entry, the part of a worker with a greater number, or the leg's end.
@@ -150,58 +183,22 @@ fn step_inside(
         ≡ step_inside (reading_at batch items place.Outside) part.end part.parts part.worker
         part.entries part.gone line) }
 {
-    let OpenPart {
-        end,
-        parts,
-        worker,
-        entries,
-        gone,
-    } = part;
     match line {
-        Line::Entry(entry) => {
-            let goes = is_go(entry);
-            if gone && goes {
-                return Ok(None);
-            }
-            let entries = with_entry(entries, entry)?;
-            let place = Place::Inside {
-                end,
-                parts,
-                worker,
-                entries,
-                gone: goes,
-            };
-            Ok(Some(Reading {
-                batch,
-                items,
-                place,
-            }))
-        }
+        Line::Entry(entry) => step_entry(batch, items, part, entry),
         Line::Worker(next) => {
-            if entries.get().is_empty() || next <= worker {
+            if part.entries.get().is_empty() || next <= part.worker {
                 return Ok(None);
             }
-            let parts = with_part(parts, worker, entries)?;
-            let entries = Entries::new(Vec::new(alloc));
-            let place = Place::Inside {
-                end,
-                parts,
-                worker: next,
-                entries,
-                gone: false,
-            };
-            Ok(Some(Reading {
-                batch,
-                items,
-                place,
-            }))
+            let parts = with_part(part.parts, part.worker, part.entries)?;
+            let place = begin_part(alloc, part.end, parts, next);
+            Ok(Some(reading_at(batch, items, place)))
         }
         Line::Close(close) => {
-            if entries.get().is_empty() {
+            if part.entries.get().is_empty() {
                 return Ok(None);
             }
-            let parts = with_part(parts, worker, entries)?;
-            let next = with_leg(batch, items, end, Leg { parts, close })?;
+            let parts = with_part(part.parts, part.worker, part.entries)?;
+            let next = with_leg(batch, items, part.end, Leg { parts, close })?;
             Ok(Some(next))
         }
         Line::Head(_) | Line::Do(_) | Line::Run | Line::End => Ok(None),

@@ -1,5 +1,5 @@
 -- The tests for the rules are true exactly where the rules hold.
-use Rattle.std.proofs.Common.{◌≡◌, ℕ, eqb, List, [], ◌∷◌, Bool, true, false, not, ◌||◌, ◌↔◌, refl}
+use Rattle.std.proofs.Common.{◌≡◌, ℕ, eqb, List, [], ◌∷◌, Bool, true, false, not, ◌&&◌, ◌||◌, ◌↔◌, refl}
 use Rattle.std.proofs.lemmas.Bool.{and_from, and_parts, eq-eqb, eqb-true, false≢true, le-leb, leb-true, lt-ltb, ltb-true, not-true, not_from_false}
 use Rattle.amber_log.specs.declared.entry.Entry.{Entry}
 use Rattle.amber_log.specs.declared.entry.Entry.TheVariants as entry
@@ -26,6 +26,16 @@ so_if : (b c : Bool) → (b ≡ true → c ≡ true) → (not b || c) ≡ true
 so_if true c f = f refl
 so_if false c f = refl
 
+-- four tests that all hold, and what is tested behind them
+four_parts : (a b c d rest : Bool) → (a && (b && (c && (d && rest)))) ≡ true
+    → (a ≡ true) × (b ≡ true) × (c ≡ true) × (d ≡ true) × (rest ≡ true)
+four_parts a b c d rest e =
+    let behind_a = and_parts a _ e in
+    let behind_b = and_parts b _ behind_a.1 in
+    let behind_c = and_parts c _ behind_b.1 in
+    let behind_d = and_parts d rest behind_c.1 in
+    (behind_a.0, behind_b.0, behind_c.0, behind_d.0, behind_d.1)
+
 pub IsFree-so : (p : Position) → is_free p ≡ true → IsFree p
 IsFree-so p e =
     let a = and_parts _ _ e in
@@ -41,12 +51,9 @@ may_take-so role p from number = (to, back)
   where
     to : may_take role p from number ≡ true → MayTake role p from number
     to e =
-        let a = and_parts _ _ e in
-        let b = and_parts _ _ a.1 in
-        let c = and_parts _ _ b.1 in
-        let d = and_parts _ _ c.1 in
-        let f = and_parts _ _ d.1 in
-        record { free = IsFree-so p a.0; sender = b.0; next = eqb-true _ _ c.0; no_rest = nil_from_empty _ d.0; no_pending = nil_from_empty _ f.0; side = f.1 }
+        let a = four_parts _ _ _ _ _ e in
+        let f = and_parts _ _ a.4 in
+        record { free = IsFree-so p a.0; sender = a.1; next = eqb-true _ _ a.2; no_rest = nil_from_empty _ a.3; no_pending = nil_from_empty _ f.0; side = f.1 }
 
     back : MayTake role p from number → may_take role p from number ≡ true
     back h =
@@ -59,17 +66,14 @@ may_go-so role orders p rows outs = (to, back)
   where
     to : may_go role orders p rows outs ≡ true → MayGo role orders p rows outs
     to e =
-        let a = and_parts _ _ e in
-        let b = and_parts _ _ a.1 in
-        let c = and_parts _ _ b.1 in
-        let d = and_parts _ _ c.1 in
-        let f = and_parts _ _ d.1 in
+        let a = four_parts _ _ _ _ _ e in
+        let f = and_parts _ _ a.4 in
         let g = and_parts _ _ f.1 in
         record {
           free = IsFree-so p a.0;
-          within = leb-true _ _ b.0;
-          produced = leb-true _ _ c.0;
-          drained = λ some. leb-true _ _ (if_so _ _ d.0 (lt-ltb _ _ some));
+          within = leb-true _ _ a.1;
+          produced = leb-true _ _ a.2;
+          drained = λ some. leb-true _ _ (if_so _ _ a.3 (lt-ltb _ _ some));
           in_hand = λ counted. leb-true _ _ (if_so _ _ f.0 counted);
           before_taking = λ counted some. ltb-true _ _ (if_so _ _ (if_so _ _ g.0 counted) (lt-ltb _ _ some));
           no_stop = g.1;

@@ -1,2 +1,4 @@
+pub mod Answers
+pub mod ExampleRows
 pub mod FirstKeys
 pub mod Tables

@@ -1,5 +1,5 @@
 -- The state that an unaltered legal log leads to: each position is sound, and what was taken is what was made.
-use Rattle.std.proofs.Common.{◌≡◌, ℕ, zero, suc, ◌<◌, ◌≤◌, eqb, List, [], ◌∷◌, length, map, take, get_or, replicate, Some, unwrap_or, Bool, true, false, not, if◌then◌else◌, refl, ap, ◌∙◌, arith, add-one}
+use Rattle.std.proofs.Common.{◌≡◌, ℕ, zero, suc, ◌<◌, ◌≤◌, eqb, List, [], ◌∷◌, length, map, take, get_or, Some, unwrap_or, Bool, true, false, not, if◌then◌else◌, refl, ap, ◌∙◌, arith, add-one}
 use Rattle.std.specs.List.{slice_get}
 use Rattle.std.proofs.lemmas.Bool.{and_parts, false≢true}
 use Rattle.std.proofs.lemmas.List.{map-append, take_all, take_more}
@@ -20,7 +20,7 @@ use Rattle.amber_meaning.specs.Position.{Position, origin}
 use Rattle.amber_meaning.specs.State.{Arms, State, arms_at, begin_leg, begin_last_leg, after_command, without_arms, first_constants, let_go, no_arms, orders_of, position_at, start_of, with_arms}
 use Rattle.amber_meaning.specs.Stops.{arms_left, op_numbers, without_stops}
 use Rattle.amber_meaning.proofs.Lists.{nth-next}
-use Rattle.amber_meaning.proofs.OneState.{position-get_or}
+use Rattle.amber_meaning.proofs.OneState.{origin-at, position-get_or}
 use Rattle.amber_meaning.proofs.Rest.{legal_logs_rest}
 use Rattle.amber_meaning.proofs.Chunks.{offered-orderly}
 use Rattle.amber_laws.proofs.Sound.{IsSound, led-sound, let_go-sound, origin-sound}
@@ -164,14 +164,6 @@ reached-fit query state after [] h e fit = rw (← h) fit
 reached-fit query state after (one ∷ more) h e fit =
     let parts = and_parts (not (alters one)) _ e in
     reached-fit query h.0 after more h.2 parts.1 (made-fit query state h.0 one h.1 parts.0 fit)
-
-origin-at : (n worker : ℕ) → position_at (replicate n origin) worker ≡ origin
-origin-at n worker = position-get_or (replicate n origin) worker ∙ by n worker
-  where
-    by : (n worker : ℕ) → get_or (replicate n origin) worker origin ≡ origin
-    by zero worker = refl
-    by (suc n) zero = refl
-    by (suc n) (suc worker) = by n worker
 
 start-fit : (query : Query) → IsFit query (start_of query.flow)
 unfolding start_of

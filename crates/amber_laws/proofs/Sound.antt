@@ -52,6 +52,10 @@ pub record IsSound (role : Role) (p : Position) : Type 0 where
   pub no_pending : p.finished ≡ true → pending_rows role p ≡ []
   pub ended : p.finished ≡ true → have_ended role.senders p.taken ≡ true
 
+-- it has worked on all that its senders gave
+abbrev HasEnded : Role → Position → Type 0
+HasEnded role p = (rest_of role p ≡ []) × (pending_rows role p ≡ []) × (have_ended role.senders p.taken ≡ true)
+
 pub origin-sound : (role : Role) → IsSound role origin
 origin-sound role = record {
   within = omega arith;
@@ -66,9 +70,10 @@ origin-sound role = record {
   ended = λ e. absurd (false≢true e);
 }
 
-flags-sound : (role : Role) (p : Position) (hand : ℕ) (held waved paused : Bool) → IsSound role p
-    → IsSound role (record p { hand = hand; held = held; waved = waved; paused = paused })
-flags-sound role p hand held waved paused s = record {
+-- a position with other marks, and what they say where it has finished
+marked-sound : (role : Role) (p : Position) (hand : ℕ) (held waved paused finished : Bool) → IsSound role p → (finished ≡ true → HasEnded role p)
+    → IsSound role (record p { hand = hand; held = held; waved = waved; paused = paused; finished = finished })
+marked-sound role p hand held waved paused finished s h = record {
   within = s.within;
   produced = s.produced;
   steady = s.steady;
@@ -76,10 +81,14 @@ flags-sound role p hand held waved paused s = record {
   known = s.known;
   build_first = s.build_first;
   sides = s.sides;
-  no_rest = s.no_rest;
-  no_pending = s.no_pending;
-  ended = s.ended;
+  no_rest = λ e. (h e).0;
+  no_pending = λ e. (h e).1;
+  ended = λ e. (h e).2;
 }
+
+flags-sound : (role : Role) (p : Position) (hand : ℕ) (held waved paused : Bool) → IsSound role p
+    → IsSound role (record p { hand = hand; held = held; waved = waved; paused = paused })
+flags-sound role p hand held waved paused s = marked-sound role p hand held waved paused p.finished s (λ e. (s.no_rest e, s.no_pending e, s.ended e))
 
 pub let_go-sound : (role : Role) (p : Position) → IsSound role p → IsSound role (let_go p)
 let_go-sound role p s = by p.held
@@ -165,18 +174,7 @@ with_rows-sound role orders p rows outs e s may =
     }
 
 finish-sound : (role : Role) (p : Position) → IsSound role p → MayFinish role p → IsSound role (record p { finished = true })
-finish-sound role p s may = record {
-  within = s.within;
-  produced = s.produced;
-  steady = s.steady;
-  all_kept = s.all_kept;
-  known = s.known;
-  build_first = s.build_first;
-  sides = s.sides;
-  no_rest = λ e. may.no_rest;
-  no_pending = λ e. may.no_pending;
-  ended = λ e. may.ended;
-}
+finish-sound role p s may = marked-sound role p p.hand p.held p.waved p.paused true s (λ e. (may.no_rest, may.no_pending, may.ended))
 
 moved-sound : (role : Role) (orders : Orders) (p q : Position) (one : Entry) → orders.constants ≡ first_constants role.task.kind → IsOrderly role q.taken
     → IsSound role p → Moves role orders p one q → IsSound role q

@@ -1,5 +1,5 @@
 -- In every state that a legal log leads to, and in a leg that goes on, each worker's position is bounded.
-use Rattle.std.proofs.Common.{◌≡◌, ℕ, zero, suc, ◌+◌, ◌<◌, eqb, List, [], ◌∷◌, map, get_or, replicate, Bool, true, false, if◌then◌else◌, ◌⊎◌, inl, inr, refl}
+use Rattle.std.proofs.Common.{◌≡◌, ℕ, zero, suc, ◌+◌, ◌<◌, eqb, List, [], ◌∷◌, map, get_or, Bool, true, false, if◌then◌else◌, ◌⊎◌, inl, inr, refl}
 use Rattle.amber_rows.specs.Crew.{crew_of}
 use Rattle.amber_log.specs.declared.command.Command.{Command}
 use Rattle.amber_log.specs.declared.command.Command.TheVariants as command
@@ -16,7 +16,7 @@ use Rattle.amber_rows.specs.Lists.{changed_from}
 use Rattle.amber_meaning.specs.Stops.{without_stops}
 use Rattle.amber_meaning.specs.Task.{Role}
 use Rattle.amber_meaning.proofs.Chunks.{offered-orderly}
-use Rattle.amber_meaning.proofs.OneState.{position-get_or}
+use Rattle.amber_meaning.proofs.OneState.{origin-at, position-get_or}
 use Rattle.amber_lines.specs.Moving.{orders_in}
 use Rattle.amber_lines.proofs.Bounded.{IsBounded, led-bounded, let_go-bounded, origin-bounded, without_held-bounded}
 
@@ -25,11 +25,6 @@ abbrev pub AreBounded : Query → List Position → Type 0
 AreBounded query positions = (worker : ℕ) → worker < crew_of query.flow → IsBounded (role_in query worker) (position_at positions worker)
 
 -- ---- one position among others
-
-origin-at : (n worker : ℕ) → get_or (replicate n origin) worker origin ≡ origin
-origin-at zero worker = refl
-origin-at (suc n) zero = refl
-origin-at (suc n) (suc worker) = origin-at n worker
 
 let_go-at : (positions : List Position) (worker : ℕ) → get_or (map let_go positions) worker origin ≡ let_go (get_or positions worker origin)
 let_go-at [] worker = refl
@@ -53,7 +48,7 @@ changed-or number place (p ∷ positions) (suc worker) = changed-or number (suc 
 start-bounded : (query : Query) → AreBounded query (start_of query.flow).positions
 unfolding start_of
 start-bounded query worker less =
-    rw (position-get_or (replicate (crew_of query.flow) origin) worker, origin-at (crew_of query.flow) worker) (origin-bounded (role_in query worker))
+    rw (origin-at (crew_of query.flow) worker) (origin-bounded (role_in query worker))
 
 begin_leg-bounded : (query : Query) (positions : List Position) → AreBounded query positions → AreBounded query (map let_go positions)
 begin_leg-bounded query positions h worker less =

@@ -1,7 +1,7 @@
 -- Holding, units and how legs are closed: for each rule a log that keeps it, and one with one change that does not.
 use Rattle.std.proofs.Common.{◌≡◌, ℕ, List, [], ◌∷◌, codes, Some, None, Ok, refl}
 use Rattle.amber_meaning.specs.Legal.{Query}
-use Rattle.amber_lines.proofs.ExampleLog.{example, judged_text, judging_on_literals, query, reading_on_literals, with_line, with_more, without_line}
+use Rattle.amber_lines.proofs.ExampleLog.{after_the_scan, example, judged_text, judging_on_literals, query, reading_on_literals, with_a_pause, with_line, with_more, without_line}
 
 -- ---- holding
 
@@ -11,12 +11,8 @@ with_a_condition =
     codes "amber 1 400"
     ∷ codes "do when 2 3 >= i12"
     ∷ codes "run"
-    ∷ codes "w 0"
-    ∷ codes "g 5 5"
-    ∷ codes "f"
-    ∷ codes "w 1"
-    ∷ codes "t 0 0"
-    ∷ codes "g 2 1"
+    ∷ after_the_scan (
+    codes "g 2 1"
     ∷ codes "h"
     ∷ codes "cut"
     ∷ codes "run"
@@ -24,6 +20,7 @@ with_a_condition =
     ∷ codes "g 2 2"
     ∷ codes "h"
     ∷ codes "cut" ∷ []
+    )
 
 holding_is_legal : judged_text query with_a_condition ≡ Ok None
 unfolding reading_on_literals judging_on_literals
@@ -66,16 +63,13 @@ with_units =
     ∷ codes "do count 2 5"
     ∷ codes "do when 2 3 >= i12"
     ∷ codes "run"
-    ∷ codes "w 0"
-    ∷ codes "g 5 5"
-    ∷ codes "f"
-    ∷ codes "w 1"
-    ∷ codes "t 0 0"
-    ∷ codes "a 2"
+    ∷ after_the_scan (
+    codes "a 2"
     ∷ codes "g 2 1"
     ∷ codes "h"
     ∷ codes "b 1"
     ∷ codes "cut" ∷ []
+    )
 
 units_given_back_are_legal : judged_text query with_units ≡ Ok None
 unfolding reading_on_literals judging_on_literals
@@ -105,18 +99,7 @@ no_count_is_passed = refl
 
 -- a pause that does not stand yet
 abbrev too_early : List (List ℕ)
-too_early =
-    codes "amber 1 400"
-    ∷ codes "do pause 2 4"
-    ∷ codes "run"
-    ∷ codes "w 0"
-    ∷ codes "g 5 5"
-    ∷ codes "f"
-    ∷ codes "w 1"
-    ∷ codes "t 0 0"
-    ∷ codes "g 3 3"
-    ∷ codes "p"
-    ∷ codes "cut" ∷ []
+too_early = with_line 2 (codes "do pause 2 4") with_a_pause
 
 -- a query that may make so many steps; this leg makes 18
 abbrev within : ℕ → Query

@@ -6,7 +6,7 @@ use Rattle.amber_log.specs.declared.line.Line.TheVariants as line
 use Rattle.amber_log.specs.declared.log.Log.{Log}
 use Rattle.amber_meaning.proofs.ExampleCases.{by_item, counted_log, query_of}
 use Rattle.amber_lines.specs.Lines.{Fresh, judge_all}
-use Rattle.amber_lines.proofs.ExampleLog.{judged_text, judging_on_literals, query, reading_on_literals, with_line}
+use Rattle.amber_lines.proofs.ExampleLog.{after_the_scan, judged_text, judging_on_literals, query, reading_on_literals, with_line}
 
 abbrev log : Log
 log = record { batch = 400; items = counted_log }
@@ -34,12 +34,8 @@ abbrev group_result : List (List ℕ)
 group_result =
     codes "amber 1 400"
     ∷ codes "end"
-    ∷ codes "w 0"
-    ∷ codes "g 5 5"
-    ∷ codes "f"
-    ∷ codes "w 1"
-    ∷ codes "t 0 0"
-    ∷ codes "f"
+    ∷ after_the_scan (
+    codes "f"
     ∷ codes "w 2"
     ∷ codes "t 0 0"
     ∷ codes "f"
@@ -60,6 +56,7 @@ group_result =
     ∷ codes "g 1 0"
     ∷ codes "f"
     ∷ codes "cut" ∷ []
+    )
 
 the_group_is_legal : judged_text (query_of by_item 400) group_result ≡ Ok None
 unfolding reading_on_literals judging_on_literals

@@ -25,17 +25,17 @@ judging_on_literals = tt
 abbrev pub query : Query
 query = query_of (kept_from 0) 400
 
+-- five lines in front of others: the scan reads its five rows, and worker 1 takes them as its first batch
+abbrev pub after_the_scan : List (List ℕ) → List (List ℕ)
+after_the_scan lines = codes "w 0" ∷ codes "g 5 5" ∷ codes "f" ∷ codes "w 1" ∷ codes "t 0 0" ∷ lines
+
 abbrev pub example : List (List ℕ)
 example =
     codes "amber 1 400"
     ∷ codes "do count 2 3"
     ∷ codes "run"
-    ∷ codes "w 0"
-    ∷ codes "g 5 5"
-    ∷ codes "f"
-    ∷ codes "w 1"
-    ∷ codes "t 0 0"
-    ∷ codes "a 3"
+    ∷ after_the_scan (
+    codes "a 3"
     ∷ codes "g 3 3"
     ∷ codes "p"
     ∷ codes "cut"
@@ -49,6 +49,15 @@ example =
     ∷ codes "g 5 0"
     ∷ codes "f"
     ∷ codes "cut" ∷ []
+    )
+
+-- a pause after two rows, and the leg up to it
+abbrev pub with_a_pause : List (List ℕ)
+with_a_pause =
+    codes "amber 1 400"
+    ∷ codes "do pause 2 2"
+    ∷ codes "run"
+    ∷ after_the_scan (codes "g 3 3" ∷ codes "p" ∷ codes "cut" ∷ [])
 
 -- another line in place of the one with this number
 abbrev pub with_line : ℕ → List ℕ → List (List ℕ) → List (List ℕ)

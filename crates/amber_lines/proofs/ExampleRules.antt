@@ -2,7 +2,7 @@
 use Rattle.std.proofs.Common.{◌≡◌, ℕ, List, [], ◌∷◌, codes, Some, None, Ok, refl}
 use Rattle.amber_meaning.specs.Legal.{Query}
 use Rattle.amber_meaning.proofs.ExampleCases.{kept_from, priced_query, query_of}
-use Rattle.amber_lines.proofs.ExampleLog.{example, judged_text, judging_on_literals, query, reading_on_literals, with_line, with_more, without_line}
+use Rattle.amber_lines.proofs.ExampleLog.{after_the_scan, example, judged_text, judging_on_literals, query, reading_on_literals, with_a_pause, with_line, with_more, without_line}
 
 -- ---- taking a batch
 
@@ -11,12 +11,8 @@ abbrev in_small_batches : List (List ℕ)
 in_small_batches =
     codes "amber 1 2"
     ∷ codes "end"
-    ∷ codes "w 0"
-    ∷ codes "g 5 5"
-    ∷ codes "f"
-    ∷ codes "w 1"
-    ∷ codes "t 0 0"
-    ∷ codes "g 2 2"
+    ∷ after_the_scan (
+    codes "g 2 2"
     ∷ codes "t 0 1"
     ∷ codes "g 2 2"
     ∷ codes "t 0 2"
@@ -31,6 +27,7 @@ in_small_batches =
     ∷ codes "g 1 0"
     ∷ codes "f"
     ∷ codes "cut" ∷ []
+    )
 
 abbrev by_two : Query
 by_two = query_of (kept_from 0) 2
@@ -105,20 +102,6 @@ unfolding reading_on_literals judging_on_literals
 a_finished_worker_makes_no_entry = refl
 
 -- ---- pausing
-
-abbrev with_a_pause : List (List ℕ)
-with_a_pause =
-    codes "amber 1 400"
-    ∷ codes "do pause 2 2"
-    ∷ codes "run"
-    ∷ codes "w 0"
-    ∷ codes "g 5 5"
-    ∷ codes "f"
-    ∷ codes "w 1"
-    ∷ codes "t 0 0"
-    ∷ codes "g 3 3"
-    ∷ codes "p"
-    ∷ codes "cut" ∷ []
 
 the_pause_is_legal : judged_text query with_a_pause ≡ Ok None
 unfolding reading_on_literals judging_on_literals

@@ -1,8 +1,8 @@
 -- The illegal line is the first up to which a log is no legal beginning.
-use Rattle.std.proofs.Common.{◌≡◌, ℕ, zero, suc, ◌+◌, ◌<◌, ◌≤◌, List, [], ◌∷◌, ◌++◌, length, take, drop, Option, Some, None, ◌⊎◌, inl, inr, refl, sym, ap, ◌∙◌, subst, arith, append-nil}
+use Rattle.std.proofs.Common.{◌≡◌, ℕ, suc, ◌+◌, ◌<◌, ◌≤◌, List, [], ◌∷◌, ◌++◌, length, take, drop, Option, Some, None, ◌⊎◌, inl, inr, refl, sym, ap, ◌∙◌, subst, arith, append-nil}
 use Rattle.std.specs.Prelude.{option_and_then}
 use Rattle.std.proofs.lemmas.Bool.{cases_order}
-use Rattle.std.proofs.lemmas.List.{take-append-drop, take_all}
+use Rattle.std.proofs.lemmas.List.{take-append-drop, take-take, take_all}
 use Rattle.amber_log.specs.Grammar.{IsLog}
 use Rattle.amber_log.specs.LogText.{log_lines}
 use Rattle.amber_log.specs.declared.line.Line.{Line}
@@ -103,18 +103,11 @@ stops-first query log number text h =
     refused : IsBeginning query (take (suc h.place) (log_lines log)) → ⊥
     refused begins = let none = h.bad in let some = begins.good in cc
 
-take-fewer : (fewer more : ℕ) (lines : List Line) → fewer ≤ more → (rest : List Line) × (take fewer lines ++ rest ≡ take more lines)
-take-fewer zero more lines h = (take more lines, refl)
-take-fewer (suc fewer) zero lines h = absurd (omega arith)
-take-fewer (suc fewer) (suc more) [] h = ([], refl)
-take-fewer (suc fewer) (suc more) (first ∷ lines) h =
-    let rest = take-fewer fewer more lines (omega arith) in
-    (rest.0, ap (λ (l : List Line). first ∷ l) rest.1)
-
 fewer-begin : (query : Query) (fewer more : ℕ) (lines : List Line) → fewer ≤ more → IsBeginning query (take more lines) → IsBeginning query (take fewer lines)
 fewer-begin query fewer more lines h begins =
-    let front = take-fewer fewer more lines h in
-    beginnings_have_fronts query (take fewer lines) front.0 (subst (IsBeginning query) (sym front.1) begins)
+    let rest = drop fewer (take more lines) in
+    let whole : take fewer lines ++ rest ≡ take more lines = ap (λ front. front ++ rest) (sym (take-take fewer more lines h)) ∙ take-append-drop fewer (take more lines) in
+    beginnings_have_fronts query (take fewer lines) rest (subst (IsBeginning query) (sym whole) begins)
 
 one-first : (query : Query) (lines : List Line) (number other : ℕ) → IsFirstIllegal query lines number → IsFirstIllegal query lines other → number ≡ other
 one-first query lines number other h g = by (cases_order h.place g.place)

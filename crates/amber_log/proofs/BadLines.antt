@@ -1,9 +1,9 @@
 -- Reading fails at the first line with which the lines begin those of no log.
-use Rattle.std.proofs.Common.{◌≡◌, ℕ, zero, suc, ◌+◌, ◌<◌, ◌≤◌, ◌⊎◌, inl, inr, ◌++◌, Bool, true, false, List, [], ◌∷◌, length, map, take, drop, Option, Some, None, Result, Ok, Err, refl, sym, ap, ◌∙◌, subst, arith, add-one, length-append, append_assoc, append-nil}
+use Rattle.std.proofs.Common.{◌≡◌, ℕ, suc, ◌+◌, ◌<◌, ◌≤◌, ◌⊎◌, inl, inr, ◌++◌, Bool, true, false, List, [], ◌∷◌, length, map, take, drop, Option, Some, None, Result, Ok, Err, refl, sym, ap, ◌∙◌, subst, arith, add-one, length-append, append_assoc, append-nil}
 use Rattle.std.specs.Prelude.{IfErr, IfOk, IfSome, option_and_then}
 use Rattle.std.proofs.Math.Seq.{take-append_seam}
 use Rattle.std.proofs.lemmas.Bool.{cases_order}
-use Rattle.std.proofs.lemmas.List.{map-append, take-append-drop}
+use Rattle.std.proofs.lemmas.List.{map-append, take-append-drop, take-take}
 use Rattle.std.proofs.lemmas.Result.{IfErr-at_err}
 use Rattle.amber_log.specs.Grammar.{AreItems}
 use Rattle.amber_log.specs.LogText.{log_lines}
@@ -213,18 +213,11 @@ read_lines-fails (bytes ∷ lines) = by_first bytes (cut_back lines) (parse byte
 front_begins : (xs ys : List (List ℕ)) → BeginsText (xs ++ ys) → BeginsText xs
 front_begins xs ys h = record { log = h.log; text = h.text; more = ys ++ h.more; whole = sym (append_assoc xs ys h.more) ∙ h.whole }
 
-take-fewer : (fewer more : ℕ) (lines : List (List ℕ)) → fewer ≤ more → (rest : List (List ℕ)) × (take fewer lines ++ rest ≡ take more lines)
-take-fewer zero more lines h = (take more lines, refl)
-take-fewer (suc fewer) zero lines h = absurd (omega arith)
-take-fewer (suc fewer) (suc more) [] h = ([], refl)
-take-fewer (suc fewer) (suc more) (first ∷ lines) h =
-    let rest = take-fewer fewer more lines (omega arith) in
-    (rest.0, ap (λ (l : List (List ℕ)). first ∷ l) rest.1)
-
 fewer_begin : (fewer more : ℕ) (lines : List (List ℕ)) → fewer ≤ more → BeginsText (take more lines) → BeginsText (take fewer lines)
 fewer_begin fewer more lines h begins =
-    let front = take-fewer fewer more lines h in
-    front_begins (take fewer lines) front.0 (subst BeginsText (sym front.1) begins)
+    let rest = drop fewer (take more lines) in
+    let whole : take fewer lines ++ rest ≡ take more lines = ap (λ front. front ++ rest) (sym (take-take fewer more lines h)) ∙ take-append-drop fewer (take more lines) in
+    front_begins (take fewer lines) rest (subst BeginsText (sym whole) begins)
 
 one_first : (lines : List (List ℕ)) (number other : ℕ) → IsFirstBadLine lines number → IsFirstBadLine lines other → number ≡ other
 one_first lines number other h g = by_order (cases_order h.place g.place)

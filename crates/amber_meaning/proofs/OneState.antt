@@ -1,5 +1,5 @@
 -- The state that items lead to is the one that is computed from them.
-use Rattle.std.proofs.Common.{◌≡◌, ℕ, zero, suc, ◌+◌, ◌<◌, ◌≤◌, eqb, List, [], ◌∷◌, ◌++◌, length, map, get_or, Some, Bool, true, false, if◌then◌else◌, inl, inr, refl, sym, ap, ◌∙◌, arith, add-one}
+use Rattle.std.proofs.Common.{◌≡◌, ℕ, zero, suc, ◌+◌, ◌<◌, ◌≤◌, eqb, List, [], ◌∷◌, ◌++◌, length, map, get_or, replicate, Some, Bool, true, false, if◌then◌else◌, inl, inr, refl, sym, ap, ◌∙◌, arith, add-one}
 use Rattle.std.specs.Prelude.{filter}
 use Rattle.std.specs.List.{list_any}
 use Rattle.std.proofs.lemmas.Bool.{cases_eq, cases_lt, eq-eqb, ne_eqb}
@@ -110,6 +110,15 @@ led-is role orders offer p q (one ∷ more) h first =
 
 pub position-get_or : (positions : List Position) (worker : ℕ) → position_at positions worker ≡ get_or positions worker origin
 position-get_or positions worker = numbered_or positions worker origin
+
+-- at the start each worker has begun nothing
+pub origin-at : (n worker : ℕ) → position_at (replicate n origin) worker ≡ origin
+origin-at n worker = position-get_or (replicate n origin) worker ∙ by n worker
+  where
+    by : (n worker : ℕ) → get_or (replicate n origin) worker origin ≡ origin
+    by zero worker = refl
+    by (suc n) zero = refl
+    by (suc n) (suc worker) = by n worker
 
 pub position-before : (positions : List Position) (p : Position) (worker : ℕ) → worker < length positions
     → position_at (positions ++ p ∷ []) worker ≡ position_at positions worker

@@ -24,7 +24,7 @@ use Rattle.amber_meaning.specs.Rules.{Leads}
 use Rattle.amber_meaning.specs.State.{Arms, State, begin_leg, begin_last_leg, after_command, without_arms, let_go, position_at, start_of, steps_in, with_arms, without_held}
 use Rattle.amber_meaning.specs.Stops.{op_numbers, without_stops}
 use Rattle.amber_meaning.proofs.Fronts.{legal_logs_grow}
-use Rattle.amber_meaning.proofs.OneState.{position-get_or}
+use Rattle.amber_meaning.proofs.OneState.{origin-at, position-get_or}
 
 -- ---- positions that differ in flags and dropped rows alone
 
@@ -163,14 +163,6 @@ after_command-rests query state (command.Set op value) h = rearmed query state _
 after_command-rests query state (command.Drop op worker) h = resting-like query state _ refl (like-changed _ 1 state.positions) h
 after_command-rests query state (command.Inspect op) h = h
 after_command-rests query state (command.Lose op worker) h = h
-
-origin-at : (n worker : ℕ) → position_at (replicate n origin) worker ≡ origin
-origin-at n worker = position-get_or (replicate n origin) worker ∙ by n worker
-  where
-    by : (n worker : ℕ) → get_or (replicate n origin) worker origin ≡ origin
-    by zero worker = refl
-    by (suc n) zero = refl
-    by (suc n) (suc worker) = by n worker
 
 start-rests : (query : Query) → IsResting query (start_of query.flow)
 unfolding start_of steps_in AreOffered taken_from

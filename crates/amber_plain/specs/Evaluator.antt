@@ -2,7 +2,11 @@
 use Rattle.std.specs.Prelude.{◌≢◌, ℕ, ◌-◌, ◌<◌, ◌≤◌, List, [], length, Option, Some, None, slice_set}
 use Rattle.amber_rows.specs.Kinds.{build_input, main_input}
 use Rattle.amber_rows.specs.declared.value.Value.{Value}
+use Rattle.amber_rows.specs.declared.flow.Operator.{Operator}
 use Rattle.amber_rows.specs.declared.flow.What.{What}
+use Rattle.amber_meaning.specs.Kinds.{refused_by, rows_of}
+use Rattle.amber_meaning.specs.ScanFiles.{records_at}
+use Rattle.amber_meaning.specs.declared.answer.Refusal.{Refusal}
 
 -- there is a list with this number
 abbrev pub HasList : List (List (List Value)) → ℕ → Type 0
@@ -34,3 +38,11 @@ without_one lists (Some input) = without lists input
 -- the lists without the rows that an operator has taken
 abbrev pub lists_after : What → List (List (List Value)) → List (List (List Value))
 lists_after kind lists = without_one (without_one lists (build_input kind)) (main_input kind)
+
+-- the rows of an operator, whose records stand in this file
+abbrev pub rows_from : Operator → List ℕ → List (List (List Value)) → List (List Value)
+rows_from operator file lists = rows_of operator.what (records_at operator.what operator.schema file) lists
+
+-- what it refuses, under this number
+abbrev pub refused_from : ℕ → Operator → List ℕ → List (List (List Value)) → List Refusal
+refused_from op operator file lists = refused_by op operator.what (records_at operator.what operator.schema file) lists

@@ -3,12 +3,11 @@ ghost use Rattle.std.specs.Prelude.{◌≡◌, ◌<◌, ◌^◌, ◌++◌, ◌�
 ghost use Rattle.amber_rows.specs.Cond.{holds_of};
 ghost use Rattle.amber_rows.specs.Columns.{columns_at};
 ghost use Rattle.amber_rows.specs.Operators.{group_result, refused_keys};
+ghost use Rattle.amber_rows.specs.Order.{sort_rows};
 ghost use Rattle.amber_meaning.specs.Plain.{IsPlain, scan_count};
-ghost use Rattle.amber_meaning.specs.Kinds.{refused_by, rows_of};
 ghost use Rattle.amber_meaning.specs.Refused.{refused_groups};
 ghost use Rattle.amber_rows.specs.Lists.{list_at};
-ghost use Rattle.amber_meaning.specs.ScanFiles.{records_at};
-ghost use Rattle.amber_plain.specs.Evaluator.{HasInputs, HasList, lists_after, without};
+ghost use Rattle.amber_plain.specs.Evaluator.{HasInputs, HasList, lists_after, refused_from, rows_from, without};
 ghost use Rattle.amber_meaning.specs.declared.answer.Refusal.TheVariants as refusal;
 
 use crate::grouping::group_rows;
@@ -32,11 +31,20 @@ fn take_rows(alloc: Global, lists: &mut Vec<Rows>, op: u32) -> Vec<Row>
     mem::replace(place, Rows::new(Vec::new(alloc))).into_inner()
 }
 
-/// Leaves the rows for which the condition holds.
-fn keep(cond: &Cond, rows: &mut Vec<Row>)
-    ensures { rows.new.items ≡ filter (holds_of cond.now) rows.old.items }
+/// The rows for which the condition holds.
+fn keep(cond: &Cond, mut rows: Vec<Row>) -> Vec<Row>
+    ensures { result.items ≡ filter (holds_of cond.now) rows.items }
 {
     rows.retain(|row| holds(cond, row));
+    rows
+}
+
+/// The rows in their order. Equal rows all stay.
+fn sorted(mut rows: Vec<Row>) -> Vec<Row>
+    ensures { result.items ≡ sort_rows rows.items }
+{
+    sort(&mut rows);
+    rows
 }
 
 /// Refuses the groups with these keys.
@@ -87,23 +95,16 @@ fn rows_of(
     requires inputs { HasInputs lists.old.items operator.now.what }
     requires few { length operator.now.schema < 2 ^ 32 }
     ensures rows { IfOk result
-        (λ rows. rows.items ≡ rows_of operator.now.what
-        (records_at operator.now.what operator.now.schema file.now) lists.old.items) }
+        (λ rows. rows.items ≡ rows_from operator.now file.now lists.old.items) }
     ensures refused { OnOk result (refused.new.items
-        ≡ refused.old.items ++ refused_by op operator.now.what
-        (records_at operator.now.what operator.now.schema file.now) lists.old.items) }
+        ≡ refused.old.items ++ refused_from op operator.now file.now lists.old.items) }
     ensures lists { OnOk result (lists.new.items ≡ lists_after operator.now.what lists.old.items) }
 {
     match &operator.what {
         What::Scan { .. } => scan(alloc, op, &operator.schema, file, refused),
-        What::Filter { input, cond } => {
-            let mut rows = take_rows(alloc, lists, *input);
-            keep(cond, &mut rows);
-            Ok(rows)
-        }
+        What::Filter { input, cond } => Ok(keep(cond, take_rows(alloc, lists, *input))),
         What::Project { input, from } => {
-            let rows = take_rows(alloc, lists, *input);
-            project(alloc, from, rows.as_slice())
+            project(alloc, from, take_rows(alloc, lists, *input).as_slice())
         }
         What::Join {
             build,
@@ -119,11 +120,7 @@ fn rows_of(
             let rows = take_rows(alloc, lists, *input);
             group_refused(alloc, op, keys, aggs, rows, refused)
         }
-        What::Sink { input } => {
-            let mut rows = take_rows(alloc, lists, *input);
-            sort(&mut rows);
-            Ok(rows)
-        }
+        What::Sink { input } => Ok(sorted(take_rows(alloc, lists, *input))),
     }
 }
 
@@ -139,15 +136,12 @@ fn evaluate(
     requires inputs { HasInputs lists.old.items operator.now.what }
     requires few { length operator.now.schema < 2 ^ 32 }
     ensures count { IfOk result
-        (λ count. count ≡ length
-        (rows_of operator.now.what
-        (records_at operator.now.what operator.now.schema file.now) lists.old.items)) }
+        (λ count. count ≡ length (rows_from operator.now file.now lists.old.items)) }
     ensures refused { OnOk result (refused.new.items
-        ≡ refused.old.items ++ refused_by op operator.now.what
-        (records_at operator.now.what operator.now.schema file.now) lists.old.items) }
+        ≡ refused.old.items ++ refused_from op operator.now file.now lists.old.items) }
     ensures lists { OnOk result (lists.new.items
-        ≡ lists_after operator.now.what lists.old.items ++ rows_of operator.now.what
-        (records_at operator.now.what operator.now.schema file.now) lists.old.items ∷ []) }
+        ≡ lists_after operator.now.what lists.old.items
+        ++ rows_from operator.now file.now lists.old.items ∷ []) }
 {
     let rows = rows_of(alloc, op, operator, file, lists, refused)?;
     let count = rows.len() as u64;

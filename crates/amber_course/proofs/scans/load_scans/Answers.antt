@@ -55,25 +55,23 @@ loop-i-preserved g c =
 pub returns-in_err-bytes-clause-course : goal.returns-in_err-bytes-clause-course
 returns-in_err-bytes-clause-course g c =
     let flow = c.args.flow.now in
-    let i = c.loop-i.i in
     let o = c.index-operators-i.result in
-    let h : i < length flow = rw c.get-operators.ensures.operators at c.loop-i-test.true in
-    let is : o ≡ get_or flow i o = rw c.get-operators.ensures.operators at c.index-operators-i.is in
+    let h : c.loop-i.i < length flow = rw c.get-operators.ensures.operators at c.loop-i-test.true in
+    let is : o ≡ get_or flow c.loop-i.i o = rw c.get-operators.ensures.operators at c.index-operators-i.is in
     let e : c.from_residual.result ≡ Err c.in_err-bytes.field-0.0 = search rules in
     let load = rw (c.get.ensures, c.loop-i.invariant.same, c.loop-i.invariant.loads) at c.in_err-bytes.ensures.course in
-    rw e (scan-failure flow i c.loop-i.left o c.in-Scan.file c.loop-i.files.items (scans_of flow) c.in_err-bytes.field-0.0
+    rw e (scan-failure flow c.loop-i.i c.loop-i.left o c.in-Scan.file c.loop-i.files.items (scans_of flow) c.in_err-bytes.field-0.0
     (g.F.Folder.files c.args.folder.now) (g.F.Folder.load_faults c.args.folder.now) (g.F.Folder.load_faults c.load_scan.new.folder)
-    h is c.in-Scan.is (walked-all flow i c.loop-i.left c.loop-i.files.items (g.F.Folder.files c.args.folder.now) c.loop-i.invariant.course) load)
+    h is c.in-Scan.is (walked-all flow c.loop-i.i c.loop-i.left c.loop-i.files.items (g.F.Folder.files c.args.folder.now) c.loop-i.invariant.course) load)
 
 pub returns-in_err-bytes-clause-named : goal.returns-in_err-bytes-clause-named
 returns-in_err-bytes-clause-named g c =
     let flow = c.args.flow.now in
-    let i = c.loop-i.i in
     let o = c.index-operators-i.result in
-    let h : i < length flow = rw c.get-operators.ensures.operators at c.loop-i-test.true in
-    let is : o ≡ get_or flow i o = rw c.get-operators.ensures.operators at c.index-operators-i.is in
+    let h : c.loop-i.i < length flow = rw c.get-operators.ensures.operators at c.loop-i-test.true in
+    let is : o ≡ get_or flow c.loop-i.i o = rw c.get-operators.ensures.operators at c.index-operators-i.is in
     let e : c.from_residual.result ≡ Err c.in_err-bytes.field-0.0 = search rules in
-    rw e (scan-names c.in_err-bytes.field-0.0 flow i c.loop-i.left o c.in-Scan.file c.loop-i.files.items (g.F.Folder.files c.args.folder.now)
+    rw e (scan-names c.in_err-bytes.field-0.0 flow c.loop-i.i c.loop-i.left o c.in-Scan.file c.loop-i.files.items (g.F.Folder.files c.args.folder.now)
     h is c.in-Scan.is c.loop-i.invariant.course (rw c.get.ensures at c.in_err-bytes.ensures.named))
 
 pub returns-clause-course : goal.returns-clause-course

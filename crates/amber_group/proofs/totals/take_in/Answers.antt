@@ -6,7 +6,7 @@ use Rattle.indexmap.proofs.CallerLemmas.{insert_entry-new}
 use Rattle.amber_rows.specs.Operators.{same_row}
 use Rattle.amber_group.specs.Running.{running_of}
 use Rattle.amber_group.specs.Steps.{GroupsWithin, running_after}
-use Rattle.amber_group.proofs.Answers.{none_is, on_err, on_ok}
+use Rattle.amber_keys.proofs.Answers.{none_is, on_err, on_ok}
 use Rattle.amber_group.proofs.GroupTables.{groups-known, groups-new, set-same}
 use Rattle.amber_group.proofs.Within.{are_within-up, groups_within-at, groups_within-push, groups_within-set, groups_within-up}
 use Rattle.amber_group.proofs.totals.take_in.Goals as goal

@@ -4,7 +4,8 @@ use Rattle.std.specs.Map.{keys_of, lookup}
 use Rattle.indexmap.specs.IndexMap.{set_value_at}
 use Rattle.indexmap.proofs.CallerLemmas.{insert_entry-new}
 use Rattle.amber_rows.specs.Operators.{same_row}
-use Rattle.amber_join.proofs.PlaceTables.{none_is, on_err, on_ok, set-same, table-known, table-new}
+use Rattle.amber_join.proofs.PlaceTables.{set-same, table-known, table-new}
+use Rattle.amber_keys.proofs.Answers.{none_is, on_err, on_ok}
 use Rattle.amber_join.proofs.places.note.Goals as goal
 
 pub returns-in-Some-clause-ok : goal.returns-in-Some-clause-ok

@@ -2,7 +2,7 @@
 use Rattle.std.proofs.Common.{◌∙◌, ap}
 use Rattle.amber_group.specs.Finished.{refused_of, finished_rows}
 use Rattle.amber_group.specs.Group.{Group}
-use Rattle.amber_group.proofs.Answers.{if_ok}
+use Rattle.amber_keys.proofs.Answers.{if_ok}
 use Rattle.amber_group.proofs.Finishing.{refused-groups, rows-groups}
 use Rattle.amber_group.proofs.state.GroupState.finish.Goals as goal
 

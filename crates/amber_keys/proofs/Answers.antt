@@ -1,4 +1,4 @@
--- What follows from the answer of a call, where one fact follows from another.
+-- What follows of a call's answer, where one fact follows from another.
 use Rattle.std.proofs.Common.{◌≡◌, false, Option, Some, None, is_some, Result, Ok, Err, IfOk, OnErr, OnOk, refl}
 
 pub on_ok : {T E : Type 0} (r : Result T E) (P Q : Type 0) → OnOk r P → (P → Q) → OnOk r Q

@@ -1,0 +1,25 @@
+use Rattle.std.proofs.Common.{rules, ◌<◌, List, ℕ, Bor, length, map, subst, sym, arith, refl}
+use Rattle.std.proofs.lemmas.List.{length-map}
+use Rattle.amber_rows.specs.Columns.{HasInput}
+use Rattle.amber_rows.specs.declared.column.Column.{Column}
+use Rattle.amber_flow.specs.Joins.{join_over}
+use Rattle.amber_flow.proofs.JoinFacts.{join-kind}
+use Rattle.amber_flow.proofs.join.read_over.Goals as goal
+
+pub returns : goal.returns
+unfolding join_over
+returns c =
+    let now = λ (name : Bor (List ℕ)). name.now in
+    let before = c.args.before.now in
+    let build = c.args.build in
+    let probe = c.args.probe in
+    let names = c.args.build_names.now in
+    let has_build = subst (λ (columns : List Column). HasInput before build columns) (sym c.get-built.ensures) c.schema_at.ensures.input in
+    let has_probe = subst (λ (columns : List Column). HasInput before probe columns) (sym c.get-probed.ensures) c.schema_at-2.ensures.input in
+    let some : 0 < length (map now names) = omega (arith, c.requires.some, length-map names now) in
+    let fit = rw c.in-Ok.is at c.in_ok-keys.ensures.fit in
+    record {
+      parts = search rules;
+      kind = join-kind before build probe c.get-built.result.now c.get-probed.result.now (map now names) c.in-Ok.keys c.in_ok-schema.schema c.requires.build c.requires.probe has_build has_probe some fit c.in_ok-schema.ensures;
+      sink = refl;
+    }
