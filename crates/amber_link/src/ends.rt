@@ -42,7 +42,9 @@ pub fn link(alloc: Global, batch: u32) -> Result<(Out, In), AllocError>
     requires some { 0 < batch }
     requires few { batch ≤ 65536 }
     ensures linked { IfOk result (λ ends. AreLinked ends.0 ends.1) }
-    ensures out { IfOk result (λ ends. ends.0.kept ≡ record { size = batch; made = 0; ended = false; waiting = []; partial = []; room = 0 }) }
+    ensures out { IfOk result
+        (λ ends. ends.0.kept
+        ≡ record { size = batch; made = 0; ended = false; waiting = []; partial = []; room = 0 }) }
     ensures none_sent { IfOk result (λ ends. sent ends.0.ring ≡ []) }
     ensures none_came { IfOk result (λ ends. received ends.1.ring ≡ []) }
     ensures none_known { IfOk result (λ ends. waiting ends.1 ≡ []) }
@@ -165,7 +167,8 @@ impl In {
     /// Takes the first batch that waits, of those in the inbox, and else of those in the ring.
     pub fn take(&mut self) -> Option<Batch>
         ensures gives { Gives self.old (option_to_list result) self.new }
-        ensures none { IfNone result ((self.old.inbox.items ≡ []) × (known_items self.new.ring ≡ [])) }
+        ensures none { IfNone result ((self.old.inbox.items ≡ [])
+            × (known_items self.new.ring ≡ [])) }
         ensures inbox { self.new.inbox.items ≡ drop 1 self.old.inbox.items }
         ensures known { has_some (waiting self.old) ≡ true → IsSome result }
     {

@@ -63,7 +63,8 @@ fn next_list(alloc: Global, spare: &mut Vec<Vec<Row>>, size: usize) -> Vec<Row>
 // Makes a batch of the rows. The next list takes their place.
 fn cut(waiting: &mut VecDeque<Batch>, partial: &mut Vec<Row>, next: Vec<Row>, seq: u64, last: bool)
     requires { deque_len waiting.old < deque_capacity waiting.old }
-    ensures made { waiting.new.items ≡ waiting.old.items ++ record { seq = seq; rows = partial.old.items; last = last } ∷ [] }
+    ensures made { waiting.new.items
+        ≡ waiting.old.items ++ record { seq = seq; rows = partial.old.items; last = last } ∷ [] }
     ensures longer { deque_len waiting.new ≡ deque_len waiting.old + 1 }
     ensures slots { deque_capacity waiting.new ≡ deque_capacity waiting.old }
     ensures left { partial.new ≡ next }
@@ -95,7 +96,8 @@ impl Model for Outbox {
 
     ghost view = { λ a. record { size = a.size; made = a.made; ended = a.ended; waiting = a.waiting.items; partial = a.partial.items; room = a.room } };
 
-    ghost invariant = { λ a. HasRoom (record { size = a.size; room = a.room; held = vec_len a.partial; capacity = vec_capacity a.partial; spares = vec_len a.spare; waiting = deque_len a.waiting; slots = deque_capacity a.waiting }) × AreSpare a.size a.spare.items };
+    ghost invariant = { λ a. HasRoom
+        (record { size = a.size; room = a.room; held = vec_len a.partial; capacity = vec_capacity a.partial; spares = vec_len a.spare; waiting = deque_len a.waiting; slots = deque_capacity a.waiting }) × AreSpare a.size a.spare.items };
 }
 
 impl Outbox {

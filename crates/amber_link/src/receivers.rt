@@ -44,7 +44,8 @@ pub fn has_receiver(outs: &[Receiver], to: u32) -> bool
 pub fn place_to(outs: &[Receiver], to: u32) -> Option<usize>
     ensures none { IfNone result (list_any (λ one. one.to == to) outs.now ≡ false) }
     ensures there { IfSome result (λ place. place < length outs.now) }
-    ensures own { IfSome result (λ place. (d : OneReceiver) → (slice_index_or outs.now place d).to ≡ to) }
+    ensures own { IfSome result
+        (λ place. (d : OneReceiver) → (slice_index_or outs.now place d).to ≡ to) }
 {
     for (i, one) in outs.iter().enumerate() {
         if one.to == to {
@@ -72,9 +73,12 @@ pub fn reserve_at(outs: &mut [Receiver], place: usize) -> Result<(), AllocError>
     requires there { place < length outs.old }
     requires open { (d : OneReceiver) → (slice_index_or outs.old place d).link.kept.ended ≡ false }
     ensures same { map without_room outs.new ≡ map without_room outs.old }
-    ensures still_open { (b : Bool) → All (λ one. one.link.kept.ended ≡ b) outs.old → All (λ one. one.link.kept.ended ≡ b) outs.new }
-    ensures made { (n : ℕ) → All (λ one. one.link.kept.made ≤ n) outs.old → All (λ one. one.link.kept.made ≤ n) outs.new }
-    ensures ok { OnOk result ((d : OneReceiver) → 1 < (slice_index_or outs.new place d).link.kept.room) }
+    ensures still_open { (b : Bool) → All (λ one. one.link.kept.ended ≡ b) outs.old
+        → All (λ one. one.link.kept.ended ≡ b) outs.new }
+    ensures made { (n : ℕ) → All (λ one. one.link.kept.made ≤ n) outs.old
+        → All (λ one. one.link.kept.made ≤ n) outs.new }
+    ensures ok { OnOk result ((d : OneReceiver)
+        → 1 < (slice_index_or outs.new place d).link.kept.room) }
 {
     outs[place].link.reserve(1)?;
     Ok(())
@@ -88,7 +92,8 @@ pub fn push_at(outs: &mut [Receiver], place: usize, row: Row)
     requires open { All (λ one. one.link.kept.ended ≡ false) outs.old }
     ensures hands_on { HandsOn place row (map without_room outs.old) (map without_room outs.new) }
     ensures open { All (λ one. one.link.kept.ended ≡ false) outs.new }
-    ensures few { (n : ℕ) → All (λ one. one.link.kept.made ≤ n) outs.old → All (λ one. one.link.kept.made ≤ n + 1) outs.new }
+    ensures few { (n : ℕ) → All (λ one. one.link.kept.made ≤ n) outs.old
+        → All (λ one. one.link.kept.made ≤ n + 1) outs.new }
 {
     outs[place].link.push_reserved(row);
 }

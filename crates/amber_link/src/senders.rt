@@ -66,7 +66,8 @@ impl Sender {
         requires waits { has_some (waiting self.old.link) ≡ true }
         requires few { self.old.taken + 1 < 2 ^ 64 }
         ensures gives { Gives self.old.link (result ∷ []) self.new.link }
-        ensures is { self.new ≡ record self.old { taken = self.old.taken + 1; ended = result.last; link = self.new.link } }
+        ensures is { self.new
+            ≡ record self.old { taken = self.old.taken + 1; ended = result.last; link = self.new.link } }
         ensures empty { starts_empty (waiting self.old.link) ≡ (length result.rows == 0) }
     {
         let batch = self.link.take_known();
@@ -118,7 +119,8 @@ pub fn ready_place(ins: &mut [Sender], built: bool) -> Option<usize>
     ensures none { IfNone result (list_any (may_come built) ins.new ≡ false) }
     ensures some { IfSome result (λ _. list_any (may_come built) ins.new ≡ true) }
     ensures there { IfSome result (λ i. i < length ins.new) }
-    ensures ready { IfSome result (λ i. (d : OneSender) → may_come built (slice_index_or ins.new i d) ≡ true) }
+    ensures ready { IfSome result
+        (λ i. (d : OneSender) → may_come built (slice_index_or ins.new i d) ≡ true) }
 {
     for i in 0..ins.len() {
         if ins[i].is_ready(built) {
@@ -140,11 +142,15 @@ pub fn is_empty_at(ins: &[Sender], i: usize) -> bool
 /// Takes the first batch of the sender at this place.
 pub fn take_at(ins: &mut [Sender], i: usize) -> Found
     requires there { i < length ins.old }
-    requires ready { (d : OneSender) → may_come (have_builders_ended ins.old) (slice_index_or ins.old i d) ≡ true }
+    requires ready { (d : OneSender)
+        → may_come (have_builders_ended ins.old) (slice_index_or ins.old i d) ≡ true }
     requires few { All (λ one. one.taken + 1 < 2 ^ 64) ins.old }
-    ensures taken { (one : OneSender) × (one.from ≡ result.from) × (one.taken ≡ result.number) × (one.builds ≡ result.builds) × IsTaken ins.old one result.batch ins.new }
-    ensures empty { (d : OneSender) → starts_empty (waiting (slice_index_or ins.old i d).link) ≡ (length result.batch.rows == 0) }
-    ensures few { (n : ℕ) → All (λ one. one.taken ≤ n) ins.old → All (λ one. one.taken ≤ n + 1) ins.new }
+    ensures taken { (one : OneSender) × (one.from ≡ result.from) × (one.taken ≡ result.number)
+        × (one.builds ≡ result.builds) × IsTaken ins.old one result.batch ins.new }
+    ensures empty { (d : OneSender) → starts_empty (waiting (slice_index_or ins.old i d).link)
+        ≡ (length result.batch.rows == 0) }
+    ensures few { (n : ℕ) → All (λ one. one.taken ≤ n) ins.old
+        → All (λ one. one.taken ≤ n + 1) ins.new }
 {
     let one = &mut ins[i];
     let from = one.from;

@@ -21,12 +21,17 @@ pub fn settle_at(
 ) -> Result<(), AllocError>
     requires out_there { j < length outs.old }
     requires in_there { k < length ins.old }
-    requires linked { (one : OneReceiver) (other : OneSender) → AreLinked (slice_index_or outs.old j one).link (slice_index_or ins.old k other).link }
-    ensures settles { Settles (is_ok result) (map without_room outs.old) j ins.old k (map without_room outs.new) ins.new }
-    ensures taken { (n : ℕ) → All (λ one. one.taken ≤ n) ins.old → All (λ one. one.taken ≤ n) ins.new }
+    requires linked { (one : OneReceiver) (other : OneSender)
+        → AreLinked (slice_index_or outs.old j one).link (slice_index_or ins.old k other).link }
+    ensures settles { Settles (is_ok result) (map without_room outs.old) j ins.old k
+        (map without_room outs.new) ins.new }
+    ensures taken { (n : ℕ) → All (λ one. one.taken ≤ n) ins.old
+        → All (λ one. one.taken ≤ n) ins.new }
     ensures built { have_builders_ended ins.new ≡ have_builders_ended ins.old }
-    ensures made { (n : ℕ) → All (λ one. one.link.kept.made ≤ n) outs.old → All (λ one. one.link.kept.made ≤ n) outs.new }
-    ensures ended { (b : Bool) → All (λ one. one.link.kept.ended ≡ b) outs.old → All (λ one. one.link.kept.ended ≡ b) outs.new }
+    ensures made { (n : ℕ) → All (λ one. one.link.kept.made ≤ n) outs.old
+        → All (λ one. one.link.kept.made ≤ n) outs.new }
+    ensures ended { (b : Bool) → All (λ one. one.link.kept.ended ≡ b) outs.old
+        → All (λ one. one.link.kept.ended ≡ b) outs.new }
 {
     settle(&mut outs[j].link, &mut ins[k].link)
 }
