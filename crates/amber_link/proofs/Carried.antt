@@ -4,7 +4,7 @@ use Rattle.std.proofs.lemmas.Bool.{eq-eqb, eqb-true, false≢true}
 use Rattle.amber_rows.specs.Chunks.{chunks_of}
 use Rattle.amber_rows.specs.declared.value.Value.{Value}
 use Rattle.amber_rows.specs.declared.batch.Batch.{Batch}
-use Rattle.amber_link.specs.Outgoing.{Adds, Carries, Closes, Outgoing, left_over, with_end, with_row}
+use Rattle.amber_link.specs.Outgoing.{Adds, Carries, EndsStream, Outgoing, left_over, with_end, with_row}
 use Rattle.amber_link.proofs.Chunked.{chunks-end, chunks-full, chunks-more, left_over-few}
 
 -- an end that has not ended, as it stands after a row more
@@ -89,7 +89,7 @@ module _ (out : Outgoing) (row : List Value) (unended : out.ended ≡ false) whe
   })
 
 -- the end
-pub closes-end : (out new : Outgoing) → out.ended ≡ false → new ≡ with_end out → Closes out new
+pub closes-end : (out new : Outgoing) → out.ended ≡ false → new ≡ with_end out → EndsStream out new
 closes-end out new unended is = rw is (record {
   each = λ gone pushed carries.
       let kept : out.partial ≡ left_over out.size pushed = carries.partial ∙ ap (λ b. if b then [] else left_over out.size pushed) unended in
@@ -120,7 +120,7 @@ adds-roomy old between new row is adds = record {
   ended = adds.ended;
 }
 
-pub closes-roomy : (old between new : Outgoing) → between ≡ record old { room = between.room } → Closes between new → Closes old new
+pub closes-roomy : (old between new : Outgoing) → between ≡ record old { room = between.room } → EndsStream between new → EndsStream old new
 closes-roomy old between new is closes = record {
   each = λ gone pushed carries. closes.each gone pushed (carries-roomy old between gone pushed is carries);
   size = closes.size ∙ ap (λ (o : Outgoing). o.size) is;

@@ -7,7 +7,7 @@ use Rattle.rtrb.specs.Ring.{known_items, received, sent}
 use Rattle.amber_rows.specs.Chunks.{chunks_of}
 use Rattle.amber_rows.specs.declared.value.Value.{Value}
 use Rattle.amber_rows.specs.declared.batch.Batch.{Batch}
-use Rattle.amber_link.specs.Links.{AreLinked, AreSettled, Forwards, Gives, HasTaken, IsWhole, OutCarries, SameIn, SameOut, come, has_some, waiting}
+use Rattle.amber_link.specs.Links.{AreLinked, AreSettled, Forwards, GivesBatches, HasGiven, IsWhole, OutCarries, SameIn, SameOut, come, has_some, waiting}
 use Rattle.amber_link.specs.Outgoing.{Outgoing, left_over}
 use Rattle.amber_link.specs.declared.ends.Out.{Out}
 use Rattle.amber_link.specs.declared.ends.In.{In}
@@ -40,10 +40,10 @@ linked-still a b c d ((w, s, n, h), some) ((w1, s1, n1, h1), k1) ((w2, s2, n2, h
 
 -- ---- batches that are taken
 
-pub gives-none : (a : In) → Gives a [] a
+pub gives-none : (a : In) → GivesBatches a [] a
 gives-none a = record { ring = same-in a; more = []; come_more = sym (append-nil (come a)); waiting_more = append-nil (waiting a) }
 
-pub gives-then : (a b c : In) (xs ys : List Batch) → Gives a xs b → Gives b ys c → Gives a (xs ++ ys) c
+pub gives-then : (a b c : In) (xs ys : List Batch) → GivesBatches a xs b → GivesBatches b ys c → GivesBatches a (xs ++ ys) c
 gives-then a b c xs ys one two = record {
   ring = same-in-then a b c one.ring two.ring;
   more = one.more ++ two.more;
@@ -53,14 +53,14 @@ gives-then a b c xs ys one two = record {
       ∙ ap (λ l. xs ++ l) two.waiting_more ∙ sym (append_assoc xs ys (waiting c));
 }
 
-pub taken-gives : (a b : In) (had taken given : List Batch) → Gives a given b → HasTaken a had taken → HasTaken b had (taken ++ given)
+pub taken-gives : (a b : In) (had taken given : List Batch) → GivesBatches a given b → HasGiven a had taken → HasGiven b had (taken ++ given)
 taken-gives a b had taken given gives has = record {
   all =
       ap (λ l. had ++ l) gives.come_more ∙ sym (append_assoc had (come a) gives.more) ∙ ap (λ l. l ++ gives.more) has.all ∙ append_assoc taken (waiting a) gives.more
       ∙ ap (λ l. taken ++ l) gives.waiting_more ∙ sym (append_assoc taken given (waiting b));
 }
 
-pub taken-looked : (a b : In) (had taken : List Batch) → Gives a [] b → HasTaken a had taken → HasTaken b had taken
+pub taken-looked : (a b : In) (had taken : List Batch) → GivesBatches a [] b → HasGiven a had taken → HasGiven b had taken
 taken-looked a b had taken gives has = record { all = (taken-gives a b had taken [] gives has).all ∙ ap (λ l. l ++ waiting b) (append-nil taken) }
 
 -- ---- batches that are sent
@@ -127,7 +127,7 @@ settled-by out into none even known = record {
 -- ---- one batch goes from the ring into the inbox
 
 pub moved-one : {a b : In} (batch : Batch) → SameIn a b → received b.ring ≡ received a.ring ++ batch ∷ [] → known_items a.ring ≡ batch ∷ known_items b.ring
-    → b.inbox.items ≡ a.inbox.items ++ batch ∷ [] → Gives a [] b × (waiting b ≡ waiting a)
+    → b.inbox.items ≡ a.inbox.items ++ batch ∷ [] → GivesBatches a [] b × (waiting b ≡ waiting a)
 moved-one {a} {b} batch same popped known put =
     let there : waiting b ≡ waiting a =
     ap (λ l. l ++ known_items b.ring) put ∙ append_assoc a.inbox.items (batch ∷ []) (known_items b.ring) ∙ ap (λ l. a.inbox.items ++ l) (sym known) in (
@@ -150,8 +150,8 @@ forwards-one a b c batch one same only first more = forwards-then a b c one (rec
 })
 
 -- a batch that was sent has come, and stands in the inbox
-pub gives-one : (a b c : In) (batch : Batch) → Gives a [] b → SameIn b c → received c.ring ≡ received b.ring ++ batch ∷ [] → known_items b.ring ≡ [] → known_items c.ring ≡ []
-    → c.inbox.items ≡ b.inbox.items ++ batch ∷ [] → Gives a [] c
+pub gives-one : (a b c : In) (batch : Batch) → GivesBatches a [] b → SameIn b c → received c.ring ≡ received b.ring ++ batch ∷ [] → known_items b.ring ≡ [] → known_items c.ring ≡ []
+    → c.inbox.items ≡ b.inbox.items ++ batch ∷ [] → GivesBatches a [] c
 gives-one a b c batch one same popped none still put = gives-then a b c [] [] one (record {
   ring = same;
   more = batch ∷ [];
@@ -162,7 +162,7 @@ gives-one a b c batch one same popped none still put = gives-then a b c [] [] on
 })
 
 -- a look, and the inbox takes room
-pub gives-looked : (a b : In) → SameIn a b → received b.ring ≡ received a.ring → IsPrefix (known_items a.ring) (known_items b.ring) → b.inbox.items ≡ a.inbox.items → Gives a [] b
+pub gives-looked : (a b : In) → SameIn a b → received b.ring ≡ received a.ring → IsPrefix (known_items a.ring) (known_items b.ring) → b.inbox.items ≡ a.inbox.items → GivesBatches a [] b
 gives-looked a b same popped (more, known) put = record {
   ring = same;
   more = more;

@@ -3,7 +3,7 @@ use Rattle.std.proofs.Common.{◌≡◌, ℕ, List, [], ◌∷◌, ◌++◌, get
 use Rattle.amber_rows.specs.declared.value.Value.{Value}
 use Rattle.amber_rows.specs.declared.batch.Batch.{Batch}
 use Rattle.amber_link.specs.Links.{SameOut}
-use Rattle.amber_link.specs.Sides.{AreEnded, AreLooked, AreSameReceivers, AreSameSenders, Ends, HandsOn, IsLooked, IsSameReceiver, IsSameSender, IsTaken, Pairwise}
+use Rattle.amber_link.specs.Sides.{AreEnded, AreLooked, AreSameReceivers, AreSameSenders, IsEnded, HandsOn, IsLooked, IsSameReceiver, IsSameSender, IsTaken, Pairwise}
 use Rattle.amber_link.specs.declared.senders.Sender.{Sender}
 use Rattle.amber_link.specs.declared.receivers.Receiver.{Receiver}
 use Rattle.amber_link.proofs.LinkEnds.{same-in, same-in-then, same-out, same-out-then}
@@ -67,4 +67,4 @@ handed-ends place row outs after h =
     (λ d. subst (λ one. IsSameReceiver one h.now) (get_or-any outs place h.now d h.within) (record { to = h.to; link = same-ring (get_or outs place h.now) h.now h.ring })))
 
 pub ended-ends : (outs after : List Receiver) → AreEnded outs after → AreSameReceivers outs after
-ended-ends outs after h = pairwise-weaker Ends IsSameReceiver (λ x y ends. record { to = ends.to; link = same-ring x y ends.ring }) outs after h
+ended-ends outs after h = pairwise-weaker IsEnded IsSameReceiver (λ x y ends. record { to = ends.to; link = same-ring x y ends.ring }) outs after h

@@ -1,6 +1,6 @@
 -- A link of two lists of ends is settled.
 use Rattle.std.proofs.Common.{◌≡◌, ℕ, zero, suc, ◌<◌, ◌||◌, ◌&&◌, not, arith, List, [], ◌∷◌, length, get_or, map, set, Bool, true, refl, sym, ap, ◌∙◌, subst}
-use Rattle.amber_link.specs.Links.{AreLinked, AreSettled, Forwards, Gives, IsWhole}
+use Rattle.amber_link.specs.Links.{AreLinked, AreSettled, Forwards, GivesBatches, IsWhole}
 use Rattle.amber_link.specs.Outgoing.{Outgoing}
 use Rattle.amber_link.specs.Sides.{Settles, have_builders_ended, without_room}
 use Rattle.amber_link.specs.declared.ends.Out.{Out}
@@ -31,7 +31,7 @@ settled-erased a b h = record {
 }
 
 pub settles-there : (all : Bool) (outs : List Receiver) (j : ℕ) (ins : List Sender) (k : ℕ) (one : Receiver) (other : Sender) (out : Out) (into : In) → j < length outs → k < length ins
-    → AreLinked out into → Forwards (get_or outs j one).link out → Gives (get_or ins k other).link [] into → IsWhole (get_or outs j one).link (get_or ins k other).link
+    → AreLinked out into → Forwards (get_or outs j one).link out → GivesBatches (get_or ins k other).link [] into → IsWhole (get_or outs j one).link (get_or ins k other).link
     → (all ≡ true → AreSettled out into)
     → Settles all (map without_room outs) j ins k (map without_room (set outs j (record (get_or outs j one) { link = out }))) (set ins k (record (get_or ins k other) { link = into }))
 settles-there all outs j ins k one other out into j_less k_less linked forwards gives whole settled =
@@ -46,7 +46,7 @@ settles-there all outs j ins k one other out into j_less k_less linked forwards 
       ins_is = ap (λ (s : Sender). set ins k (record s { link = into })) (sym here);
       linked = linked;
       forwards = subst (λ (r : Receiver). Forwards r.link (erased out)) (sym there) (forwards-erased (get_or outs j one).link out forwards);
-      gives = subst (λ (s : Sender). Gives s.link [] into) (sym here) gives;
+      gives = subst (λ (s : Sender). GivesBatches s.link [] into) (sym here) gives;
       whole = subst (λ (r : Receiver). IsWhole r.link (get_or ins k then_in).link) (sym there)
           (subst (λ (s : Sender). IsWhole (erased (get_or outs j one).link) s.link) (sym here) (whole-erased (get_or outs j one).link (get_or ins k other).link whole));
       settled = λ e. settled-erased out into (settled e);

@@ -5,9 +5,9 @@ use Rattle.std.proofs.Math.Seq.{split_at}
 use Rattle.std.proofs.lemmas.Bool.{and_parts, false≢true}
 use Rattle.amber_rows.specs.declared.value.Value.{Value}
 use Rattle.amber_rows.specs.declared.batch.Batch.{Batch}
-use Rattle.amber_link.specs.Links.{Gives, has_some, waiting}
+use Rattle.amber_link.specs.Links.{GivesBatches, has_some, waiting}
 use Rattle.amber_link.specs.Outgoing.{Adds, Outgoing}
-use Rattle.amber_link.specs.Sides.{AreLooked, Ends, HandsOn, IsLooked, IsTaken, Pairwise, have_builders_ended, may_come, without_room}
+use Rattle.amber_link.specs.Sides.{AreLooked, IsEnded, HandsOn, IsLooked, IsTaken, Pairwise, have_builders_ended, may_come, without_room}
 use Rattle.amber_link.specs.declared.senders.Sender.{Sender}
 use Rattle.amber_link.specs.declared.receivers.Receiver.{Receiver}
 use Rattle.amber_link.proofs.Carried.{carries-roomy}
@@ -133,7 +133,7 @@ may-wait built one may = (may-parts built one may).2
 -- the first batch of the sender at this place was taken
 pub taken-there : (ins : List Sender) (i : ℕ) (d new : Sender) (batch : Batch) (from number : ℕ) (builds : Bool) → i < length ins
     → may_come (have_builders_ended ins) (get_or ins i d) ≡ true → from ≡ (get_or ins i d).from → number ≡ (get_or ins i d).taken → builds ≡ (get_or ins i d).builds
-    → Gives (get_or ins i d).link (batch ∷ []) new.link → new ≡ record (get_or ins i d) { taken = (get_or ins i d).taken + 1; ended = batch.last; link = new.link }
+    → GivesBatches (get_or ins i d).link (batch ∷ []) new.link → new ≡ record (get_or ins i d) { taken = (get_or ins i d).taken + 1; ended = batch.last; link = new.link }
     → (one : Sender) × (one.from ≡ from) × (one.taken ≡ number) × (one.builds ≡ builds) × IsTaken ins one batch (set ins i new)
 taken-there ins i d new batch from number builds less may from_is number_is builds_is gives is =
     let parts = may-parts (have_builders_ended ins) (get_or ins i d) may in (
@@ -191,7 +191,7 @@ hands-on outs i now row less to ring adds =
       adds = rw there (adds-erased (get_or outs i now).link.kept now.link.kept row adds);
     }
 
-ends-erased : (a b : Receiver) → Ends a b → Ends (without_room a) (without_room b)
+ends-erased : (a b : Receiver) → IsEnded a b → IsEnded (without_room a) (without_room b)
 ends-erased a b ends = record {
   to = ends.to;
   ring = ends.ring;
@@ -204,8 +204,8 @@ ends-erased a b ends = record {
   };
 }
 
-pub all-ended : (outs after : List Receiver) → Pairwise Ends outs after → Pairwise Ends (map without_room outs) (map without_room after)
-all-ended outs after ends = pairwise-map Ends Ends without_room ends-erased outs after ends
+pub all-ended : (outs after : List Receiver) → Pairwise IsEnded outs after → Pairwise IsEnded (map without_room outs) (map without_room after)
+all-ended outs after ends = pairwise-map IsEnded IsEnded without_room ends-erased outs after ends
 
 pub get_or-any : {A : Type 0} (xs : List A) (k : ℕ) (d e : A) → k < length xs → get_or xs k d ≡ get_or xs k e
 get_or-any [] k d e less = absurd (omega arith)
@@ -213,6 +213,6 @@ get_or-any (x ∷ xs) zero d e less = refl
 get_or-any (x ∷ xs) (suc k) d e less = get_or-any xs k d e (omega arith)
 
 -- those so far are ended, and the others are none
-pub each-ended : (outs after : List Receiver) (n : ℕ) → length after ≡ length outs → length outs ≤ n → ((k : ℕ) (d : Receiver) → k < n → Ends (get_or outs k d) (get_or after k d))
-    → Pairwise Ends outs after
-each-ended outs after n same all h = pairwise-each Ends outs after same (λ k d e less. rw (get_or-any after k e d (omega (arith, same))) (h k d (omega arith)))
+pub each-ended : (outs after : List Receiver) (n : ℕ) → length after ≡ length outs → length outs ≤ n → ((k : ℕ) (d : Receiver) → k < n → IsEnded (get_or outs k d) (get_or after k d))
+    → Pairwise IsEnded outs after
+each-ended outs after n same all h = pairwise-each IsEnded outs after same (λ k d e less. rw (get_or-any after k e d (omega (arith, same))) (h k d (omega arith)))

@@ -38,7 +38,7 @@ abbrev pub waiting : In → List Batch
 waiting into = into.inbox.items ++ known_items into.ring
 
 -- the batches that have come, after those that had come before, are those that were taken and those that wait
-pub record HasTaken (into : In) (had taken : List Batch) : Type 0 where
+pub record HasGiven (into : In) (had taken : List Batch) : Type 0 where
   pub all : had ++ come into ≡ taken ++ waiting into
 
 -- the first batch has no row
@@ -60,7 +60,7 @@ pub record Forwards (old new : Out) : Type 0 where
   pub order : sent new.ring ++ new.kept.waiting ≡ sent old.ring ++ old.kept.waiting
 
 -- these batches were taken, the first of those that wait; and perhaps more have come
-pub record Gives (old : In) (taken : List Batch) (new : In) : Type 0 where
+pub record GivesBatches (old : In) (taken : List Batch) (new : In) : Type 0 where
   pub ring : SameIn old new
   pub more : List Batch
   pub come_more : come new ≡ come old ++ more
@@ -72,7 +72,7 @@ pub record Gives (old : In) (taken : List Batch) (new : In) : Type 0 where
 -- pushed
 pub record IsWhole (out : Out) (into : In) : Type 0 where
   pub beyond : List Batch
-  pub chunks : (had taken : List Batch) (pushed : List (List Value)) → OutCarries out had pushed → HasTaken into had taken
+  pub chunks : (had taken : List Batch) (pushed : List (List Value)) → OutCarries out had pushed → HasGiven into had taken
       → (taken ++ waiting into) ++ (beyond ++ out.kept.waiting) ≡ chunks_of out.kept.size pushed out.kept.ended
 
 -- all that was made is in the inbox
@@ -80,5 +80,5 @@ pub record AreSettled (out : Out) (into : In) : Type 0 where
   pub outbox : out.kept.waiting ≡ []
   pub ring : received into.ring ≡ sent out.ring
   pub known : known_items into.ring ≡ []
-  pub chunks : (had taken : List Batch) (pushed : List (List Value)) → OutCarries out had pushed → HasTaken into had taken
+  pub chunks : (had taken : List Batch) (pushed : List (List Value)) → OutCarries out had pushed → HasGiven into had taken
       → taken ++ into.inbox.items ≡ chunks_of out.kept.size pushed out.kept.ended

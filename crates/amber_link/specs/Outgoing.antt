@@ -32,7 +32,7 @@ pub record Adds (old : Outgoing) (row : List Value) (new : Outgoing) : Type 0 wh
   pub ended : new.ended ≡ false
 
 -- the end was pushed, and no row
-pub record Closes (old new : Outgoing) : Type 0 where
+pub record EndsStream (old new : Outgoing) : Type 0 where
   pub each : (gone : List Batch) (pushed : List (List Value)) → Carries old gone pushed → Carries new gone pushed
   pub size : new.size ≡ old.size
   pub ended : new.ended ≡ true

@@ -3,8 +3,8 @@ use Rattle.std.specs.Prelude.{◌≡◌, ℕ, ◌+◌, ◌<◌, ◌&&◌, ◌||�
 use Rattle.std.specs.List.{list_all}
 use Rattle.amber_rows.specs.declared.value.Value.{Value}
 use Rattle.amber_rows.specs.declared.batch.Batch.{Batch}
-use Rattle.amber_link.specs.Links.{AreLinked, AreSettled, Forwards, Gives, IsWhole, SameIn, SameOut, has_some, waiting}
-use Rattle.amber_link.specs.Outgoing.{Adds, Closes}
+use Rattle.amber_link.specs.Links.{AreLinked, AreSettled, Forwards, GivesBatches, IsWhole, SameIn, SameOut, has_some, waiting}
+use Rattle.amber_link.specs.Outgoing.{Adds, EndsStream}
 use Rattle.amber_link.specs.declared.senders.Sender.{Sender}
 use Rattle.amber_link.specs.declared.receivers.Receiver.{Receiver}
 
@@ -31,7 +31,7 @@ have_all_ended ins = list_all (λ one. one.ended) ins
 
 -- nothing was taken of a sender, but perhaps more is known to have come
 pub record IsLooked (old new : Sender) : Type 0 where
-  pub gives : Gives old.link [] new.link
+  pub gives : GivesBatches old.link [] new.link
   pub only : new ≡ record old { link = new.link }
 
 abbrev pub AreLooked : List Sender → List Sender → Type 0
@@ -45,7 +45,7 @@ pub record IsTaken (ins : List Sender) (one : Sender) (batch : Batch) (after : L
   pub found : ins ≡ front ++ one ∷ back
   pub unended : one.ended ≡ false
   pub side : (one.builds || have_builders_ended ins) ≡ true
-  pub gives : Gives one.link (batch ∷ []) now.link
+  pub gives : GivesBatches one.link (batch ∷ []) now.link
   pub is : now ≡ record one { taken = one.taken + 1; ended = batch.last; link = now.link }
   pub after_it : after ≡ front ++ now ∷ back
 
@@ -65,13 +65,13 @@ pub record HandsOn (place : ℕ) (row : List Value) (outs after : List Receiver)
   pub adds : Adds (slice_index_or outs place now).link.kept row now.link.kept
 
 -- the stream for a receiver was ended
-pub record Ends (old new : Receiver) : Type 0 where
+pub record IsEnded (old new : Receiver) : Type 0 where
   pub to : new.to ≡ old.to
   pub ring : new.link.ring ≡ old.link.ring
-  pub closes : Closes old.link.kept new.link.kept
+  pub closes : EndsStream old.link.kept new.link.kept
 
 abbrev pub AreEnded : List Receiver → List Receiver → Type 0
-AreEnded old new = Pairwise Ends old new
+AreEnded old new = Pairwise IsEnded old new
 
 -- ---- both
 
@@ -83,7 +83,7 @@ pub record Settles (all : Bool) (outs : List Receiver) (j : ℕ) (ins : List Sen
   pub ins_is : ins_after ≡ slice_set ins k (record (slice_index_or ins k into) { link = into.link })
   pub linked : AreLinked out.link into.link
   pub forwards : Forwards (slice_index_or outs j out).link out.link
-  pub gives : Gives (slice_index_or ins k into).link [] into.link
+  pub gives : GivesBatches (slice_index_or ins k into).link [] into.link
   pub whole : IsWhole (slice_index_or outs j out).link (slice_index_or ins k into).link
   pub settled : all ≡ true → AreSettled out.link into.link
 

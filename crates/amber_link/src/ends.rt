@@ -2,9 +2,9 @@
 
 ghost use Rattle.std.specs.Prelude.{◌≡◌, ◌==◌, ◌+◌, ◌^◌, ◌<◌, ◌≤◌, [], ◌∷◌, ◌++◌, drop, false, true, not, IfErr, IfNone, IfOk, IsOk, IsSome, OnErr, OnOk, length, option_to_list};
 ghost use Rattle.rtrb.specs.Ring.{known_free, known_items, received, sent};
-ghost use Rattle.amber_link.specs.Links.{AreLinked, AreSettled, Forwards, Gives, IsWhole, SameIn, SameOut, come, has_some, starts_empty, waiting, IsSentTo};
+ghost use Rattle.amber_link.specs.Links.{AreLinked, AreSettled, Forwards, GivesBatches, IsWhole, SameIn, SameOut, come, has_some, starts_empty, waiting, IsSentTo};
 ghost use Rattle.std.specs.VecDeque.{deque_capacity, deque_len};
-ghost use Rattle.amber_link.specs.Outgoing.{Adds, Closes};
+ghost use Rattle.amber_link.specs.Outgoing.{Adds, EndsStream};
 
 use crate::outbox::Outbox;
 use amber_rows::{Batch, Row};
@@ -94,7 +94,7 @@ impl Out {
         requires few { self.old.kept.made < 2 ^ 40 }
         requires open { self.old.kept.ended ≡ false }
         ensures ring { self.new.ring ≡ self.old.ring }
-        ensures closes { Closes self.old.kept self.new.kept }
+        ensures closes { EndsStream self.old.kept self.new.kept }
     {
         self.kept.end_reserved();
     }
@@ -127,7 +127,7 @@ impl Out {
         requires few { self.old.kept.made < 2 ^ 40 }
         requires open { self.old.kept.ended ≡ false }
         ensures ring { self.new.ring ≡ self.old.ring }
-        ensures ok { OnOk result (Closes self.old.kept self.new.kept) }
+        ensures ok { OnOk result (EndsStream self.old.kept self.new.kept) }
         ensures err { OnErr result (self.new ≡ self.old) }
         ensures succeeds { 0 < self.old.kept.room → IsOk result }
     {
@@ -166,7 +166,7 @@ impl Out {
 impl In {
     /// Takes the first batch that waits, of those in the inbox, and else of those in the ring.
     pub fn take(&mut self) -> Option<Batch>
-        ensures gives { Gives self.old (option_to_list result) self.new }
+        ensures gives { GivesBatches self.old (option_to_list result) self.new }
         ensures none { IfNone result ((self.old.inbox.items ≡ [])
             × (known_items self.new.ring ≡ [])) }
         ensures inbox { self.new.inbox.items ≡ drop 1 self.old.inbox.items }
@@ -183,7 +183,7 @@ impl In {
 
     /// Looks for a batch, in the ring where the inbox has none, and says whether one waits.
     pub fn look(&mut self) -> bool
-        ensures gives { Gives self.old [] self.new }
+        ensures gives { GivesBatches self.old [] self.new }
         ensures found { result ≡ has_some (waiting self.new) }
         ensures inbox { self.new.inbox.items ≡ self.old.inbox.items }
     {
@@ -196,7 +196,7 @@ impl In {
     /// Takes the first batch that waits.
     pub fn take_known(&mut self) -> Batch
         requires { has_some (waiting self.old) ≡ true }
-        ensures gives { Gives self.old (result ∷ []) self.new }
+        ensures gives { GivesBatches self.old (result ∷ []) self.new }
         ensures inbox { self.new.inbox.items ≡ drop 1 self.old.inbox.items }
     {
         match self.inbox.pop_front() {
@@ -220,7 +220,7 @@ impl In {
 // Moves what is in the ring into the inbox, which has room for it.
 fn drain(into: &mut In)
     requires room { length (waiting into.old) ≤ deque_capacity into.old.inbox }
-    ensures gives { Gives into.old [] into.new }
+    ensures gives { GivesBatches into.old [] into.new }
     ensures inbox { into.new.inbox.items ≡ waiting into.old }
     ensures known { known_items into.new.ring ≡ [] }
     ensures came { received into.new.ring ≡ come into.old }
@@ -260,7 +260,7 @@ pub fn settle(out: &mut Out, into: &mut In) -> Result<(), AllocError>
     requires { AreLinked out.old into.old }
     ensures linked { AreLinked out.new into.new }
     ensures forwards { Forwards out.old out.new }
-    ensures gives { Gives into.old [] into.new }
+    ensures gives { GivesBatches into.old [] into.new }
     ensures whole { IsWhole out.old into.old }
     ensures ok { OnOk result (AreSettled out.new into.new) }
     ensures inbox_on_err { OnErr result (into.new.inbox.items ≡ into.old.inbox.items) }

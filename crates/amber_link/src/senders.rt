@@ -2,7 +2,7 @@
 
 ghost use Rattle.std.specs.Prelude.{◌≡◌, ◌==◌, ◌+◌, ◌^◌, ◌<◌, ◌≤◌, ◌∷◌, [], ℕ, All, true, false, length, slice_index_or, take, IfNone, IfSome};
 ghost use Rattle.std.specs.List.{list_any};
-ghost use Rattle.amber_link.specs.Links.{Gives, has_some, starts_empty, waiting};
+ghost use Rattle.amber_link.specs.Links.{GivesBatches, has_some, starts_empty, waiting};
 ghost use Rattle.amber_link.specs.Sides.{AreLooked, IsLooked, IsTaken, have_all_ended, have_builders_ended, may_come};
 ghost use Rattle.amber_link.specs.declared.senders.Sender.{Sender as OneSender};
 
@@ -65,7 +65,7 @@ impl Sender {
     fn take(&mut self) -> Batch
         requires waits { has_some (waiting self.old.link) ≡ true }
         requires few { self.old.taken + 1 < 2 ^ 64 }
-        ensures gives { Gives self.old.link (result ∷ []) self.new.link }
+        ensures gives { GivesBatches self.old.link (result ∷ []) self.new.link }
         ensures is { self.new
             ≡ record self.old { taken = self.old.taken + 1; ended = result.last; link = self.new.link } }
         ensures empty { starts_empty (waiting self.old.link) ≡ (length result.rows == 0) }
