@@ -1,2 +1,4 @@
-pub mod Incoming
+pub mod Links
 pub mod Outgoing
+pub mod Rooms
+pub mod Sides

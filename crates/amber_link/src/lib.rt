@@ -1,24 +1,33 @@
 //! Links: what one worker sends to another, from the rows that it emits to the batches that the other takes.
 //!
-//! An `Outbox` gathers the rows for one receiver and cuts them into batches of one size, numbered from 0. A full batch
-//! waits there; at the end the rows that are left are the last batch, even where there are none. `settle` moves the
-//! batches that wait into the receiver's `Inbox`, behind those that wait there. An inbox gives them up one after the
-//! other, in their order, counts them, and knows whether the last one was among them.
+//! A link has two ends. Into an `Out` rows are pushed, which it cuts into batches of one size, numbered from 0. A full
+//! batch waits in its outbox until it is sent through a ring; at the end the rows that are left are the last batch, even
+//! where there are none. Of an `In` batches are taken, in their order: those in its inbox, then those in the ring. `settle`
+//! moves all that was made into the inbox, for whoever holds both ends.
 //!
-//! Of the inboxes of one worker in a list, one of the probe side of a join gives a batch only once the last batches of
-//! all of the build side were taken.
+//! The batches that were taken, those in the inbox, in the ring and in the outbox, one after the other, are the pieces of
+//! the rows that were pushed. After `reserve` as many pushes, and an end, want no memory. Rows are moved and never
+//! copied. Where memory runs out, nothing is lost or out of order.
 //!
-//! An inbox is seen as an `Incoming` and an outbox as an `Outgoing`: numbers, flags, and lists of batches and rows. The
-//! contracts say what each call makes of them. Rows are moved and never copied. Where memory runs out, all is as before.
+//! A worker holds its ends as `Sender`s and `Receiver`s. A sender of the probe side of a join gives a batch only once the
+//! last batches of all of the build side were taken.
 #![tactic(auto)]
 
-pub mod inboxes;
-pub mod links;
+pub mod ends;
+pub mod outbox;
+pub mod receivers;
+pub mod senders;
+pub mod settling;
 
-pub use inboxes::{
-    Found, has_sender, have_built, have_ended, is_empty_at, place_of, ready_place, take_at,
+pub use ends::{In, Out, Sent, link, settle};
+pub use outbox::Outbox;
+pub use receivers::{
+    Receiver, end_all, has_receiver, place_to, push_at, reserve_at, reserve_ends, waiting_receiver,
 };
-pub use links::{Inbox, Outbox, settle};
+pub use senders::{
+    Found, Sender, has_sender, have_built, have_ended, is_empty_at, place_of, ready_place, take_at,
+};
+pub use settling::settle_at;
 pub use std::alloc::AllocError as NoMemory;
 
 #[cfg(test)]

@@ -27,6 +27,8 @@ mod records;
 #[cfg(test)]
 mod report;
 #[cfg(test)]
+mod routing;
+#[cfg(test)]
 mod rows;
 #[cfg(test)]
 mod scans;

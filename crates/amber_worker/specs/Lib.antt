@@ -1,5 +1,4 @@
-pub use Rattle.amber_link.specs.Incoming
-pub use Rattle.amber_link.specs.Outgoing
+pub use Rattle.amber_link.specs.Sides
 pub mod Fields
 pub mod Links
 pub mod Made

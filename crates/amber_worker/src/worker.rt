@@ -1,29 +1,32 @@
-ghost use Rattle.std.specs.Prelude.{All, MatchOption, false, MatchBool, if◌then◌else◌, ◌≡◌, ◌+◌, ◌^◌, ◌<◌, ◌≤◌, ◌==◌, [], List, Result, true, is_some, length, IfOk, OnErr, OnOk};
+ghost use Rattle.std.specs.Prelude.{All, MatchOption, false, MatchBool, if◌then◌else◌, ◌≡◌, ◌+◌, ◌^◌, ◌<◌, ◌≤◌, ◌==◌, [], List, Result, true, is_ok, is_some, not, map, length, ◌||◌, IfOk, OnErr, OnOk};
 ghost use Rattle.std.specs.List.{list_any};
 ghost use Rattle.amber_rows.specs.declared.value.Value.{Value as Cell};
 ghost use Rattle.amber_rows.specs.declared.record.RowFault.{RowFault as Fault};
-ghost use Rattle.amber_rows.specs.Crew.{crew_of, op_of, what_at};
+ghost use Rattle.amber_rows.specs.Crew.{crew_of, op_of, receivers_of, senders_of, what_at};
 ghost use Rattle.amber_meaning.specs.Position.{origin};
 ghost use Rattle.amber_meaning.specs.Plan.{role_of};
-ghost use Rattle.amber_link.specs.Incoming.{has_some, have_all_ended};
-ghost use Rattle.amber_worker.specs.Links.{waiting_for, with_batches, without_batches};
-ghost use Rattle.amber_worker.specs.WorkerState.{next_turn, has_ready, steps_made};
-ghost use Rattle.amber_worker.specs.Steps.{IsCalm, IsShown, TakesBatch, TakesRow, all_done, row_emitted_from};
-ghost use Rattle.amber_worker.specs.Made.{IsFresh};
-ghost use Rattle.amber_worker.specs.AtPosition.{AreAlone, HasShare, HasTurned, IsGivenOf, IsViewOf, Keeps, IsAtPosition, first_orders, is_scan, placement_of};
+ghost use Rattle.amber_link.specs.Links.{has_some};
+ghost use Rattle.amber_link.specs.Sides.{have_all_ended};
+ghost use Rattle.amber_worker.specs.Links.{AreJoined, Passes};
+ghost use Rattle.amber_worker.specs.WorkerState.{has_ready, steps_made};
+ghost use Rattle.amber_worker.specs.Steps.{EmitsRow, Finishes, IsCalm, IsShown, TakesBatch, TakesRow};
+ghost use Rattle.amber_worker.specs.Made.{IsFresh, IsFreshIn, IsFreshOut};
+ghost use Rattle.amber_worker.specs.AtPosition.{HasSameEnds, HasShare, HasTurned, IsAtPosition, IsGivenOf, IsLookedAt, IsNextTurn, IsViewOf, Keeps, first_orders, is_scan, no_base, placement_of};
 
 use crate::given::{Given, add_keys, refused_keys};
 use crate::journal::note_go;
-use crate::links::{emit_first, end, has_receiver, settle_into, waiting_receiver};
+use crate::links::{emit_first, settle_into};
 use crate::making::{
-    build_columns_of, columns_of, inboxes_of, is_join, operator_state_of, outbox_of, receiver_of,
+    build_columns_of, columns_of, is_join, operator_state_of, receivers_of, route_of, senders_of,
 };
 use crate::operator_state::OperatorState;
+use crate::route::Route;
 use crate::shown::{extra_of, first_copy, stand_of};
 use crate::taking::{Gains, Rest, close, closing_of, is_last, side_columns, take_next, turn_to};
 use crate::turn::Turn;
 use amber_link::{
-    Found, Inbox, Outbox, has_sender, have_built, have_ended, is_empty_at, ready_place, take_at,
+    Found, In, Out, Receiver, Sender, end_all, has_receiver, has_sender, have_built, have_ended,
+    is_empty_at, ready_place, reserve_ends, take_at,
 };
 use amber_log::{Entries, Entry};
 use amber_meaning::{Refusals, WorkerView};
@@ -35,7 +38,7 @@ use std::marker::Model;
 use std::mem;
 
 /// A worker at rest or in a leg, seen as a `WorkerState`.
-#[derive(Debug, Drop)]
+#[derive(Drop)]
 pub struct Worker {
     alloc: Global,
     op: u32,
@@ -50,13 +53,15 @@ pub struct Worker {
     batches: u64,
     gains: Gains,
     finished: bool,
-    ins: Vec<Inbox>,
-    out: Option<Outbox>,
+    ins: Vec<Sender>,
+    outs: Vec<Receiver>,
+    route: Route,
     journal: Vec<Entry>,
 }
 
 impl Model for Worker {
-    ghost use Rattle.std.specs.Prelude.{false, option_to_list};
+    ghost use Rattle.std.specs.Prelude.{None, false, map};
+    ghost use Rattle.amber_link.specs.Sides.{without_room};
     ghost use Rattle.amber_worker.specs.WorkerState.{WorkerState};
 
     ghost Value = { WorkerState };
@@ -77,42 +82,49 @@ impl Model for Worker {
       batches = a.batches;
       refused = a.gains.refused.items;
       kept = a.gains.kept.items;
+      watch = None;
       hand = 0;
       held = false;
       waved = false;
       paused = false;
       finished = a.finished;
       ins = a.ins.items;
-      outs = option_to_list a.out;
+      outs = map without_room a.outs.items;
+      route = a.route;
       journal = a.journal.items;
     } };
 
-    ghost invariant = { λ a. AreFew a.operator_state a.building a.rest.share a.taken a.emitted a.batches a.finished a.ins.items a.out a.journal.items };
+    ghost invariant = { λ a. AreFew a.operator_state a.building a.rest.share a.taken a.emitted a.batches a.finished a.ins.items a.outs.items a.route a.journal.items };
 }
 
 impl Worker {
-    /// A worker of a workflow before it has done anything, by its running number. The rows of a batch are 1 to 65,536.
-    /// A scan's worker is given its share of the records.
+    /// The worker of a workflow before it has done anything, by its running number. The rows of a batch are 1 to 65,536.
+    /// A scan's worker is given its share of the records. Each worker is given the end of a link for each of its receivers
+    /// and for each of its senders, by rising numbers, through which nothing has gone.
     pub fn new(
         alloc: Global,
         flow: &Flow,
         worker: u32,
         batch: u32,
         share: Option<Share>,
+        outs: Vec<Out>,
+        ins: Vec<In>,
     ) -> Result<Worker, AllocError>
         requires there { worker < crew_of flow.now }
         requires some { 0 < batch }
         requires few { batch ≤ 65536 }
         requires shared { is_some share ≡ is_scan (what_at flow.now (op_of flow.now worker)) }
-
-        // For now every operator has one worker.
-        requires alone { AreAlone flow.now }
+        requires all_outs { length outs.items ≡ length (receivers_of flow.now worker) }
+        requires all_ins { length ins.items ≡ length (senders_of flow.now worker) }
+        requires fresh_outs { All (IsFreshOut batch) outs.items }
+        requires fresh_ins { All IsFreshIn ins.items }
         ensures stands { (records : List (List (Result (List Cell) Fault))) → HasShare share (role_of flow.now records worker)
-            → IfOk result (λ made. IsAtPosition (placement_of flow.now records batch worker) (first_orders flow.now worker) made origin origin (λ _. [])) }
-        ensures empty { IfOk result (λ made. All (λ one. one.waiting ≡ []) made.ins × All (λ one. one.waiting ≡ []) made.outs) }
+            → IfOk result (λ made. IsAtPosition (placement_of flow.now records batch worker) (first_orders flow.now worker) made origin origin no_base) }
+        ensures out_rings { IfOk result (λ made. map (λ one. one.link.ring) made.outs ≡ map (λ out. out.ring) outs.items) }
+        ensures in_rings { IfOk result (λ made. map (λ one. one.link.ring) made.ins ≡ map (λ into. into.ring) ins.items) }
     {
         let _operators = flow.get();
-        let made = Self::make(alloc, flow, worker, batch, share)?;
+        let made = Self::make(alloc, flow, worker, batch, share, outs, ins)?;
         Ok(made)
     }
 
@@ -123,12 +135,19 @@ impl Worker {
         worker: u32,
         batch: u32,
         share: Option<Share>,
+        outs: Vec<Out>,
+        ins: Vec<In>,
     ) -> Result<Worker, AllocError>
         requires there { worker < crew_of flow.now }
         requires some { 0 < batch }
         requires shared { is_some share ≡ is_scan (what_at flow.now (op_of flow.now worker)) }
-        requires alone { AreAlone flow.now }
-        ensures { IfOk result (λ made. IsFresh flow.now worker batch share made) }
+        requires all_outs { length outs.items ≡ length (receivers_of flow.now worker) }
+        requires all_ins { length ins.items ≡ length (senders_of flow.now worker) }
+        requires fresh_outs { All (IsFreshOut batch) outs.items }
+        requires fresh_ins { All IsFreshIn ins.items }
+        ensures fresh { IfOk result (λ made. IsFresh flow.now worker batch share made) }
+        ensures out_rings { IfOk result (λ made. map (λ one. one.link.ring) made.outs ≡ map (λ out. out.ring) outs.items) }
+        ensures in_rings { IfOk result (λ made. map (λ one. one.link.ring) made.ins ≡ map (λ into. into.ring) ins.items) }
     {
         let operators = flow.get();
         let op = flow.op_of(worker);
@@ -137,9 +156,9 @@ impl Worker {
         let columns = columns_of(alloc, flow, what, op)?;
         let build_columns = build_columns_of(alloc, flow, what)?;
         let building = is_join(what);
-        let ins = inboxes_of(alloc, what)?;
-        let receiver = receiver_of(operators, op);
-        let out = outbox_of(alloc, receiver, batch);
+        let route = route_of(alloc, flow, worker)?;
+        let ins = senders_of(alloc, flow, worker, what, ins)?;
+        let outs = receivers_of(alloc, flow, worker, outs)?;
         let rest = Rest {
             share,
             from: 0,
@@ -165,7 +184,8 @@ impl Worker {
             gains,
             finished: false,
             ins,
-            out,
+            outs,
+            route,
             journal: Vec::new(alloc),
         })
     }
@@ -220,11 +240,17 @@ impl Worker {
     fn emit_row(&mut self) -> Result<(), AllocError>
         requires few { steps_made self.old < 2 ^ 40 }
         requires some { has_some self.old.pending ≡ true }
-        ensures ok { OnOk result (self.new ≡ row_emitted_from self.old.pending self.old) }
+        requires unfinished { self.old.finished ≡ false }
+        ensures ok { OnOk result (EmitsRow false self.old self.new) }
         ensures err { OnErr result (self.new ≡ self.old) }
     {
         self.journal.reserve(1)?;
-        emit_first(&mut self.gains.pending, &mut self.out)?;
+        emit_first(
+            self.alloc,
+            &self.route,
+            &mut self.gains.pending,
+            self.outs.as_mut_slice(),
+        )?;
         note_go(&mut self.journal, 0, 1);
         self.emitted += 1;
         Ok(())
@@ -234,12 +260,12 @@ impl Worker {
     fn take_batch(&mut self) -> Result<bool, AllocError>
         requires few { steps_made self.old < 2 ^ 40 }
         requires none { has_some self.old.pending ≡ false }
-        ensures found { IfOk result (λ found. found ≡ has_ready self.old.ins) }
-        ensures taken { IfOk result (λ found. MatchBool found (TakesBatch self.old self.new) (self.new ≡ self.old)) }
-        ensures err { OnErr result (self.new ≡ self.old) }
+        ensures found { IfOk result (λ found. MatchBool found (TakesBatch self.old self.new) (IsLookedAt self.old self.new)) }
+        ensures none { IfOk result (λ found. found ≡ false → has_ready self.new.ins ≡ false) }
+        ensures err { OnErr result (IsLookedAt self.old self.new) }
     {
         let built = have_built(self.ins.as_slice());
-        let Some(place) = ready_place(self.ins.as_slice(), built) else {
+        let Some(place) = ready_place(self.ins.as_mut_slice(), built) else {
             return Ok(false);
         };
         let empty = is_empty_at(self.ins.as_slice(), place);
@@ -270,26 +296,29 @@ impl Worker {
         requires few { steps_made self.old < 2 ^ 40 }
         requires unfinished { self.old.finished ≡ false }
         ensures ended { IfOk result (λ ended. ended ≡ have_all_ended self.old.ins) }
-        ensures done { IfOk result (λ ended. self.new ≡ (if ended then all_done self.old else self.old)) }
+        ensures done { IfOk result (λ ended. MatchBool ended (Finishes self.old self.new) (self.new ≡ self.old)) }
         ensures err { OnErr result (self.new ≡ self.old) }
     {
         if !have_ended(self.ins.as_slice()) {
             return Ok(false);
         }
         self.journal.reserve(1)?;
-        end(&mut self.out)?;
+        reserve_ends(self.outs.as_mut_slice())?;
+        end_all(self.outs.as_mut_slice());
         self.journal.push_reserved(Entry::Finish);
         self.finished = true;
         Ok(true)
     }
 
-    /// Makes one step, if there is one to make. The journal says which.
+    /// Makes one step, if there is one to make. The journal says which. Want of memory leaves all as before, but for batches
+    /// that were seen in a ring.
     pub fn turn(&mut self) -> Result<Turn, AllocError>
         requires { steps_made self.old < 2 ^ 40 }
         ensures keeps { Keeps self.old self.new }
-        ensures answer { IfOk result (λ turn. turn ≡ next_turn self.old) }
+        ensures answer { IfOk result (IsNextTurn self.old) }
         ensures moved { IfOk result (λ turn. HasTurned turn self.old self.new) }
-        ensures err { OnErr result (self.new ≡ self.old) }
+        ensures err { OnErr result (IsLookedAt self.old self.new) }
+        ensures ends { HasSameEnds self.old self.new }
     {
         if self.is_over() {
             return Ok(Turn::Ended);
@@ -338,7 +367,7 @@ impl Worker {
     pub fn sends_to(&self, worker: u32) -> bool
         ensures { result ≡ list_any (λ one. one.to == worker) self.now.outs }
     {
-        has_receiver(&self.out, worker)
+        has_receiver(self.outs.as_slice(), worker)
     }
 
     /// Whether the worker with this number sends to the worker.
@@ -348,13 +377,11 @@ impl Worker {
         has_sender(self.ins.as_slice(), worker)
     }
 
-    /// The receiver for which batches wait to be moved, if there is one.
-    pub fn waits_for(&self) -> Option<u32>
-        // For now a worker has one receiver at most.
-        ensures one { length self.now.outs ≤ 1 }
-        ensures waits { MatchOption result (All (λ one. one.waiting ≡ []) self.now.outs) (λ to. list_any (λ one. one.to == to) self.now.outs ≡ true) }
+    /// Whether the worker has neither a row that is pending nor one that was handed and not taken.
+    pub fn wants_batch(&self) -> bool
+        ensures { result ≡ not (has_some self.now.pending || has_some self.now.rest) }
     {
-        waiting_receiver(&self.out)
+        !(self.has_pending() || self.has_rest())
     }
 
     /// What the worker has done since its journal was handed out.
@@ -425,16 +452,22 @@ impl Worker {
     }
 }
 
-/// Moves the batches that a worker has made for another one into the other's inbox, behind those that wait there.
+/// Moves the batches that a worker has made for another one into the other's inbox, behind those that wait there. Want of
+/// memory loses none.
 pub fn settle_workers(from: &mut Worker, to: &mut Worker) -> Result<(), AllocError>
     requires sends { list_any (λ one. one.to == to.old.number) from.old.outs ≡ true }
     requires receives { list_any (λ one. one.from == from.old.number) to.old.ins ≡ true }
-    ensures from { OnOk result (from.new ≡ record from.old { outs = without_batches to.old.number from.old.outs }) }
-    ensures to { OnOk result (to.new ≡ record to.old { ins = with_batches from.old.number (waiting_for to.old.number from.old.outs) to.old.ins }) }
-    ensures from_on_err { OnErr result (from.new ≡ from.old) }
-    ensures to_on_err { OnErr result (to.new ≡ to.old) }
+    requires joined { AreJoined from.old.number to.old.number from.old.outs to.old.ins }
+    ensures passes { Passes (is_ok result) from.old.number to.old.number from.old.outs to.old.ins from.new.outs to.new.ins }
+    ensures from { from.new ≡ record from.old { outs = from.new.outs } }
+    ensures to { to.new ≡ record to.old { ins = to.new.ins } }
 {
     let sender = from.number;
     let receiver = to.number;
-    settle_into(&mut from.out, to.ins.as_mut_slice(), sender, receiver)
+    settle_into(
+        from.outs.as_mut_slice(),
+        to.ins.as_mut_slice(),
+        sender,
+        receiver,
+    )
 }

@@ -12,6 +12,14 @@ workers_in-requires c =
     let part = crew-take (c.args.op - 1) c.get.result.now in
     omega (arith, few, all, part)
 
-pub returns : goal.returns
+pub returns-clause-first : goal.returns-clause-first
 unfolding first_worker_of
-returns c = c.workers_in.ensures ∙ ap (λ flow. crew_of (take (c.args.op - 1) flow)) c.get.ensures.operators
+returns-clause-first c = c.workers_in.ensures ∙ ap (λ flow. crew_of (take (c.args.op - 1) flow)) c.get.ensures.operators
+
+pub returns-clause-few : goal.returns-clause-few
+unfolding crew_of
+returns-clause-few c =
+    let few = c.get.ensures.flow.few_workers in
+    let all : crew_of c.get.result.now ≡ crew_of c.args.self.now = ap crew_of c.get.ensures.operators in
+    let part = crew-take (c.args.op - 1) c.get.result.now in
+    omega (arith, few, all, part, c.workers_in.ensures)

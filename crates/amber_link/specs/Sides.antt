@@ -1,0 +1,103 @@
+-- The ends that one worker holds: of those that send to it, and of those to which it sends.
+use Rattle.std.specs.Prelude.{◌≡◌, ℕ, ◌+◌, ◌<◌, ◌&&◌, ◌||◌, not, List, [], ◌∷◌, ◌++◌, length, slice_index_or, slice_set, Bool, true, false}
+use Rattle.std.specs.List.{list_all}
+use Rattle.amber_rows.specs.declared.value.Value.{Value}
+use Rattle.amber_rows.specs.declared.batch.Batch.{Batch}
+use Rattle.amber_link.specs.Links.{AreLinked, AreSettled, Forwards, Gives, IsWhole, SameIn, SameOut, has_some, waiting}
+use Rattle.amber_link.specs.Outgoing.{Adds, Closes}
+use Rattle.amber_link.specs.declared.senders.Sender.{Sender}
+use Rattle.amber_link.specs.declared.receivers.Receiver.{Receiver}
+
+-- two lists of elements that stand so to each other, one by one
+unfoldable pub Pairwise : {A : Type 0} → (A → A → Type 0) → List A → List A → Type 0
+Pairwise R [] [] = Unit {0}
+Pairwise R [] (y ∷ ys) = ⊥
+Pairwise R (x ∷ xs) [] = ⊥
+Pairwise R (x ∷ xs) (y ∷ ys) = R x y × Pairwise R xs ys
+
+-- ---- senders
+
+-- a batch of this sender may be taken, where the build side has ended or not
+abbrev pub may_come : Bool → Sender → Bool
+may_come built one = (not one.ended && (one.builds || built)) && has_some (waiting one.link)
+
+-- the last batches of all senders of the build side were taken
+abbrev pub have_builders_ended : List Sender → Bool
+have_builders_ended ins = list_all (λ one. not one.builds || one.ended) ins
+
+-- the last batches of all senders were taken
+abbrev pub have_all_ended : List Sender → Bool
+have_all_ended ins = list_all (λ one. one.ended) ins
+
+-- nothing was taken of a sender, but perhaps more is known to have come
+pub record IsLooked (old new : Sender) : Type 0 where
+  pub gives : Gives old.link [] new.link
+  pub only : new ≡ record old { link = new.link }
+
+abbrev pub AreLooked : List Sender → List Sender → Type 0
+AreLooked old new = Pairwise IsLooked old new
+
+-- one of these senders gives this batch, the first that waits, and they are as these then
+pub record IsTaken (ins : List Sender) (one : Sender) (batch : Batch) (after : List Sender) : Type 0 where
+  pub front : List Sender
+  pub back : List Sender
+  pub now : Sender
+  pub found : ins ≡ front ++ one ∷ back
+  pub unended : one.ended ≡ false
+  pub side : (one.builds || have_builders_ended ins) ≡ true
+  pub gives : Gives one.link (batch ∷ []) now.link
+  pub is : now ≡ record one { taken = one.taken + 1; ended = batch.last; link = now.link }
+  pub after_it : after ≡ front ++ now ∷ back
+
+-- ---- receivers
+
+-- a receiver, whatever room there is
+abbrev pub without_room : Receiver → Receiver
+without_room one = record one { link = record one.link { kept = record one.link.kept { room = 0 } } }
+
+-- a row more was pushed for the receiver at this place
+pub record HandsOn (place : ℕ) (row : List Value) (outs after : List Receiver) : Type 0 where
+  pub within : place < length outs
+  pub now : Receiver
+  pub is : after ≡ slice_set outs place now
+  pub to : now.to ≡ (slice_index_or outs place now).to
+  pub ring : now.link.ring ≡ (slice_index_or outs place now).link.ring
+  pub adds : Adds (slice_index_or outs place now).link.kept row now.link.kept
+
+-- the stream for a receiver was ended
+pub record Ends (old new : Receiver) : Type 0 where
+  pub to : new.to ≡ old.to
+  pub ring : new.link.ring ≡ old.link.ring
+  pub closes : Closes old.link.kept new.link.kept
+
+abbrev pub AreEnded : List Receiver → List Receiver → Type 0
+AreEnded old new = Pairwise Ends old new
+
+-- ---- both
+
+-- all that was made for the receiver at one place is, where the call answers Ok, in the inbox of the sender at the other place
+pub record Settles (all : Bool) (outs : List Receiver) (j : ℕ) (ins : List Sender) (k : ℕ) (outs_after : List Receiver) (ins_after : List Sender) : Type 0 where
+  pub out : Receiver
+  pub into : Sender
+  pub outs_is : outs_after ≡ slice_set outs j (record (slice_index_or outs j out) { link = out.link })
+  pub ins_is : ins_after ≡ slice_set ins k (record (slice_index_or ins k into) { link = into.link })
+  pub linked : AreLinked out.link into.link
+  pub forwards : Forwards (slice_index_or outs j out).link out.link
+  pub gives : Gives (slice_index_or ins k into).link [] into.link
+  pub whole : IsWhole (slice_index_or outs j out).link (slice_index_or ins k into).link
+  pub settled : all ≡ true → AreSettled out.link into.link
+
+-- the same ends of the same links, one by one
+pub record IsSameSender (old new : Sender) : Type 0 where
+  pub from : new.from ≡ old.from
+  pub link : SameIn old.link new.link
+
+pub record IsSameReceiver (old new : Receiver) : Type 0 where
+  pub to : new.to ≡ old.to
+  pub link : SameOut old.link new.link
+
+abbrev pub AreSameSenders : List Sender → List Sender → Type 0
+AreSameSenders old new = Pairwise IsSameSender old new
+
+abbrev pub AreSameReceivers : List Receiver → List Receiver → Type 0
+AreSameReceivers old new = Pairwise IsSameReceiver old new

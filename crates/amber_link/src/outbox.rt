@@ -1,0 +1,199 @@
+//! What waits of a sender: rows that are cut into batches, and batches that wait to be sent.
+
+ghost use Rattle.std.specs.Prelude.{◌≡◌, ◌+◌, ◌*◌, ◌^◌, ◌<◌, ◌≤◌, [], ◌∷◌, ◌++◌, false, not, IfOk, IsOk, OnErr, OnOk, length, vec_capacity, vec_len, min, is_some, option_to_list};
+ghost use Rattle.std.specs.VecDeque.{deque_capacity, deque_len};
+ghost use Rattle.amber_link.specs.Links.{has_some};
+ghost use Rattle.amber_link.specs.Outgoing.{Outgoing, with_end, with_row};
+ghost use Rattle.amber_link.specs.Rooms.{AreSpare};
+
+use amber_rows::{Batch, Row, Rows};
+use std::alloc::{AllocError, Global};
+use std::collections::VecDeque;
+use std::marker::Model;
+use std::mem;
+
+// So many rows stand in no memory.
+const MOST_ROWS: u64 = 1 << 40;
+
+// How many batches so many rows fill at most, those that are left among them.
+fn batches_for(size: u64, rows: u64) -> u64
+    requires some { 0 < size }
+    requires few { rows < 2 ^ 48 }
+    ensures enough { rows ≤ size * result }
+    ensures some { 0 < result }
+    ensures few { result ≤ rows + 1 }
+{
+    if rows <= size { 1 } else { rows / size + 1 }
+}
+
+// Makes as many empty lists of rows spare.
+fn reserve_spares(
+    alloc: Global,
+    spare: &mut Vec<Vec<Row>>,
+    size: usize,
+    wanted: usize,
+) -> Result<(), AllocError>
+    requires { AreSpare size spare.old.items }
+    ensures spare { AreSpare size spare.new.items }
+    ensures more { vec_len spare.old ≤ vec_len spare.new }
+    ensures enough { OnOk result (wanted ≤ vec_len spare.new) }
+{
+    for _ in spare.len()..wanted {
+        spare.push(Vec::with_capacity(alloc, size)?)?;
+    }
+    Ok(())
+}
+
+// An empty list of rows, a spare one if there is any.
+fn next_list(alloc: Global, spare: &mut Vec<Vec<Row>>, size: usize) -> Vec<Row>
+    requires { AreSpare size spare.old.items }
+    ensures empty { result.items ≡ [] }
+    ensures none_held { vec_len result ≡ 0 }
+    ensures spare { AreSpare size spare.new.items }
+    ensures large { 0 < vec_len spare.old → size ≤ vec_capacity result }
+    ensures fewer { 0 < vec_len spare.old → vec_len spare.old ≡ vec_len spare.new + 1 }
+    ensures none { vec_len spare.old ≡ 0 → vec_len spare.new ≡ 0 }
+{
+    match spare.pop() {
+        Some(list) => list,
+        None => Vec::new(alloc),
+    }
+}
+
+// Makes a batch of the rows. The next list takes their place.
+fn cut(waiting: &mut VecDeque<Batch>, partial: &mut Vec<Row>, next: Vec<Row>, seq: u64, last: bool)
+    requires { deque_len waiting.old < deque_capacity waiting.old }
+    ensures made { waiting.new.items ≡ waiting.old.items ++ record { seq = seq; rows = partial.old.items; last = last } ∷ [] }
+    ensures longer { deque_len waiting.new ≡ deque_len waiting.old + 1 }
+    ensures slots { deque_capacity waiting.new ≡ deque_capacity waiting.old }
+    ensures left { partial.new ≡ next }
+{
+    let rows = Rows::new(mem::replace(partial, next));
+    waiting.push_back_reserved(Batch { seq, rows, last });
+}
+
+/// What a worker keeps of one to which it sends.
+#[derive(Debug, Drop)]
+pub struct Outbox {
+    alloc: Global,
+    size: u32,
+    made: u64,
+    ended: bool,
+    waiting: VecDeque<Batch>,
+    partial: Vec<Row>,
+    room: u64,
+    spare: Vec<Vec<Row>>,
+}
+
+impl Model for Outbox {
+    ghost use Rattle.std.specs.Prelude.{length, vec_capacity, vec_len};
+    ghost use Rattle.std.specs.VecDeque.{deque_capacity, deque_len};
+    ghost use Rattle.amber_link.specs.Outgoing.{Outgoing};
+    ghost use Rattle.amber_link.specs.Rooms.{AreSpare, HasRoom};
+
+    ghost Value = { Outgoing };
+
+    ghost view = { λ a. record { size = a.size; made = a.made; ended = a.ended; waiting = a.waiting.items; partial = a.partial.items; room = a.room } };
+
+    ghost invariant = { λ a. HasRoom (record { size = a.size; room = a.room; held = vec_len a.partial; capacity = vec_capacity a.partial; spares = vec_len a.spare; waiting = deque_len a.waiting; slots = deque_capacity a.waiting }) × AreSpare a.size a.spare.items };
+}
+
+impl Outbox {
+    /// Nothing was made for this receiver.
+    pub(crate) fn new(alloc: Global, size: u32) -> Self
+        requires { 0 < size }
+        ensures { result ≡ record { size = size; made = 0; ended = false; waiting = []; partial = []; room = 0 } }
+    {
+        Outbox {
+            alloc,
+            size,
+            made: 0,
+            ended: false,
+            waiting: VecDeque::new(alloc),
+            partial: Vec::new(alloc),
+            room: 0,
+            spare: Vec::new(alloc),
+        }
+    }
+
+    /// Whether no batch waits to be sent.
+    pub(crate) fn is_empty(&self) -> bool
+        ensures { has_some self.now.waiting ≡ not result }
+    {
+        self.waiting.is_empty()
+    }
+
+    /// The first batch that waits to be sent.
+    pub(crate) fn pop(&mut self) -> Option<Batch>
+        ensures batch { self.old.waiting ≡ option_to_list result ++ self.new.waiting }
+        ensures found { has_some self.old.waiting ≡ is_some result }
+        ensures only { self.new ≡ record self.old { waiting = self.new.waiting } }
+    {
+        self.waiting.pop_front()
+    }
+
+    /// For how many rows and the end there is room.
+    pub(crate) fn room(&self) -> u64
+        ensures { result ≡ self.now.room }
+    {
+        self.room
+    }
+
+    /// How many batches wait to be sent.
+    pub(crate) fn len(&self) -> usize
+        ensures { result ≡ length self.now.waiting }
+    {
+        self.waiting.len()
+    }
+
+    /// Makes room for so many rows and the end.
+    pub(crate) fn reserve(&mut self, rows: u64) -> Result<(), AllocError>
+        ensures only { self.new ≡ record self.old { room = self.new.room } }
+        ensures more { self.old.room ≤ self.new.room }
+        ensures ok { OnOk result (rows < self.new.room) }
+        ensures err { OnErr result (self.new ≡ self.old) }
+    {
+        if rows > MOST_ROWS {
+            return Err(AllocError);
+        }
+        let size = u64::from(self.size);
+        let held = self.partial.len() as u64;
+        let batches = batches_for(size, held + rows);
+        let most = size.min(held + rows);
+        self.partial.reserve((most - held) as usize)?;
+        let spares = (batches - 1) as usize;
+        reserve_spares(self.alloc, &mut self.spare, self.size as usize, spares)?;
+        self.waiting.reserve((batches + 1) as usize)?;
+        self.room = self.room.max(rows + 1);
+        Ok(())
+    }
+
+    /// Puts a row behind the others, for which there is room; a full batch waits to be sent.
+    pub(crate) fn push_reserved(&mut self, row: Row)
+        requires room { 1 < self.old.room }
+        requires few { self.old.made < 2 ^ 40 }
+        ensures { self.new ≡ with_row row self.old }
+    {
+        self.room -= 1;
+        self.partial.push_reserved(row);
+        if self.partial.len() != self.size as usize {
+            return;
+        }
+        let next = next_list(self.alloc, &mut self.spare, self.size as usize);
+        cut(&mut self.waiting, &mut self.partial, next, self.made, false);
+        self.made += 1;
+    }
+
+    /// The rows that are left are the last batch, for which there is room.
+    pub(crate) fn end_reserved(&mut self)
+        requires room { 0 < self.old.room }
+        requires few { self.old.made < 2 ^ 40 }
+        ensures { self.new ≡ with_end self.old }
+    {
+        let next = Vec::new(self.alloc);
+        cut(&mut self.waiting, &mut self.partial, next, self.made, true);
+        self.made += 1;
+        self.room = 0;
+        self.ended = true;
+    }
+}

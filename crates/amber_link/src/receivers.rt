@@ -1,0 +1,119 @@
+//! The workers to which one worker sends, each with its end of the link.
+
+ghost use Rattle.std.specs.Prelude.{◌≡◌, ◌==◌, ◌+◌, ◌^◌, ◌<◌, ◌≤◌, ℕ, Bool, All, true, false, length, map, slice_index_or, take, IfNone, IfSome, OnErr, OnOk};
+ghost use Rattle.std.specs.List.{list_any};
+ghost use Rattle.amber_link.specs.Links.{has_some};
+ghost use Rattle.amber_link.specs.Sides.{AreEnded, HandsOn, without_room};
+ghost use Rattle.amber_link.specs.declared.receivers.Receiver.{Receiver as OneReceiver};
+
+use crate::ends::Out;
+use amber_rows::Row;
+use std::alloc::AllocError;
+
+/// What a worker keeps of one to which it sends: its running number, and the end of the link.
+#[derive(Drop)]
+pub struct Receiver {
+    to: u32,
+    pub(crate) link: Out,
+}
+
+impl Receiver {
+    /// A receiver by its running number.
+    pub fn new(to: u32, link: Out) -> Self
+        ensures { result ≡ record { to = to; link = link } }
+    {
+        Receiver { to, link }
+    }
+
+    /// The running number of the receiver.
+    pub fn to(&self) -> u32
+        ensures { result ≡ self.now.to }
+    {
+        self.to
+    }
+}
+
+/// Whether there is this receiver.
+pub fn has_receiver(outs: &[Receiver], to: u32) -> bool
+    ensures { result ≡ list_any (λ one. one.to == to) outs.now }
+{
+    outs.iter().any(|one| one.to == to)
+}
+
+/// The place of a receiver, if there is one.
+pub fn place_to(outs: &[Receiver], to: u32) -> Option<usize>
+    ensures none { IfNone result (list_any (λ one. one.to == to) outs.now ≡ false) }
+    ensures there { IfSome result (λ place. place < length outs.now) }
+    ensures own { IfSome result (λ place. (d : OneReceiver) → (slice_index_or outs.now place d).to ≡ to) }
+{
+    for (i, one) in outs.iter().enumerate() {
+        if one.to == to {
+            return Some(i);
+        }
+    }
+    None
+}
+
+/// The first receiver for which batches wait to be sent.
+pub fn waiting_receiver(outs: &[Receiver]) -> Option<u32>
+    ensures none { IfNone result (All (λ one. has_some one.link.kept.waiting ≡ false) outs.now) }
+    ensures some { IfSome result (λ to. list_any (λ one. one.to == to) outs.now ≡ true) }
+{
+    for one in outs {
+        if !one.link.is_sent() {
+            return Some(one.to);
+        }
+    }
+    None
+}
+
+/// Makes room for one row and the end, for the receiver at this place.
+pub fn reserve_at(outs: &mut [Receiver], place: usize) -> Result<(), AllocError>
+    requires there { place < length outs.old }
+    requires open { (d : OneReceiver) → (slice_index_or outs.old place d).link.kept.ended ≡ false }
+    ensures same { map without_room outs.new ≡ map without_room outs.old }
+    ensures still_open { (b : Bool) → All (λ one. one.link.kept.ended ≡ b) outs.old → All (λ one. one.link.kept.ended ≡ b) outs.new }
+    ensures made { (n : ℕ) → All (λ one. one.link.kept.made ≤ n) outs.old → All (λ one. one.link.kept.made ≤ n) outs.new }
+    ensures ok { OnOk result ((d : OneReceiver) → 1 < (slice_index_or outs.new place d).link.kept.room) }
+{
+    outs[place].link.reserve(1)?;
+    Ok(())
+}
+
+/// Pushes a row for the receiver at this place, where there is room.
+pub fn push_at(outs: &mut [Receiver], place: usize, row: Row)
+    requires there { place < length outs.old }
+    requires room { (d : OneReceiver) → 1 < (slice_index_or outs.old place d).link.kept.room }
+    requires few { All (λ one. one.link.kept.made < 2 ^ 40) outs.old }
+    requires open { All (λ one. one.link.kept.ended ≡ false) outs.old }
+    ensures hands_on { HandsOn place row (map without_room outs.old) (map without_room outs.new) }
+    ensures open { All (λ one. one.link.kept.ended ≡ false) outs.new }
+    ensures few { (n : ℕ) → All (λ one. one.link.kept.made ≤ n) outs.old → All (λ one. one.link.kept.made ≤ n + 1) outs.new }
+{
+    outs[place].link.push_reserved(row);
+}
+
+/// Makes room for the end of all streams.
+pub fn reserve_ends(outs: &mut [Receiver]) -> Result<(), AllocError>
+    requires open { All (λ one. one.link.kept.ended ≡ false) outs.old }
+    ensures same { map without_room outs.new ≡ map without_room outs.old }
+    ensures ok { OnOk result (All (λ one. 0 < one.link.kept.room) outs.new) }
+{
+    for one in outs.iter_mut() {
+        one.link.reserve(0)?;
+    }
+    Ok(())
+}
+
+/// Ends all streams, where there is room.
+pub fn end_all(outs: &mut [Receiver])
+    requires room { All (λ one. 0 < one.link.kept.room) outs.old }
+    requires few { All (λ one. one.link.kept.made < 2 ^ 40) outs.old }
+    requires open { All (λ one. one.link.kept.ended ≡ false) outs.old }
+    ensures ends { AreEnded (map without_room outs.old) (map without_room outs.new) }
+    ensures ended { All (λ one. one.link.kept.ended ≡ true) outs.new }
+{
+    for one in outs.iter_mut() {
+        one.link.end_reserved();
+    }
+}

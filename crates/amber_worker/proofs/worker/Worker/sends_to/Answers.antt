@@ -1,0 +1,14 @@
+-- Room is no matter.
+use Rattle.std.proofs.Common.{◌≡◌, ◌∙◌, eqb, ℕ, List, [], ◌∷◌, ◌||◌, map, ap, refl, sym}
+use Rattle.std.specs.List.{list_any}
+use Rattle.amber_link.specs.Sides.{without_room}
+use Rattle.amber_link.specs.declared.receivers.Receiver.{Receiver}
+use Rattle.amber_worker.specs.WorkerState.{WorkerState}
+use Rattle.amber_worker.proofs.worker.Worker.sends_to.Goals as goal
+
+roomless : (n : ℕ) (outs : List Receiver) → list_any (λ (one : Receiver). eqb one.to n) outs ≡ list_any (λ (one : Receiver). eqb one.to n) (map without_room outs)
+roomless n [] = refl
+roomless n (one ∷ outs) = ap (λ b. eqb one.to n || b) (roomless n outs)
+
+pub returns : goal.returns
+returns c = c.has_receiver.ensures ∙ ap (λ outs. list_any (λ (one : Receiver). eqb one.to c.args.worker) outs) c.as_slice.ensures.value ∙ roomless c.args.worker c.self.inside.outs.items ∙ ap (λ (w : WorkerState). list_any (λ (one : Receiver). eqb one.to c.args.worker) w.outs) c.self.view_is
