@@ -73,13 +73,13 @@ fn a_condition_compares_a_cell_with_a_constant_of_any_kind(rt: HostRuntime) -> R
 #[test]
 fn texts_bytes_and_columns_copy(rt: HostRuntime) -> Result<(), Fail> {
     let name = text(rt.alloc(), "hé")?;
-    assert_eq!(rt; name.copy()?.get(), "hé");
+    assert_eq!(rt; name.clone()?.get(), "hé");
     assert_eq!(rt; name.len(), 3);
     let bytes = Bytes::new(Vec::from_slice(rt.alloc(), b"a,b")?);
-    assert_eq!(rt; bytes.copy()?.get(), bytes.get());
+    assert_eq!(rt; bytes.clone()?.get(), bytes.get());
     assert_eq!(rt; bytes.len(), 3);
     let schema = two_columns(rt.alloc())?;
-    let copy = schema.copy(rt.alloc())?;
+    let copy = schema.clone()?;
     assert_eq!(rt; (schema.len(), copy.len()), (2, 2));
     assert_eq!(rt;
         format!(in rt.alloc(); "{copy:?}")?,
@@ -91,7 +91,7 @@ fn texts_bytes_and_columns_copy(rt: HostRuntime) -> Result<(), Fail> {
 #[test]
 fn rows_copy_and_give_their_cells(rt: HostRuntime) -> Result<(), Fail> {
     let row = row(rt.alloc(), "7 'pear")?;
-    let copy = row.copy()?;
+    let copy = row.clone()?;
     assert_eq!(rt; row, copy);
     assert_eq!(rt; (row.len(), row.is_empty()), (2, false));
     let columns = Cols::new(Vec::from_slice(rt.alloc(), &[2, 3, 1, 0, 2])?);
@@ -108,7 +108,7 @@ fn cells_print_as_numbers_and_texts(rt: HostRuntime) -> Result<(), Fail> {
     let row = row(rt.alloc(), "-12 'a 'b,c")?;
     let mut printed = String::new(rt.alloc());
     for value in row.get() {
-        let copy = value.copy()?;
+        let copy = value.clone()?;
         printed.push_str(format!(in rt.alloc(); "{copy};")?.as_str())?;
     }
     assert_eq!(rt; printed.as_str(), "-12;a;b,c;");

@@ -43,42 +43,15 @@ pub(crate) fn receiver_of(operators: &[Operator], op: u32) -> Option<u32>
     None
 }
 
-// A condition equal to this one.
-fn condition_of(cond: &Cond) -> Result<Cond, AllocError>
-    ensures { IfOk result (λ copy. copy ≡ cond.now) }
-{
-    Ok(Cond {
-        column: cond.column,
-        op: cond.op,
-        constant: cond.constant.copy()?,
-    })
-}
-
-// Columns equal to these.
-fn copied_cols(alloc: Global, cols: &Cols) -> Result<Cols, AllocError>
-    ensures { IfOk result (λ copy. copy ≡ cols.now) }
-{
-    Ok(Cols::new(Vec::from_slice(alloc, cols.get())?))
-}
-
-// Aggregates equal to these.
-fn copied_aggs(alloc: Global, aggs: &Aggs) -> Result<Aggs, AllocError>
-    ensures { IfOk result (λ copy. copy ≡ aggs.now) }
-{
-    Ok(Aggs::new(Vec::from_slice(alloc, aggs.get())?))
-}
-
 // What a worker of this kind does with a row.
 pub(crate) fn operator_state_of(alloc: Global, what: &What) -> Result<OperatorState, AllocError>
     ensures { IfOk result (λ operator_state. IsOperatorStateOf operator_state what.now) }
 {
     match what {
         What::Scan { .. } => Ok(OperatorState::Scan),
-        What::Filter { cond, .. } => Ok(OperatorState::Filter(FilterState::new(condition_of(
-            cond,
-        )?))),
+        What::Filter { cond, .. } => Ok(OperatorState::Filter(FilterState::new(cond.clone()?))),
         What::Project { from, .. } => {
-            let columns = copied_cols(alloc, from)?;
+            let columns = from.clone()?;
             Ok(OperatorState::Project(ProjectState::new(alloc, columns)))
         }
         What::Join {
@@ -86,13 +59,13 @@ pub(crate) fn operator_state_of(alloc: Global, what: &What) -> Result<OperatorSt
             probe_keys,
             ..
         } => {
-            let build = copied_cols(alloc, build_keys)?;
-            let probe = copied_cols(alloc, probe_keys)?;
+            let build = build_keys.clone()?;
+            let probe = probe_keys.clone()?;
             Ok(OperatorState::Join(JoinState::new(alloc, build, probe)))
         }
         What::Group { keys, aggs, .. } => {
-            let keys = copied_cols(alloc, keys)?;
-            let aggs = copied_aggs(alloc, aggs)?;
+            let keys = keys.clone()?;
+            let aggs = aggs.clone()?;
             Ok(OperatorState::Group(GroupState::new(alloc, keys, aggs)))
         }
         What::Sink { .. } => Ok(OperatorState::Sink),
@@ -119,7 +92,7 @@ fn schema_of(alloc: Global, flow: &Flow, op: u32) -> Result<Schema, AllocError>
 {
     match flow.operator(op) {
         None => Ok(Schema::new(Vec::new(alloc))),
-        Some(operator) => operator.schema.copy(alloc),
+        Some(operator) => operator.schema.clone(),
     }
 }
 
