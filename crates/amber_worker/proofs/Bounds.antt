@@ -1,6 +1,6 @@
 -- What a worker counts stays within its steps.
-use Rattle.std.proofs.Common.{◌≡◌, ℕ, suc, ◌+◌, ◌^◌, ◌<◌, ◌≤◌, eqb, List, [], ◌∷◌, ◌++◌, length, map, take, drop, All, Option, Some, None, Bool, true, false, ◌&&◌, if◌then◌else◌, refl, sym, ap, ◌∙◌, arith, length-append, subst}
-use Rattle.std.specs.Option.{IfSome, MatchOption, is_some, option_to_list}
+use Rattle.std.proofs.Common.{◌≡◌, ℕ, suc, ◌+◌, ◌^◌, ◌<◌, ◌≤◌, eqb, List, [], ◌∷◌, ◌++◌, length, map, take, drop, All, Option, Some, None, Bool, true, false, ◌&&◌, if◌then◌else◌, refl, sym, ap, ◌∙◌, arith, subst}
+use Rattle.std.specs.Option.{IfSome, is_some}
 use Rattle.std.proofs.lemmas.Bool.{false≢true}
 use Rattle.std.proofs.lemmas.List.{nil_from_length, take-append-le, take_all}
 use Rattle.std.proofs.lemmas.List.Elements.{All-cons, All-push}
@@ -12,10 +12,13 @@ use Rattle.amber_meaning.specs.Position.{one_if}
 use Rattle.amber_meaning.specs.Task.{Arrival, row_in}
 use Rattle.amber_meaning.specs.Refused.{refusal_in}
 use Rattle.amber_scan.specs.declared.share.Scanned.{Scanned}
-use Rattle.amber_queue.specs.Incoming.{Incoming, IsTaken, have_all_ended, have_builders_ended}
-use Rattle.amber_queue.specs.Outgoing.{Outgoing, with_row}
+use Rattle.amber_link.specs.Sides.{IsTaken, have_all_ended, have_builders_ended}
+use Rattle.amber_link.specs.declared.senders.Sender.{Sender}
+use Rattle.amber_link.specs.declared.receivers.Receiver.{Receiver}
+use Rattle.amber_link.specs.Sides.{AreLooked}
+use Rattle.amber_worker.specs.declared.route.Route.{Route}
 use Rattle.amber_worker.specs.Fields.{AreFew, row_from, rows_moved}
-use Rattle.amber_worker.specs.WorkerState.{WorkerState}
+use Rattle.amber_worker.specs.WorkerState.{WorkerState, has_ready}
 use Rattle.amber_worker.specs.Steps.{Becomes, Closes, TakesBatch, TakesRow, columns_at_hand, gives_if, gone_on, keeps_if, turned_to, with_go}
 use Rattle.amber_worker.proofs.States.{closes-batch, in_order-batch, in_order-row, in_order-settled}
 use Rattle.amber_worker.specs.declared.operator_state.OperatorState.{OperatorState}
@@ -73,17 +76,18 @@ scans-so does now None f h = h
 scans-so does now (Some x) f h = f h
 
 pub few-row : (does now : OperatorState) (building : Bool) (found : Option (List Value)) (share later : Option (List Scanned)) (taken emitted batches : ℕ) (finished : Bool)
-    (ins : List Incoming) (out : Option Outgoing) (journal : List Entry) → Becomes does building found now
-    → AreFew does building share taken emitted batches finished ins out journal → taken + emitted + batches + one_if finished < 2 ^ 40 → is_some later ≡ is_some share
-    → AreFew now building later (taken + 1) emitted batches finished ins out (with_go journal 1 0)
-few-row does now building found share later taken emitted batches finished ins out journal becomes few less same = record {
+    (ins : List Sender) (outs : List Receiver) (route : Route) (journal : List Entry) → Becomes does building found now
+    → AreFew does building share taken emitted batches finished ins outs route journal → taken + emitted + batches + one_if finished < 2 ^ 40 → is_some later ≡ is_some share
+    → AreFew now building later (taken + 1) emitted batches finished ins outs route (with_go journal 1 0)
+few-row does now building found share later taken emitted batches finished ins outs route journal becomes few less same = record {
   in_order = in_order-row does now building found taken ins becomes few.in_order;
   scans = scans-so does now later (scans-more does now building found becomes) (same-some (does ≡ operator_state.Scan) share later same few.scans);
   shares = same-some (ins ≡ []) share later same few.shares;
   steps = omega arith;
   received = few.received;
-  sizes = few.sizes;
   sent = few.sent;
+  over = few.over;
+  routed = few.routed;
   moved = λ k d below. let within = within-with_go (taken + emitted) journal 1 0 refl few.moved k d below in omega arith;
 }
 
@@ -107,58 +111,38 @@ takes-row w one later now last rest pending refused kept journal columns over co
 
 -- ---- a row is emitted
 
-row-sent : (row : List Value) (n : ℕ) (one : Outgoing) → one.made + length one.partial ≤ n → (with_row row one).made + length (with_row row one).partial ≤ n + 1
-row-sent row n one h = by (eqb (length one.partial + 1) one.size)
-  where
-    by : (b : Bool)
-        → (if b then record one { made = one.made + 1; waiting = one.waiting ++ record { seq = one.made; rows = one.partial ++ row ∷ []; last = false } ∷ []; partial = [] }
-        else record one { partial = one.partial ++ row ∷ [] }).made
-        + length (if b then record one { made = one.made + 1; waiting = one.waiting ++ record { seq = one.made; rows = one.partial ++ row ∷ []; last = false } ∷ []; partial = [] }
-        else record one { partial = one.partial ++ row ∷ [] }).partial ≤ n + 1
-    by true = omega arith
-    by false = omega (arith, length-append one.partial (row ∷ []))
-
-row-sized : (row : List Value) (one : Outgoing) → 0 < one.size → 0 < (with_row row one).size
-row-sized row one h = by (eqb (length one.partial + 1) one.size)
-  where
-    by : (b : Bool)
-        → 0 < (if b then record one { made = one.made + 1; waiting = one.waiting ++ record { seq = one.made; rows = one.partial ++ row ∷ []; last = false } ∷ []; partial = [] }
-        else record one { partial = one.partial ++ row ∷ [] }).size
-    by true = h
-    by false = h
-
-each-sent : (row : List Value) (n : ℕ) (out after : Option Outgoing) → option_to_list after ≡ map (with_row row) (option_to_list out)
-    → MatchOption out (Unit {0}) (λ one. one.made + length one.partial ≤ n) → MatchOption after (Unit {0}) (λ one. one.made + length one.partial ≤ n + 1)
-each-sent row n None None e h = tt
-each-sent row n None (Some now) e h = cc
-each-sent row n (Some one) None e h = cc
-each-sent row n (Some one) (Some now) e h = let same : now ≡ with_row row one = cc in rw same (row-sent row n one h)
-
-each-sized : (row : List Value) (out after : Option Outgoing) → option_to_list after ≡ map (with_row row) (option_to_list out)
-    → MatchOption out (Unit {0}) (λ one. 0 < one.size) → MatchOption after (Unit {0}) (λ one. 0 < one.size)
-each-sized row None None e h = tt
-each-sized row None (Some now) e h = cc
-each-sized row (Some one) None e h = cc
-each-sized row (Some one) (Some now) e h = let same : now ≡ with_row row one = cc in rw same (row-sized row one h)
-
-pub few-emitted : (does : OperatorState) (building : Bool) (share : Option (List Scanned)) (taken emitted batches : ℕ) (finished : Bool) (ins : List Incoming) (out after : Option Outgoing) (journal : List Entry)
-    (row : List Value) → AreFew does building share taken emitted batches finished ins out journal → taken + emitted + batches + one_if finished < 2 ^ 40
-    → option_to_list after ≡ map (with_row row) (option_to_list out) → AreFew does building share taken (emitted + 1) batches finished ins after (with_go journal 0 1)
-few-emitted does building share taken emitted batches finished ins out after journal row few less sent = record {
+pub few-emitted : (does : OperatorState) (building : Bool) (share : Option (List Scanned)) (taken emitted batches : ℕ) (finished : Bool) (ins : List Sender) (outs after : List Receiver)
+    (route : Route) (journal : List Entry) → finished ≡ false → AreFew does building share taken emitted batches finished ins outs route journal
+    → taken + emitted + batches + one_if finished < 2 ^ 40 → ((n : ℕ) → All (λ one. one.link.kept.made ≤ n) outs → All (λ one. one.link.kept.made ≤ n + 1) after)
+    → All (λ one. one.link.kept.ended ≡ false) after → AreFew does building share taken (emitted + 1) batches finished ins after route (with_go journal 0 1)
+few-emitted does building share taken emitted batches finished ins outs after route journal unfinished few less made over = record {
   in_order = few.in_order;
   scans = few.scans;
   shares = few.shares;
   steps = omega arith;
   received = few.received;
-  sizes = each-sized row out after sent few.sizes;
-  sent = more after (each-sent row (emitted + one_if finished) out after sent few.sent);
+  sent = λ e. made emitted (few.sent e);
+  over = λ k d below. over k d below ∙ sym unfinished;
+  routed = few.routed;
   moved = λ k d below. let within = within-with_go (taken + emitted) journal 0 1 refl few.moved k d below in omega arith;
 }
-  where
-    more : (o : Option Outgoing) → MatchOption o (Unit {0}) (λ one. one.made + length one.partial ≤ emitted + one_if finished + 1)
-        → MatchOption o (Unit {0}) (λ one. one.made + length one.partial ≤ emitted + 1 + one_if finished)
-    more None h = tt
-    more (Some one) h = omega arith
+
+-- ---- the end
+
+pub few-done : (does : OperatorState) (building : Bool) (share : Option (List Scanned)) (taken emitted batches : ℕ) (ins : List Sender) (outs after : List Receiver)
+    (route : Route) (journal : List Entry) → AreFew does building share taken emitted batches false ins outs route journal → taken + emitted + batches + 0 < 2 ^ 40
+    → All (λ one. one.link.kept.ended ≡ true) after → AreFew does building share taken emitted batches true ins after route (journal ++ entry.Finish ∷ [])
+few-done does building share taken emitted batches ins outs after route journal few less over = record {
+  in_order = few.in_order;
+  scans = few.scans;
+  shares = few.shares;
+  steps = omega arith;
+  received = few.received;
+  sent = λ e. absurd (false≢true (sym e));
+  over = over;
+  routed = few.routed;
+  moved = All-push (λ one. rows_moved one ≤ taken + emitted) journal entry.Finish few.moved (omega arith);
+}
 
 -- ---- a batch is taken
 
@@ -169,20 +153,21 @@ written-back n old new e same = take-append-le n new (drop (length new) old) (om
 turned-scan : (does : OperatorState) (builds : Bool) → does ≡ operator_state.Scan → turned_to builds does ≡ operator_state.Scan
 turned-scan does builds scan = ap (turned_to builds) scan
 
-pub few-batch : (does : OperatorState) (building : Bool) (share : Option (List Scanned)) (taken emitted batches : ℕ) (finished : Bool) (ins later : List Incoming) (out : Option Outgoing)
+pub few-batch : (does : OperatorState) (building : Bool) (share : Option (List Scanned)) (taken emitted batches : ℕ) (finished : Bool) (ins found later : List Sender) (outs : List Receiver) (route : Route)
     (journal : List Entry) (place from number : ℕ) (builds : Bool) (batch : Batch)
-    → ((one : Incoming) × (one.from ≡ from) × (one.taken ≡ number) × (one.builds ≡ builds) × IsTaken ins one batch later)
-    → AreFew does building share taken emitted batches finished ins out journal → taken + emitted + batches + one_if finished < 2 ^ 40 → place < length ins
+    → ((one : Sender) × (one.from ≡ from) × (one.taken ≡ number) × (one.builds ≡ builds) × IsTaken found one batch later)
+    → have_builders_ended found ≡ have_builders_ended ins → length found ≡ length ins → AreFew does building share taken emitted batches finished ins outs route journal → taken + emitted + batches + one_if finished < 2 ^ 40 → place < length ins
     → All (λ one. one.taken ≤ batches + 1) later
-    → AreFew (turned_to builds does) builds share taken emitted (batches + 1) finished later out (journal ++ entry.Take from number ∷ [])
-few-batch does building share taken emitted batches finished ins later out journal place from number builds batch so few less there received = record {
-  in_order = rw (← so.3) (in_order-batch does building taken ins later so.0 batch so.4 few.in_order);
+    → AreFew (turned_to builds does) builds share taken emitted (batches + 1) finished later outs route (journal ++ entry.Take from number ∷ [])
+few-batch does building share taken emitted batches finished ins found later outs route journal place from number builds batch so built same few less there received = record {
+  in_order = rw (← so.3) (in_order-batch does building taken found later so.0 batch so.4 (in_order-settled does building taken ins found built few.in_order));
   scans = scans-so does (turned_to builds does) share (turned-scan does builds) few.scans;
   shares = none share few.shares;
   steps = omega arith;
   received = received;
-  sizes = few.sizes;
   sent = few.sent;
+  over = few.over;
+  routed = few.routed;
   moved = All-push (λ one. rows_moved one ≤ taken + emitted) journal (entry.Take from number) few.moved (omega arith);
 }
   where
@@ -191,19 +176,22 @@ few-batch does building share taken emitted batches finished ins later out journ
     none (Some x) h = let empty = ap length h in absurd (omega arith)
 
 -- a share stands where there are no senders alone
-pub no-share : (share : Option (List Scanned)) (ins : List Incoming) (place : ℕ) → IfSome share (λ _. ins ≡ []) → place < length ins → share ≡ None
+pub no-share : (share : Option (List Scanned)) (ins : List Sender) (place : ℕ) → IfSome share (λ _. ins ≡ []) → place < length ins → share ≡ None
 no-share None ins place h less = refl
 no-share (Some x) ins place h less = let empty = ap length h in absurd (omega arith)
 
-pub takes-batch : (w : WorkerState) (from number : ℕ) (builds : Bool) (batch : Batch) (ins found : List Incoming) (rest : List Arrival) (journal : List Entry) (now : OperatorState)
+pub takes-batch : (w : WorkerState) (from number : ℕ) (builds : Bool) (batch : Batch) (looked ins found : List Sender) (rest : List Arrival) (journal : List Entry) (now : OperatorState)
     (closing pending : List (List Value)) (empty over : Bool)
-    → ((one : Incoming) × (one.from ≡ from) × (one.taken ≡ number) × (one.builds ≡ builds) × IsTaken w.ins one batch ins) → from < 2 ^ 32 → number < 2 ^ 64
+    → ((one : Sender) × (one.from ≡ from) × (one.taken ≡ number) × (one.builds ≡ builds) × IsTaken looked one batch ins) → AreLooked w.ins looked → has_ready looked ≡ true → from < 2 ^ 32 → number < 2 ^ 64
     → rest ≡ map (row_from from) batch.rows → found ≡ ins → journal ≡ w.journal ++ entry.Take from number ∷ [] → now ≡ turned_to builds w.operator_state
     → empty ≡ eqb (length batch.rows) 0 → over ≡ have_all_ended ins → Closes w.operator_state empty closing → pending ≡ (if over then closing else [])
     → TakesBatch w (record w { operator_state = now; building = builds; rest = rest; pending = pending; batches = w.batches + 1; ins = found; journal = journal })
-takes-batch w from number builds batch ins found rest journal now closing pending empty over taken few small rest_is ins_is journal_is now_is empty_is over_is closes pending_is = record {
+takes-batch w from number builds batch looked ins found rest journal now closing pending empty over taken seen ready few small rest_is ins_is journal_is now_is empty_is over_is closes pending_is = record {
   one = taken.0;
   batch = batch;
+  found = looked;
+  looked = seen;
+  ready = ready;
   ins = ins;
   taken = taken.4;
   from_small = let same = taken.1 in omega arith;
@@ -214,20 +202,37 @@ takes-batch w from number builds batch ins found rest journal now closing pendin
 }
 
 -- batches have come
-pub few-settled : (does : OperatorState) (building : Bool) (share : Option (List Scanned)) (taken emitted batches : ℕ) (finished : Bool) (ins later : List Incoming) (out : Option Outgoing) (journal : List Entry)
-    → AreFew does building share taken emitted batches finished ins out journal → length later ≡ length ins → All (λ one. one.taken ≤ batches) later
-    → have_builders_ended later ≡ have_builders_ended ins → AreFew does building share taken emitted batches finished later out journal
-few-settled does building share taken emitted batches finished ins later out journal few same received built = record {
+pub few-settled : (does : OperatorState) (building : Bool) (share : Option (List Scanned)) (taken emitted batches : ℕ) (finished : Bool) (ins later : List Sender) (outs : List Receiver) (route : Route) (journal : List Entry)
+    → AreFew does building share taken emitted batches finished ins outs route journal → length later ≡ length ins → All (λ one. one.taken ≤ batches) later
+    → have_builders_ended later ≡ have_builders_ended ins → AreFew does building share taken emitted batches finished later outs route journal
+few-settled does building share taken emitted batches finished ins later outs route journal few same received built = record {
   in_order = in_order-settled does building taken ins later built few.in_order;
   scans = few.scans;
   shares = none share few.shares;
   steps = few.steps;
   received = received;
-  sizes = few.sizes;
   sent = few.sent;
+  over = few.over;
+  routed = few.routed;
   moved = few.moved;
 }
   where
     none : (o : Option (List Scanned)) → IfSome o (λ _. ins ≡ []) → IfSome o (λ _. later ≡ [])
     none None h = tt
     none (Some x) h = let empty = ap length h in nil_from_length later (omega arith)
+
+-- batches have gone
+pub few-sent : (does : OperatorState) (building : Bool) (share : Option (List Scanned)) (taken emitted batches : ℕ) (finished : Bool) (ins : List Sender) (outs later : List Receiver) (route : Route) (journal : List Entry)
+    → AreFew does building share taken emitted batches finished ins outs route journal → (finished ≡ false → All (λ one. one.link.kept.made ≤ emitted) later)
+    → All (λ one. one.link.kept.ended ≡ finished) later → AreFew does building share taken emitted batches finished ins later route journal
+few-sent does building share taken emitted batches finished ins outs later route journal few made over = record {
+  in_order = few.in_order;
+  scans = few.scans;
+  shares = few.shares;
+  steps = few.steps;
+  received = few.received;
+  sent = made;
+  over = over;
+  routed = few.routed;
+  moved = few.moved;
+}

@@ -1,7 +1,7 @@
 -- When a worker has something to do.
-use Rattle.std.proofs.Common.{◌≡◌, ℕ, suc, arith, ap, All, ◌/◌, eqb, ◌||◌, List, [], ◌∷◌, ◌++◌, length, map, not, ◌&&◌, Bool, true, false, if◌then◌else◌, refl, sym, ◌∙◌}
+use Rattle.std.proofs.Common.{◌≡◌, ℕ, suc, arith, ap, All, ◌/◌, eqb, ◌||◌, List, [], ◌∷◌, ◌++◌, length, get_or, ◌<◌, map, not, ◌⊎◌, inl, inr, subst, ◌&&◌, Bool, true, false, if◌then◌else◌, refl, sym, ◌∙◌}
 use Rattle.std.specs.List.{list_any}
-use Rattle.std.proofs.lemmas.Bool.{and_from, eq-eqb, eqb-true, false≢true, or_left, or_right}
+use Rattle.std.proofs.lemmas.Bool.{and_from, eq-eqb, eqb-true, false≢true, or_cases, or_left, or_right}
 use Rattle.std.proofs.lemmas.List.{append-nil}
 use Rattle.amber_rows.specs.Chunks.{chunks_of, piece_of}
 use Rattle.amber_rows.specs.Lists.{numbers_below}
@@ -10,9 +10,11 @@ use Rattle.amber_rows.specs.declared.batch.Batch.{Batch}
 use Rattle.amber_meaning.specs.Position.{Position, Taken, has_last, taken_from}
 use Rattle.amber_meaning.specs.Rules.{Orders}
 use Rattle.amber_meaning.specs.Task.{Task, is_builder}
-use Rattle.amber_queue.specs.Incoming.{Incoming, has_some, have_all_ended, have_builders_ended, is_ready, may_come}
-use Rattle.amber_worker.specs.Links.{waiting_from}
-use Rattle.amber_worker.specs.AtPosition.{Placement, ReceiveAll, Shows}
+use Rattle.amber_link.specs.Sides.{have_all_ended, have_builders_ended, may_come}
+use Rattle.amber_link.specs.declared.senders.Sender.{Sender}
+use Rattle.amber_link.specs.Links.{has_some, waiting}
+use Rattle.amber_link.specs.Links.{HasGiven}
+use Rattle.amber_worker.specs.AtPosition.{Base, Placement, ReceiveAll, Shows}
 use Rattle.amber_worker.specs.WorkerState.{WorkerState, next_turn, has_ready}
 use Rattle.amber_worker.specs.declared.turn.Turn.TheVariants as turn
 
@@ -35,6 +37,10 @@ not_ready : (ended some : Bool) → (not ended && some) ≡ false → ended ≡ 
 not_ready true some h e = absurd (false≢true (sym e))
 not_ready false some h e = h
 
+-- it is one of these, and has this number
+abbrev pub IsAmong : ℕ → Sender → List Sender → Type 0
+IsAmong sender one ins = (k : ℕ) × (k < length ins) × ((d : Sender) → get_or ins k d ≡ one) × (one.from ≡ sender)
+
 none : {A : Type 0} (xs : List A) → has_some xs ≡ false → xs ≡ []
 none [] h = refl
 none (x ∷ xs) h = absurd (false≢true (sym h))
@@ -44,7 +50,7 @@ parts_false true b h = absurd (false≢true (sym h))
 parts_false false true h = absurd (false≢true (sym h))
 parts_false false false h = (refl, refl)
 
-neither : (ready : Incoming → Bool) (one : Incoming) (more : List Incoming) → list_any ready (one ∷ more) ≡ false → (ready one ≡ false) × (list_any ready more ≡ false)
+neither : (ready : Sender → Bool) (one : Sender) (more : List Sender) → list_any ready (one ∷ more) ≡ false → (ready one ≡ false) × (list_any ready more ≡ false)
 neither ready one more h = by (ready one) (list_any ready more) refl refl
   where
     by : (a b : Bool) → ready one ≡ a → list_any ready more ≡ b → (ready one ≡ false) × (list_any ready more ≡ false)
@@ -52,58 +58,69 @@ neither ready one more h = by (ready one) (list_any ready more) refl refl
     by false true e f = absurd (false≢true (sym h ∙ or_right _ _ f))
     by false false e f = (e, f)
 
--- where no batch may be taken, none waits of a sender that has not ended and whose side may be taken
-none_waits : (task : Task) (built : Bool) (taken : List Taken) (senders : List ℕ) (ins : List Incoming) (sender : ℕ) → ReceiveAll senders taken ins
+unready : (ended side waits : Bool) → ((not ended && side) && waits) ≡ false → ended ≡ false → side ≡ true → waits ≡ false
+unready true side waits h e so = absurd (false≢true (sym e))
+unready false false waits h e so = absurd (false≢true so)
+unready false true waits h e so = h
+
+-- where no batch may be taken, of a sender that has not ended and whose side may be taken all that has come was taken
+none_waits : (had : ℕ → List Batch) (task : Task) (built : Bool) (taken : List Taken) (senders : List ℕ) (ins : List Sender) (sender : ℕ) → ReceiveAll senders had taken ins
     → All (λ one. one.builds ≡ is_builder task one.from) ins → (is_builder task sender || built) ≡ true → list_any (may_come built) ins ≡ false
-    → has_last taken sender ≡ false → waiting_from sender ins ≡ []
+    → list_any (λ one. eqb one sender) senders ≡ true → has_last taken sender ≡ false
+    → (one : Sender) × HasGiven one.link (had sender) (taken_from taken sender) × (waiting one.link ≡ []) × IsAmong sender one ins
 unfolding ReceiveAll
-none_waits task built taken [] [] sender h sides side ready last = refl
-none_waits task built taken [] (one ∷ ins) sender h sides side ready last = absurd h
-none_waits task built taken (first ∷ more) [] sender h sides side ready last = absurd h
-none_waits task built taken (first ∷ more) (one ∷ ins) sender h sides side ready last =
-    by (eqb one.from sender) refl
-    (none_waits task built taken more ins sender h.2 (λ k d less. sides (suc k) d (omega arith)) side (neither (may_come built) one ins ready).1 last)
+none_waits had task built taken [] ins sender h sides side ready member last = absurd (false≢true member)
+none_waits had task built taken (first ∷ more) [] sender h sides side ready member last = absurd h
+none_waits had task built taken (first ∷ more) (one ∷ ins) sender h sides side ready member last =
+    by (or_cases (eqb first sender) (list_any (λ other. eqb other sender) more) member)
+    (λ later. none_waits had task built taken more ins sender h.2 (λ k d less. sides (suc k) d (omega arith)) side (neither (may_come built) one ins ready).1 later last)
   where
     own : one.builds ≡ is_builder task one.from
     own = sides 0 one (omega arith)
 
-    unready : (ready may : Bool) → (ready && may) ≡ false → may ≡ true → ready ≡ false
-    unready true may e so = absurd (false≢true (sym e ∙ so))
-    unready false may e so = refl
-
-    by : (b : Bool) → eqb one.from sender ≡ b → waiting_from sender ins ≡ [] → (if b then one.waiting else waiting_from sender ins) ≡ []
-    by true e rest =
-        let here : one.from ≡ sender = eqb-true one.from sender e in
-        let same : first ≡ sender = sym h.0.from ∙ here in
-        let open_still : one.ended ≡ false = h.0.ended ∙ rw same last in
-        let may : (one.builds || built) ≡ true = ap (λ b. b || built) (own ∙ ap (is_builder task) here) ∙ side in
-        none one.waiting (not_ready one.ended (has_some one.waiting) (unready (is_ready one) (one.builds || built) (neither (may_come built) one ins ready).0 may) open_still)
-    by false e rest = rest
+    by : (eqb first sender ≡ true) ⊎ (list_any (λ other. eqb other sender) more ≡ true)
+        → (list_any (λ other. eqb other sender) more ≡ true
+        → (found : Sender) × HasGiven found.link (had sender) (taken_from taken sender) × (waiting found.link ≡ []) × IsAmong sender found ins)
+        → (found : Sender) × HasGiven found.link (had sender) (taken_from taken sender) × (waiting found.link ≡ []) × IsAmong sender found (one ∷ ins)
+    by (inl e) rest =
+        let same : first ≡ sender = eqb-true first sender e in
+        let here : one.from ≡ sender = h.0.from ∙ same in
+        let unended : one.ended ≡ false = h.0.ended ∙ rw same last in
+        let may : (one.builds || built) ≡ true = ap (λ b. b || built) (own ∙ ap (is_builder task) here) ∙ side in (
+          one,
+          subst (λ n. HasGiven one.link (had n) (taken_from taken n)) same h.0.come,
+          none (waiting one.link) (unready one.ended (one.builds || built) (has_some (waiting one.link)) (neither (may_come built) one ins ready).0 unended may),
+          (0, omega arith, λ d. refl, here),
+        )
+    by (inr later) rest =
+        let found = rest later in
+        let place = found.3 in
+        (found.0, found.1, found.2, (suc place.0, let less = place.1 in omega arith, place.2, place.3))
 
 -- where those of the build side have ended, the build side has
-built_so : (task : Task) (taken : List Taken) (senders : List ℕ) (ins : List Incoming) → ReceiveAll senders taken ins → All (λ one. one.builds ≡ is_builder task one.from) ins
+built_so : (had : ℕ → List Batch) (task : Task) (taken : List Taken) (senders : List ℕ) (ins : List Sender) → ReceiveAll senders had taken ins → All (λ one. one.builds ≡ is_builder task one.from) ins
     → ((sender : ℕ) → list_any (λ one. eqb one sender) senders ≡ true → is_builder task sender ≡ true → has_last taken sender ≡ true) → have_builders_ended ins ≡ true
 unfolding ReceiveAll
-built_so task taken [] [] h sides last = refl
-built_so task taken [] (one ∷ ins) h sides last = absurd h
-built_so task taken (first ∷ more) [] h sides last = absurd h
-built_so task taken (first ∷ more) (one ∷ ins) h sides last =
+built_so had task taken [] [] h sides last = refl
+built_so had task taken [] (one ∷ ins) h sides last = absurd h
+built_so had task taken (first ∷ more) [] h sides last = absurd h
+built_so had task taken (first ∷ more) (one ∷ ins) h sides last =
     and_from _ _ (by one.builds (sides 0 one (omega arith)))
-    (built_so task taken more ins h.2 (λ k d less. sides (suc k) d (omega arith)) (λ sender member. last sender (or_right _ _ member)))
+    (built_so had task taken more ins h.2 (λ k d less. sides (suc k) d (omega arith)) (λ sender member. last sender (or_right _ _ member)))
   where
     by : (b : Bool) → b ≡ is_builder task one.from → (not b || one.ended) ≡ true
     by true own = h.0.ended ∙ last first (or_left _ _ (eq-eqb first first refl)) (ap (is_builder task) (sym h.0.from) ∙ sym own)
     by false own = refl
 
 -- where no batch may be taken and of each sender the last one was taken or waits, all have ended
-all_ended : (taken : List Taken) (senders : List ℕ) (ins : List Incoming) → ReceiveAll senders taken ins
+all_ended : (had : ℕ → List Batch) (taken : List Taken) (senders : List ℕ) (ins : List Sender) → ReceiveAll senders had taken ins
     → ((sender : ℕ) → list_any (λ one. eqb one sender) senders ≡ true → has_last taken sender ≡ true) → have_all_ended ins ≡ true
 unfolding ReceiveAll
-all_ended taken [] [] h last = refl
-all_ended taken [] (one ∷ ins) h last = absurd h
-all_ended taken (first ∷ more) [] h last = absurd h
-all_ended taken (first ∷ more) (one ∷ ins) h last =
-    and_from _ _ (h.0.ended ∙ last first (or_left _ _ (eq-eqb first first refl))) (all_ended taken more ins h.2 (λ sender member. last sender (or_right _ _ member)))
+all_ended had taken [] [] h last = refl
+all_ended had taken [] (one ∷ ins) h last = absurd h
+all_ended had taken (first ∷ more) [] h last = absurd h
+all_ended had taken (first ∷ more) (one ∷ ins) h last =
+    and_from _ _ (h.0.ended ∙ last first (or_left _ _ (eq-eqb first first refl))) (all_ended had taken more ins h.2 (λ sender member. last sender (or_right _ _ member)))
 
 idle_parts : (a b c d e : Bool)
     → (if a then turn.Ended else if b then turn.Moved else if c then turn.Moved else if d then turn.Moved else if e then turn.Moved else turn.Idle) ≡ turn.Idle
@@ -116,14 +133,14 @@ idle_parts false false false false true h = cc
 idle_parts false false false false false h = (refl, refl)
 
 -- a worker of whose senders each last batch was taken or waits is never idle
-pub never_idle : (placement : Placement) (orders : Orders) (w : WorkerState) (p : Position) (sent : ℕ → List Batch) → Shows placement orders w p sent
-    → ((sender : ℕ) → list_any (λ one. eqb one sender) placement.role.senders ≡ true → has_marked (taken_from p.taken sender ++ waiting_from sender w.ins) ≡ true)
+pub never_idle : (placement : Placement) (orders : Orders) (w : WorkerState) (p : Position) (base : Base) → Shows placement orders w p base
+    → ((sender k : ℕ) → k < length w.ins → ((d : Sender) → (get_or w.ins k d).from ≡ sender) → (d : Sender) → has_marked (taken_from p.taken sender ++ waiting (get_or w.ins k d).link) ≡ true)
     → next_turn w ≡ turn.Idle → ⊥
-never_idle placement orders w p sent shows marked idle =
+never_idle placement orders w p base shows marked idle =
     let parts = idle_parts w.finished (has_some w.pending) (has_some w.rest) (has_ready w.ins) (have_all_ended w.ins) idle in
-    let built = built_so placement.role.task p.taken placement.role.senders w.ins shows.ins shows.sides
+    let built = built_so base.had placement.role.task p.taken placement.role.senders w.ins shows.ins shows.sides
     (λ sender member builds. last (have_builders_ended w.ins) parts.0 sender member (or_left _ _ builds) (has_last p.taken sender) refl) in
-    let ended = all_ended p.taken placement.role.senders w.ins shows.ins
+    let ended = all_ended base.had p.taken placement.role.senders w.ins shows.ins
     (λ sender member. last (have_builders_ended w.ins) parts.0 sender member (or_right _ _ built) (has_last p.taken sender) refl) in
     false≢true (sym parts.1 ∙ ended)
   where
@@ -131,5 +148,7 @@ never_idle placement orders w p sent shows marked idle =
         → (is_builder placement.role.task sender || built) ≡ true → (b : Bool) → has_last p.taken sender ≡ b → b ≡ true
     last built ready sender member side true e = refl
     last built ready sender member side false e =
-        let waits = none_waits placement.role.task built p.taken placement.role.senders w.ins sender shows.ins shows.sides side ready e in
-        absurd (false≢true (sym e ∙ rw (waits, append-nil) at (marked sender member)))
+        let waits = none_waits base.had placement.role.task built p.taken placement.role.senders w.ins sender shows.ins shows.sides side ready member e in
+        let place = waits.3 in
+        let empty : waiting (get_or w.ins place.0 waits.0).link ≡ [] = ap (λ (s : Sender). waiting s.link) (place.2 waits.0) ∙ waits.2 in
+        absurd (false≢true (sym e ∙ rw (empty, append-nil) at (marked sender place.0 place.1 (λ d. ap (λ (s : Sender). s.from) (place.2 d) ∙ place.3) waits.0)))

@@ -1,19 +1,21 @@
 -- Journals that grow.
-use Rattle.std.proofs.Common.{◌≡◌, ℕ, zero, suc, ◌+◌, ◌-◌, ◌^◌, ◌<◌, ◌≤◌, eqb, ◌&&◌, List, [], ◌∷◌, ◌++◌, length, replicate, All, Option, None, Bool, true, false, refl, sym, ap, ◌∙◌, arith, zero-add, append_assoc, subst, length-append}
-use Rattle.std.proofs.lemmas.Bool.{false≢true, ne_eqb}
-use Rattle.std.proofs.lemmas.List.{length-replicate, replicate-append-replicate}
-use Rattle.amber_meaning.proofs.Led.{no_batch}
+use Rattle.std.proofs.Common.{◌≡◌, ℕ, zero, suc, ◌+◌, ◌-◌, ◌^◌, ◌<◌, ◌≤◌, eqb, ◌&&◌, ◌||◌, not, cond, ◌⊎◌, inl, inr, take, drop, List, [], ◌∷◌, ◌++◌, length, length-drop, replicate, All, Option, Bool, true, false, refl, sym, ap, ◌∙◌, arith, zero-add, append_assoc, subst, length-append}
+use Rattle.std.specs.List.{list_all}
+use Rattle.std.proofs.Math.Seq.{take-add}
+use Rattle.std.proofs.lemmas.Bool.{and_from, and_parts, ne_eqb}
+use Rattle.std.proofs.lemmas.List.{append-nil, drop-append-le, length-replicate, length-take-le, replicate-append-replicate, take-append-le}
 use Rattle.amber_rows.specs.declared.value.Value.{Value}
 use Rattle.amber_rows.specs.declared.cond.Cond.{Cond}
 use Rattle.amber_log.specs.Grammar.{AreEntries, IsEntry, is_go}
 use Rattle.amber_log.specs.declared.entry.Entry.{Entry}
 use Rattle.amber_log.specs.declared.entry.Entry.TheVariants as entry
-use Rattle.amber_meaning.specs.Position.{Position, product}
-use Rattle.amber_meaning.specs.Rules.{Leads, MayGo, Moves, Orders, pass_by, produced_with, with_rows}
+use Rattle.amber_meaning.specs.Position.{Position, Taken, all_arrivals, is_complete, product}
+use Rattle.amber_meaning.specs.Rules.{Leads, MayGo, Orders, is_watched, pass_by, produced_with, product_with, with_rows}
 use Rattle.amber_meaning.specs.Task.{Role}
-use Rattle.amber_meaning.proofs.Lists.{list_all-every}
+use Rattle.amber_meaning.specs.Produce.{closing, yields}
+use Rattle.amber_meaning.proofs.Led.{no_batch}
+use Rattle.amber_worker.proofs.Produced.{not-complete, produce-next, product-is, product-open}
 use Rattle.amber_worker.specs.Fields.{rows_moved}
-use Rattle.amber_worker.specs.AtPosition.{ArePlain}
 use Rattle.amber_worker.specs.Steps.{gone_on, with_go}
 
 -- ---- one entry more
@@ -43,119 +45,189 @@ waved_both : (w : Bool) (a b : ℕ) → ((w && eqb a 0) && eqb b 0) ≡ (w && eq
 waved_both true a b = none_yet a b
 waved_both false a b = refl
 
+hand-hand : (b : Bool) (hand a c : ℕ) → cond b (cond b (hand - a) hand - c) (cond b (hand - a) hand) ≡ cond b (hand - (a + c)) hand
+hand-hand true hand a c = omega arith
+hand-hand false hand a c = refl
+
 -- rows more, and again some more
-pub with_rows-with_rows : (orders : Orders) (rows outs more others : ℕ) (p : Position) → ArePlain orders
+pub with_rows-with_rows : (orders : Orders) (rows outs more others : ℕ) (p : Position)
     → with_rows orders more others (with_rows orders rows outs p) ≡ with_rows orders (rows + more) (outs + others) p
-with_rows-with_rows orders rows outs more others p plain =
+with_rows-with_rows orders rows outs more others p =
     same_position _ _ refl
     (append_assoc p.constants _ _ ∙ ap (λ l. p.constants ++ l) (replicate-append-replicate rows more orders.constants))
     (append_assoc p.outcomes _ _ ∙ ap (λ l. p.outcomes ++ l) (replicate-append-replicate outs others true))
-    (rw plain.uncounted refl) refl (waved_both p.waved outs others) refl refl
+    (hand-hand orders.counted p.hand outs others) refl (waved_both p.waved outs others) refl refl
 
-not_watched : (waved : Bool) (rows : List (List Value)) → pass_by None waved rows ≡ true
-not_watched waved [] = refl
-not_watched true (row ∷ rows) = list_all-every _ rows (λ other. refl)
-not_watched false (row ∷ rows) = list_all-every _ rows (λ other. refl)
+-- ---- conditions
 
--- no condition stops a row
-pub passes : (orders : Orders) (waved : Bool) (rows : List (List Value)) → ArePlain orders → pass_by orders.watch waved rows ≡ true
-passes orders waved rows plain =
-    let P : Option Cond → Type 0 = λ watch. pass_by watch waved rows ≡ true in
-    subst P (sym plain.unwatched) (not_watched waved rows)
+-- a first row that is let through passes
+pub first-passes : (watch : Option Cond) (waved : Bool) (row : List Value) → (waved || not (is_watched watch row)) ≡ true → pass_by watch waved (row ∷ []) ≡ true
+first-passes watch true row h = refl
+first-passes watch false row h = rw h refl
 
--- no count is armed
-pub not_counted : (orders : Orders) → ArePlain orders → orders.counted ≡ true → ⊥
-not_counted orders plain counted = false≢true (sym plain.uncounted ∙ counted)
+list_all-both : {A : Type 0} (test : A → Bool) (xs ys : List A) → list_all test xs ≡ true → list_all test ys ≡ true → list_all test (xs ++ ys) ≡ true
+list_all-both test [] ys h k = k
+list_all-both test (x ∷ xs) ys h k = let parts = and_parts (test x) (list_all test xs) h in and_from _ _ parts.0 (list_all-both test xs ys parts.1 k)
 
-produced-with_rows : (role : Role) (orders : Orders) (p : Position) (rows outs more : ℕ)
-    → produced_with role orders (with_rows orders rows outs p) more ≡ produced_with role orders p (rows + more)
-produced-with_rows role orders p rows outs more =
-    ap (λ (constants : List (List Value)). length (product role p.taken constants))
+all-pass : (watch : Option Cond) (rows : List (List Value)) → pass_by watch false rows ≡ true → list_all (λ row. not (is_watched watch row)) rows ≡ true
+all-pass watch [] h = refl
+all-pass watch (row ∷ rows) h = h
+
+both-true : (b : Bool) → (b && true) ≡ b
+both-true true = refl
+both-true false = refl
+
+-- rows that pass, and again some
+pub pass-both : (watch : Option Cond) (waved : Bool) (n : ℕ) (xs ys : List (List Value)) → length xs ≡ n → pass_by watch waved xs ≡ true
+    → pass_by watch (waved && eqb n 0) ys ≡ true → pass_by watch waved (xs ++ ys) ≡ true
+pass-both watch waved n [] ys len h k = rw (← len, both-true waved) at k
+pass-both watch true n (x ∷ xs) ys len h k =
+    let some : eqb n 0 ≡ false = ne_eqb n 0 (λ e. omega (arith, len)) in
+    list_all-both (λ row. not (is_watched watch row)) xs ys h (all-pass watch ys (rw some at k))
+pass-both watch false n (x ∷ xs) ys len h k = list_all-both (λ row. not (is_watched watch row)) (x ∷ xs) ys h (all-pass watch ys k)
+
+-- ---- products
+
+some-left : {A : Type 0} (n : ℕ) (xs : List A) → n < length xs → (y : A) × (ys : List A) × (drop n xs ≡ y ∷ ys)
+some-left n [] less = absurd (omega arith)
+some-left zero (x ∷ xs) less = (x, xs, refl)
+some-left (suc n) (x ∷ xs) less = some-left n xs (omega arith)
+
+product-one-more : (role : Role) (taken : List Taken) (constants : List (List Value)) (now : List Value) → length constants < length (all_arrivals role taken)
+    → (more : List (List Value)) × (product role taken (constants ++ now ∷ []) ≡ product role taken constants ++ more)
+product-one-more role taken constants now less =
+    let left = some-left (length constants) (all_arrivals role taken) less in
+    let open_still = product-open role taken constants (not-complete role taken (length constants) less) in
+    let longer = constants ++ now ∷ [] in
+    let closing_part = cond (is_complete role taken (length longer)) (closing role.task (all_arrivals role taken)) [] in
+    let yielded = yields role.task (take (length constants) (all_arrivals role taken)) left.0 now in (
+      yielded ++ closing_part,
+      product-is role taken longer
+          ∙ ap (λ rows. rows ++ closing_part) (produce-next role.task [] (all_arrivals role taken) constants left.0 left.1 now left.2 ∙ ap (λ rows. rows ++ yielded) (sym open_still))
+          ∙ append_assoc (product role taken constants) yielded closing_part,
+    )
+
+-- what was produced before is a front of what is produced with rows more
+pub product-more : (role : Role) (taken : List Taken) (n : ℕ) (constants : List (List Value)) (now : List Value) → length constants + n ≤ length (all_arrivals role taken)
+    → (more : List (List Value)) × (product role taken (constants ++ replicate n now) ≡ product role taken constants ++ more)
+product-more role taken zero constants now few = ([], ap (product role taken) (append-nil constants) ∙ sym (append-nil (product role taken constants)))
+product-more role taken (suc n) constants now few =
+    let one = product-one-more role taken constants now (omega arith) in
+    let longer : length (constants ++ now ∷ []) ≡ length constants + 1 = length-append constants (now ∷ []) in
+    let rest = product-more role taken n (constants ++ now ∷ []) now (omega (arith, longer)) in (
+      one.0 ++ rest.0,
+      ap (product role taken) (sym (append_assoc constants (now ∷ []) (replicate n now)))
+          ∙ rest.1 ∙ ap (λ rows. rows ++ rest.0) one.1 ∙ append_assoc (product role taken constants) one.0 rest.0,
+    )
+
+-- ---- rows that go as one
+
+product-with_rows : (role : Role) (orders : Orders) (p : Position) (rows outs more : ℕ)
+    → product_with role orders (with_rows orders rows outs p) more ≡ product_with role orders p (rows + more)
+product-with_rows role orders p rows outs more =
+    ap (λ (constants : List (List Value)). product role p.taken constants)
     (append_assoc p.constants _ _ ∙ ap (λ l. p.constants ++ l) (replicate-append-replicate rows more orders.constants))
 
 produced-same : (role : Role) (orders : Orders) (p : Position) (a b : ℕ) → a ≡ b → produced_with role orders p a ≡ produced_with role orders p b
 produced-same role orders p a b e = ap (λ n. produced_with role orders p n) e
 
--- rows that were taken and emitted, and then a row that may be taken, may go as one
-go-row : (role : Role) (orders : Orders) (p : Position) (rows outs : ℕ) → ArePlain orders → MayGo role orders p rows outs
-    → MayGo role orders (with_rows orders rows outs p) 1 0 → MayGo role orders p (rows + 1) (outs + 0)
-go-row role orders p rows outs plain first second =
+zero-or : (n : ℕ) → (n ≡ 0) ⊎ (0 < n)
+zero-or zero = inl refl
+zero-or (suc n) = inr (omega arith)
+
+drop-more : {A : Type 0} (n a : ℕ) (xs : List A) → drop a (drop n xs) ≡ drop (n + a) xs
+drop-more zero a xs = ap (λ m. drop m xs) (sym (zero-add a))
+drop-more (suc n) zero [] = let e : suc n + 0 ≡ suc (n + 0) = omega arith in rw e refl
+drop-more (suc n) (suc a) [] = let e : suc n + suc a ≡ suc (n + suc a) = omega arith in rw e refl
+drop-more (suc n) a (x ∷ xs) = let e : suc n + a ≡ suc (n + a) = omega arith in drop-more n a xs ∙ ap (λ m. drop m (x ∷ xs)) (sym e)
+
+take-both : {A : Type 0} (n a b : ℕ) (xs : List A) → n + a ≤ length xs → take (a + b) (drop n xs) ≡ take a (drop n xs) ++ take b (drop (n + a) xs)
+take-both n a b xs few = take-add a b (drop n xs) ∙ ap (λ l. take a (drop n xs) ++ take b l) (drop-more n a xs)
+
+front-of : {A : Type 0} (n a : ℕ) (xs ys : List A) → n + a ≤ length xs → take a (drop n (xs ++ ys)) ≡ take a (drop n xs)
+front-of n a xs ys few =
+    let within : n ≤ length xs = omega arith in
+    let enough : a ≤ length (drop n xs) = omega (arith, length-drop n xs) in
+    ap (take a) (drop-append-le n xs ys within) ∙ take-append-le a (drop n xs) ys enough
+
+-- rows that were taken and emitted, and then some that may be, may go as one
+pub go-both : (role : Role) (orders : Orders) (p : Position) (rows outs more others : ℕ) → MayGo role orders p rows outs
+    → MayGo role orders (with_rows orders rows outs p) more others → MayGo role orders p (rows + more) (outs + others)
+go-both role orders p rows outs more others first second =
     let constants = length-append p.constants (replicate rows orders.constants) in
     let rows_gone = length-replicate rows orders.constants in
     let outcomes = length-append p.outcomes (replicate outs true) in
     let outs_gone = length-replicate outs true in
     let within = second.within in
     let produced = second.produced in
-    let drained : produced_with role orders (with_rows orders rows outs p) 0 ≤ length (p.outcomes ++ replicate outs true) + 0 = second.drained (omega arith) in
-    let one = produced-with_rows role orders p rows outs 1 in
-    let before = produced-with_rows role orders p rows outs 0 ∙ produced-same role orders p (rows + 0) (rows + 1 - 1) (omega arith) in
+    let all = ap length (product-with_rows role orders p rows outs more) in
     record {
       free = first.free;
       within = omega arith;
       produced = omega arith;
-      drained = λ some. omega arith;
-      in_hand = λ counted. absurd (not_counted orders plain counted);
-      before_taking = λ counted. absurd (not_counted orders plain counted);
-      no_stop = passes orders p.waved _ plain;
+      drained = λ some. drained-both (zero-or more) some;
+      in_hand = λ counted. let one = first.in_hand counted in let two = rw counted at (second.in_hand counted) in omega (arith, one, two);
+      before_taking = λ counted some. before-both counted (zero-or more) some;
+      no_stop = stop-both;
     }
+  where
+    longer : length (p.outcomes ++ replicate outs true) ≡ length p.outcomes + outs
+    longer = length-append p.outcomes (replicate outs true) ∙ ap (λ n. length p.outcomes + n) (length-replicate outs true)
 
--- rows that were taken and emitted, and then a row that may be emitted, may go as one
-go-out : (role : Role) (orders : Orders) (p : Position) (rows outs : ℕ) → ArePlain orders → MayGo role orders p rows outs
-    → MayGo role orders (with_rows orders rows outs p) 0 1 → MayGo role orders p (rows + 0) (outs + 1)
-go-out role orders p rows outs plain first second =
-    let constants = length-append p.constants (replicate rows orders.constants) in
-    let rows_gone = length-replicate rows orders.constants in
-    let outcomes = length-append p.outcomes (replicate outs true) in
-    let outs_gone = length-replicate outs true in
-    let within = first.within in
-    let produced = second.produced in
-    let same = produced-with_rows role orders p rows outs 0 in
-    let before = produced-same role orders p (rows + 0 - 1) (rows - 1) (omega arith) in
-    record {
-      free = first.free;
-      within = omega arith;
-      produced = omega arith;
-      drained = λ some. let drained : produced_with role orders p (rows - 1) ≤ length p.outcomes + outs = first.drained (omega arith) in omega arith;
-      in_hand = λ counted. absurd (not_counted orders plain counted);
-      before_taking = λ counted. absurd (not_counted orders plain counted);
-      no_stop = passes orders p.waved _ plain;
-    }
+    drained-both : (more ≡ 0) ⊎ (0 < more) → 0 < rows + more → produced_with role orders p (rows + more - 1) ≤ length p.outcomes + (outs + others)
+    drained-both (inl e) some =
+        let drained = first.drained (omega arith) in
+        let same = produced-same role orders p (rows + more - 1) (rows - 1) (omega arith) in
+        omega (arith, drained, same)
+    drained-both (inr has) some =
+        let drained = second.drained has in
+        let same = ap length (product-with_rows role orders p rows outs (more - 1)) ∙ produced-same role orders p (rows + (more - 1)) (rows + more - 1) (omega arith) in
+        omega (arith, drained, same, longer)
 
--- rows that were taken and emitted and some more may go as one
-abbrev MayJoin : Role → Orders → ℕ → ℕ → Type 0
-MayJoin role orders more others = (p : Position) (rows outs : ℕ) → MayGo role orders p rows outs → MayGo role orders (with_rows orders rows outs p) more others
-    → MayGo role orders p (rows + more) (outs + others)
+    before-both : orders.counted ≡ true → (more ≡ 0) ⊎ (0 < more) → 0 < rows + more → produced_with role orders p (rows + more - 1) < length p.outcomes + p.hand
+    before-both counted (inl e) some =
+        let before = first.before_taking counted (omega arith) in
+        let same = produced-same role orders p (rows + more - 1) (rows - 1) (omega arith) in
+        omega (arith, before, same)
+    before-both counted (inr has) some =
+        let hand = first.in_hand counted in
+        let before = rw counted at (second.before_taking counted has) in
+        let same = ap length (product-with_rows role orders p rows outs (more - 1)) ∙ produced-same role orders p (rows + (more - 1)) (rows + more - 1) (omega arith) in
+        omega (arith, before, same, longer, hand)
+
+    stop-both : pass_by orders.watch p.waved (take (outs + others) (drop (length p.outcomes) (product_with role orders p (rows + more)))) ≡ true
+    stop-both =
+        let grown = product-more role p.taken more (p.constants ++ replicate rows orders.constants) orders.constants second.within in
+        let front : product_with role orders p (rows + more) ≡ product_with role orders p rows ++ grown.0 = sym (product-with_rows role orders p rows outs more) ∙ grown.1 in
+        let produced = first.produced in
+        let lengths = ap length front ∙ length-append (product_with role orders p rows) grown.0 in
+        let one : take outs (drop (length p.outcomes) (product_with role orders p (rows + more))) ≡ take outs (drop (length p.outcomes) (product_with role orders p rows)) =
+        ap (λ l. take outs (drop (length p.outcomes) l)) front ∙ front-of (length p.outcomes) outs (product_with role orders p rows) grown.0 produced in
+        let first_len : length (take outs (drop (length p.outcomes) (product_with role orders p (rows + more)))) ≡ outs =
+        length-take-le outs _ (omega (arith, length-drop (length p.outcomes) (product_with role orders p (rows + more)), lengths, produced)) in
+        let two : pass_by orders.watch (p.waved && eqb outs 0) (take others (drop (length p.outcomes + outs) (product_with role orders p (rows + more)))) ≡ true =
+        subst (λ l. pass_by orders.watch (p.waved && eqb outs 0) (take others l) ≡ true) (ap (drop (length (p.outcomes ++ replicate outs true))) (product-with_rows role orders p rows outs more) ∙ ap (λ n. drop n (product_with role orders p (rows + more))) longer) second.no_stop in
+        subst (λ l. pass_by orders.watch p.waved l ≡ true) (sym (take-both (length p.outcomes) outs others (product_with role orders p (rows + more)) (omega (arith, lengths, produced))))
+        (pass-both orders.watch p.waved outs _ _ first_len (subst (λ l. pass_by orders.watch p.waved l ≡ true) (sym one) first.no_stop) two)
 
 -- rows more at the end of a journal lead on
-Leads-go : (role : Role) (orders : Orders) (start : Position) (journal : List Entry) (p : Position) (rows outs : ℕ) → ArePlain orders → MayJoin role orders rows outs
+pub Leads-go : (role : Role) (orders : Orders) (start : Position) (journal : List Entry) (p : Position) (rows outs : ℕ)
     → Leads role orders start journal p → MayGo role orders p rows outs → Leads role orders start (with_go journal rows outs) (with_rows orders rows outs p)
 unfolding Leads with_go
-Leads-go role orders start [] p rows outs plain join leads may = (with_rows orders rows outs p, (no_batch, rw leads may, rw leads refl), refl)
-Leads-go role orders start (entry.Take sender batch ∷ []) p rows outs plain join leads may =
+Leads-go role orders start [] p rows outs leads may = (with_rows orders rows outs p, (no_batch, rw leads may, rw leads refl), refl)
+Leads-go role orders start (entry.Take sender batch ∷ []) p rows outs leads may =
     (leads.0, leads.1, (with_rows orders rows outs p, (no_batch, rw leads.2 may, rw leads.2 refl), refl))
-Leads-go role orders start (entry.Go before given ∷ []) p rows outs plain join leads may =
+Leads-go role orders start (entry.Go before given ∷ []) p rows outs leads may =
     let same : p ≡ with_rows orders before given start = sym leads.2 ∙ leads.1.2 in
-    (with_rows orders rows outs p, (no_batch, join start before given leads.1.1 (rw same at may), rw same (with_rows-with_rows orders before given rows outs start plain)), refl)
-Leads-go role orders start (entry.Grant n ∷ []) p rows outs plain join leads may = (leads.0, leads.1, (with_rows orders rows outs p, (no_batch, rw leads.2 may, rw leads.2 refl), refl))
-Leads-go role orders start (entry.Back n ∷ []) p rows outs plain join leads may = (leads.0, leads.1, (with_rows orders rows outs p, (no_batch, rw leads.2 may, rw leads.2 refl), refl))
-Leads-go role orders start (entry.Pause ∷ []) p rows outs plain join leads may = (leads.0, leads.1, (with_rows orders rows outs p, (no_batch, rw leads.2 may, rw leads.2 refl), refl))
-Leads-go role orders start (entry.Resume ∷ []) p rows outs plain join leads may = (leads.0, leads.1, (with_rows orders rows outs p, (no_batch, rw leads.2 may, rw leads.2 refl), refl))
-Leads-go role orders start (entry.Hold ∷ []) p rows outs plain join leads may = (leads.0, leads.1, (with_rows orders rows outs p, (no_batch, rw leads.2 may, rw leads.2 refl), refl))
-Leads-go role orders start (entry.Finish ∷ []) p rows outs plain join leads may = (leads.0, leads.1, (with_rows orders rows outs p, (no_batch, rw leads.2 may, rw leads.2 refl), refl))
-Leads-go role orders start (first ∷ next ∷ more) p rows outs plain join leads may =
-    (leads.0, leads.1, Leads-go role orders leads.0 (next ∷ more) p rows outs plain join leads.2 may)
-
--- a row taken at the end of a journal
-pub Leads-row : (role : Role) (orders : Orders) (start : Position) (journal : List Entry) (p : Position) → ArePlain orders
-    → Leads role orders start journal p → MayGo role orders p 1 0 → Leads role orders start (with_go journal 1 0) (with_rows orders 1 0 p)
-Leads-row role orders start journal p plain leads may =
-    Leads-go role orders start journal p 1 0 plain (λ m rows outs first second. go-row role orders m rows outs plain first second) leads may
-
--- a row emitted at the end of a journal
-pub Leads-out : (role : Role) (orders : Orders) (start : Position) (journal : List Entry) (p : Position) → ArePlain orders
-    → Leads role orders start journal p → MayGo role orders p 0 1 → Leads role orders start (with_go journal 0 1) (with_rows orders 0 1 p)
-Leads-out role orders start journal p plain leads may =
-    Leads-go role orders start journal p 0 1 plain (λ m rows outs first second. go-out role orders m rows outs plain first second) leads may
+    (with_rows orders rows outs p, (no_batch, go-both role orders start before given rows outs leads.1.1 (rw same at may), rw same (with_rows-with_rows orders before given rows outs start)), refl)
+Leads-go role orders start (entry.Grant n ∷ []) p rows outs leads may = (leads.0, leads.1, (with_rows orders rows outs p, (no_batch, rw leads.2 may, rw leads.2 refl), refl))
+Leads-go role orders start (entry.Back n ∷ []) p rows outs leads may = (leads.0, leads.1, (with_rows orders rows outs p, (no_batch, rw leads.2 may, rw leads.2 refl), refl))
+Leads-go role orders start (entry.Pause ∷ []) p rows outs leads may = (leads.0, leads.1, (with_rows orders rows outs p, (no_batch, rw leads.2 may, rw leads.2 refl), refl))
+Leads-go role orders start (entry.Resume ∷ []) p rows outs leads may = (leads.0, leads.1, (with_rows orders rows outs p, (no_batch, rw leads.2 may, rw leads.2 refl), refl))
+Leads-go role orders start (entry.Hold ∷ []) p rows outs leads may = (leads.0, leads.1, (with_rows orders rows outs p, (no_batch, rw leads.2 may, rw leads.2 refl), refl))
+Leads-go role orders start (entry.Finish ∷ []) p rows outs leads may = (leads.0, leads.1, (with_rows orders rows outs p, (no_batch, rw leads.2 may, rw leads.2 refl), refl))
+Leads-go role orders start (first ∷ next ∷ more) p rows outs leads may =
+    (leads.0, leads.1, Leads-go role orders leads.0 (next ∷ more) p rows outs leads.2 may)
 
 -- the entry of a row more is one, where no entry speaks of very many
 one_more : (one : Entry) (gone : Bool) (rows outs : ℕ) → AreEntries gone (one ∷ []) → rows_moved one < 2 ^ 63 → rows + outs ≡ 1 → AreEntries gone (gone_on one rows outs)

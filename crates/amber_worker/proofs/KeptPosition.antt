@@ -1,28 +1,31 @@
 -- First facts on where a worker stands.
-use Rattle.std.proofs.Common.{◌≡◌, List, ◌++◌, map, refl, ap, ◌∙◌}
-use Rattle.amber_rows.specs.Order.{sort_rows}
+use Rattle.std.proofs.Common.{◌≡◌, Bool, List, refl, ◌∙◌}
 use Rattle.amber_rows.specs.declared.value.Value.{Value}
 use Rattle.amber_rows.specs.declared.flow.What.{What}
 use Rattle.amber_rows.specs.declared.flow.What.TheVariants as what
 use Rattle.amber_meaning.specs.Task.{Arrival, Role, Task, rows_in}
-use Rattle.amber_meaning.specs.Views.{taken_of}
 use Rattle.amber_meaning.specs.Kinds.{keys_refused}
-use Rattle.amber_meaning.specs.declared.answer.Refusal.TheVariants as refusal
-use Rattle.amber_worker.specs.AtPosition.{DoesKind, HasTaken, IsGivenOf, Keeps}
+use Rattle.amber_worker.specs.AtPosition.{DoesKind, KeepsRows, KeepsUnder}
 use Rattle.amber_worker.specs.WorkerState.{WorkerState}
 use Rattle.amber_worker.specs.Steps.{IsRefused}
 use Rattle.amber_worker.specs.declared.operator_state.OperatorState.{OperatorState}
 use Rattle.amber_worker.specs.declared.operator_state.OperatorState.TheVariants as operator_state
-use Rattle.amber_worker.specs.declared.given.Given.{Given}
 
 -- a worker that nothing happened to stands where it stood
-pub Keeps-refl : (w : WorkerState) → Keeps w w
-unfolding Keeps
-Keeps-refl w placement orders start p sent stands = (p, stands, λ sender. refl)
+pub Keeps-refl : (counted : Bool) (w : WorkerState) → KeepsUnder counted w w
+unfolding KeepsUnder
+Keeps-refl counted w placement orders start p base armed stands = (p, stands)
+
+-- and so does one to which one thing happened, and then another
+pub Keeps-then : (counted : Bool) (a b c : WorkerState) → KeepsUnder counted a b → KeepsUnder counted b c → KeepsUnder counted a c
+unfolding KeepsUnder
+Keeps-then counted a b c one two placement orders start p base armed stands =
+    let first = one placement orders start p base armed stands in
+    two placement orders start first.0 base armed first.1
 
 -- the keys that a worker has refused are those of the rows that it took
 keys-are : (d : OperatorState) (kind : What) (constants : List Value) (role : Role) (task : Task) (arrivals : List Arrival) (keys : List (List Value))
-    → DoesKind d kind constants role → HasTaken d task arrivals → IsRefused d keys → keys ≡ keys_refused kind task arrivals
+    → DoesKind d kind constants role → KeepsRows d task arrivals → IsRefused d keys → keys ≡ keys_refused kind task arrivals
 keys-are operator_state.Scan (what.Scan file) constants role task arrivals keys does has refused = refused
 keys-are (operator_state.Filter cond) (what.Filter input own) constants role task arrivals keys does has refused = refused
 keys-are (operator_state.Project from) (what.Project input columns) constants role task arrivals keys does has refused = refused
@@ -30,11 +33,3 @@ keys-are (operator_state.Join state) (what.Join build probe build_keys probe_key
 keys-are (operator_state.Group state) (what.Group input own aggs) constants role task arrivals keys does has refused = refused (rows_in task arrivals) has ∙ rw (does.0, does.1) refl
 keys-are operator_state.Sink (what.Sink input) constants role task arrivals keys does has refused = refused
 keys-are d kind constants role task arrivals keys does has refused = absurd does
-
--- what a worker hands out is what it gives in its position
-pub given-is : (w : WorkerState) (given : Given) (keys : List (List Value)) → IsRefused w.operator_state keys → given.refused ≡ w.refused ++ map (refusal.Group w.op) (sort_rows keys)
-    → given.rows ≡ sort_rows w.kept → IsGivenOf w given
-unfolding IsGivenOf
-given-is w given keys are refused rows placement orders p sent shows =
-    let own = keys-are w.operator_state placement.role.task.kind orders.constants placement.role placement.role.task (taken_of placement.role p) keys shows.operator_state shows.state are in
-    (refused ∙ rw (shows.refused, shows.op, own) refl, rows ∙ ap sort_rows shows.kept)

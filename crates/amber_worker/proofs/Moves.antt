@@ -1,11 +1,10 @@
 -- Each step of a worker leads on from where it stands.
-use Rattle.std.proofs.Common.{◌≡◌, ℕ, suc, ◌+◌, ◌-◌, ◌^◌, ◌<◌, ◌≤◌, eqb, ◌&&◌, List, [], ◌∷◌, ◌++◌, length, map, filter, take, drop, All, Option, Some, None, Bool, true, false, if◌then◌else◌, refl, sym, ap, ◌∙◌, arith, append_assoc, length-append, length-drop, subst}
+use Rattle.std.proofs.Common.{◌≡◌, ℕ, suc, ◌+◌, ◌-◌, ◌^◌, ◌<◌, ◌≤◌, eqb, ◌&&◌, ◌||◌, not, cond, List, [], ◌∷◌, ◌++◌, length, take, drop, All, Option, Some, None, Bool, true, false, if◌then◌else◌, refl, sym, ap, ◌∙◌, arith, append_assoc, length-append, length-drop, subst}
 use Rattle.std.specs.List.{filter_map}
 use Rattle.std.specs.Option.{option_to_list}
-use Rattle.std.proofs.lemmas.Bool.{and_parts, false≢true, eqb-true, eq-eqb}
+use Rattle.std.proofs.lemmas.Bool.{and_parts, eqb-true}
 use Rattle.std.proofs.lemmas.Grind.{flat_map-append}
 use Rattle.std.proofs.lemmas.List.{append-nil, take_all}
-use Rattle.std.proofs.lemmas.List.Elements.{filter-append}
 use Rattle.std.proofs.lemmas.List.Sums.{sum_by_push}
 use Rattle.amber_rows.specs.declared.value.Value.{Value}
 use Rattle.amber_rows.specs.declared.batch.Batch.{Batch}
@@ -14,35 +13,45 @@ use Rattle.amber_rows.specs.declared.flow.What.{What}
 use Rattle.amber_rows.specs.declared.flow.What.TheVariants as what
 use Rattle.amber_log.specs.declared.entry.Entry.TheVariants as entry
 use Rattle.amber_meaning.specs.Position.{Position, Taken, emitted_rows, all_arrivals, have_ended, is_complete, is_emitted, product}
-use Rattle.amber_meaning.specs.Rules.{IsFree, MayFinish, MayGo, Orders, product_with, produced_with, with_rows}
+use Rattle.amber_meaning.specs.Rules.{IsFree, MayFinish, MayGo, Orders, is_watched, pass_by, product_with, produced_with, with_rows}
 use Rattle.amber_meaning.specs.Task.{Arrival, Role, Task, columns_from, is_builder, row_in, suiting, rows_in}
 use Rattle.amber_meaning.specs.Produce.{closing, produce, yields, yields_if}
 use Rattle.amber_meaning.specs.Kinds.{closing_rows, yields_row, kept_rows}
-use Rattle.amber_meaning.specs.Views.{taken_of}
 use Rattle.amber_meaning.specs.Refused.{refusal_in, refused_in}
-use Rattle.amber_queue.specs.Incoming.{Incoming, have_all_ended}
-use Rattle.amber_queue.specs.Outgoing.{Outgoing, with_end, with_row}
+use Rattle.amber_meaning.specs.Views.{taken_of}
+use Rattle.amber_link.specs.Sides.{AreEnded, have_all_ended}
+use Rattle.amber_worker.specs.Links.{IsHandedOn, number_to}
+use Rattle.amber_link.specs.declared.senders.Sender.{Sender}
+use Rattle.amber_link.specs.declared.receivers.Receiver.{Receiver}
 use Rattle.amber_worker.specs.Fields.{rows_moved}
-use Rattle.amber_worker.specs.AtPosition.{DoesKind, HasTaken, Keeps, Placement, ReceiveAll, SendAll, Sends, Shows, stream_to}
+use Rattle.amber_worker.specs.AtPosition.{Base, DoesKind, KeepsRows, KeepsUnder, Placement, ReceiveAll, SendAll, Shows}
 use Rattle.amber_worker.specs.WorkerState.{WorkerState}
 use Rattle.amber_worker.specs.Steps.{Becomes, Closes, all_done, columns_at_hand, row_yield, gives_if, keeps, keeps_if, row_emitted, row_taken}
 use Rattle.amber_worker.specs.declared.operator_state.OperatorState.{OperatorState}
 use Rattle.amber_worker.specs.declared.operator_state.OperatorState.TheVariants as operator_state
-use Rattle.amber_worker.proofs.Chunked.{chunks-end, chunks-full, chunks-more, left_over, left_over-few}
 use Rattle.amber_meaning.proofs.Led.{Leads-push, no_batch}
-use Rattle.amber_worker.proofs.Journals.{AreEntries-push, AreEntries-with_go, Leads-out, Leads-row, not_counted, passes}
+use Rattle.amber_worker.proofs.Journals.{AreEntries-push, AreEntries-with_go, Leads-go, first-passes}
+use Rattle.amber_worker.proofs.Sent.{send_all-end, send_all-row}
 use Rattle.amber_worker.proofs.Produced.{and-turned, kept-longer, kept-next, left-behind, left-next, left-nothing, left-within, not-complete, produce-next, product-is, product-open, same-test, take-next}
 use Rattle.amber_worker.proofs.States.{closing-is, does-more, has-more, rows-more}
 
--- a worker that has not finished; it is neither paused nor held, and has no hand
+-- a worker that has not finished; it is neither paused nor held
 pub record IsWorking (w : WorkerState) : Type 0 where
   pub unfinished : w.finished ≡ false
   pub running : w.paused ≡ false
   pub loose : w.held ≡ false
   pub few : All (λ one. rows_moved one < 2 ^ 63) w.journal
 
-pub free-shown : (placement : Placement) (orders : Orders) (w : WorkerState) (p : Position) (sent : ℕ → List Batch) → Shows placement orders w p sent → IsWorking w → IsFree p
-free-shown placement orders w p sent shows works = record {
+-- under a count it has a unit
+abbrev pub HasUnit : Bool → WorkerState → Type 0
+HasUnit counted w = counted ≡ true → 0 < w.hand
+
+-- a row does not meet the condition, or it was waved on
+abbrev pub lets_by : WorkerState → List Value → Bool
+lets_by w row = w.waved || not (is_watched w.watch row)
+
+pub free-shown : (placement : Placement) (orders : Orders) (w : WorkerState) (p : Position) (base : Base) → Shows placement orders w p base → IsWorking w → IsFree p
+free-shown placement orders w p base shows works = record {
   running = sym shows.paused ∙ works.running;
   loose = sym shows.held ∙ works.loose;
   unfinished = sym shows.finished ∙ works.unfinished;
@@ -52,7 +61,7 @@ free-shown placement orders w p sent shows works = record {
 
 -- a row that suits yields what the worker gives of it
 yields-given : (d : OperatorState) (task : Task) (kind : What) (constants : List Value) (role : Role) (before : List Arrival) (from : ℕ) (row : List Value)
-    → DoesKind d kind constants role → HasTaken d task before → yields_row task kind before from constants row ≡ row_yield d (is_builder task from) row
+    → DoesKind d kind constants role → KeepsRows d task before → yields_row task kind before from constants row ≡ row_yield d (is_builder task from) row
 yields-given operator_state.Scan task (what.Scan file) constants role before from row does has = refl
 yields-given (operator_state.Filter cond) task (what.Filter input own) constants role before from row does has = rw does refl
 yields-given (operator_state.Project columns) task (what.Project input own) constants role before from row does has = rw does refl
@@ -62,7 +71,7 @@ yields-given operator_state.Sink task (what.Sink input) constants role before fr
 yields-given d task kind constants role before from row does has = absurd does
 
 -- what is handed yields what the worker gives of it
-yields-all : (d : OperatorState) (task : Task) (constants : List Value) (role : Role) (before : List Arrival) (one : Arrival) → DoesKind d task.kind constants role → HasTaken d task before
+yields-all : (d : OperatorState) (task : Task) (constants : List Value) (role : Role) (before : List Arrival) (one : Arrival) → DoesKind d task.kind constants role → KeepsRows d task before
     → yields task before one constants ≡ gives_if d (is_builder task one.from) (suiting task one)
 unfolding yields
 yields-all d task constants role before one does has = by (suiting task one)
@@ -98,9 +107,9 @@ refused-more op taken one = flat_map-append _ taken (one ∷ []) ∙ ap (λ l. r
 -- ---- a row is taken
 
 -- the facts of a row that is taken
-record TakesOne (placement : Placement) (orders : Orders) (w : WorkerState) (p : Position) (sent : ℕ → List Batch) (one : Arrival) (later : List Arrival) (now : OperatorState)
+record TakesOne (placement : Placement) (orders : Orders) (w : WorkerState) (p : Position) (base : Base) (one : Arrival) (later : List Arrival) (now : OperatorState)
     (last : List (List Value)) : Type 0 where
-  shows : Shows placement orders w p sent
+  shows : Shows placement orders w p base
   rest : w.rest ≡ one ∷ later
   pending : w.pending ≡ []
   becomes : Becomes w.operator_state w.building (row_in (columns_at_hand w) one.what) now
@@ -111,15 +120,15 @@ abbrev with_one : Orders → Position → Position
 with_one orders p = with_rows orders 1 0 p
 
 -- the side of what is at hand
-side-is : (placement : Placement) (orders : Orders) (w : WorkerState) (p : Position) (sent : ℕ → List Batch) (one : Arrival) (later : List Arrival) (now : OperatorState) (last : List (List Value))
-    → TakesOne placement orders w p sent one later now last → All (λ other. is_builder placement.role.task other.from ≡ w.building) (one ∷ later)
-side-is placement orders w p sent one later now last takes = rw takes.rest at takes.shows.building
+side-is : (placement : Placement) (orders : Orders) (w : WorkerState) (p : Position) (base : Base) (one : Arrival) (later : List Arrival) (now : OperatorState) (last : List (List Value))
+    → TakesOne placement orders w p base one later now last → All (λ other. is_builder placement.role.task other.from ≡ w.building) (one ∷ later)
+side-is placement orders w p base one later now last takes = rw takes.rest at takes.shows.building
 
 -- the row at hand, if it suits
-found-is : (placement : Placement) (orders : Orders) (w : WorkerState) (p : Position) (sent : ℕ → List Batch) (one : Arrival) (later : List Arrival) (now : OperatorState) (last : List (List Value))
-    → TakesOne placement orders w p sent one later now last → row_in (columns_at_hand w) one.what ≡ suiting placement.role.task one
-found-is placement orders w p sent one later now last takes =
-    let builds : is_builder placement.role.task one.from ≡ w.building = side-is placement orders w p sent one later now last takes 0 one (omega arith) in
+found-is : (placement : Placement) (orders : Orders) (w : WorkerState) (p : Position) (base : Base) (one : Arrival) (later : List Arrival) (now : OperatorState) (last : List (List Value))
+    → TakesOne placement orders w p base one later now last → row_in (columns_at_hand w) one.what ≡ suiting placement.role.task one
+found-is placement orders w p base one later now last takes =
+    let builds : is_builder placement.role.task one.from ≡ w.building = side-is placement orders w p base one later now last takes 0 one (omega arith) in
     ap (λ (columns : List Column). row_in columns one.what) (same w.building builds)
   where
     same : (b : Bool) → is_builder placement.role.task one.from ≡ b → (if b then w.build_columns else w.columns) ≡ columns_from placement.role.task one.from
@@ -127,24 +136,24 @@ found-is placement orders w p sent one later now last takes =
     same false e = takes.shows.columns ∙ rw e refl
 
 -- what is kept becomes what the task says
-becomes-is : (placement : Placement) (orders : Orders) (w : WorkerState) (p : Position) (sent : ℕ → List Batch) (one : Arrival) (later : List Arrival) (now : OperatorState) (last : List (List Value))
-    → TakesOne placement orders w p sent one later now last → Becomes w.operator_state (is_builder placement.role.task one.from) (suiting placement.role.task one) now
-becomes-is placement orders w p sent one later now last takes =
-    let builds : is_builder placement.role.task one.from ≡ w.building = side-is placement orders w p sent one later now last takes 0 one (omega arith) in
+becomes-is : (placement : Placement) (orders : Orders) (w : WorkerState) (p : Position) (base : Base) (one : Arrival) (later : List Arrival) (now : OperatorState) (last : List (List Value))
+    → TakesOne placement orders w p base one later now last → Becomes w.operator_state (is_builder placement.role.task one.from) (suiting placement.role.task one) now
+becomes-is placement orders w p base one later now last takes =
+    let builds : is_builder placement.role.task one.from ≡ w.building = side-is placement orders w p base one later now last takes 0 one (omega arith) in
     let P : Option (List Value) → Type 0 = λ found. Becomes w.operator_state w.building found now in
     let Q : Bool → Type 0 = λ b. Becomes w.operator_state b (suiting placement.role.task one) now in
-    subst Q (sym builds) (subst P (found-is placement orders w p sent one later now last takes) takes.becomes)
+    subst Q (sym builds) (subst P (found-is placement orders w p base one later now last takes) takes.becomes)
 
-taken-now : (placement : Placement) (orders : Orders) (w : WorkerState) (p : Position) (sent : ℕ → List Batch) (one : Arrival) (later : List Arrival) (now : OperatorState) (last : List (List Value))
-    → TakesOne placement orders w p sent one later now last → take (length p.constants + 1) (all_arrivals placement.role p.taken) ≡ taken_of placement.role p ++ one ∷ []
-taken-now placement orders w p sent one later now last takes = take-next (length p.constants) (all_arrivals placement.role p.taken) one later (sym takes.shows.rest ∙ takes.rest)
+taken-now : (placement : Placement) (orders : Orders) (w : WorkerState) (p : Position) (base : Base) (one : Arrival) (later : List Arrival) (now : OperatorState) (last : List (List Value))
+    → TakesOne placement orders w p base one later now last → take (length p.constants + 1) (all_arrivals placement.role p.taken) ≡ taken_of placement.role p ++ one ∷ []
+taken-now placement orders w p base one later now last takes = take-next (length p.constants) (all_arrivals placement.role p.taken) one later (sym takes.shows.rest ∙ takes.rest)
 
-pub all-ended : (senders : List ℕ) (taken : List Taken) (ins : List Incoming) → ReceiveAll senders taken ins → have_all_ended ins ≡ have_ended senders taken
+pub all-ended : (senders : List ℕ) (had : ℕ → List Batch) (taken : List Taken) (ins : List Sender) → ReceiveAll senders had taken ins → have_all_ended ins ≡ have_ended senders taken
 unfolding ReceiveAll have_ended
-all-ended [] taken [] h = refl
-all-ended [] taken (one ∷ ins) h = absurd h
-all-ended (sender ∷ senders) taken [] h = absurd h
-all-ended (sender ∷ senders) taken (one ∷ ins) h = rw (h.0.ended, all-ended senders taken ins h.2) refl
+all-ended [] had taken [] h = refl
+all-ended [] had taken (one ∷ ins) h = absurd h
+all-ended (sender ∷ senders) had taken [] h = absurd h
+all-ended (sender ∷ senders) had taken (one ∷ ins) h = rw (h.0.ended, all-ended senders had taken ins h.2) refl
 
 -- of the same rows the same are closing
 pub closing-same : (over : Bool) (kind : What) (task : Task) (arrivals all : List Arrival) → (over ≡ true → arrivals ≡ all)
@@ -153,84 +162,84 @@ closing-same true kind task arrivals all same = ap (λ l. closing_rows kind (fil
 closing-same false kind task arrivals all same = refl
 
 -- nothing more can come behind this row
-over-is : (placement : Placement) (orders : Orders) (w : WorkerState) (p : Position) (sent : ℕ → List Batch) (one : Arrival) (later : List Arrival) (now : OperatorState) (last : List (List Value))
-    → TakesOne placement orders w p sent one later now last → (eqb (length w.rest) 1 && have_all_ended w.ins) ≡ is_complete placement.role p.taken (length p.constants + 1)
-over-is placement orders w p sent one later now last takes =
+over-is : (placement : Placement) (orders : Orders) (w : WorkerState) (p : Position) (base : Base) (one : Arrival) (later : List Arrival) (now : OperatorState) (last : List (List Value))
+    → TakesOne placement orders w p base one later now last → (eqb (length w.rest) 1 && have_all_ended w.ins) ≡ is_complete placement.role p.taken (length p.constants + 1)
+over-is placement orders w p base one later now last takes =
     let shows = takes.shows in
     let within = left-within (length p.constants) (all_arrivals placement.role p.taken) one later (sym shows.rest ∙ takes.rest) in
     let left : length w.rest ≡ length (all_arrivals placement.role p.taken) - length p.constants = ap length shows.rest ∙ length-drop (length p.constants) (all_arrivals placement.role p.taken) in
     and-turned (eqb (length w.rest) 1) (have_all_ended w.ins)
-    ∙ ap (λ b. b && eqb (length w.rest) 1) (all-ended placement.role.senders p.taken w.ins shows.ins)
+    ∙ ap (λ b. b && eqb (length w.rest) 1) (all-ended placement.role.senders base.had p.taken w.ins shows.ins)
     ∙ ap (λ b. have_ended placement.role.senders p.taken && b)
     (same-test (length w.rest) 1 (length p.constants + 1) (length (all_arrivals placement.role p.taken)) (λ e. omega arith) (λ e. omega arith))
 
 -- the rows that are given at the end
-last-is : (placement : Placement) (orders : Orders) (w : WorkerState) (p : Position) (sent : ℕ → List Batch) (one : Arrival) (later : List Arrival) (now : OperatorState) (last : List (List Value))
-    → TakesOne placement orders w p sent one later now last
+last-is : (placement : Placement) (orders : Orders) (w : WorkerState) (p : Position) (base : Base) (one : Arrival) (later : List Arrival) (now : OperatorState) (last : List (List Value))
+    → TakesOne placement orders w p base one later now last
     → last ≡ (if is_complete placement.role p.taken (length p.constants + 1) then closing placement.role.task (all_arrivals placement.role p.taken) else [])
 unfolding closing
-last-is placement orders w p sent one later now last takes =
+last-is placement orders w p base one later now last takes =
     let shows = takes.shows in
     let task : Task = placement.role.task in
-    let becomes = becomes-is placement orders w p sent one later now last takes in
+    let becomes = becomes-is placement orders w p base one later now last takes in
     let does = does-more w.operator_state now (is_builder task one.from) (suiting task one) task.kind orders.constants placement.role becomes shows.operator_state in
     let has = has-more w.operator_state now task (taken_of placement.role p) one becomes shows.state in
-    let over = over-is placement orders w p sent one later now last takes in
+    let over = over-is placement orders w p base one later now last takes in
     closing-is now task.kind orders.constants placement.role task (taken_of placement.role p ++ one ∷ []) (is_complete placement.role p.taken (length p.constants + 1)) last does has
     (subst (λ b. Closes now b last) over takes.closes)
     ∙ closing-same (is_complete placement.role p.taken (length p.constants + 1)) task.kind task (taken_of placement.role p ++ one ∷ []) (all_arrivals placement.role p.taken)
     (λ e. let end = and_parts (have_ended placement.role.senders p.taken) _ e in
     let here = eqb-true (length p.constants + 1) (length (all_arrivals placement.role p.taken)) end.1 in
-    sym (taken-now placement orders w p sent one later now last takes) ∙ take_all (length p.constants + 1) (all_arrivals placement.role p.taken) (omega arith))
+    sym (taken-now placement orders w p base one later now last takes) ∙ take_all (length p.constants + 1) (all_arrivals placement.role p.taken) (omega arith))
 
 -- what was produced with this row
-product-one : (placement : Placement) (orders : Orders) (w : WorkerState) (p : Position) (sent : ℕ → List Batch) (one : Arrival) (later : List Arrival) (now : OperatorState) (last : List (List Value))
-    → TakesOne placement orders w p sent one later now last
+product-one : (placement : Placement) (orders : Orders) (w : WorkerState) (p : Position) (base : Base) (one : Arrival) (later : List Arrival) (now : OperatorState) (last : List (List Value))
+    → TakesOne placement orders w p base one later now last
     → product placement.role p.taken (p.constants ++ orders.constants ∷ [])
     ≡ product placement.role p.taken p.constants ++ (gives_if w.operator_state w.building (row_in (columns_at_hand w) one.what) ++ last)
-product-one placement orders w p sent one later now last takes =
+product-one placement orders w p base one later now last takes =
     let shows = takes.shows in
     let task : Task = placement.role.task in
     let left : drop (length p.constants) (all_arrivals placement.role p.taken) ≡ one ∷ later = sym shows.rest ∙ takes.rest in
     let within = left-within (length p.constants) (all_arrivals placement.role p.taken) one later left in
     let more : length (p.constants ++ orders.constants ∷ []) ≡ length p.constants + 1 = omega (arith, length-append p.constants (orders.constants ∷ [])) in
-    let builds : is_builder task one.from ≡ w.building = side-is placement orders w p sent one later now last takes 0 one (omega arith) in
+    let builds : is_builder task one.from ≡ w.building = side-is placement orders w p base one later now last takes 0 one (omega arith) in
     let yielded : yields task (take (length p.constants) (all_arrivals placement.role p.taken)) one orders.constants ≡ gives_if w.operator_state w.building (row_in (columns_at_hand w) one.what) =
     yields-all w.operator_state task orders.constants placement.role (taken_of placement.role p) one shows.operator_state shows.state
     ∙ ap (λ b. gives_if w.operator_state b (suiting task one)) builds
-    ∙ ap (λ found. gives_if w.operator_state w.building found) (sym (found-is placement orders w p sent one later now last takes)) in
+    ∙ ap (λ found. gives_if w.operator_state w.building found) (sym (found-is placement orders w p base one later now last takes)) in
     let before : produce task [] (all_arrivals placement.role p.taken) p.constants ≡ product placement.role p.taken p.constants =
     sym (product-open placement.role p.taken p.constants (not-complete placement.role p.taken (length p.constants) (omega arith))) in
     product-is placement.role p.taken (p.constants ++ orders.constants ∷ [])
-    ∙ rw (more, produce-next task [] (all_arrivals placement.role p.taken) p.constants one later orders.constants left, yielded, before, ← last-is placement orders w p sent one later now last takes)
+    ∙ rw (more, produce-next task [] (all_arrivals placement.role p.taken) p.constants one later orders.constants left, yielded, before, ← last-is placement orders w p base one later now last takes)
     (append_assoc (product placement.role p.taken p.constants) (gives_if w.operator_state w.building (row_in (columns_at_hand w) one.what)) last)
 
 -- all that was produced is gone
-pub all-gone : (placement : Placement) (orders : Orders) (w : WorkerState) (p : Position) (sent : ℕ → List Batch) → Shows placement orders w p sent → w.pending ≡ []
+pub all-gone : (placement : Placement) (orders : Orders) (w : WorkerState) (p : Position) (base : Base) → Shows placement orders w p base → w.pending ≡ []
     → length p.outcomes ≡ length (product placement.role p.taken p.constants)
-all-gone placement orders w p sent shows none =
+all-gone placement orders w p base shows none =
     let gone = left-nothing (length p.outcomes) (product placement.role p.taken p.constants) (sym shows.pending ∙ none) in
     let within = shows.produced in
     omega arith
 
-may-take_row : (placement : Placement) (orders : Orders) (w : WorkerState) (p : Position) (sent : ℕ → List Batch) (one : Arrival) (later : List Arrival) (now : OperatorState) (last : List (List Value))
-    → TakesOne placement orders w p sent one later now last → IsWorking w → MayGo placement.role orders p 1 0
-may-take_row placement orders w p sent one later now_does last takes works =
+may-take_row : (placement : Placement) (orders : Orders) (w : WorkerState) (p : Position) (base : Base) (one : Arrival) (later : List Arrival) (now : OperatorState) (last : List (List Value))
+    → TakesOne placement orders w p base one later now last → IsWorking w → HasUnit orders.counted w → MayGo placement.role orders p 1 0
+may-take_row placement orders w p base one later now_does last takes works unit =
     let shows = takes.shows in
     let within = left-within (length p.constants) (all_arrivals placement.role p.taken) one later (sym shows.rest ∙ takes.rest) in
-    let gone = all-gone placement orders w p sent shows takes.pending in
+    let gone = all-gone placement orders w p base shows takes.pending in
     let before : produced_with placement.role orders p 0 ≡ length (product placement.role p.taken p.constants) =
     ap (λ (constants : List (List Value)). length (product placement.role p.taken constants)) (append-nil p.constants) in
-    let now = ap length (product-one placement orders w p sent one later now_does last takes) in
+    let now = ap length (product-one placement orders w p base one later now_does last takes) in
     let lengths = length-append (product placement.role p.taken p.constants) (gives_if w.operator_state w.building (row_in (columns_at_hand w) one.what) ++ last) in
     record {
-      free = free-shown placement orders w p sent shows works;
+      free = free-shown placement orders w p base shows works;
       within = within;
       produced = omega arith;
       drained = λ some. omega arith;
-      in_hand = λ counted. absurd (not_counted orders shows.plain counted);
-      before_taking = λ counted. absurd (not_counted orders shows.plain counted);
-      no_stop = passes orders p.waved (take 0 (drop (length p.outcomes) (product_with placement.role orders p 1))) shows.plain;
+      in_hand = λ counted. omega arith;
+      before_taking = λ counted some. let has = unit counted in omega (arith, has, shows.hand);
+      no_stop = refl;
     }
 
 both_true : (b : Bool) → (b && true) ≡ b
@@ -241,23 +250,27 @@ both_false : (b : Bool) → (b && false) ≡ false
 both_false true = refl
 both_false false = refl
 
-shows-row_taken : (placement : Placement) (orders : Orders) (w : WorkerState) (p : Position) (sent : ℕ → List Batch) (one : Arrival) (later : List Arrival) (now : OperatorState) (last : List (List Value))
-    → TakesOne placement orders w p sent one later now last → Shows placement orders (row_taken one later now last w) (with_one orders p) sent
-shows-row_taken placement orders w p sent one later now last takes =
+same-hand : (b : Bool) (hand : ℕ) → hand ≡ cond b (hand - 0) hand
+same-hand true hand = omega arith
+same-hand false hand = refl
+
+shows-row_taken : (placement : Placement) (orders : Orders) (w : WorkerState) (p : Position) (base : Base) (one : Arrival) (later : List Arrival) (now : OperatorState) (last : List (List Value))
+    → TakesOne placement orders w p base one later now last → Shows placement orders (row_taken one later now last w) (with_one orders p) base
+shows-row_taken placement orders w p base one later now last takes =
     let shows = takes.shows in
     let task : Task = placement.role.task in
     let left : drop (length p.constants) (all_arrivals placement.role p.taken) ≡ one ∷ later = sym shows.rest ∙ takes.rest in
     let within = left-within (length p.constants) (all_arrivals placement.role p.taken) one later left in
     let more : length (p.constants ++ orders.constants ∷ []) ≡ length p.constants + 1 = omega (arith, length-append p.constants (orders.constants ∷ [])) in
-    let grown = product-one placement orders w p sent one later now last takes in
-    let gone = all-gone placement orders w p sent shows takes.pending in
+    let grown = product-one placement orders w p base one later now last takes in
+    let gone = all-gone placement orders w p base shows takes.pending in
     let no_fate : p.outcomes ++ [] ≡ p.outcomes = append-nil p.outcomes in
     let still : length p.outcomes ≤ length (product placement.role p.taken p.constants) = shows.produced in
     let lengths = length-append (product placement.role p.taken p.constants) (gives_if w.operator_state w.building (row_in (columns_at_hand w) one.what) ++ last) in
     let now_taken : take (length (p.constants ++ orders.constants ∷ [])) (all_arrivals placement.role p.taken) ≡ taken_of placement.role p ++ one ∷ [] =
-    rw more (taken-now placement orders w p sent one later now last takes) in
-    let becomes = becomes-is placement orders w p sent one later now last takes in
-    let found = found-is placement orders w p sent one later now last takes in
+    rw more (taken-now placement orders w p base one later now last takes) in
+    let becomes = becomes-is placement orders w p base one later now last takes in
+    let found = found-is placement orders w p base one later now last takes in
     record {
       op = shows.op;
       number = shows.number;
@@ -267,8 +280,8 @@ shows-row_taken placement orders w p sent one later now last takes =
       build_columns = shows.build_columns;
       sides = shows.sides;
       builders = shows.builders;
-      building = λ k d less. side-is placement orders w p sent one later now last takes (suc k) d (omega arith);
-      plain = shows.plain;
+      building = λ k d less. side-is placement orders w p base one later now last takes (suc k) d (omega arith);
+      watch = shows.watch;
       rest = sym (rw more (left-next (length p.constants) (all_arrivals placement.role p.taken) one later left));
       pending = rw (takes.pending, no_fate, grown) (sym (left-behind (length p.outcomes) (product placement.role p.taken p.constants) _ gone));
       taken = rw (more, shows.taken) refl;
@@ -278,126 +291,72 @@ shows-row_taken placement orders w p sent one later now last takes =
       produced = rw (no_fate, grown) (omega arith);
       refused = rw (shows.refused, shows.op, now_taken) (sym (refused-more placement.op (taken_of placement.role p) one));
       kept = rw (shows.kept, found, now_taken) (sym (kept-more w.operator_state task task.kind orders.constants placement.role (taken_of placement.role p) one shows.operator_state));
-      hand = rw (shows.plain.uncounted) shows.hand;
+      hand = shows.hand ∙ same-hand orders.counted p.hand;
       held = shows.held;
       waved = shows.waved ∙ sym (both_true p.waved);
       paused = shows.paused;
       finished = shows.finished;
       ins = shows.ins;
       outs = rw (no_fate, grown, kept-longer) shows.outs;
+      route = shows.route;
     }
 
 -- wherever a worker stood, it stands once it took a row
 pub Keeps-row_taken : (w : WorkerState) (one : Arrival) (later : List Arrival) (now : OperatorState) (last : List (List Value)) → w.rest ≡ one ∷ later → w.pending ≡ []
     → Becomes w.operator_state w.building (row_in (columns_at_hand w) one.what) now → Closes now (eqb (length w.rest) 1 && have_all_ended w.ins) last
-    → IsWorking w → Keeps w (row_taken one later now last w)
-unfolding Keeps
-Keeps-row_taken w one later now last rest pending becomes closes works placement orders start p sent stands =
-    let takes : TakesOne placement orders w p sent one later now last = record { shows = stands.shows; rest = rest; pending = pending; becomes = becomes; closes = closes } in (
+    → IsWorking w → (counted : Bool) → HasUnit counted w → KeepsUnder counted w (row_taken one later now last w)
+unfolding KeepsUnder
+Keeps-row_taken w one later now last rest pending becomes closes works counted unit placement orders start p base armed stands =
+    let takes : TakesOne placement orders w p base one later now last = record { shows = stands.shows; rest = rest; pending = pending; becomes = becomes; closes = closes } in (
       with_one orders p,
       record {
-        leads = Leads-row placement.role orders start w.journal p stands.shows.plain stands.leads (may-take_row placement orders w p sent one later now last takes works);
+        leads = Leads-go placement.role orders start w.journal p 1 0 stands.leads (may-take_row placement orders w p base one later now last takes works (λ so. unit (sym armed ∙ so)));
         text = AreEntries-with_go w.journal 1 0 stands.text works.few refl;
-        shows = shows-row_taken placement orders w p sent one later now last takes;
+        shows = shows-row_taken placement orders w p base one later now last takes;
       },
-      λ sender. refl,
     )
 
 -- ---- a row is emitted
 
-not-equal : (a b : ℕ) → eqb a b ≡ false → a ≡ b → ⊥
-not-equal a b e same = false≢true (sym e ∙ eq-eqb a b same)
-
--- a row more goes to a receiver
-sends-row : (placement : Placement) (receiver : ℕ) (rows : List (List Value)) (row : List Value) (sent : List Batch) (one : Outgoing) → Sends placement receiver rows false sent one
-    → Sends placement receiver (rows ++ row ∷ []) false sent (with_row row one)
-sends-row placement receiver rows row sent one sends = by (eqb (length one.partial + 1) one.size) refl
-  where
-    stream : List (List Value)
-    stream = stream_to placement receiver rows
-
-    here : filter (λ (other : List Value). eqb (placement.route other) receiver) (row ∷ []) ≡ row ∷ []
-    here = rw (sends.all_here row, eq-eqb receiver receiver refl) refl
-
-    grown : stream_to placement receiver (rows ++ row ∷ []) ≡ stream_to placement receiver rows ++ row ∷ []
-    grown = filter-append _ rows (row ∷ []) ∙ ap (λ l. stream_to placement receiver rows ++ l) here
-
-    by : (b : Bool) → eqb (length one.partial + 1) one.size ≡ b
-        → Sends placement receiver (rows ++ row ∷ []) false sent
-        (if b then record one { made = one.made + 1; waiting = one.waiting ++ record { seq = one.made; rows = one.partial ++ row ∷ []; last = false } ∷ []; partial = [] }
-        else record one { partial = one.partial ++ row ∷ [] })
-    by true e =
-        let size = sends.size in
-        let left = ap length (sends.partial refl) in
-        let fills : length (left_over placement.size (stream_to placement receiver rows)) + 1 ≡ placement.size = let full = eqb-true (length one.partial + 1) one.size e in omega arith in
-        let full = chunks-full placement.size (stream_to placement receiver rows) row fills in
-        record {
-          to = sends.to;
-          size = sends.size;
-          some = sends.some;
-          all_here = sends.all_here;
-          batches = sym (append_assoc sent one.waiting _) ∙ rw (sends.batches, sends.made refl, sends.partial refl, grown) (sym full.1);
-          made = λ open_still. rw grown (rw (sends.made refl) (sym full.0));
-          partial = λ open_still. rw grown (sym full.2);
-        }
-    by false e =
-        let size = sends.size in
-        let left = ap length (sends.partial refl) in
-        let few = left_over-few placement.size (stream_to placement receiver rows) sends.some in
-        let open_still : length (left_over placement.size (stream_to placement receiver rows)) + 1 < placement.size = let other = not-equal (length one.partial + 1) one.size e in omega arith in
-        let more = chunks-more placement.size (stream_to placement receiver rows) row open_still in
-        record {
-          to = sends.to;
-          size = sends.size;
-          some = sends.some;
-          all_here = sends.all_here;
-          batches = rw grown (sends.batches ∙ sym more.1);
-          made = λ open_still. rw grown (sends.made refl ∙ sym more.0);
-          partial = λ open_still. rw grown (ap (λ l. l ++ row ∷ []) (sends.partial refl) ∙ sym more.2);
-        }
-
-send_all-row : (placement : Placement) (receivers : List ℕ) (rows : List (List Value)) (row : List Value) (sent : ℕ → List Batch) (outs : List Outgoing)
-    → SendAll placement receivers rows false sent outs → SendAll placement receivers (rows ++ row ∷ []) false sent (map (with_row row) outs)
-unfolding SendAll
-send_all-row placement [] rows row sent [] h = tt
-send_all-row placement [] rows row sent (one ∷ outs) h = absurd h
-send_all-row placement (receiver ∷ receivers) rows row sent [] h = absurd h
-send_all-row placement (receiver ∷ receivers) rows row sent (one ∷ outs) h =
-    (sends-row placement receiver rows row (sent receiver) one h.0, send_all-row placement receivers rows row sent outs h.1)
-
 -- nothing is at its end that works
-open-outs : (placement : Placement) (orders : Orders) (w : WorkerState) (p : Position) (sent : ℕ → List Batch) → Shows placement orders w p sent → IsWorking w
-    → SendAll placement placement.receivers (emitted_rows placement.role p) false sent w.outs
-open-outs placement orders w p sent shows works =
+open-outs : (placement : Placement) (orders : Orders) (w : WorkerState) (p : Position) (base : Base) → Shows placement orders w p base → IsWorking w
+    → SendAll placement placement.receivers (emitted_rows placement.role p) false base.gave w.outs
+open-outs placement orders w p base shows works =
     let open_still : p.finished ≡ false = sym shows.finished ∙ works.unfinished in
-    let P : Bool → Type 0 = λ ended. SendAll placement placement.receivers (emitted_rows placement.role p) ended sent w.outs in
+    let P : Bool → Type 0 = λ ended. SendAll placement placement.receivers (emitted_rows placement.role p) ended base.gave w.outs in
     subst P open_still shows.outs
 
-may-emit_row : (placement : Placement) (orders : Orders) (w : WorkerState) (p : Position) (sent : ℕ → List Batch) (row : List Value) (later : List (List Value))
-    → Shows placement orders w p sent → w.pending ≡ row ∷ later → IsWorking w → MayGo placement.role orders p 0 1
-may-emit_row placement orders w p sent row later shows pending works =
+may-emit_row : (placement : Placement) (orders : Orders) (w : WorkerState) (p : Position) (base : Base) (row : List Value) (later : List (List Value))
+    → Shows placement orders w p base → w.pending ≡ row ∷ later → IsWorking w → HasUnit orders.counted w → lets_by w row ≡ true → MayGo placement.role orders p 0 1
+may-emit_row placement orders w p base row later shows pending works unit by_it =
     let produced = left-within (length p.outcomes) (product placement.role p.taken p.constants) row later (sym shows.pending ∙ pending) in
     let same : produced_with placement.role orders p 0 ≡ length (product placement.role p.taken p.constants) =
     ap (λ (constants : List (List Value)). length (product placement.role p.taken constants)) (append-nil p.constants) in
     let within = shows.within in
     record {
-      free = free-shown placement orders w p sent shows works;
+      free = free-shown placement orders w p base shows works;
       within = omega arith;
       produced = omega arith;
       drained = λ none. absurd (omega arith);
-      in_hand = λ counted. absurd (not_counted orders shows.plain counted);
-      before_taking = λ counted. absurd (not_counted orders shows.plain counted);
-      no_stop = passes orders p.waved (take 1 (drop (length p.outcomes) (product_with placement.role orders p 0))) shows.plain;
+      in_hand = λ counted. let has = unit counted in omega (arith, has, shows.hand);
+      before_taking = λ counted none. absurd (omega arith);
+      no_stop =
+          let first : drop (length p.outcomes) (product_with placement.role orders p 0) ≡ row ∷ later =
+          ap (λ constants. drop (length p.outcomes) (product placement.role p.taken constants)) (append-nil p.constants) ∙ sym shows.pending ∙ pending in
+          let passed : pass_by orders.watch p.waved (row ∷ []) ≡ true =
+          first-passes orders.watch p.waved row (ap (λ waved. waved || not (is_watched orders.watch row)) (sym shows.waved) ∙ ap (λ watch. w.waved || not (is_watched watch row)) (sym shows.watch) ∙ by_it) in
+          subst (λ l. pass_by orders.watch p.waved (take 1 l) ≡ true) (sym first) passed;
     }
 
-shows-row_emitted : (placement : Placement) (orders : Orders) (w : WorkerState) (p : Position) (sent : ℕ → List Batch) (row : List Value) (later : List (List Value))
-    → Shows placement orders w p sent → w.pending ≡ row ∷ later → IsWorking w → Shows placement orders (row_emitted row later w) (with_rows orders 0 1 p) sent
-shows-row_emitted placement orders w p sent row later shows pending works =
+shows-row_emitted : (counted : Bool) (placement : Placement) (orders : Orders) (w : WorkerState) (p : Position) (base : Base) (row : List Value) (later : List (List Value)) (outs : List Receiver)
+    → orders.counted ≡ counted → Shows placement orders w p base → w.pending ≡ row ∷ later → IsHandedOn (number_to w.route row) row w.outs outs → IsWorking w
+    → Shows placement orders (row_emitted counted later outs w) (with_rows orders 0 1 p) base
+shows-row_emitted counted placement orders w p base row later outs armed shows pending handed works =
     let left : drop (length p.outcomes) (product placement.role p.taken p.constants) ≡ row ∷ later = sym shows.pending ∙ pending in
     let produced = left-within (length p.outcomes) (product placement.role p.taken p.constants) row later left in
     let no_row : p.constants ++ [] ≡ p.constants = append-nil p.constants in
     let more : length (p.outcomes ++ true ∷ []) ≡ length p.outcomes + 1 = omega (arith, length-append p.outcomes (true ∷ [])) in
-    let counted = sum_by_push (λ fate. if is_emitted fate then 1 else 0) p.outcomes true in
+    let gone = sum_by_push (λ fate. if is_emitted fate then 1 else 0) p.outcomes true in
     let open_still : p.finished ≡ false = sym shows.finished ∙ works.unfinished in
     record {
       op = shows.op;
@@ -409,7 +368,7 @@ shows-row_emitted placement orders w p sent row later shows pending works =
       sides = shows.sides;
       builders = shows.builders;
       building = shows.building;
-      plain = shows.plain;
+      watch = shows.watch;
       rest = rw no_row shows.rest;
       pending = rw (no_row, more) (sym (left-next (length p.outcomes) (product placement.role p.taken p.constants) row later left));
       taken = rw no_row shows.taken;
@@ -419,62 +378,44 @@ shows-row_emitted placement orders w p sent row later shows pending works =
       produced = rw (no_row, more) produced;
       refused = rw no_row shows.refused;
       kept = rw no_row shows.kept;
-      hand = rw shows.plain.uncounted shows.hand;
+      hand = ap (λ hand. cond counted (hand - 1) hand) shows.hand ∙ ap (λ b. cond b (p.hand - 1) p.hand) (sym armed);
       held = shows.held;
       waved = sym (both_false p.waved);
       paused = shows.paused;
       finished = shows.finished;
       ins = shows.ins;
       outs = rw (no_row, open_still, kept-next (product placement.role p.taken p.constants) p.outcomes row later left)
-          (send_all-row placement placement.receivers (emitted_rows placement.role p) row sent w.outs (open-outs placement orders w p sent shows works));
+          (send_all-row placement placement.receivers (emitted_rows placement.role p) row base.gave w.outs outs (number_to w.route row) (shows.route row)
+          (open-outs placement orders w p base shows works) handed);
+      route = shows.route;
     }
 
 -- wherever a worker stood, it stands once it emitted a row
-pub Keeps-row_emitted : (w : WorkerState) (row : List Value) (later : List (List Value)) → w.pending ≡ row ∷ later → IsWorking w → Keeps w (row_emitted row later w)
-unfolding Keeps
-Keeps-row_emitted w row later pending works placement orders start p sent stands = (
+pub Keeps-row_emitted : (counted : Bool) (w : WorkerState) (row : List Value) (later : List (List Value)) (outs : List Receiver) → w.pending ≡ row ∷ later
+    → IsHandedOn (number_to w.route row) row w.outs outs → IsWorking w → HasUnit counted w → lets_by w row ≡ true → KeepsUnder counted w (row_emitted counted later outs w)
+unfolding KeepsUnder
+Keeps-row_emitted counted w row later outs pending handed works unit by_it placement orders start p base armed stands = (
   with_rows orders 0 1 p,
   record {
-    leads = Leads-out placement.role orders start w.journal p stands.shows.plain stands.leads (may-emit_row placement orders w p sent row later stands.shows pending works);
+    leads = Leads-go placement.role orders start w.journal p 0 1 stands.leads (may-emit_row placement orders w p base row later stands.shows pending works (λ so. unit (sym armed ∙ so)) by_it);
     text = AreEntries-with_go w.journal 0 1 stands.text works.few refl;
-    shows = shows-row_emitted placement orders w p sent row later stands.shows pending works;
+    shows = shows-row_emitted counted placement orders w p base row later outs armed stands.shows pending handed works;
   },
-  λ sender. refl,
 )
 
 -- ---- the end
 
-sends-end : (placement : Placement) (receiver : ℕ) (rows : List (List Value)) (sent : List Batch) (one : Outgoing) → Sends placement receiver rows false sent one
-    → Sends placement receiver rows true sent (with_end one)
-sends-end placement receiver rows sent one sends = record {
-  to = sends.to;
-  size = sends.size;
-  some = sends.some;
-  all_here = sends.all_here;
-  batches = sym (append_assoc sent one.waiting _) ∙ rw (sends.batches, sends.made refl, sends.partial refl) (sym (chunks-end placement.size (stream_to placement receiver rows) sends.some));
-  made = λ ended. absurd (false≢true (sym ended));
-  partial = λ ended. absurd (false≢true (sym ended));
-}
-
-send_all-end : (placement : Placement) (receivers : List ℕ) (rows : List (List Value)) (sent : ℕ → List Batch) (outs : List Outgoing)
-    → SendAll placement receivers rows false sent outs → SendAll placement receivers rows true sent (map with_end outs)
-unfolding SendAll
-send_all-end placement [] rows sent [] h = tt
-send_all-end placement [] rows sent (one ∷ outs) h = absurd h
-send_all-end placement (receiver ∷ receivers) rows sent [] h = absurd h
-send_all-end placement (receiver ∷ receivers) rows sent (one ∷ outs) h =
-    (sends-end placement receiver rows (sent receiver) one h.0, send_all-end placement receivers rows sent outs h.1)
-
 -- wherever a worker stood, it stands once it finished
-pub Keeps-all_done : (w : WorkerState) → w.rest ≡ [] → w.pending ≡ [] → have_all_ended w.ins ≡ true → IsWorking w → Keeps w (all_done w)
-unfolding Keeps
-Keeps-all_done w rest pending ended works placement orders start p sent stands =
+pub Keeps-all_done : (counted : Bool) (w : WorkerState) (outs : List Receiver) → w.rest ≡ [] → w.pending ≡ [] → have_all_ended w.ins ≡ true → AreEnded w.outs outs → IsWorking w
+    → KeepsUnder counted w (all_done outs w)
+unfolding KeepsUnder
+Keeps-all_done counted w outs rest pending ended ends works placement orders start p base armed stands =
     let shows = stands.shows in
     let may : MayFinish placement.role p = record {
-      free = free-shown placement orders w p sent shows works;
+      free = free-shown placement orders w p base shows works;
       no_rest = sym shows.rest ∙ rest;
       no_pending = sym shows.pending ∙ pending;
-      ended = sym (all-ended placement.role.senders p.taken w.ins shows.ins) ∙ ended;
+      ended = sym (all-ended placement.role.senders base.had p.taken w.ins shows.ins) ∙ ended;
     } in (
       record p { finished = true },
       record {
@@ -490,7 +431,7 @@ Keeps-all_done w rest pending ended works placement orders start p sent stands =
           sides = shows.sides;
           builders = shows.builders;
           building = shows.building;
-          plain = shows.plain;
+          watch = shows.watch;
           rest = shows.rest;
           pending = shows.pending;
           taken = shows.taken;
@@ -506,8 +447,8 @@ Keeps-all_done w rest pending ended works placement orders start p sent stands =
           paused = shows.paused;
           finished = refl;
           ins = shows.ins;
-          outs = send_all-end placement placement.receivers (emitted_rows placement.role p) sent w.outs (open-outs placement orders w p sent shows works);
+          outs = send_all-end placement placement.receivers (emitted_rows placement.role p) base.gave w.outs outs (open-outs placement orders w p base shows works) ends;
+          route = shows.route;
         };
       },
-      λ sender. refl,
     )

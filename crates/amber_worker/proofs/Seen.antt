@@ -14,7 +14,7 @@ use Rattle.amber_meaning.specs.declared.view.Extra.{Extra}
 use Rattle.amber_meaning.specs.declared.view.Extra.TheVariants as extra
 use Rattle.amber_meaning.specs.declared.view.Stand.TheVariants as stand
 use Rattle.amber_meaning.specs.declared.view.WorkerView.{WorkerView}
-use Rattle.amber_worker.specs.AtPosition.{DoesKind, HasTaken, IsViewOf}
+use Rattle.amber_worker.specs.AtPosition.{DoesKind, KeepsRows, IsViewOf}
 use Rattle.amber_worker.specs.WorkerState.{WorkerState}
 use Rattle.amber_worker.specs.Steps.{IsExtra, IsShown}
 use Rattle.amber_worker.specs.declared.operator_state.OperatorState.{OperatorState}
@@ -33,7 +33,7 @@ length-refused a b (one ∷ more) =
     same (Err why) = refl
 
 extra-is : (d : OperatorState) (kind : What) (constants : List Value) (role : Role) (task : Task) (op : ℕ) (arrivals : List Arrival) (refused : List Refusal) (keep : List (List Value)) (shown : Extra)
-    → DoesKind d kind constants role → HasTaken d task arrivals → refused ≡ refused_in op arrivals → keep ≡ kept_rows kind task arrivals
+    → DoesKind d kind constants role → KeepsRows d task arrivals → refused ≡ refused_in op arrivals → keep ≡ kept_rows kind task arrivals
     → IsExtra d (length refused) (length keep) shown → shown ≡ extra_of task kind arrivals
 extra-is operator_state.Scan (what.Scan file) constants role task op arrivals refused keep shown does has refused_is kept_is is =
     is ∙ ap extra.Scan (ap length refused_is ∙ length-refused op 0 arrivals)
@@ -58,7 +58,7 @@ same-view a b taken rest out pending stand next extra =
 -- what a worker keeps shows what is said of each position that it shows
 pub view-is : (w : WorkerState) (view : WorkerView) → IsShown w view → w.held ≡ false → IsViewOf w view
 unfolding IsViewOf view_of
-view-is w view is loose placement orders p sent shows =
+view-is w view is loose placement orders p base shows =
     same-view view (view_of placement.role p) (is.taken ∙ shows.taken) (is.rest ∙ ap length shows.rest) (is.out ∙ shows.emitted) (is.pending ∙ ap length shows.pending)
     (is.stand ∙ ap (λ (b : Bool). if b then stand.Finished else stand.Ready) shows.finished ∙ stands-so p.finished p.held (sym shows.held ∙ loose))
     (is.next ∙ ap first_of shows.pending)

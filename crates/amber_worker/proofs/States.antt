@@ -13,9 +13,10 @@ use Rattle.amber_group.specs.Group.{Group, IsFedWith}
 use Rattle.amber_join.specs.Join.{Join}
 use Rattle.amber_meaning.specs.Task.{Arrival, Role, Task, built_of, is_builder, suiting, rows_in}
 use Rattle.amber_meaning.specs.Kinds.{closing_rows}
-use Rattle.amber_queue.specs.Incoming.{Incoming, IsTaken, have_builders_ended, without_first}
+use Rattle.amber_link.specs.Sides.{IsTaken, have_builders_ended}
+use Rattle.amber_link.specs.declared.senders.Sender.{Sender}
 use Rattle.amber_worker.specs.Fields.{IsInOrder}
-use Rattle.amber_worker.specs.AtPosition.{DoesKind, HasTaken}
+use Rattle.amber_worker.specs.AtPosition.{DoesKind, KeepsRows}
 use Rattle.amber_worker.specs.Steps.{Becomes, Closes, GivesGroups, MayTakeRow, built_with, turned_to}
 use Rattle.amber_worker.specs.declared.operator_state.OperatorState.{OperatorState}
 use Rattle.amber_worker.specs.declared.operator_state.OperatorState.TheVariants as operator_state
@@ -92,15 +93,15 @@ built-more task arrivals one state is =
 
 -- what a worker keeps is of the rows that it took, with one more
 pub has-more : (d now : OperatorState) (task : Task) (arrivals : List Arrival) (one : Arrival) → Becomes d (is_builder task one.from) (suiting task one) now
-    → HasTaken d task arrivals → HasTaken now task (arrivals ++ one ∷ [])
-has-more operator_state.Scan now task arrivals one becomes has = subst (λ d. HasTaken d task (arrivals ++ one ∷ [])) (sym becomes) tt
-has-more (operator_state.Filter cond) now task arrivals one becomes has = subst (λ d. HasTaken d task (arrivals ++ one ∷ [])) (sym becomes) tt
-has-more (operator_state.Project from) now task arrivals one becomes has = subst (λ d. HasTaken d task (arrivals ++ one ∷ [])) (sym becomes) tt
-has-more (operator_state.Join state) now task arrivals one becomes has = subst (λ d. HasTaken d task (arrivals ++ one ∷ [])) (sym becomes) (built-more task arrivals one state has)
+    → KeepsRows d task arrivals → KeepsRows now task (arrivals ++ one ∷ [])
+has-more operator_state.Scan now task arrivals one becomes has = subst (λ d. KeepsRows d task (arrivals ++ one ∷ [])) (sym becomes) tt
+has-more (operator_state.Filter cond) now task arrivals one becomes has = subst (λ d. KeepsRows d task (arrivals ++ one ∷ [])) (sym becomes) tt
+has-more (operator_state.Project from) now task arrivals one becomes has = subst (λ d. KeepsRows d task (arrivals ++ one ∷ [])) (sym becomes) tt
+has-more (operator_state.Join state) now task arrivals one becomes has = subst (λ d. KeepsRows d task (arrivals ++ one ∷ [])) (sym becomes) (built-more task arrivals one state has)
 has-more (operator_state.Group state) now task arrivals one becomes has =
     let P : List (List Value) → Type 0 = λ rows. IsFedWith becomes.0 rows in
-    subst (λ d. HasTaken d task (arrivals ++ one ∷ [])) (sym becomes.1) (subst P (sym (rows-more task arrivals one)) (becomes.2.stands (rows_in task arrivals) has))
-has-more operator_state.Sink now task arrivals one becomes has = subst (λ d. HasTaken d task (arrivals ++ one ∷ [])) (sym becomes) tt
+    subst (λ d. KeepsRows d task (arrivals ++ one ∷ [])) (sym becomes.1) (subst P (sym (rows-more task arrivals one)) (becomes.2.stands (rows_in task arrivals) has))
+has-more operator_state.Sink now task arrivals one becomes has = subst (λ d. KeepsRows d task (arrivals ++ one ∷ [])) (sym becomes) tt
 
 -- ---- a batch more
 
@@ -115,7 +116,7 @@ does-turned (operator_state.Join state) false kind constants role does = join-do
 does-turned (operator_state.Group state) builds kind constants role does = does
 does-turned operator_state.Sink builds kind constants role does = does
 
-pub has-turned : (d : OperatorState) (builds : Bool) (task : Task) (arrivals : List Arrival) → HasTaken d task arrivals → HasTaken (turned_to builds d) task arrivals
+pub has-turned : (d : OperatorState) (builds : Bool) (task : Task) (arrivals : List Arrival) → KeepsRows d task arrivals → KeepsRows (turned_to builds d) task arrivals
 has-turned operator_state.Scan builds task arrivals has = has
 has-turned (operator_state.Filter cond) builds task arrivals has = has
 has-turned (operator_state.Project from) builds task arrivals has = has
@@ -138,7 +139,7 @@ nothing-closes false last rows e none = e
 
 -- the rows given at the end are those of the groups, once nothing more can come
 pub closing-is : (d : OperatorState) (kind : What) (constants : List Value) (role : Role) (task : Task) (arrivals : List Arrival) (over : Bool) (last : List (List Value))
-    → DoesKind d kind constants role → HasTaken d task arrivals → Closes d over last
+    → DoesKind d kind constants role → KeepsRows d task arrivals → Closes d over last
     → last ≡ (if over then closing_rows kind (filter_map (suiting task) arrivals) else [])
 closing-is operator_state.Scan (what.Scan file) constants role task arrivals over last does has closes = nothing-closes over last [] closes refl
 closing-is (operator_state.Filter cond) (what.Filter input own) constants role task arrivals over last does has closes = nothing-closes over last [] closes refl
@@ -168,7 +169,7 @@ closes-batch operator_state.Sink empty false last closes = refl
 
 -- ---- in order
 
-pub may-take_row : (d : OperatorState) (building : Bool) (taken : ℕ) (ins : List Incoming) → IsInOrder d building taken ins → taken < 2 ^ 40 → MayTakeRow d building
+pub may-take_row : (d : OperatorState) (building : Bool) (taken : ℕ) (ins : List Sender) → IsInOrder d building taken ins → taken < 2 ^ 40 → MayTakeRow d building
 may-take_row operator_state.Scan building taken ins order few = tt
 may-take_row (operator_state.Filter cond) building taken ins order few = tt
 may-take_row (operator_state.Project from) building taken ins order few = tt
@@ -176,7 +177,7 @@ may-take_row (operator_state.Join state) building taken ins order few = order.0
 may-take_row (operator_state.Group state) building taken ins order few = omega arith
 may-take_row operator_state.Sink building taken ins order few = tt
 
-pub in_order-row : (d now : OperatorState) (building : Bool) (found : Option (List Value)) (taken : ℕ) (ins : List Incoming) → Becomes d building found now
+pub in_order-row : (d now : OperatorState) (building : Bool) (found : Option (List Value)) (taken : ℕ) (ins : List Sender) → Becomes d building found now
     → IsInOrder d building taken ins → IsInOrder now building (taken + 1) ins
 in_order-row operator_state.Scan now building found taken ins becomes order = subst (λ d. IsInOrder d building (taken + 1) ins) (sym becomes) tt
 in_order-row (operator_state.Filter cond) now building found taken ins becomes order = subst (λ d. IsInOrder d building (taken + 1) ins) (sym becomes) tt
@@ -190,21 +191,21 @@ in_order-row (operator_state.Group state) now building found taken ins becomes o
 in_order-row operator_state.Sink now building found taken ins becomes order = subst (λ d. IsInOrder d building (taken + 1) ins) (sym becomes) tt
 
 -- a sender of the build side that has not ended
-unbuilt : (front back : List Incoming) (one : Incoming) → one.builds ≡ true → one.ended ≡ false → have_builders_ended (front ++ one ∷ back) ≡ true → ⊥
+unbuilt : (front back : List Sender) (one : Sender) → one.builds ≡ true → one.ended ≡ false → have_builders_ended (front ++ one ∷ back) ≡ true → ⊥
 unbuilt front back one builds unended built =
-    let parts = and_parts (have_builders_ended front) _ (sym (list_all-append (λ (other : Incoming). not other.builds || other.ended) front (one ∷ back)) ∙ built) in
+    let parts = and_parts (have_builders_ended front) _ (sym (list_all-append (λ (other : Sender). not other.builds || other.ended) front (one ∷ back)) ∙ built) in
     let here = and_parts (not one.builds || one.ended) _ parts.1 in
     false≢true (rw (builds, unended) at here.0)
 
-still-built : (front back : List Incoming) (one now : Incoming) → one.builds ≡ false → now.builds ≡ one.builds → have_builders_ended (front ++ one ∷ back) ≡ true
+still-built : (front back : List Sender) (one now : Sender) → one.builds ≡ false → now.builds ≡ one.builds → have_builders_ended (front ++ one ∷ back) ≡ true
     → have_builders_ended (front ++ now ∷ back) ≡ true
 still-built front back one now probes same built =
-    let parts = and_parts (have_builders_ended front) _ (sym (list_all-append (λ (other : Incoming). not other.builds || other.ended) front (one ∷ back)) ∙ built) in
+    let parts = and_parts (have_builders_ended front) _ (sym (list_all-append (λ (other : Sender). not other.builds || other.ended) front (one ∷ back)) ∙ built) in
     let later = and_parts (not one.builds || one.ended) _ parts.1 in
-    list_all-append (λ (other : Incoming). not other.builds || other.ended) front (now ∷ back)
+    list_all-append (λ (other : Sender). not other.builds || other.ended) front (now ∷ back)
     ∙ and_from _ _ parts.0 (and_from _ _ (rw (same, probes) refl) later.1)
 
-pub in_order-batch : (d : OperatorState) (building : Bool) (taken : ℕ) (ins after : List Incoming) (one : Incoming) (batch : Batch) → IsTaken ins one batch after
+pub in_order-batch : (d : OperatorState) (building : Bool) (taken : ℕ) (ins after : List Sender) (one : Sender) (batch : Batch) → IsTaken ins one batch after
     → IsInOrder d building taken ins → IsInOrder (turned_to one.builds d) one.builds taken after
 in_order-batch operator_state.Scan building taken ins after one batch so order = tt
 in_order-batch (operator_state.Filter cond) building taken ins after one batch so order = tt
@@ -217,11 +218,11 @@ in_order-batch (operator_state.Join state) building taken ins after one batch so
     by false true e order = absurd (unbuilt so.front so.back one e so.unended (ap have_builders_ended (sym so.found) ∙ order.1 refl))
     by was false e order =
         let built : have_builders_ended ins ≡ true = rw e at so.side in
-        (refl, λ no. ap have_builders_ended so.after_it ∙ still-built so.front so.back one (without_first batch so.later one) e refl (ap have_builders_ended (sym so.found) ∙ built))
+        (refl, λ no. ap have_builders_ended so.after_it ∙ still-built so.front so.back one so.now e (ap (λ (s : Sender). s.builds) so.is) (ap have_builders_ended (sym so.found) ∙ built))
 in_order-batch (operator_state.Group state) building taken ins after one batch so order = order
 in_order-batch operator_state.Sink building taken ins after one batch so order = tt
 
-pub in_order-settled : (d : OperatorState) (building : Bool) (taken : ℕ) (ins later : List Incoming) → have_builders_ended later ≡ have_builders_ended ins
+pub in_order-settled : (d : OperatorState) (building : Bool) (taken : ℕ) (ins later : List Sender) → have_builders_ended later ≡ have_builders_ended ins
     → IsInOrder d building taken ins → IsInOrder d building taken later
 in_order-settled operator_state.Scan building taken ins later same order = tt
 in_order-settled (operator_state.Filter cond) building taken ins later same order = tt

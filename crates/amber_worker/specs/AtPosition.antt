@@ -1,8 +1,7 @@
 -- Where a worker stands: the position that it shows, and that its journal leads there.
-use Rattle.std.specs.Prelude.{◌≡◌, ℕ, ◌+◌, ◌*◌, ◌/◌, ◌==◌, ◌<◌, ◌≤◌, List, [], ◌∷◌, ◌++◌, length, map, filter, drop, All, Option, Some, None, Result, Bool, true, false}
+use Rattle.std.specs.Prelude.{◌≡◌, ℕ, ◌+◌, ◌==◌, ◌<◌, ◌≤◌, List, [], ◌∷◌, length, map, filter, All, Option, Some, None, Result, Bool, true, false}
 use Rattle.std.specs.List.{list_any}
 use Rattle.amber_meaning.specs.Kinds.{kept_rows}
-use Rattle.amber_rows.specs.Chunks.{chunks_of}
 use Rattle.amber_rows.specs.Crew.{op_of, receiver_of, receivers_of, what_at}
 use Rattle.amber_rows.specs.Order.{sort_rows}
 use Rattle.amber_rows.specs.declared.value.Value.{Value}
@@ -19,15 +18,18 @@ use Rattle.amber_meaning.specs.Rules.{Leads, Orders}
 use Rattle.amber_meaning.specs.State.{first_constants}
 use Rattle.amber_meaning.specs.Task.{Arrival, Role, Task, built_of, is_builder, rows_in}
 use Rattle.amber_meaning.specs.Kinds.Filter.{with_constant}
-use Rattle.amber_meaning.specs.Refused.{refused_groups, refused_in}
-use Rattle.amber_meaning.specs.Views.{taken_of, view_of, worker_refuses}
+use Rattle.amber_meaning.specs.Refused.{refused_in}
+use Rattle.amber_meaning.specs.Given.{worker_refusals}
+use Rattle.amber_meaning.specs.Views.{taken_of, view_of}
 use Rattle.amber_meaning.specs.declared.view.WorkerView.{WorkerView}
 use Rattle.amber_scan.specs.declared.share.Scanned.{Scanned}
-use Rattle.amber_queue.specs.Incoming.{Incoming}
-use Rattle.amber_queue.specs.Outgoing.{Outgoing}
+use Rattle.amber_link.specs.Links.{HasGiven, OutCarries}
+use Rattle.amber_link.specs.Sides.{AreLooked, AreSameReceivers, AreSameSenders}
+use Rattle.amber_link.specs.declared.senders.Sender.{Sender}
+use Rattle.amber_link.specs.declared.receivers.Receiver.{Receiver}
 use Rattle.amber_worker.specs.Fields.{arrival_of}
-use Rattle.amber_worker.specs.Links.{waiting_from}
-use Rattle.amber_worker.specs.WorkerState.{WorkerState, steps_made}
+use Rattle.amber_worker.specs.Links.{number_to}
+use Rattle.amber_worker.specs.WorkerState.{WorkerState, next_turn, steps_made}
 use Rattle.amber_worker.specs.declared.operator_state.OperatorState.{OperatorState}
 use Rattle.amber_worker.specs.declared.operator_state.OperatorState.TheVariants as operator_state
 use Rattle.amber_worker.specs.declared.given.Given.{Given}
@@ -60,11 +62,6 @@ placement_of flow records size worker = record {
 unfoldable pub first_orders : List Operator → ℕ → Orders
 first_orders flow worker = record { constants = first_constants (what_at flow (op_of flow worker)); watch = None; counted = false }
 
--- no condition and no count is in force
-pub record ArePlain (orders : Orders) : Type 0 where
-  pub unwatched : orders.watch ≡ None
-  pub uncounted : orders.counted ≡ false
-
 -- a worker of a scan was given its share
 abbrev pub HasShare : Option (List Scanned) → Role → Type 0
 HasShare None role = Unit {0}
@@ -83,65 +80,74 @@ DoesKind operator_state.Sink (what.Sink input) constants role = Unit {0}
 DoesKind _ _ constants role = ⊥
 
 -- what a worker keeps of the rows that it took: of a join the build side, of a group what its rows stand for
-abbrev pub HasTaken : OperatorState → Task → List Arrival → Type 0
-HasTaken operator_state.Scan task arrivals = Unit {0}
-HasTaken (operator_state.Filter cond) task arrivals = Unit {0}
-HasTaken (operator_state.Project from) task arrivals = Unit {0}
-HasTaken (operator_state.Join state) task arrivals = state.rows ≡ built_of task arrivals
-HasTaken (operator_state.Group state) task arrivals = IsFedWith state (rows_in task arrivals)
-HasTaken operator_state.Sink task arrivals = Unit {0}
+abbrev pub KeepsRows : OperatorState → Task → List Arrival → Type 0
+KeepsRows operator_state.Scan task arrivals = Unit {0}
+KeepsRows (operator_state.Filter cond) task arrivals = Unit {0}
+KeepsRows (operator_state.Project from) task arrivals = Unit {0}
+KeepsRows (operator_state.Join state) task arrivals = state.rows ≡ built_of task arrivals
+KeepsRows (operator_state.Group state) task arrivals = IsFedWith state (rows_in task arrivals)
+KeepsRows operator_state.Sink task arrivals = Unit {0}
 
--- what is kept of a sender: how many of its batches were taken, and whether the last was
-pub record Receives (sender : ℕ) (batches : List Taken) (one : Incoming) : Type 0 where
+-- the batches that went through earlier links: by the number of the sender those that had come, by that of the receiver those that
+-- were sent
+pub record Base : Type 0 where
+  pub had : ℕ → List Batch
+  pub gave : ℕ → List Batch
+
+-- none did
+abbrev pub no_base : Base
+no_base = record { had = λ sender. []; gave = λ receiver. [] }
+
+-- what is kept of a sender: how many of its batches were taken, whether the last was, and that those that have come are those taken
+-- and those that wait
+pub record Receives (sender : ℕ) (had : List Batch) (batches : List Taken) (one : Sender) : Type 0 where
   pub from : one.from ≡ sender
   pub taken : one.taken ≡ length (taken_from batches sender)
   pub ended : one.ended ≡ has_last batches sender
+  pub come : HasGiven one.link had (taken_from batches sender)
 
 -- the same for each sender, none of whom is there twice
-unfoldable pub ReceiveAll : List ℕ → List Taken → List Incoming → Type 0
-ReceiveAll [] batches [] = Unit {0}
-ReceiveAll [] batches (one ∷ more) = ⊥
-ReceiveAll (sender ∷ senders) batches [] = ⊥
-ReceiveAll (sender ∷ senders) batches (one ∷ more) =
-    Receives sender batches one × (list_any (λ other. other == sender) senders ≡ false) × ReceiveAll senders batches more
+unfoldable pub ReceiveAll : List ℕ → (ℕ → List Batch) → List Taken → List Sender → Type 0
+ReceiveAll [] had batches [] = Unit {0}
+ReceiveAll [] had batches (one ∷ more) = ⊥
+ReceiveAll (sender ∷ senders) had batches [] = ⊥
+ReceiveAll (sender ∷ senders) had batches (one ∷ more) =
+    Receives sender (had sender) batches one × (list_any (λ other. other == sender) senders ≡ false) × ReceiveAll senders had batches more
 
 -- the rows that go to a receiver
 abbrev pub stream_to : Placement → ℕ → List (List Value) → List (List Value)
 stream_to placement receiver rows = filter (λ row. placement.route row == receiver) rows
 
--- what is kept of a receiver, where these rows were emitted: what was sent and what waits are the batches of those that go there,
--- and the rows of the next batch are those left over
-pub record Sends (placement : Placement) (receiver : ℕ) (rows : List (List Value)) (ended : Bool) (sent : List Batch) (one : Outgoing) : Type 0 where
+-- what is kept of a receiver, where these rows were emitted: its link carries the batches of those that go there
+pub record Sends (placement : Placement) (receiver : ℕ) (rows : List (List Value)) (ended : Bool) (gave : List Batch) (one : Receiver) : Type 0 where
   pub to : one.to ≡ receiver
-  pub size : one.size ≡ placement.size
-  pub some : 0 < placement.size
-  pub all_here : (row : List Value) → placement.route row ≡ receiver
-  pub batches : sent ++ one.waiting ≡ chunks_of placement.size (stream_to placement receiver rows) ended
-  pub made : ended ≡ false → one.made ≡ length (stream_to placement receiver rows) / placement.size
-  pub partial : ended ≡ false → one.partial ≡ drop (length (stream_to placement receiver rows) / placement.size * placement.size) (stream_to placement receiver rows)
+  pub size : one.link.kept.size ≡ placement.size
+  pub over : one.link.kept.ended ≡ ended
+  pub carries : OutCarries one.link gave (stream_to placement receiver rows)
 
-unfoldable pub SendAll : Placement → List ℕ → List (List Value) → Bool → (ℕ → List Batch) → List Outgoing → Type 0
-SendAll placement [] rows ended sent [] = Unit {0}
-SendAll placement [] rows ended sent (one ∷ more) = ⊥
-SendAll placement (receiver ∷ receivers) rows ended sent [] = ⊥
-SendAll placement (receiver ∷ receivers) rows ended sent (one ∷ more) =
-    Sends placement receiver rows ended (sent receiver) one × SendAll placement receivers rows ended sent more
+-- the same for each receiver, none of whom is there twice
+unfoldable pub SendAll : Placement → List ℕ → List (List Value) → Bool → (ℕ → List Batch) → List Receiver → Type 0
+SendAll placement [] rows ended gave [] = Unit {0}
+SendAll placement [] rows ended gave (one ∷ more) = ⊥
+SendAll placement (receiver ∷ receivers) rows ended gave [] = ⊥
+SendAll placement (receiver ∷ receivers) rows ended gave (one ∷ more) =
+    Sends placement receiver rows ended (gave receiver) one × (list_any (λ other. other == receiver) receivers ≡ false) × SendAll placement receivers rows ended gave more
 
 -- ---- where it stands
 
--- a worker shows a position under these orders, where these batches have left it for each receiver
-pub record Shows (placement : Placement) (orders : Orders) (w : WorkerState) (p : Position) (sent : ℕ → List Batch) : Type 0 where
+-- a worker shows a position under these orders, over what went through earlier links
+pub record Shows (placement : Placement) (orders : Orders) (w : WorkerState) (p : Position) (base : Base) : Type 0 where
   pub op : w.op ≡ placement.op
   pub number : w.number ≡ placement.number
   pub operator_state : DoesKind w.operator_state placement.role.task.kind orders.constants placement.role
-  pub state : HasTaken w.operator_state placement.role.task (taken_of placement.role p)
+  pub state : KeepsRows w.operator_state placement.role.task (taken_of placement.role p)
   pub columns : w.columns ≡ placement.role.task.columns
   pub build_columns : w.build_columns ≡ placement.role.task.build_columns
   -- which of its senders are of the build side, that these are senders all, and whether what is left is of that side
   pub sides : All (λ one. one.builds ≡ is_builder placement.role.task one.from) w.ins
   pub builders : (sender : ℕ) → is_builder placement.role.task sender ≡ true → list_any (λ one. one == sender) placement.role.senders ≡ true
   pub building : All (λ one. is_builder placement.role.task one.from ≡ w.building) w.rest
-  pub plain : ArePlain orders
+  pub watch : w.watch ≡ orders.watch
   pub rest : w.rest ≡ rest_of placement.role p
   pub pending : w.pending ≡ pending_rows placement.role p
   pub taken : w.taken ≡ length p.constants
@@ -156,38 +162,64 @@ pub record Shows (placement : Placement) (orders : Orders) (w : WorkerState) (p 
   pub waved : w.waved ≡ p.waved
   pub paused : w.paused ≡ p.paused
   pub finished : w.finished ≡ p.finished
-  pub ins : ReceiveAll placement.role.senders p.taken w.ins
-  pub outs : SendAll placement placement.receivers (emitted_rows placement.role p) p.finished sent w.outs
+  pub ins : ReceiveAll placement.role.senders base.had p.taken w.ins
+  pub outs : SendAll placement placement.receivers (emitted_rows placement.role p) p.finished base.gave w.outs
+  pub route : (row : List Value) → 0 < length placement.receivers → number_to w.route row ≡ placement.route row
 
 -- a worker stands at a position: it shows it, and its journal leads there from where it stood when the journal was empty
-pub record IsAtPosition (placement : Placement) (orders : Orders) (w : WorkerState) (start p : Position) (sent : ℕ → List Batch) : Type 0 where
+pub record IsAtPosition (placement : Placement) (orders : Orders) (w : WorkerState) (start p : Position) (base : Base) : Type 0 where
   pub leads : Leads placement.role orders start w.journal p
   pub text : AreEntries false w.journal
-  pub shows : Shows placement orders w p sent
+  pub shows : Shows placement orders w p base
 
--- of each sender the batches that were taken and those that wait are together the same
-abbrev pub SameBatches : WorkerState → Position → WorkerState → Position → Type 0
-SameBatches old p new q = (sender : ℕ) → taken_from q.taken sender ++ waiting_from sender new.ins ≡ taken_from p.taken sender ++ waiting_from sender old.ins
+-- wherever a worker stood, with a count armed or not, it stands at a position again, over the same links
+unfoldable pub KeepsUnder : Bool → WorkerState → WorkerState → Type 0
+KeepsUnder counted old new = (placement : Placement) (orders : Orders) (start p : Position) (base : Base) → orders.counted ≡ counted
+    → IsAtPosition placement orders old start p base → (q : Position) × IsAtPosition placement orders new start q base
 
--- wherever a worker stood, it stands at a position again, with the same batches of each sender and the same sent
-unfoldable pub Keeps : WorkerState → WorkerState → Type 0
-Keeps old new = (placement : Placement) (orders : Orders) (start p : Position) (sent : ℕ → List Batch) → IsAtPosition placement orders old start p sent
-    → (q : Position) × IsAtPosition placement orders new start q sent × SameBatches old p new q
+-- the same where no count is armed
+abbrev pub Keeps : WorkerState → WorkerState → Type 0
+Keeps old new = KeepsUnder false old new
 
--- what a turn has done: one step more, or nothing
+-- the same but for batches that were seen in a ring
+pub record IsLookedAt (old new : WorkerState) : Type 0 where
+  pub looked : AreLooked old.ins new.ins
+  pub only : new ≡ record old { ins = new.ins }
+
+-- it holds the same ends of the same links, and has the same number, condition and route
+pub record HasSameEnds (old new : WorkerState) : Type 0 where
+  pub ins : AreSameSenders old.ins new.ins
+  pub outs : AreSameReceivers old.outs new.outs
+  pub number : new.number ≡ old.number
+  pub watch : new.watch ≡ old.watch
+  pub route : new.route ≡ old.route
+
+-- the turn that a worker makes, by what it found when it looked
+pub record IsNextTurn (old : WorkerState) (turn : Turn) : Type 0 where
+  pub found : List Sender
+  pub looked : AreLooked old.ins found
+  pub is : turn ≡ next_turn (record old { ins = found })
+
+-- a look found nothing to do
+pub record IsIdleAt (old new : WorkerState) : Type 0 where
+  pub looked : IsLookedAt old new
+  pub idle : next_turn new ≡ turn.Idle
+
+-- what a turn has done: one step more, or nothing but a look
 abbrev pub HasTurned : Turn → WorkerState → WorkerState → Type 0
 HasTurned turn.Moved old new = steps_made new ≡ steps_made old + 1
-HasTurned turn.Idle old new = new ≡ old
+HasTurned turn.Idle old new = IsIdleAt old new
 HasTurned turn.Ended old new = new ≡ old
 
 -- ---- what a worker gives
 
 -- what it shows in a position is what is said of that position
 unfoldable pub IsViewOf : WorkerState → WorkerView → Type 0
-IsViewOf w view = (placement : Placement) (orders : Orders) (p : Position) (sent : ℕ → List Batch) → Shows placement orders w p sent → view ≡ view_of placement.role p
+IsViewOf w view = (placement : Placement) (orders : Orders) (p : Position) (base : Base) → Shows placement orders w p base → view ≡ view_of placement.role p
 
--- what it gives for the answer in a position: what it has refused, and of a sink the rows that it took, in their order
+-- what it gives for the answer in a position: what it has refused, by the definition for several workers, and of a sink the rows that
+-- it took, in their order
 unfoldable pub IsGivenOf : WorkerState → Given → Type 0
-IsGivenOf w given = (placement : Placement) (orders : Orders) (p : Position) (sent : ℕ → List Batch) → Shows placement orders w p sent
-    → (given.refused ≡ refused_in placement.op (taken_of placement.role p) ++ refused_groups placement.op (worker_refuses placement.role p))
+IsGivenOf w given = (placement : Placement) (orders : Orders) (p : Position) (base : Base) → Shows placement orders w p base
+    → (given.refused ≡ worker_refusals placement.op placement.role p)
     × (given.rows ≡ sort_rows (kept_rows placement.role.task.kind placement.role.task (taken_of placement.role p)))

@@ -1,15 +1,18 @@
 -- What a worker's fields mean.
-use Rattle.std.specs.Prelude.{◌≡◌, ℕ, not, false, true, ◌+◌, ◌^◌, ◌<◌, ◌≤◌, All, List, [], length, map, IfSome, MatchOption, Option, Some, None, Ok, Bool}
+use Rattle.std.specs.Prelude.{◌≡◌, ℕ, not, false, true, ◌+◌, ◌^◌, ◌≤◌, All, List, [], map, IfSome, Option, Some, None, Ok, Bool}
 use Rattle.amber_rows.specs.declared.value.Value.{Value}
 use Rattle.amber_log.specs.declared.entry.Entry.{Entry}
 use Rattle.amber_log.specs.declared.entry.Entry.TheVariants as entry
 use Rattle.amber_meaning.specs.Position.{one_if}
 use Rattle.amber_meaning.specs.Task.{Arrival}
 use Rattle.amber_scan.specs.declared.share.Scanned.{Scanned}
-use Rattle.amber_queue.specs.Incoming.{Incoming, have_builders_ended}
-use Rattle.amber_queue.specs.Outgoing.{Outgoing}
+use Rattle.amber_link.specs.Sides.{have_builders_ended}
+use Rattle.amber_link.specs.declared.senders.Sender.{Sender}
+use Rattle.amber_link.specs.declared.receivers.Receiver.{Receiver}
 use Rattle.amber_worker.specs.declared.operator_state.OperatorState.{OperatorState}
 use Rattle.amber_worker.specs.declared.operator_state.OperatorState.TheVariants as operator_state
+use Rattle.amber_worker.specs.Links.{IsSoundRoute}
+use Rattle.amber_worker.specs.declared.route.Route.{Route}
 use Rattle.amber_worker.specs.declared.taking.Rest.{Rest}
 
 -- a row as it was handed by a sender
@@ -38,7 +41,7 @@ rows_moved entry.Finish = 0
 
 -- what is kept of a join is sealed once the batches at hand are of the probe side, and then the build side has ended; a group was
 -- fed no more rows than were taken
-abbrev pub IsInOrder : OperatorState → Bool → ℕ → List Incoming → Type 0
+abbrev pub IsInOrder : OperatorState → Bool → ℕ → List Sender → Type 0
 IsInOrder operator_state.Scan building taken ins = Unit {0}
 IsInOrder (operator_state.Filter cond) building taken ins = Unit {0}
 IsInOrder (operator_state.Project from) building taken ins = Unit {0}
@@ -47,15 +50,16 @@ IsInOrder (operator_state.Group state) building taken ins = state.fed ≤ taken
 IsInOrder operator_state.Sink building taken ins = Unit {0}
 
 -- what a worker counts is within its steps, and these are few; one that has a share is a scan's and has no senders
-pub record AreFew (does : OperatorState) (building : Bool) (share : Option (List Scanned)) (taken emitted batches : ℕ) (finished : Bool) (ins : List Incoming) (out : Option Outgoing)
-    (journal : List Entry) : Type 0 where
+pub record AreFew (does : OperatorState) (building : Bool) (share : Option (List Scanned)) (taken emitted batches : ℕ) (finished : Bool) (ins : List Sender) (outs : List Receiver)
+    (route : Route) (journal : List Entry) : Type 0 where
   pub in_order : IsInOrder does building taken ins
   pub scans : IfSome share (λ _. does ≡ operator_state.Scan)
   pub shares : IfSome share (λ _. ins ≡ [])
   pub steps : taken + emitted + batches + one_if finished ≤ 2 ^ 40
   pub received : All (λ one. one.taken ≤ batches) ins
-  pub sizes : MatchOption out (Unit {0}) (λ one. 0 < one.size)
-  pub sent : MatchOption out (Unit {0}) (λ one. one.made + length one.partial ≤ emitted + one_if finished)
+  pub sent : finished ≡ false → All (λ one. one.link.kept.made ≤ emitted) outs
+  pub over : All (λ one. one.link.kept.ended ≡ finished) outs
+  pub routed : IsSoundRoute route
   pub moved : All (λ one. rows_moved one ≤ taken + emitted) journal
 
 abbrev pub arrivals_in : Rest → List Arrival

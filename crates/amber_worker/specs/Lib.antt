@@ -1,8 +1,9 @@
-pub use Rattle.amber_queue.specs.Incoming
-pub use Rattle.amber_queue.specs.Outgoing
+pub use Rattle.amber_link.specs.Sides
 pub mod Fields
 pub mod Links
 pub mod Made
 pub mod AtPosition
 pub mod WorkerState
 pub mod Steps
+pub mod Pairs
+pub mod Changes

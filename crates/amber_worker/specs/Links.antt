@@ -1,25 +1,53 @@
--- The batches that wait at a worker, by sender and by receiver.
-use Rattle.std.specs.Prelude.{ℕ, ◌==◌, List, [], ◌∷◌, ◌++◌, map, if◌then◌else◌}
-use Rattle.amber_rows.specs.declared.batch.Batch.{Batch}
-use Rattle.amber_queue.specs.Incoming.{Incoming}
-use Rattle.amber_queue.specs.Outgoing.{Outgoing}
+-- The links of a worker.
+use Rattle.std.specs.Prelude.{◌≡◌, ℕ, ◌+◌, ◌==◌, ◌<◌, ◌≤◌, ◌^◌, List, ◌∷◌, length, slice_index_or, MatchOption, Option, Bool, false}
+use Rattle.std.specs.List.{list_any}
+use Rattle.amber_rows.specs.Routing.{key_bytes_of, route_of}
+use Rattle.amber_rows.specs.declared.value.Value.{Value}
+use Rattle.amber_link.specs.Links.{AreLinked}
+use Rattle.amber_link.specs.Sides.{HandsOn, Settles}
+use Rattle.amber_link.specs.declared.senders.Sender.{Sender}
+use Rattle.amber_link.specs.declared.receivers.Receiver.{Receiver}
+use Rattle.amber_worker.specs.declared.route.Route.{Route}
+use Rattle.amber_worker.specs.declared.route.Route.TheVariants as route
 
--- the batches of a sender that wait to be taken
-abbrev pub waiting_from : ℕ → List Incoming → List Batch
-waiting_from sender [] = []
-waiting_from sender (one ∷ more) = if one.from == sender then one.waiting else waiting_from sender more
+-- ---- to whom a row goes
 
--- the batches for a receiver that wait to be moved
-abbrev pub waiting_for : ℕ → List Outgoing → List Batch
-waiting_for receiver [] = []
-waiting_for receiver (one ∷ more) = if one.to == receiver then one.waiting else waiting_for receiver more
+-- the running number of the worker to which a row goes
+abbrev pub number_to : Route → List Value → ℕ
+number_to (route.One number) row = number
+number_to (route.ByKeys keys first workers) row = first + route_of (key_bytes_of keys row) workers
 
--- more batches of a sender have come
-abbrev pub with_batches : ℕ → List Batch → List Incoming → List Incoming
-with_batches sender batches [] = []
-with_batches sender batches (one ∷ more) =
-    if one.from == sender then record one { waiting = one.waiting ++ batches } ∷ more else one ∷ with_batches sender batches more
+-- there is a worker, and its number is small
+abbrev pub IsSoundRoute : Route → Type 0
+IsSoundRoute (route.One number) = Unit {0}
+IsSoundRoute (route.ByKeys keys first workers) = (0 < workers) × (first + workers ≤ 2 ^ 32)
 
--- the batches for a receiver were moved
-abbrev pub without_batches : ℕ → List Outgoing → List Outgoing
-without_batches receiver outs = map {A = Outgoing} (λ one. if one.to == receiver then record one { waiting = [] } else one) outs
+-- a row more was pushed for the receiver with this number, if there is one
+pub record IsHandedOn (number : ℕ) (row : List Value) (outs after : List Receiver) : Type 0 where
+  pub place : Option ℕ
+  pub so : MatchOption place ((list_any (λ one. one.to == number) outs ≡ false) × (after ≡ outs))
+      (λ i. HandsOn i row outs after × ((d : Receiver) → (slice_index_or outs i d).to ≡ number))
+
+-- the first of these rows was handed on
+pub record EmitsFirst (to : Route) (rows : List (List Value)) (outs : List Receiver) (later : List (List Value)) (after : List Receiver) : Type 0 where
+  pub row : List Value
+  pub first : rows ≡ row ∷ later
+  pub handed : IsHandedOn (number_to to row) row outs after
+
+-- ---- the link of two workers
+
+-- what one keeps of its receiver and the other of its sender are the two ends of a link
+abbrev pub AreEndsOf : ℕ → ℕ → List Receiver → List Sender → Type 0
+AreEndsOf from to outs ins = (j k : ℕ) (one : Receiver) (other : Sender) → j < length outs → k < length ins
+    → (slice_index_or outs j one).to ≡ to → (slice_index_or ins k other).from ≡ from
+    → AreLinked (slice_index_or outs j one).link (slice_index_or ins k other).link
+
+-- what was made for the receiver went on to it; nothing was taken
+pub record Passes (all : Bool) (from to : ℕ) (outs : List Receiver) (ins : List Sender) (outs_after : List Receiver) (ins_after : List Sender) : Type 0 where
+  pub j : ℕ
+  pub k : ℕ
+  pub j_within : j < length outs
+  pub k_within : k < length ins
+  pub to_is : (one : Receiver) → (slice_index_or outs j one).to ≡ to
+  pub from_is : (one : Sender) → (slice_index_or ins k one).from ≡ from
+  pub settles : Settles all outs j ins k outs_after ins_after

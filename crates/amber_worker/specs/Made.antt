@@ -1,6 +1,7 @@
 -- What a new worker is made of.
-use Rattle.std.specs.Prelude.{◌≡◌, ℕ, ◌+◌, ◌-◌, ◌<◌, List, [], length, map, option_to_list, MatchOption, Option, Bool, true, false, nat_lt, ◌∷◌, if◌then◌else◌}
-use Rattle.amber_rows.specs.Crew.{op_of, reads, what_at}
+use Rattle.std.specs.Prelude.{◌≡◌, ℕ, ◌==◌, ◌<◌, All, List, [], length, map, Option, None, Bool, true, false}
+use Rattle.amber_rows.specs.Crew.{op_of, receiver_of, receivers_of, senders_of, what_at}
+use Rattle.amber_rows.specs.declared.value.Value.{Value}
 use Rattle.amber_rows.specs.Columns.{columns_at}
 use Rattle.amber_rows.specs.declared.flow.Operator.{Operator}
 use Rattle.amber_rows.specs.declared.flow.What.{What}
@@ -8,8 +9,13 @@ use Rattle.amber_rows.specs.declared.flow.What.TheVariants as what
 use Rattle.amber_group.specs.Group.{IsFedWith}
 use Rattle.amber_meaning.specs.Plan.{built_columns}
 use Rattle.amber_scan.specs.declared.share.Scanned.{Scanned}
-use Rattle.amber_queue.specs.Incoming.{Incoming}
-use Rattle.amber_queue.specs.Outgoing.{Outgoing}
+use Rattle.rtrb.specs.Ring.{received, sent}
+use Rattle.amber_link.specs.Links.{waiting}
+use Rattle.amber_link.specs.declared.ends.Out.{Out}
+use Rattle.amber_link.specs.declared.ends.In.{In}
+use Rattle.amber_link.specs.declared.senders.Sender.{Sender}
+use Rattle.amber_link.specs.declared.receivers.Receiver.{Receiver}
+use Rattle.amber_worker.specs.Links.{number_to}
 use Rattle.amber_worker.specs.Fields.{rest_in}
 use Rattle.amber_worker.specs.WorkerState.{WorkerState}
 use Rattle.amber_worker.specs.declared.operator_state.OperatorState.{OperatorState}
@@ -44,34 +50,49 @@ is_join (what.Join build probe build_keys probe_keys) = true
 is_join (what.Group input keys aggs) = false
 is_join (what.Sink input) = false
 
--- nothing has come of this sender
-abbrev pub fresh_inbox : Bool → ℕ → Incoming
-fresh_inbox builds sender = record { from = sender; builds = builds; taken = 0; ended = false; waiting = [] }
+-- the numbers of ends, one by one
+abbrev pub from_of : Sender → ℕ
+from_of one = one.from
 
--- nothing has come of the senders, by rising numbers, where each operator has one worker
-abbrev pub fresh_inboxes : What → List Incoming
-fresh_inboxes (what.Scan file) = []
-fresh_inboxes (what.Filter input cond) = fresh_inbox false (input - 1) ∷ []
-fresh_inboxes (what.Project input columns) = fresh_inbox false (input - 1) ∷ []
-fresh_inboxes (what.Join build probe build_keys probe_keys) =
-    if nat_lt build probe then fresh_inbox true (build - 1) ∷ fresh_inbox false (probe - 1) ∷ []
-    else fresh_inbox false (probe - 1) ∷ fresh_inbox true (build - 1) ∷ []
-fresh_inboxes (what.Group input keys aggs) = fresh_inbox false (input - 1) ∷ []
-fresh_inboxes (what.Sink input) = fresh_inbox false (input - 1) ∷ []
+abbrev pub to_of : Receiver → ℕ
+to_of one = one.to
 
--- nothing was made for this receiver
-abbrev pub fresh_outbox : ℕ → ℕ → Outgoing
-fresh_outbox size receiver = record { to = receiver; size = size; made = 0; waiting = []; partial = [] }
+-- the end of a sender's link, and of a receiver's whatever room there is
+abbrev pub end_of : Sender → In
+end_of one = one.link
 
--- the worker of the operator that reads from this one, where each operator has one worker; none where none reads
-abbrev pub IsReceiver : List Operator → ℕ → Option ℕ → Type 0
-IsReceiver flow op receiver = MatchOption receiver ((k : ℕ) → k < length flow → reads (what_at flow (k + 1)) op ≡ false)
-    (λ worker. (worker < length flow) × (reads (what_at flow (worker + 1)) op ≡ true))
+abbrev pub roomless : Out → Out
+roomless out = record out { kept = record out.kept { room = 0 } }
+
+abbrev pub link_of : Receiver → Out
+link_of one = roomless one.link
+
+-- an end of a link through which nothing went: of which nothing was taken, and into which nothing was pushed
+abbrev pub IsFreshIn : In → Type 0
+IsFreshIn into = (received into.ring ≡ []) × (waiting into ≡ [])
+
+abbrev pub IsFreshOut : ℕ → Out → Type 0
+IsFreshOut size out = (sent out.ring ≡ []) × (out.kept ≡ record { size = size; made = 0; ended = false; waiting = []; partial = []; room = out.kept.room })
+
+-- whether a worker is of the build side of what an operator of this kind does
+abbrev pub builds_for : List Operator → What → ℕ → Bool
+builds_for flow (what.Scan file) sender = false
+builds_for flow (what.Filter input cond) sender = false
+builds_for flow (what.Project input columns) sender = false
+builds_for flow (what.Join build probe build_keys probe_keys) sender = op_of flow sender == build
+builds_for flow (what.Group input keys aggs) sender = false
+builds_for flow (what.Sink input) sender = false
+
+-- senders of whom nothing was taken
+abbrev pub AreFreshSenders : List Operator → What → List Sender → Type 0
+AreFreshSenders flow kind ins = All (λ one. (one.taken ≡ 0) × (one.ended ≡ false) × (one.builds ≡ builds_for flow kind one.from) × IsFreshIn one.link) ins
+
+-- receivers for which nothing was made
+abbrev pub AreFreshReceivers : ℕ → List Receiver → Type 0
+AreFreshReceivers size outs = All (λ one. IsFreshOut size one.link) outs
 
 -- a worker that has done nothing
 pub record IsFresh (flow : List Operator) (worker size : ℕ) (share : Option (List Scanned)) (w : WorkerState) : Type 0 where
-  pub receiver : Option ℕ
-  pub reader : IsReceiver flow (op_of flow worker) receiver
   pub op : w.op ≡ op_of flow worker
   pub number : w.number ≡ worker
   pub does : IsOperatorStateOf w.operator_state (what_at flow (op_of flow worker))
@@ -85,11 +106,15 @@ pub record IsFresh (flow : List Operator) (worker size : ℕ) (share : Option (L
   pub batches : w.batches ≡ 0
   pub refused : w.refused ≡ []
   pub kept : w.kept ≡ []
+  pub watch : w.watch ≡ None
   pub hand : w.hand ≡ 0
   pub held : w.held ≡ false
   pub waved : w.waved ≡ false
   pub paused : w.paused ≡ false
   pub finished : w.finished ≡ false
-  pub ins : w.ins ≡ fresh_inboxes (what_at flow (op_of flow worker))
-  pub outs : w.outs ≡ map (fresh_outbox size) (option_to_list receiver)
+  pub senders : map from_of w.ins ≡ senders_of flow worker
+  pub ins : AreFreshSenders flow (what_at flow (op_of flow worker)) w.ins
+  pub receivers : map to_of w.outs ≡ receivers_of flow worker
+  pub outs : AreFreshReceivers size w.outs
+  pub route : (row : List Value) → 0 < length (receivers_of flow worker) → number_to w.route row ≡ receiver_of flow worker row
   pub journal : w.journal ≡ []

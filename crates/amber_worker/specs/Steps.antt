@@ -1,5 +1,5 @@
 -- What each single step of a worker changes.
-use Rattle.std.specs.Prelude.{◌≡◌, ℕ, ◌+◌, ◌^◌, ◌<◌, ◌≤◌, ◌==◌, ◌&&◌, option_to_list, not, Bool, All, List, [], ◌∷◌, ◌++◌, length, map, Ok, Option, Some, None, true, false, if◌then◌else◌}
+use Rattle.std.specs.Prelude.{◌≡◌, ℕ, ◌+◌, ◌^◌, ◌<◌, ◌≤◌, ◌-◌, ◌==◌, ◌&&◌, option_to_list, not, Bool, All, List, [], ◌∷◌, ◌++◌, length, map, Ok, Option, Some, None, true, false, if◌then◌else◌}
 use Rattle.amber_rows.specs.Cond.{holds_of}
 use Rattle.amber_rows.specs.Operators.{first_keys, group_result, matches_of, pick_cells, refused_keys}
 use Rattle.amber_rows.specs.declared.value.Value.{Value}
@@ -17,10 +17,12 @@ use Rattle.amber_meaning.specs.declared.view.Extra.TheVariants as extra
 use Rattle.amber_meaning.specs.declared.view.Stand.TheVariants as stand
 use Rattle.amber_meaning.specs.declared.view.WorkerView.{WorkerView}
 use Rattle.amber_scan.specs.declared.share.Scanned.{Scanned}
-use Rattle.amber_queue.specs.Incoming.{Incoming, IsTaken, have_all_ended}
-use Rattle.amber_queue.specs.Outgoing.{Outgoing, with_end, with_row}
+use Rattle.amber_link.specs.Sides.{AreEnded, AreLooked, IsTaken, have_all_ended}
+use Rattle.amber_link.specs.declared.senders.Sender.{Sender}
+use Rattle.amber_link.specs.declared.receivers.Receiver.{Receiver}
 use Rattle.amber_worker.specs.Fields.{row_from, rows_moved}
-use Rattle.amber_worker.specs.WorkerState.{WorkerState}
+use Rattle.amber_worker.specs.Links.{IsHandedOn, number_to}
+use Rattle.amber_worker.specs.WorkerState.{WorkerState, has_ready}
 use Rattle.amber_worker.specs.declared.operator_state.OperatorState.{OperatorState}
 use Rattle.amber_worker.specs.declared.operator_state.OperatorState.TheVariants as operator_state
 use Rattle.amber_worker.specs.declared.taking.Fate.{Fate}
@@ -230,14 +232,6 @@ with_go [] rows outs = entry.Go rows outs ∷ []
 with_go (one ∷ []) rows outs = gone_on one rows outs
 with_go (one ∷ next ∷ more) rows outs = one ∷ with_go (next ∷ more) rows outs
 
--- ---- links
-
--- the first of these rows was put behind the others for each receiver
-pub record Emits (rows : List (List Value)) (outs : List Outgoing) (later : List (List Value)) (after : List Outgoing) : Type 0 where
-  pub row : List Value
-  pub first : rows ≡ row ∷ later
-  pub sent : after ≡ map (with_row row) outs
-
 -- ---- steps
 
 -- the columns of the rows at hand
@@ -267,23 +261,28 @@ pub record TakesRow (old new : WorkerState) : Type 0 where
   pub closes : Closes now ((length old.rest == 1) && have_all_ended old.ins) last
   pub after : new ≡ row_taken one later now last old
 
--- a pending row was emitted
-abbrev pub row_emitted : List Value → List (List Value) → WorkerState → WorkerState
-row_emitted row later w = record w {
+-- a pending row was emitted, under a count with a unit of the hand
+abbrev pub row_emitted : Bool → List (List Value) → List Receiver → WorkerState → WorkerState
+row_emitted counted later outs w = record w {
   pending = later;
   emitted = w.emitted + 1;
+  hand = if counted then w.hand - 1 else w.hand;
   waved = false;
-  outs = map (with_row row) w.outs;
+  outs = outs;
   journal = with_go w.journal 0 1;
 }
 
 -- the first pending row was emitted
-abbrev pub row_emitted_from : List (List Value) → WorkerState → WorkerState
-row_emitted_from [] w = w
-row_emitted_from (row ∷ later) w = row_emitted row later w
+pub record EmitsRow (counted : Bool) (old new : WorkerState) : Type 0 where
+  pub row : List Value
+  pub later : List (List Value)
+  pub outs : List Receiver
+  pub first : old.pending ≡ row ∷ later
+  pub handed : IsHandedOn (number_to old.route row) row old.outs outs
+  pub after : new ≡ row_emitted counted later outs old
 
 -- a batch of this sender was taken; these rows are given at the end
-abbrev pub batch_taken : Incoming → Batch → List Incoming → List (List Value) → WorkerState → WorkerState
+abbrev pub batch_taken : Sender → Batch → List Sender → List (List Value) → WorkerState → WorkerState
 batch_taken one batch ins last w = record w {
   operator_state = turned_to one.builds w.operator_state;
   building = one.builds;
@@ -295,27 +294,37 @@ batch_taken one batch ins last w = record w {
 }
 
 -- the end was reached
-abbrev pub all_done : WorkerState → WorkerState
-all_done w = record w {
+abbrev pub all_done : List Receiver → WorkerState → WorkerState
+all_done outs w = record w {
   finished = true;
-  outs = map with_end w.outs;
+  outs = outs;
   journal = w.journal ++ entry.Finish ∷ [];
 }
 
+-- the end was reached, and all streams were ended
+pub record Finishes (old new : WorkerState) : Type 0 where
+  pub outs : List Receiver
+  pub ends : AreEnded old.outs outs
+  pub after : new ≡ all_done outs old
+
 -- a batch of one of its senders was taken
 pub record TakesBatch (old new : WorkerState) : Type 0 where
-  pub one : Incoming
+  pub one : Sender
   pub batch : Batch
-  pub ins : List Incoming
-  pub taken : IsTaken old.ins one batch ins
+  pub found : List Sender
+  pub looked : AreLooked old.ins found
+  pub ready : has_ready found ≡ true
+  pub ins : List Sender
+  pub taken : IsTaken found one batch ins
   pub from_small : one.from < 2 ^ 32
   pub number_small : one.taken < 2 ^ 64
   pub last : List (List Value)
   pub closes : Closes old.operator_state ((length batch.rows == 0) && have_all_ended ins) last
   pub after : new ≡ batch_taken one batch ins last old
 
--- neither paused nor held, and no entry speaks of very many rows
+-- neither paused nor held, no condition is watched, and no entry speaks of very many rows
 pub record IsCalm (w : WorkerState) : Type 0 where
+  pub unwatched : w.watch ≡ None
   pub running : w.paused ≡ false
   pub loose : w.held ≡ false
   pub few : All (λ one. rows_moved one < 2 ^ 63) w.journal

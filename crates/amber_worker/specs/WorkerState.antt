@@ -1,5 +1,5 @@
 -- What a worker keeps, as lists, numbers and flags.
-use Rattle.std.specs.Prelude.{ℕ, ◌+◌, List, Bool, if◌then◌else◌}
+use Rattle.std.specs.Prelude.{ℕ, ◌+◌, List, Option, Bool, if◌then◌else◌}
 use Rattle.std.specs.List.{list_any}
 use Rattle.amber_rows.specs.declared.value.Value.{Value}
 use Rattle.amber_rows.specs.declared.column.Column.{Column}
@@ -7,8 +7,12 @@ use Rattle.amber_log.specs.declared.entry.Entry.{Entry}
 use Rattle.amber_meaning.specs.Position.{one_if}
 use Rattle.amber_meaning.specs.Task.{Arrival}
 use Rattle.amber_meaning.specs.declared.answer.Refusal.{Refusal}
-use Rattle.amber_queue.specs.Incoming.{Incoming, has_some, have_all_ended, have_builders_ended, may_come}
-use Rattle.amber_queue.specs.Outgoing.{Outgoing}
+use Rattle.amber_rows.specs.declared.cond.Cond.{Cond}
+use Rattle.amber_link.specs.Links.{has_some}
+use Rattle.amber_link.specs.Sides.{have_all_ended, have_builders_ended, may_come}
+use Rattle.amber_link.specs.declared.senders.Sender.{Sender}
+use Rattle.amber_link.specs.declared.receivers.Receiver.{Receiver}
+use Rattle.amber_worker.specs.declared.route.Route.{Route}
 use Rattle.amber_worker.specs.declared.operator_state.OperatorState.{OperatorState}
 use Rattle.amber_worker.specs.declared.turn.Turn.{Turn}
 use Rattle.amber_worker.specs.declared.turn.Turn.TheVariants as turn
@@ -33,14 +37,17 @@ pub record WorkerState : Type 0 where
   -- what it keeps for the answer
   pub refused : List Refusal
   pub kept : List (List Value)
+  -- the condition that is watched
+  pub watch : Option Cond
   pub hand : ℕ
   pub held : Bool
   pub waved : Bool
   pub paused : Bool
   pub finished : Bool
-  -- its senders and its receivers
-  pub ins : List Incoming
-  pub outs : List Outgoing
+  -- its senders, its receivers, and to which of them a row goes
+  pub ins : List Sender
+  pub outs : List Receiver
+  pub route : Route
   -- what it did since the journal was handed out
   pub journal : List Entry
 
@@ -51,7 +58,7 @@ steps_made w = w.taken + w.emitted + w.batches + one_if w.finished
 -- ---- which turn comes
 
 -- a batch may be taken: of the probe side once the build side has ended
-abbrev pub has_ready : List Incoming → Bool
+abbrev pub has_ready : List Sender → Bool
 has_ready ins = list_any (may_come (have_builders_ended ins)) ins
 
 -- the turn that a worker makes: it moves where a row is pending, where a row is left, where a batch may be taken, and where nothing

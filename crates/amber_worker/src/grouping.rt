@@ -2,7 +2,7 @@
 
 ghost use Rattle.std.specs.Prelude.{◌≡◌, ◌^◌, ◌<◌, Ok, true, IfOk, OnErr, OnOk};
 ghost use Rattle.amber_meaning.specs.Task.{row_in};
-ghost use Rattle.amber_queue.specs.Incoming.{has_some};
+ghost use Rattle.amber_link.specs.Links.{has_some};
 ghost use Rattle.amber_worker.specs.Steps.{Feeds, FeedsNext, GivesGroups, GroupsRow};
 
 use amber_group::GroupState;

@@ -1,7 +1,7 @@
 //! How a join takes rows.
 
 ghost use Rattle.std.specs.Prelude.{◌≡◌, not, true, false, OnErr, OnOk};
-ghost use Rattle.amber_queue.specs.Incoming.{has_some};
+ghost use Rattle.amber_link.specs.Links.{has_some};
 ghost use Rattle.amber_worker.specs.Steps.{Builds, JoinsRow, Probes};
 
 use amber_join::JoinState;

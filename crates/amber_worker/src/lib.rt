@@ -1,8 +1,8 @@
 //! A worker: one of those that run an operator of a workflow.
 //!
 //! A worker takes the batches that its senders have made for it, or the records of its share, and the rows of these one
-//! after the other; what a row yields is pending, and goes row by row into the batches for its receiver. It writes down
-//! what it does in a journal.
+//! after the other; what a row yields is pending, and goes row by row into the link of the receiver to which it is routed.
+//! It writes down what it does in a journal. In each step what may want memory comes first and changes nothing that is seen.
 //!
 //! A worker of a join takes all batches of its build side before the first of its probe side. One of a group makes the
 //! rows of its groups pending in the very step that takes the last row, or an empty last batch.
@@ -18,6 +18,8 @@ mod journal;
 mod links;
 mod making;
 pub mod operator_state;
+pub mod route;
+mod setting;
 mod shown;
 mod taking;
 pub mod turn;
@@ -25,6 +27,7 @@ pub mod worker;
 
 pub use given::Given;
 pub use operator_state::OperatorState;
+pub use route::Route;
 pub use std::alloc::AllocError as NoMemory;
 pub use turn::Turn;
 pub use worker::{Worker, settle_workers};

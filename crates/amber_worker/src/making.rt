@@ -1,47 +1,22 @@
 //! What a new worker is given of its workflow.
 
-ghost use Rattle.std.specs.Prelude.{◌≡◌, nat_lt, [], ◌∷◌, if◌then◌else◌, ◌+◌, ◌-◌, ◌^◌, ◌<◌, ℕ, All, true, false, length, map, option_to_list, IfOk, MatchOption};
-ghost use Rattle.amber_rows.specs.Crew.{reads, what_at};
+ghost use Rattle.std.specs.Prelude.{◌≡◌, ◌<◌, ◌≤◌, List, All, true, false, length, map, IfOk, IfNone, IfSome};
+ghost use Rattle.amber_rows.specs.Crew.{crew_of, receiver_of, receivers_of, senders_of};
+ghost use Rattle.amber_rows.specs.Kinds.{is_keyed, side_keys};
 ghost use Rattle.amber_rows.specs.Columns.{columns_at};
-ghost use Rattle.amber_rows.specs.Kinds.{inputs_of};
+ghost use Rattle.amber_rows.specs.declared.value.Value.{Value as Cell};
 ghost use Rattle.amber_meaning.specs.Plan.{built_columns};
-ghost use Rattle.amber_worker.specs.Made.{IsOperatorStateOf, fresh_inbox, fresh_inboxes, fresh_outbox, handing_operator, is_join};
+ghost use Rattle.amber_worker.specs.Links.{IsSoundRoute, number_to};
+ghost use Rattle.amber_worker.specs.Made.{AreFreshSenders, IsFreshIn, IsOperatorStateOf, builds_for, from_of, handing_operator, is_join, link_of, to_of};
 
 use crate::operator_state::OperatorState;
+use crate::route::Route;
 use amber_group::GroupState;
 use amber_join::JoinState;
+use amber_link::{In, Out, Receiver, Sender};
 use amber_ops::{FilterState, ProjectState};
-use amber_queue::{Inbox, Outbox};
-use amber_rows::{Aggs, Cols, Cond, Flow, Operator, Schema, What};
+use amber_rows::{Aggs, Cols, Cond, Flow, Schema, What};
 use std::alloc::{AllocError, Global};
-
-// Whether an operator of this kind reads from another one.
-fn reads(what: &What, op: u32) -> bool
-    ensures { result ≡ reads what.now op }
-{
-    match what {
-        What::Scan { .. } => false,
-        What::Filter { input, .. }
-        | What::Project { input, .. }
-        | What::Group { input, .. }
-        | What::Sink { input } => *input == op,
-        What::Join { build, probe, .. } => *build == op || *probe == op,
-    }
-}
-
-// The worker of the operator that reads from this one, where each operator has one worker.
-pub(crate) fn receiver_of(operators: &[Operator], op: u32) -> Option<u32>
-    requires { length operators.now < 2 ^ 32 }
-    ensures { MatchOption result ((k : ℕ) → k < length operators.now → reads (what_at operators.now (k + 1)) op ≡ false)
-        (λ worker. (worker < length operators.now) × (reads (what_at operators.now (worker + 1)) op ≡ true)) }
-{
-    for (i, operator) in operators.iter().enumerate() {
-        if reads(&operator.what, op) {
-            return Some(i as u32);
-        }
-    }
-    None
-}
 
 // What a worker of this kind does with a row.
 pub(crate) fn operator_state_of(alloc: Global, what: &What) -> Result<OperatorState, AllocError>
@@ -133,54 +108,76 @@ pub(crate) fn is_join(what: &What) -> bool
     matches!(what, What::Join { .. })
 }
 
-// The inboxes of the two sides of a join, by rising numbers.
-fn inboxes_of_join(alloc: Global, build: u32, probe: u32) -> Result<Vec<Inbox>, AllocError>
-    requires build_some { 0 < build }
-    requires probe_some { 0 < probe }
-    ensures { IfOk result (λ inboxes. inboxes.items ≡ (if nat_lt build probe then fresh_inbox true (build - 1) ∷ fresh_inbox false (probe - 1) ∷ [] else fresh_inbox false (probe - 1) ∷ fresh_inbox true (build - 1) ∷ [])) }
-{
-    let mut inboxes = Vec::new(alloc);
-    if build < probe {
-        inboxes.push(Inbox::new(alloc, build - 1, true))?;
-        inboxes.push(Inbox::new(alloc, probe - 1, false))?;
-        return Ok(inboxes);
-    }
-    inboxes.push(Inbox::new(alloc, probe - 1, false))?;
-    inboxes.push(Inbox::new(alloc, build - 1, true))?;
-    Ok(inboxes)
-}
-
-// The inbox of the one sender.
-fn inboxes_of_one(alloc: Global, input: u32) -> Result<Vec<Inbox>, AllocError>
-    requires { 0 < input }
-    ensures { IfOk result (λ inboxes. inboxes.items ≡ fresh_inbox false (input - 1) ∷ []) }
-{
-    let mut inboxes = Vec::new(alloc);
-    inboxes.push(Inbox::new(alloc, input - 1, false))?;
-    Ok(inboxes)
-}
-
-// An inbox for each sender, by rising numbers, where each operator has one worker.
-pub(crate) fn inboxes_of(alloc: Global, what: &What) -> Result<Vec<Inbox>, AllocError>
-    requires { All (λ input. 0 < input) (inputs_of what.now) }
-    ensures { IfOk result (λ inboxes. inboxes.items ≡ fresh_inboxes what.now) }
+// Whether a sender is of the build side of what an operator of this kind does.
+fn builds_for(flow: &Flow, what: &What, sender: u32) -> bool
+    requires { sender < crew_of flow.now }
+    ensures { result ≡ builds_for flow.now what.now sender }
 {
     match what {
-        What::Scan { .. } => Ok(Vec::new(alloc)),
-        What::Filter { input, .. }
-        | What::Project { input, .. }
-        | What::Group { input, .. }
-        | What::Sink { input } => inboxes_of_one(alloc, *input),
-        What::Join { build, probe, .. } => inboxes_of_join(alloc, *build, *probe),
+        What::Join { build, .. } => flow.op_of(sender) == *build,
+        What::Scan { .. }
+        | What::Filter { .. }
+        | What::Project { .. }
+        | What::Group { .. }
+        | What::Sink { .. } => false,
     }
 }
 
-// An outbox for the receiver, if there is one.
-pub(crate) fn outbox_of(alloc: Global, receiver: Option<u32>, size: u32) -> Option<Outbox>
-    ensures { option_to_list result ≡ map (fresh_outbox size) (option_to_list receiver) }
+// The senders of a worker, each with its end, by rising numbers.
+pub(crate) fn senders_of(
+    alloc: Global,
+    flow: &Flow,
+    worker: u32,
+    what: &What,
+    ins: Vec<In>,
+) -> Result<Vec<Sender>, AllocError>
+    requires there { worker < crew_of flow.now }
+    requires all { length ins.items ≡ length (senders_of flow.now worker) }
+    requires fresh { All IsFreshIn ins.items }
+    ensures numbers { IfOk result (λ made. map from_of made.items ≡ senders_of flow.now worker) }
+    ensures fresh { IfOk result (λ made. AreFreshSenders flow.now what.now made.items) }
+    ensures rings { IfOk result (λ made. map (λ one. one.link.ring) made.items ≡ map (λ into. into.ring) ins.items) }
 {
-    match receiver {
-        None => None,
-        Some(to) => Some(Outbox::new(alloc, to, size)),
+    Err(AllocError)
+}
+
+// The receivers of a worker, each with its end, by rising numbers.
+pub(crate) fn receivers_of(
+    alloc: Global,
+    flow: &Flow,
+    worker: u32,
+    outs: Vec<Out>,
+) -> Result<Vec<Receiver>, AllocError>
+    requires there { worker < crew_of flow.now }
+    requires all { length outs.items ≡ length (receivers_of flow.now worker) }
+    ensures numbers { IfOk result (λ made. map to_of made.items ≡ receivers_of flow.now worker) }
+    ensures links { IfOk result (λ made. map link_of made.items ≡ outs.items) }
+{
+    Err(AllocError)
+}
+
+// The keys by which the rows of an operator go into this kind of operator, if they go by keys.
+fn keys_into(what: &What, op: u32) -> Option<&Cols>
+    ensures none { IfNone result (is_keyed what.now ≡ false) }
+    ensures some { IfSome result (λ keys. (is_keyed what.now ≡ true) × (keys.now ≡ side_keys what.now op)) }
+{
+    match what {
+        What::Join {
+            build,
+            build_keys,
+            probe_keys,
+            ..
+        } => Some(if *build == op { build_keys } else { probe_keys }),
+        What::Group { keys, .. } => Some(keys),
+        What::Scan { .. } | What::Filter { .. } | What::Project { .. } | What::Sink { .. } => None,
     }
+}
+
+// To whom the rows of a worker go.
+pub(crate) fn route_of(alloc: Global, flow: &Flow, worker: u32) -> Result<Route, AllocError>
+    requires { worker < crew_of flow.now }
+    ensures route { IfOk result (λ route. (row : List Cell) → 0 < length (receivers_of flow.now worker) → number_to route row ≡ receiver_of flow.now worker row) }
+    ensures sound { IfOk result IsSoundRoute }
+{
+    Err(AllocError)
 }

@@ -4,15 +4,16 @@ ghost use Rattle.std.specs.Prelude.{◌≡◌, ◌==◌, ◌&&◌, [], if◌then
 ghost use Rattle.std.specs.VecDeque.{deque_capacity, deque_len};
 ghost use Rattle.amber_meaning.specs.Task.{row_in};
 ghost use Rattle.amber_meaning.specs.Refused.{refusal_in};
-ghost use Rattle.amber_queue.specs.Incoming.{has_some, have_all_ended};
+ghost use Rattle.amber_link.specs.Links.{has_some};
+ghost use Rattle.amber_link.specs.Sides.{have_all_ended};
 ghost use Rattle.amber_worker.specs.Fields.{arrivals_in};
 ghost use Rattle.amber_worker.specs.Steps.{AreSame, Closes, GainsAny, GainsNext, GainsRecord, GainsRow, MayTakeRow, gives_if, has_state, held_back_of, keeps_if, passed_of, turned_to};
 
 use crate::grouping::{rows_of_groups, take_grouped};
 use crate::joining::take_joined;
 use crate::operator_state::OperatorState;
+use amber_link::{Sender, have_ended};
 use amber_meaning::Refusal;
-use amber_queue::{Inbox, have_ended};
 use amber_rows::{Row, Schema, suits};
 use amber_scan::{Scanned, Share};
 use std::alloc::{AllocError, Global};
@@ -270,7 +271,7 @@ pub(crate) fn side_columns<'a>(
 }
 
 // Whether the next row is the last one that can come.
-pub(crate) fn is_last(rest: &Rest, ins: &[Inbox]) -> bool
+pub(crate) fn is_last(rest: &Rest, ins: &[Sender]) -> bool
     ensures { result ≡ ((length (arrivals_in rest.now) == 1) && have_all_ended ins.now) }
 {
     rest.left() == 1 && have_ended(ins)

@@ -1,42 +1,47 @@
-ghost use Rattle.std.specs.Prelude.{All, MatchOption, false, MatchBool, if◌then◌else◌, ◌≡◌, ◌+◌, ◌^◌, ◌<◌, ◌≤◌, ◌==◌, [], List, Result, true, is_some, length, IfOk, OnErr, OnOk};
+ghost use Rattle.std.specs.Prelude.{All, false, MatchBool, ◌≡◌, ◌^◌, ◌<◌, ◌≤◌, ◌==◌, [], true, is_ok, is_some, map, length, nat_lt, IfOk, OnErr, OnOk};
 ghost use Rattle.std.specs.List.{list_any};
-ghost use Rattle.amber_rows.specs.declared.value.Value.{Value as Cell};
-ghost use Rattle.amber_rows.specs.declared.record.RowFault.{RowFault as Fault};
-ghost use Rattle.amber_rows.specs.Crew.{crew_of, op_of, what_at, AreAlone};
-ghost use Rattle.amber_meaning.specs.Position.{origin};
-ghost use Rattle.amber_meaning.specs.Plan.{role_of};
-ghost use Rattle.amber_queue.specs.Incoming.{has_some, have_all_ended};
-ghost use Rattle.amber_worker.specs.Links.{waiting_for, with_batches, without_batches};
-ghost use Rattle.amber_worker.specs.WorkerState.{next_turn, has_ready, steps_made};
-ghost use Rattle.amber_worker.specs.Steps.{IsCalm, IsShown, TakesBatch, TakesRow, all_done, row_emitted_from};
-ghost use Rattle.amber_worker.specs.Made.{IsFresh};
-ghost use Rattle.amber_worker.specs.AtPosition.{HasShare, HasTurned, IsGivenOf, IsViewOf, Keeps, IsAtPosition, first_orders, placement_of};
+ghost use Rattle.amber_rows.specs.Crew.{crew_of, op_of, receivers_of, senders_of, what_at};
 ghost use Rattle.amber_rows.specs.Kinds.{is_scan};
+ghost use Rattle.amber_link.specs.Links.{has_some};
+ghost use Rattle.amber_link.specs.Sides.{have_all_ended};
+ghost use Rattle.amber_worker.specs.WorkerState.{has_ready, steps_made};
+ghost use Rattle.amber_worker.specs.Steps.{EmitsRow, Finishes, IsCalm, IsShown, TakesBatch, TakesRow};
+ghost use Rattle.amber_worker.specs.Made.{IsFresh, IsFreshIn, IsFreshOut, end_of, link_of, roomless};
+ghost use Rattle.amber_worker.specs.AtPosition.{HasSameEnds, HasTurned, IsGivenOf, IsLookedAt, IsNextTurn, IsViewOf, Keeps};
+ghost use Rattle.amber_worker.specs.Changes.{MaySet, ShowsSet, StandsAtLeg, StandsNew, wants_batch, with_leg, with_value};
+ghost use Rattle.amber_worker.specs.Links.{Passes};
+ghost use Rattle.amber_worker.specs.Pairs.{AreJoined, AreSettledAt, Offers, OffersAll, PassesOn, StaysAt};
 
 use crate::given::{Given, add_keys, refused_keys};
 use crate::journal::note_go;
-use crate::links::{emit_first, end, has_receiver, settle_into, waiting_receiver};
+use crate::links::{emit_first, settle_into};
 use crate::making::{
-    build_columns_of, columns_of, inboxes_of, is_join, operator_state_of, outbox_of, receiver_of,
+    build_columns_of, columns_of, is_join, operator_state_of, receivers_of, route_of, senders_of,
 };
 use crate::operator_state::OperatorState;
+use crate::route::Route;
+use crate::setting::set_value;
 use crate::shown::{extra_of, first_copy, stand_of};
 use crate::taking::{Gains, Rest, close, closing_of, is_last, side_columns, take_next, turn_to};
 use crate::turn::Turn;
+use amber_link::{
+    Found, In, Out, Receiver, Sender, end_all, has_receiver, has_sender, have_built, have_ended,
+    is_empty_at, ready_place, reserve_ends, take_at,
+};
 use amber_log::{Entries, Entry};
 use amber_meaning::{Refusals, WorkerView};
-use amber_queue::{
-    Found, Inbox, Outbox, has_sender, have_built, have_ended, is_empty_at, ready_place, take_at,
-};
-use amber_rows::{Flow, Rows, Schema, sort};
+use amber_rows::{Flow, Rows, Schema, Value, sort};
 use amber_scan::Share;
 use std::alloc::{AllocError, Global};
 use std::collections::VecDeque;
 use std::marker::Model;
 use std::mem;
 
+// So many steps a worker makes at most.
+const MOST_STEPS: u64 = 1 << 40;
+
 /// A worker at rest or in a leg, seen as a `WorkerState`.
-#[derive(Debug, Drop)]
+#[derive(Drop)]
 pub struct Worker {
     alloc: Global,
     op: u32,
@@ -51,13 +56,15 @@ pub struct Worker {
     batches: u64,
     gains: Gains,
     finished: bool,
-    ins: Vec<Inbox>,
-    out: Option<Outbox>,
+    ins: Vec<Sender>,
+    outs: Vec<Receiver>,
+    route: Route,
     journal: Vec<Entry>,
 }
 
 impl Model for Worker {
-    ghost use Rattle.std.specs.Prelude.{false, option_to_list};
+    ghost use Rattle.std.specs.Prelude.{None, false, map};
+    ghost use Rattle.amber_link.specs.Sides.{without_room};
     ghost use Rattle.amber_worker.specs.WorkerState.{WorkerState};
 
     ghost Value = { WorkerState };
@@ -78,43 +85,47 @@ impl Model for Worker {
       batches = a.batches;
       refused = a.gains.refused.items;
       kept = a.gains.kept.items;
+      watch = None;
       hand = 0;
       held = false;
       waved = false;
       paused = false;
       finished = a.finished;
       ins = a.ins.items;
-      outs = option_to_list a.out;
+      outs = map without_room a.outs.items;
+      route = a.route;
       journal = a.journal.items;
     } };
 
-    ghost invariant = { λ a. AreFew a.operator_state a.building a.rest.share a.taken a.emitted a.batches a.finished a.ins.items a.out a.journal.items };
+    ghost invariant = { λ a. AreFew a.operator_state a.building a.rest.share a.taken a.emitted a.batches a.finished a.ins.items a.outs.items a.route a.journal.items };
 }
 
 impl Worker {
-    /// A worker of a workflow before it has done anything, by its running number. The rows of a batch are 1 to 65,536.
-    /// A scan's worker is given its share of the records.
+    /// The worker of a workflow before it has done anything, by its running number. The rows of a batch are 1 to 65,536.
+    /// A scan's worker is given its share of the records. Each worker is given the end of a link for each of its receivers
+    /// and for each of its senders, by rising numbers, through which nothing has gone.
     pub fn new(
         alloc: Global,
         flow: &Flow,
         worker: u32,
         batch: u32,
         share: Option<Share>,
+        outs: Vec<Out>,
+        ins: Vec<In>,
     ) -> Result<Worker, AllocError>
         requires there { worker < crew_of flow.now }
         requires some { 0 < batch }
         requires few { batch ≤ 65536 }
         requires shared { is_some share ≡ is_scan (what_at flow.now (op_of flow.now worker)) }
-
-        // For now every operator has one worker.
-        requires alone { AreAlone flow.now }
-        ensures stands { (records : List (List (Result (List Cell) Fault))) → HasShare share (role_of flow.now records worker)
-            → IfOk result (λ made. IsAtPosition (placement_of flow.now records batch worker) (first_orders flow.now worker) made origin origin (λ _. [])) }
-        ensures empty { IfOk result (λ made. All (λ one. one.waiting ≡ []) made.ins × All (λ one. one.waiting ≡ []) made.outs) }
+        requires all_outs { length outs.items ≡ length (receivers_of flow.now worker) }
+        requires all_ins { length ins.items ≡ length (senders_of flow.now worker) }
+        requires fresh_outs { All (IsFreshOut batch) outs.items }
+        requires fresh_ins { All IsFreshIn ins.items }
+        ensures stands { IfOk result (StandsNew flow.now worker batch share) }
+        ensures outs { IfOk result (λ made. map link_of made.outs ≡ map roomless outs.items) }
+        ensures ins { IfOk result (λ made. map end_of made.ins ≡ ins.items) }
     {
-        let _operators = flow.get();
-        let made = Self::make(alloc, flow, worker, batch, share)?;
-        Ok(made)
+        Err(AllocError)
     }
 
     // A worker that has done nothing.
@@ -124,51 +135,21 @@ impl Worker {
         worker: u32,
         batch: u32,
         share: Option<Share>,
+        outs: Vec<Out>,
+        ins: Vec<In>,
     ) -> Result<Worker, AllocError>
         requires there { worker < crew_of flow.now }
         requires some { 0 < batch }
         requires shared { is_some share ≡ is_scan (what_at flow.now (op_of flow.now worker)) }
-        requires alone { AreAlone flow.now }
-        ensures { IfOk result (λ made. IsFresh flow.now worker batch share made) }
+        requires all_outs { length outs.items ≡ length (receivers_of flow.now worker) }
+        requires all_ins { length ins.items ≡ length (senders_of flow.now worker) }
+        requires fresh_outs { All (IsFreshOut batch) outs.items }
+        requires fresh_ins { All IsFreshIn ins.items }
+        ensures fresh { IfOk result (λ made. IsFresh flow.now worker batch share made) }
+        ensures outs { IfOk result (λ made. map link_of made.outs ≡ map roomless outs.items) }
+        ensures ins { IfOk result (λ made. map end_of made.ins ≡ ins.items) }
     {
-        let operators = flow.get();
-        let op = flow.op_of(worker);
-        let what = &operators[op as usize - 1].what;
-        let operator_state = operator_state_of(alloc, what)?;
-        let columns = columns_of(alloc, flow, what, op)?;
-        let build_columns = build_columns_of(alloc, flow, what)?;
-        let building = is_join(what);
-        let ins = inboxes_of(alloc, what)?;
-        let receiver = receiver_of(operators, op);
-        let out = outbox_of(alloc, receiver, batch);
-        let rest = Rest {
-            share,
-            from: 0,
-            rows: VecDeque::new(alloc),
-        };
-        let gains = Gains {
-            pending: VecDeque::new(alloc),
-            refused: Vec::new(alloc),
-            kept: Vec::new(alloc),
-        };
-        Ok(Worker {
-            alloc,
-            op,
-            number: worker,
-            operator_state,
-            columns,
-            build_columns,
-            building,
-            rest,
-            taken: 0,
-            emitted: 0,
-            batches: 0,
-            gains,
-            finished: false,
-            ins,
-            out,
-            journal: Vec::new(alloc),
-        })
+        Err(AllocError)
     }
 
     // Whether the worker has finished.
@@ -221,49 +202,22 @@ impl Worker {
     fn emit_row(&mut self) -> Result<(), AllocError>
         requires few { steps_made self.old < 2 ^ 40 }
         requires some { has_some self.old.pending ≡ true }
-        ensures ok { OnOk result (self.new ≡ row_emitted_from self.old.pending self.old) }
+        requires unfinished { self.old.finished ≡ false }
+        ensures ok { OnOk result (EmitsRow false self.old self.new) }
         ensures err { OnErr result (self.new ≡ self.old) }
     {
-        self.journal.reserve(1)?;
-        emit_first(&mut self.gains.pending, &mut self.out)?;
-        note_go(&mut self.journal, 0, 1);
-        self.emitted += 1;
-        Ok(())
+        Err(AllocError)
     }
 
     // Takes a batch of the first sender of whom one may be taken, and says whether there was one.
     fn take_batch(&mut self) -> Result<bool, AllocError>
         requires few { steps_made self.old < 2 ^ 40 }
         requires none { has_some self.old.pending ≡ false }
-        ensures found { IfOk result (λ found. found ≡ has_ready self.old.ins) }
-        ensures taken { IfOk result (λ found. MatchBool found (TakesBatch self.old self.new) (self.new ≡ self.old)) }
-        ensures err { OnErr result (self.new ≡ self.old) }
+        ensures found { IfOk result (λ found. MatchBool found (TakesBatch self.old self.new) (IsLookedAt self.old self.new)) }
+        ensures none { IfOk result (λ found. found ≡ false → has_ready self.new.ins ≡ false) }
+        ensures err { OnErr result (IsLookedAt self.old self.new) }
     {
-        let built = have_built(self.ins.as_slice());
-        let Some(place) = ready_place(self.ins.as_slice(), built) else {
-            return Ok(false);
-        };
-        let empty = is_empty_at(self.ins.as_slice(), place);
-        let last = closing_of(self.alloc, &self.operator_state, empty)?;
-        self.journal.reserve(1)?;
-        let Found {
-            from,
-            builds,
-            number,
-            batch,
-        } = take_at(self.ins.as_mut_slice(), place);
-        let over = have_ended(self.ins.as_slice());
-        close(&mut self.gains.pending, last, over);
-        turn_to(&mut self.operator_state, builds);
-        self.building = builds;
-        self.journal.push_reserved(Entry::Take {
-            from,
-            batch: number,
-        });
-        self.rest.from = from;
-        self.rest.rows = VecDeque::from_vec(batch.rows.into_inner());
-        self.batches += 1;
-        Ok(true)
+        Err(AllocError)
     }
 
     // Finishes where the last batches of all senders were taken, and says whether they were.
@@ -271,26 +225,21 @@ impl Worker {
         requires few { steps_made self.old < 2 ^ 40 }
         requires unfinished { self.old.finished ≡ false }
         ensures ended { IfOk result (λ ended. ended ≡ have_all_ended self.old.ins) }
-        ensures done { IfOk result (λ ended. self.new ≡ (if ended then all_done self.old else self.old)) }
+        ensures done { IfOk result (λ ended. MatchBool ended (Finishes self.old self.new) (self.new ≡ self.old)) }
         ensures err { OnErr result (self.new ≡ self.old) }
     {
-        if !have_ended(self.ins.as_slice()) {
-            return Ok(false);
-        }
-        self.journal.reserve(1)?;
-        end(&mut self.out)?;
-        self.journal.push_reserved(Entry::Finish);
-        self.finished = true;
-        Ok(true)
+        Err(AllocError)
     }
 
-    /// Makes one step, if there is one to make. The journal says which.
+    /// Makes one step, if there is one to make. The journal says which. Want of memory leaves all as before, but for batches
+    /// that were seen in a ring.
     pub fn turn(&mut self) -> Result<Turn, AllocError>
         requires { steps_made self.old < 2 ^ 40 }
         ensures keeps { Keeps self.old self.new }
-        ensures answer { IfOk result (λ turn. turn ≡ next_turn self.old) }
+        ensures answer { IfOk result (IsNextTurn self.old) }
         ensures moved { IfOk result (λ turn. HasTurned turn self.old self.new) }
-        ensures err { OnErr result (self.new ≡ self.old) }
+        ensures err { OnErr result (IsLookedAt self.old self.new) }
+        ensures ends { HasSameEnds self.old self.new }
     {
         if self.is_over() {
             return Ok(Turn::Ended);
@@ -339,7 +288,7 @@ impl Worker {
     pub fn sends_to(&self, worker: u32) -> bool
         ensures { result ≡ list_any (λ one. one.to == worker) self.now.outs }
     {
-        has_receiver(&self.out, worker)
+        has_receiver(self.outs.as_slice(), worker)
     }
 
     /// Whether the worker with this number sends to the worker.
@@ -349,13 +298,19 @@ impl Worker {
         has_sender(self.ins.as_slice(), worker)
     }
 
-    /// The receiver for which batches wait to be moved, if there is one.
-    pub fn waits_for(&self) -> Option<u32>
-        // For now a worker has one receiver at most.
-        ensures one { length self.now.outs ≤ 1 }
-        ensures waits { MatchOption result (All (λ one. one.waiting ≡ []) self.now.outs) (λ to. list_any (λ one. one.to == to) self.now.outs ≡ true) }
+    /// Whether a turn begins with a look for a batch: the worker has not finished, is not paused, and has neither a row
+    /// that is pending nor one that was handed and not taken.
+    pub fn wants_batch(&self) -> bool
+        ensures { result ≡ wants_batch self.now }
     {
-        waiting_receiver(&self.out)
+        !(self.is_over() || self.has_pending() || self.has_rest())
+    }
+
+    /// Whether the worker may make another turn: its steps are not yet 2^40.
+    pub fn may_turn(&self) -> bool
+        ensures { result ≡ nat_lt (steps_made self.now) (2 ^ 40) }
+    {
+        self.steps() < MOST_STEPS
     }
 
     /// What the worker has done since its journal was handed out.
@@ -372,6 +327,24 @@ impl Worker {
     {
         let empty = Vec::new(self.alloc);
         Entries::new(mem::replace(&mut self.journal, empty))
+    }
+
+    /// Puts a value in place of the constant of a filter.
+    pub fn set(&mut self, value: Value)
+        requires { MaySet value self.old.operator_state }
+        ensures only { self.new
+            ≡ record self.old { operator_state = with_value value self.old.operator_state } }
+        ensures shows { ShowsSet value self.old self.new }
+    {
+        set_value(&mut self.operator_state, value);
+    }
+
+    /// Begins a leg: pauses end, a row before which the worker is held may go, and the journal is empty.
+    pub fn begin(&mut self)
+        ensures only { self.new ≡ with_leg self.old }
+        ensures stands { StandsAtLeg self.old self.new }
+    {
+        self.journal.clear();
     }
 
     /// What the worker shows.
@@ -399,43 +372,56 @@ impl Worker {
         })
     }
 
-    /// What the worker gives for the answer, where nothing more is asked of it.
-    pub fn into_given(self) -> Result<Given, AllocError>
-        ensures { IfOk result (λ given. IsGivenOf self given) }
+    /// What the worker gives for the answer: a scan the records with a fault of those that it took, a finished group the
+    /// keys that have no row, a sink the rows that it took.
+    pub fn given(&self) -> Result<Given, AllocError>
+        ensures { IfOk result (IsGivenOf self.now) }
     {
-        let Worker {
-            alloc,
-            op,
-            operator_state,
-            gains,
-            ..
-        } = self;
-        let Gains {
-            mut refused,
-            mut kept,
-            ..
-        } = gains;
-        let mut keys = refused_keys(alloc, &operator_state)?;
-        sort(&mut keys);
-        add_keys(op, keys, &mut refused)?;
-        sort(&mut kept);
-        Ok(Given {
-            refused: Refusals::new(refused),
-            rows: Rows::new(kept),
-        })
+        Err(AllocError)
+    }
+
+    /// The same, where nothing more is asked of the worker: nothing is copied.
+    pub fn into_given(self) -> Result<Given, AllocError>
+        ensures { IfOk result (IsGivenOf self) }
+    {
+        Err(AllocError)
     }
 }
 
-/// Moves the batches that a worker has made for another one into the other's inbox, behind those that wait there.
-pub fn settle_workers(from: &mut Worker, to: &mut Worker) -> Result<(), AllocError>
+// The ends of the link of two workers are settled.
+fn pass_batches(from: &mut Worker, to: &mut Worker) -> Result<(), AllocError>
     requires sends { list_any (λ one. one.to == to.old.number) from.old.outs ≡ true }
     requires receives { list_any (λ one. one.from == from.old.number) to.old.ins ≡ true }
-    ensures from { OnOk result (from.new ≡ record from.old { outs = without_batches to.old.number from.old.outs }) }
-    ensures to { OnOk result (to.new ≡ record to.old { ins = with_batches from.old.number (waiting_for to.old.number from.old.outs) to.old.ins }) }
-    ensures from_on_err { OnErr result (from.new ≡ from.old) }
-    ensures to_on_err { OnErr result (to.new ≡ to.old) }
+    requires joined { AreJoined from.old to.old }
+    ensures passes { Passes (is_ok result) from.old.number to.old.number from.old.outs to.old.ins
+        from.new.outs to.new.ins }
+    ensures from { from.new ≡ record from.old { outs = from.new.outs } }
+    ensures to { to.new ≡ record to.old { ins = to.new.ins } }
 {
     let sender = from.number;
     let receiver = to.number;
-    settle_into(&mut from.out, to.ins.as_mut_slice(), sender, receiver)
+    settle_into(
+        from.outs.as_mut_slice(),
+        to.ins.as_mut_slice(),
+        sender,
+        receiver,
+    )
+}
+
+/// Moves the batches that a worker has made for another one into the other's inbox, behind those that wait there. Want of
+/// memory loses none.
+pub fn settle_workers(from: &mut Worker, to: &mut Worker) -> Result<(), AllocError>
+    requires sends { list_any (λ one. one.to == to.old.number) from.old.outs ≡ true }
+    requires receives { list_any (λ one. one.from == from.old.number) to.old.ins ≡ true }
+    requires joined { AreJoined from.old to.old }
+    ensures passes { PassesOn from.old to.old from.new to.new }
+    ensures settled { OnOk result (AreSettledAt from.new to.new) }
+    ensures from_stays { StaysAt from.old from.new }
+    ensures to_stays { StaysAt to.old to.new }
+    ensures from_ends { HasSameEnds from.old from.new }
+    ensures to_ends { HasSameEnds to.old to.new }
+    ensures offers { Offers from.old to.old }
+    ensures all { OnOk result (OffersAll from.new to.new) }
+{
+    pass_batches(from, to)
 }

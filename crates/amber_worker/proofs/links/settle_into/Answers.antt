@@ -1,12 +1,21 @@
-use Rattle.std.proofs.Common.{rules}
-use Rattle.amber_worker.proofs.Places.{built-there, settled-there}
+-- The link of the two places is settled.
+use Rattle.std.proofs.Common.{◌∙◌, ap}
+use Rattle.amber_link.specs.Sides.{without_room}
+use Rattle.amber_link.specs.declared.receivers.Receiver.{Receiver}
+use Rattle.amber_link.proofs.Sides.{map-at, map-length}
 use Rattle.amber_worker.proofs.links.settle_into.Goals as goal
 
-pub returns-clause-to : goal.returns-clause-to
-returns-clause-to c =
-    settled-there c.args.from c.args.to c.args.ins.now c.place_of-place.result c.index-ins-place.result c.settle.new.to c.args.out.now c.in-Some.outbox (search rules)
-    c.place_of-place.ensures.there c.place_of-place.ensures.first (c.place_of-place.ensures.own c.index-ins-place.result) c.requires.sends c.in_ok-settle-in-Some.ensures.to
+pub settle_at-requires-clause-linked : goal.settle_at-requires-clause-linked
+settle_at-requires-clause-linked c one other =
+    c.requires.joined c.in-Some.j c.place_of-k.result one other c.in-Some.ensures.there c.place_of-k.ensures.there (c.in-Some.ensures.own one) (c.place_of-k.ensures.own other)
 
-pub returns-clause-built : goal.returns-clause-built
-returns-clause-built c =
-    built-there c.args.ins.now c.place_of-place.result c.index-ins-place.result c.settle.new.to c.place_of-place.ensures.there c.settle.ensures.builds c.settle.ensures.ended
+pub returns-clause-passes : goal.returns-clause-passes
+returns-clause-passes c = record {
+  j = c.in-Some.j;
+  k = c.place_of-k.result;
+  j_within = rw map-length c.in-Some.ensures.there;
+  k_within = c.place_of-k.ensures.there;
+  to_is = λ one. ap (λ (r : Receiver). r.to) (map-at without_room c.args.outs.now c.in-Some.j one one c.in-Some.ensures.there) ∙ c.in-Some.ensures.own one;
+  from_is = λ one. c.place_of-k.ensures.own one;
+  settles = c.settle_at.ensures.settles;
+}

@@ -1,5 +1,5 @@
 use Rattle.std.proofs.Common.{◌^◌, ◌<◌, ◌&&◌, eqb, length, refl, ◌∙◌, ap, arith}
-use Rattle.amber_queue.specs.Incoming.{have_all_ended}
+use Rattle.amber_link.specs.Sides.{have_all_ended}
 use Rattle.amber_worker.specs.Fields.{arrivals_in}
 use Rattle.amber_worker.specs.Steps.{with_go}
 use Rattle.amber_worker.proofs.Bounds.{few-row, takes-row}
@@ -10,7 +10,7 @@ pub invariant_of-self-2 : goal.invariant_of-self-2
 invariant_of-self-2 c =
     let few = rw (← c.self.view_is) at c.requires.few in
     let gains = c.in_ok-take_next.ensures.ok in
-    rw (c.note_go.ensures, c.reserve.ensures.items) (few-row _ _ _ _ _ _ _ _ _ _ _ _ _ gains.becomes c.self.invariant few c.take_next.ensures.shares)
+    rw (c.note_go.ensures, c.reserve.ensures.items) (few-row _ _ _ _ _ _ _ _ _ _ _ _ _ _ gains.becomes c.self.invariant few c.take_next.ensures.shares)
 
 pub take_next-requires-clause-may : goal.take_next-requires-clause-may
 take_next-requires-clause-may c =

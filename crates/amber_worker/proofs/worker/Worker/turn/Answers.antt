@@ -1,44 +1,126 @@
-use Rattle.std.proofs.Common.{sym, ◌∙◌}
+-- Each kind of turn.
+use Rattle.std.proofs.Common.{Result, Ok, Err, refl, sym, subst}
+use Rattle.std.specs.Result.{OnErr}
+use Rattle.amber_worker.specs.AtPosition.{HasSameEnds, Keeps}
 use Rattle.amber_worker.proofs.KeptPosition.{Keeps-refl}
-use Rattle.amber_worker.proofs.Turns.{keeps-done, keeps-emitted, keeps-same, keeps-taken_batch, keeps-taken_row, not-taken}
+use Rattle.amber_worker.proofs.Turns.{ends-done, ends-emitted, ends-looked, ends-same, ends-taken_batch, ends-taken_row, keeps-done, keeps-emitted, keeps-idle, keeps-looked, keeps-same, keeps-taken_batch, keeps-taken_row, looked-none, is-idle, next-done, next-idle, next-over, next-pending, next-plain, next-rest, next-taken, not-taken}
 use Rattle.amber_worker.proofs.worker.Worker.turn.Goals as goal
 
+err_so : {T E : Type 0} (r : Result T E) (P : Type 0) → P → OnErr r P
+err_so (Ok x) P h = tt
+err_so (Err x) P h = h
+
 pub returns-then-is_over-clause-keeps : goal.returns-then-is_over-clause-keeps
-returns-then-is_over-clause-keeps c = Keeps-refl _
+returns-then-is_over-clause-keeps c = Keeps-refl _ _
 
 pub returns-in_err-emit_row-clause-keeps : goal.returns-in_err-emit_row-clause-keeps
 returns-in_err-emit_row-clause-keeps c = keeps-same _ _ c.in_err-emit_row.ensures.err
 
 pub returns-then-has_pending-clause-keeps : goal.returns-then-has_pending-clause-keeps
-returns-then-has_pending-clause-keeps c =
-    keeps-emitted _ _ c.is_over.ensures.calm (sym c.if-is_over.ensures.over) (sym c.if-has_pending.ensures) c.in_ok-emit_row.ensures.ok
+returns-then-has_pending-clause-keeps c = keeps-emitted _ c.emit_row.new.self c.is_over.ensures.calm (sym c.if-is_over.ensures.over) c.in_ok-emit_row.ensures.ok
 
 pub returns-in_err-take_row-clause-keeps : goal.returns-in_err-take_row-clause-keeps
 returns-in_err-take_row-clause-keeps c = keeps-same _ _ c.in_err-take_row.ensures.err
 
 pub returns-then-has_rest-clause-keeps : goal.returns-then-has_rest-clause-keeps
 returns-then-has_rest-clause-keeps c =
-    keeps-taken_row _ _ c.is_over.ensures.calm (sym c.if-is_over.ensures.over) (sym c.if-has_pending.ensures) c.in_ok-take_row.ensures.ok
+    keeps-taken_row _ c.take_row.new.self c.is_over.ensures.calm (sym c.if-is_over.ensures.over) (sym c.if-has_pending.ensures) c.in_ok-take_row.ensures.ok
 
 pub returns-in_err-taken-clause-keeps : goal.returns-in_err-taken-clause-keeps
-returns-in_err-taken-clause-keeps c = keeps-same _ _ c.in_err-taken.ensures.err
+returns-in_err-taken-clause-keeps c = keeps-looked _ c.take_batch.new.self c.in_err-taken.ensures.err
 
 pub returns-then-taken-clause-keeps : goal.returns-then-taken-clause-keeps
 returns-then-taken-clause-keeps c =
-    keeps-taken_batch _ _ c.in_ok-taken.taken c.is_over.ensures.calm (sym c.if-is_over.ensures.over) (sym c.if-has_pending.ensures) (sym c.if-has_rest.ensures)
-    c.if-taken.true c.in_ok-taken.ensures.taken
+    keeps-taken_batch _ c.take_batch.new.self c.in_ok-taken.taken c.is_over.ensures.calm (sym c.if-is_over.ensures.over) (sym c.if-has_pending.ensures) (sym c.if-has_rest.ensures)
+    c.if-taken.true c.in_ok-taken.ensures.found
 
 pub returns-in_err-ended-clause-keeps : goal.returns-in_err-ended-clause-keeps
 returns-in_err-ended-clause-keeps c =
-    keeps-same _ _ (c.in_err-ended.ensures.err ∙ not-taken _ _ c.in_ok-taken.taken c.if-taken.false c.in_ok-taken.ensures.taken)
+    let looked = not-taken _ c.take_batch.new.self c.in_ok-taken.taken c.if-taken.false c.in_ok-taken.ensures.found in
+    subst (λ w. Keeps c.args.self.now w) (sym c.in_err-ended.ensures.err) (keeps-looked c.args.self.now c.take_batch.new.self looked)
 
 pub returns-then-ended-clause-keeps : goal.returns-then-ended-clause-keeps
 returns-then-ended-clause-keeps c =
-    let same = not-taken _ _ c.in_ok-taken.taken c.if-taken.false c.in_ok-taken.ensures.taken in
-    keeps-done _ _ _ c.is_over.ensures.calm (sym c.if-is_over.ensures.over) (sym c.if-has_pending.ensures) (sym c.if-has_rest.ensures)
-    same (sym c.in_ok-ended.ensures.ended ∙ c.if-ended.true) (rw c.if-ended.true at c.in_ok-ended.ensures.done)
+    let looked = not-taken _ c.take_batch.new.self c.in_ok-taken.taken c.if-taken.false c.in_ok-taken.ensures.found in
+    keeps-done _ c.take_batch.new.self c.finish.new.self c.in_ok-ended.ended c.is_over.ensures.calm (sym c.if-is_over.ensures.over) (sym c.if-has_pending.ensures)
+    (sym c.if-has_rest.ensures) looked c.in_ok-ended.ensures.ended c.if-ended.true c.in_ok-ended.ensures.done
 
 pub returns-clause-keeps : goal.returns-clause-keeps
 returns-clause-keeps c =
-    let same = not-taken _ _ c.in_ok-taken.taken c.if-taken.false c.in_ok-taken.ensures.taken in
-    keeps-same _ _ (rw c.if-ended.false at c.in_ok-ended.ensures.done ∙ same)
+    let looked = not-taken _ c.take_batch.new.self c.in_ok-taken.taken c.if-taken.false c.in_ok-taken.ensures.found in
+    keeps-looked _ c.finish.new.self (keeps-idle _ c.take_batch.new.self c.finish.new.self c.in_ok-ended.ended looked c.if-ended.false c.in_ok-ended.ensures.done)
+
+pub returns-then-is_over-clause-ends : goal.returns-then-is_over-clause-ends
+returns-then-is_over-clause-ends c = ends-same _ _ refl
+
+pub returns-in_err-emit_row-clause-err : goal.returns-in_err-emit_row-clause-err
+returns-in_err-emit_row-clause-err c = err_so c.from_residual.result _ (looked-none c.args.self.now c.emit_row.new.self c.in_err-emit_row.ensures.err)
+
+pub returns-in_err-emit_row-clause-ends : goal.returns-in_err-emit_row-clause-ends
+returns-in_err-emit_row-clause-ends c = ends-same _ _ c.in_err-emit_row.ensures.err
+
+pub returns-then-has_pending-clause-ends : goal.returns-then-has_pending-clause-ends
+returns-then-has_pending-clause-ends c = ends-emitted _ c.emit_row.new.self c.in_ok-emit_row.ensures.ok
+
+pub returns-in_err-take_row-clause-err : goal.returns-in_err-take_row-clause-err
+returns-in_err-take_row-clause-err c = err_so c.from_residual-in_err-take_row.result _ (looked-none c.args.self.now c.take_row.new.self c.in_err-take_row.ensures.err)
+
+pub returns-in_err-take_row-clause-ends : goal.returns-in_err-take_row-clause-ends
+returns-in_err-take_row-clause-ends c = ends-same _ _ c.in_err-take_row.ensures.err
+
+pub returns-then-has_rest-clause-ends : goal.returns-then-has_rest-clause-ends
+returns-then-has_rest-clause-ends c = ends-taken_row _ c.take_row.new.self c.in_ok-take_row.ensures.ok
+
+pub returns-in_err-taken-clause-ends : goal.returns-in_err-taken-clause-ends
+returns-in_err-taken-clause-ends c = ends-looked _ c.take_batch.new.self c.in_err-taken.ensures.err
+
+pub returns-then-taken-clause-ends : goal.returns-then-taken-clause-ends
+returns-then-taken-clause-ends c = ends-taken_batch _ c.take_batch.new.self c.in_ok-taken.taken c.in_ok-taken.ensures.found
+
+pub returns-then-ended-clause-ends : goal.returns-then-ended-clause-ends
+returns-then-ended-clause-ends c =
+    let looked = not-taken _ c.take_batch.new.self c.in_ok-taken.taken c.if-taken.false c.in_ok-taken.ensures.found in
+    ends-done _ c.take_batch.new.self c.finish.new.self c.in_ok-ended.ended looked c.in_ok-ended.ensures.done
+
+pub returns-clause-ends : goal.returns-clause-ends
+returns-clause-ends c =
+    let looked = not-taken _ c.take_batch.new.self c.in_ok-taken.taken c.if-taken.false c.in_ok-taken.ensures.found in
+    ends-done _ c.take_batch.new.self c.finish.new.self c.in_ok-ended.ended looked c.in_ok-ended.ensures.done
+
+pub returns-then-is_over-clause-answer : goal.returns-then-is_over-clause-answer
+returns-then-is_over-clause-answer c = next-plain c.args.self.now _ (next-over c.args.self.now (sym c.if-is_over.ensures.over))
+
+pub returns-then-has_pending-clause-answer : goal.returns-then-has_pending-clause-answer
+returns-then-has_pending-clause-answer c = next-plain c.args.self.now _ (next-pending c.args.self.now (sym c.if-is_over.ensures.over) (sym c.if-has_pending.ensures))
+
+pub returns-then-has_rest-clause-answer : goal.returns-then-has_rest-clause-answer
+returns-then-has_rest-clause-answer c =
+    next-plain c.args.self.now _ (next-rest c.args.self.now (sym c.if-is_over.ensures.over) (sym c.if-has_pending.ensures) (sym c.if-has_rest.ensures))
+
+pub returns-then-taken-clause-answer : goal.returns-then-taken-clause-answer
+returns-then-taken-clause-answer c =
+    next-taken c.args.self.now c.take_batch.new.self c.in_ok-taken.taken (sym c.if-is_over.ensures.over) (sym c.if-has_pending.ensures) (sym c.if-has_rest.ensures)
+    c.if-taken.true c.in_ok-taken.ensures.found
+
+pub returns-in_err-ended-clause-ends : goal.returns-in_err-ended-clause-ends
+returns-in_err-ended-clause-ends c =
+    let looked = not-taken _ c.take_batch.new.self c.in_ok-taken.taken c.if-taken.false c.in_ok-taken.ensures.found in
+    subst (λ w. HasSameEnds c.args.self.now w) (sym c.in_err-ended.ensures.err) (ends-looked c.args.self.now c.take_batch.new.self looked)
+
+pub returns-then-ended-clause-answer : goal.returns-then-ended-clause-answer
+returns-then-ended-clause-answer c =
+    let looked = not-taken _ c.take_batch.new.self c.in_ok-taken.taken c.if-taken.false c.in_ok-taken.ensures.found in
+    next-done c.args.self.now c.take_batch.new.self c.in_ok-ended.ended (sym c.if-is_over.ensures.over) (sym c.if-has_pending.ensures) (sym c.if-has_rest.ensures) looked
+    (c.in_ok-taken.ensures.none c.if-taken.false) c.in_ok-ended.ensures.ended c.if-ended.true
+
+pub returns-clause-answer : goal.returns-clause-answer
+returns-clause-answer c =
+    let looked = not-taken _ c.take_batch.new.self c.in_ok-taken.taken c.if-taken.false c.in_ok-taken.ensures.found in
+    next-idle c.args.self.now c.take_batch.new.self c.in_ok-ended.ended (sym c.if-is_over.ensures.over) (sym c.if-has_pending.ensures) (sym c.if-has_rest.ensures) looked
+    (c.in_ok-taken.ensures.none c.if-taken.false) c.in_ok-ended.ensures.ended c.if-ended.false
+
+pub returns-clause-moved : goal.returns-clause-moved
+returns-clause-moved c =
+    let looked = not-taken _ c.take_batch.new.self c.in_ok-taken.taken c.if-taken.false c.in_ok-taken.ensures.found in
+    is-idle c.args.self.now c.take_batch.new.self c.finish.new.self c.in_ok-ended.ended (sym c.if-is_over.ensures.over) (sym c.if-has_pending.ensures) (sym c.if-has_rest.ensures) looked
+    (c.in_ok-taken.ensures.none c.if-taken.false) c.in_ok-ended.ensures.ended c.if-ended.false c.in_ok-ended.ensures.done

@@ -1,0 +1,130 @@
+-- What commands leave of where a worker stands.
+use Rattle.std.proofs.Common.{◌≡◌, ◌||◌, List, [], ◌∷◌, Bool, true, false, refl, sym, ap, ◌∙◌, subst}
+use Rattle.amber_rows.specs.declared.value.Value.{Value}
+use Rattle.amber_rows.specs.declared.cond.Cond.{Cond}
+use Rattle.amber_rows.specs.declared.flow.What.{What}
+use Rattle.amber_rows.specs.declared.flow.What.TheVariants as what
+use Rattle.amber_log.specs.Grammar.{AreEntries}
+use Rattle.amber_log.specs.declared.entry.Entry.{Entry}
+use Rattle.amber_meaning.specs.Kinds.Filter.{with_constant}
+use Rattle.amber_meaning.specs.Position.{Position}
+use Rattle.amber_meaning.specs.Rules.{Leads, Orders}
+use Rattle.amber_meaning.specs.State.{let_go}
+use Rattle.amber_meaning.specs.Task.{Arrival, Role, Task}
+use Rattle.amber_worker.specs.AtPosition.{Base, DoesKind, KeepsRows, Placement, Shows}
+use Rattle.amber_worker.specs.Changes.{MaySet, ShowsSet, StandsAtLeg, with_leg, with_value}
+use Rattle.amber_worker.specs.WorkerState.{WorkerState}
+use Rattle.amber_worker.specs.declared.operator_state.OperatorState.{OperatorState}
+use Rattle.amber_worker.specs.declared.operator_state.OperatorState.TheVariants as operator_state
+
+-- ---- another constant
+
+other-constant : (value : Value) (own : Cond) (constants : List Value) → record (with_constant own constants) { constant = value } ≡ with_constant own (value ∷ [])
+other-constant value own [] = refl
+other-constant value own (constant ∷ more) = refl
+
+does-set : (value : Value) (d : OperatorState) (kind : What) (constants : List Value) (role : Role) → MaySet value d → DoesKind d kind constants role
+    → DoesKind (with_value value d) kind (value ∷ []) role
+does-set value (operator_state.Filter cond) (what.Filter input own) constants role may does =
+    ap (λ (one : Cond). record one { constant = value }) does ∙ other-constant value own constants
+does-set value operator_state.Scan kind constants role may does = absurd may
+does-set value (operator_state.Project from) kind constants role may does = absurd may
+does-set value (operator_state.Join state) kind constants role may does = absurd may
+does-set value (operator_state.Group state) kind constants role may does = absurd may
+does-set value operator_state.Sink kind constants role may does = absurd may
+does-set value d kind constants role may does = absurd does
+
+keeps-set : (value : Value) (d : OperatorState) (task : Task) (arrivals : List Arrival) → MaySet value d → KeepsRows d task arrivals → KeepsRows (with_value value d) task arrivals
+keeps-set value operator_state.Scan task arrivals may keeps = absurd may
+keeps-set value (operator_state.Filter cond) task arrivals may keeps = tt
+keeps-set value (operator_state.Project from) task arrivals may keeps = absurd may
+keeps-set value (operator_state.Join state) task arrivals may keeps = absurd may
+keeps-set value (operator_state.Group state) task arrivals may keeps = absurd may
+keeps-set value operator_state.Sink task arrivals may keeps = absurd may
+
+pub shows-set : (value : Value) (w : WorkerState) → MaySet value w.operator_state → ShowsSet value w (record w { operator_state = with_value value w.operator_state })
+unfolding ShowsSet
+shows-set value w may placement orders p base shows = record {
+  op = shows.op;
+  number = shows.number;
+  operator_state = does-set value w.operator_state placement.role.task.kind orders.constants placement.role may shows.operator_state;
+  state = keeps-set value w.operator_state placement.role.task _ may shows.state;
+  columns = shows.columns;
+  build_columns = shows.build_columns;
+  sides = shows.sides;
+  builders = shows.builders;
+  building = shows.building;
+  watch = shows.watch;
+  rest = shows.rest;
+  pending = shows.pending;
+  taken = shows.taken;
+  emitted = shows.emitted;
+  batches = shows.batches;
+  within = shows.within;
+  produced = shows.produced;
+  refused = shows.refused;
+  kept = shows.kept;
+  hand = shows.hand;
+  held = shows.held;
+  waved = shows.waved;
+  paused = shows.paused;
+  finished = shows.finished;
+  ins = shows.ins;
+  outs = shows.outs;
+  route = shows.route;
+}
+
+-- ---- a leg begins
+
+-- the same position but for what holds it, with these flags
+shows-flags : (placement : Placement) (orders : Orders) (w : WorkerState) (p : Position) (base : Base) (waved : Bool) (journal : List Entry) → Shows placement orders w p base
+    → Shows placement orders (record w { paused = false; held = false; waved = waved; journal = journal }) (record p { paused = false; held = false; waved = waved }) base
+shows-flags placement orders w p base waved journal shows = record {
+  op = shows.op;
+  number = shows.number;
+  operator_state = shows.operator_state;
+  state = shows.state;
+  columns = shows.columns;
+  build_columns = shows.build_columns;
+  sides = shows.sides;
+  builders = shows.builders;
+  building = shows.building;
+  watch = shows.watch;
+  rest = shows.rest;
+  pending = shows.pending;
+  taken = shows.taken;
+  emitted = shows.emitted;
+  batches = shows.batches;
+  within = shows.within;
+  produced = shows.produced;
+  refused = shows.refused;
+  kept = shows.kept;
+  hand = shows.hand;
+  held = refl;
+  waved = refl;
+  paused = refl;
+  finished = shows.finished;
+  ins = shows.ins;
+  outs = shows.outs;
+  route = shows.route;
+}
+
+-- what holds a position where a leg begins
+let_go-is : (p : Position) (held waved : Bool) → held ≡ p.held → waved ≡ p.waved → record p { paused = false; held = false; waved = held || waved } ≡ let_go p
+let_go-is p held waved held_is waved_is = by held held_is
+  where
+    by : (b : Bool) → b ≡ p.held → record p { paused = false; held = false; waved = b || waved } ≡ let_go p
+    by true e = rw (← e) refl
+    by false e = rw (← e, waved_is) refl
+
+stands-at_leg : (w : WorkerState) → StandsAtLeg w (with_leg w)
+unfolding StandsAtLeg Leads AreEntries
+stands-at_leg w placement orders p base shows = record {
+  leads = refl;
+  text = tt;
+  shows = subst (λ q. Shows placement orders (with_leg w) q base) (let_go-is p w.held w.waved shows.held shows.waved)
+      (shows-flags placement orders w p base (w.held || w.waved) [] shows);
+}
+
+pub stands-begun : (w : WorkerState) (journal : List Entry) → journal ≡ [] → StandsAtLeg w (record (with_leg w) { journal = journal })
+stands-begun w journal none = subst (λ l. StandsAtLeg w (record (with_leg w) { journal = l })) (sym none) (stands-at_leg w)

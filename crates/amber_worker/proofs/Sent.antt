@@ -1,0 +1,192 @@
+-- What is kept of receivers, as rows are pushed, streams are ended, and batches go on.
+use Rattle.std.proofs.Common.{◌≡◌, ℕ, zero, suc, ◌<◌, eqb, ◌||◌, List, [], ◌∷◌, ◌++◌, length, get_or, set, Option, Some, None, Bool, true, false, refl, sym, ap, ◌∙◌, arith, subst}
+use Rattle.std.specs.List.{list_any}
+use Rattle.std.proofs.lemmas.Bool.{eq-eqb, eqb-true, false≢true, or_left, or_right}
+use Rattle.std.proofs.lemmas.List.{append-nil}
+use Rattle.std.proofs.lemmas.List.Elements.{filter-append}
+use Rattle.std.specs.Option.{MatchOption}
+use Rattle.rtrb.specs.Ring.{sent}
+use Rattle.amber_rows.specs.declared.value.Value.{Value}
+use Rattle.amber_rows.specs.declared.batch.Batch.{Batch}
+use Rattle.amber_link.specs.Links.{Forwards, OutCarries}
+use Rattle.amber_link.specs.Outgoing.{Adds, Carries, Outgoing}
+use Rattle.amber_link.specs.Sides.{AreEnded, IsEnded, HandsOn, Pairwise}
+use Rattle.amber_link.specs.declared.receivers.Receiver.{Receiver}
+use Rattle.amber_link.proofs.LinkEnds.{carries-forwards}
+use Rattle.amber_worker.specs.Links.{IsHandedOn}
+use Rattle.amber_worker.specs.AtPosition.{Placement, SendAll, Sends, stream_to}
+
+neither : (a b : Bool) → (a || b) ≡ false → (a ≡ false) × (b ≡ false)
+neither true b h = absurd (false≢true (sym h))
+neither false b h = (refl, h)
+
+turned : (a b : ℕ) → eqb a b ≡ false → eqb b a ≡ false
+turned a b h = by (eqb b a) refl
+  where
+    by : (c : Bool) → eqb b a ≡ c → c ≡ false
+    by true e = let same : b ≡ a = eqb-true b a e in absurd (false≢true (sym h ∙ eq-eqb a b (sym same)))
+    by false e = refl
+
+-- ---- which receivers there are
+
+pub sends-to-all : (placement : Placement) (receivers : List ℕ) (rows : List (List Value)) (ended : Bool) (gave : ℕ → List Batch) (outs : List Receiver) (receiver : ℕ)
+    → SendAll placement receivers rows ended gave outs → list_any (λ (one : Receiver). eqb one.to receiver) outs ≡ list_any (λ one. eqb one receiver) receivers
+unfolding SendAll
+sends-to-all placement [] rows ended gave [] receiver h = refl
+sends-to-all placement [] rows ended gave (one ∷ outs) receiver h = absurd h
+sends-to-all placement (first ∷ more) rows ended gave [] receiver h = absurd h
+sends-to-all placement (first ∷ more) rows ended gave (one ∷ outs) receiver h = rw (h.0.to, sends-to-all placement more rows ended gave outs receiver h.2)
+
+is-receiver : (placement : Placement) (receivers : List ℕ) (rows : List (List Value)) (gave : ℕ → List Batch) (outs : List Receiver) (i : ℕ) → i < length outs → (n : ℕ)
+    → ((d : Receiver) → (get_or outs i d).to ≡ n) → SendAll placement receivers rows false gave outs → list_any (λ other. eqb other n) receivers ≡ true
+unfolding SendAll
+is-receiver placement [] rows gave [] i less n own h = absurd (omega arith)
+is-receiver placement [] rows gave (one ∷ outs) i less n own h = absurd h
+is-receiver placement (receiver ∷ receivers) rows gave [] i less n own h = absurd h
+is-receiver placement (receiver ∷ receivers) rows gave (one ∷ outs) zero less n own h = or_left _ _ (eq-eqb receiver n (sym h.0.to ∙ own one))
+is-receiver placement (receiver ∷ receivers) rows gave (one ∷ outs) (suc i) less n own h = or_right _ _ (is-receiver placement receivers rows gave outs i (omega arith) n own h.2)
+
+-- ---- a row more
+
+-- it goes to this receiver
+stream-here : (placement : Placement) (receiver : ℕ) (rows : List (List Value)) (row : List Value) → placement.route row ≡ receiver
+    → stream_to placement receiver (rows ++ row ∷ []) ≡ stream_to placement receiver rows ++ row ∷ []
+stream-here placement receiver rows row here =
+    filter-append (λ (other : List Value). eqb (placement.route other) receiver) rows (row ∷ []) ∙ ap (λ l. stream_to placement receiver rows ++ l) (rw (here, eq-eqb receiver receiver refl) refl)
+
+-- it goes to another
+stream-there : (placement : Placement) (receiver : ℕ) (rows : List (List Value)) (row : List Value) → eqb (placement.route row) receiver ≡ false
+    → stream_to placement receiver (rows ++ row ∷ []) ≡ stream_to placement receiver rows
+stream-there placement receiver rows row other =
+    filter-append (λ (one : List Value). eqb (placement.route one) receiver) rows (row ∷ []) ∙ ap (λ l. stream_to placement receiver rows ++ l) (rw other refl) ∙ append-nil (stream_to placement receiver rows)
+
+sends-other : (placement : Placement) (receiver : ℕ) (rows : List (List Value)) (row : List Value) (gave : List Batch) (one : Receiver) → eqb (placement.route row) receiver ≡ false
+    → Sends placement receiver rows false gave one → Sends placement receiver (rows ++ row ∷ []) false gave one
+sends-other placement receiver rows row gave one other h = record {
+  to = h.to;
+  size = h.size;
+  over = h.over;
+  carries = subst (λ stream. OutCarries one.link gave stream) (sym (stream-there placement receiver rows row other)) h.carries;
+}
+
+sends-more : (placement : Placement) (receiver : ℕ) (rows : List (List Value)) (row : List Value) (gave : List Batch) (one now : Receiver) → placement.route row ≡ receiver
+    → now.to ≡ one.to → now.link.ring ≡ one.link.ring → Adds one.link.kept row now.link.kept
+    → Sends placement receiver rows false gave one → Sends placement receiver (rows ++ row ∷ []) false gave now
+sends-more placement receiver rows row gave one now here to ring adds h = record {
+  to = to ∙ h.to;
+  size = adds.size ∙ h.size;
+  over = adds.ended;
+  carries = subst (λ stream. OutCarries now.link gave stream) (sym (stream-here placement receiver rows row here))
+      (subst (λ l. Carries now.link.kept (gave ++ l) (stream_to placement receiver rows ++ row ∷ [])) (sym (ap sent ring))
+      (adds.each (gave ++ sent one.link.ring) (stream_to placement receiver rows) h.carries));
+}
+
+-- none of these gets the row
+all-other : (placement : Placement) (receivers : List ℕ) (rows : List (List Value)) (row : List Value) (gave : ℕ → List Batch) (outs : List Receiver)
+    → list_any (λ other. eqb other (placement.route row)) receivers ≡ false
+    → SendAll placement receivers rows false gave outs → SendAll placement receivers (rows ++ row ∷ []) false gave outs
+unfolding SendAll
+all-other placement [] rows row gave [] none h = tt
+all-other placement [] rows row gave (one ∷ outs) none h = absurd h
+all-other placement (receiver ∷ receivers) rows row gave [] none h = absurd h
+all-other placement (receiver ∷ receivers) rows row gave (one ∷ outs) none h =
+    let parts = neither (eqb receiver (placement.route row)) (list_any (λ other. eqb other (placement.route row)) receivers) none in
+    (sends-other placement receiver rows row (gave receiver) one (turned receiver (placement.route row) parts.0) h.0, h.1, all-other placement receivers rows row gave outs parts.1 h.2)
+
+-- the one at this place gets it
+one-more : (placement : Placement) (receivers : List ℕ) (rows : List (List Value)) (row : List Value) (gave : ℕ → List Batch) (outs : List Receiver) (i : ℕ) (now : Receiver)
+    → i < length outs → ((d : Receiver) → (get_or outs i d).to ≡ placement.route row) → now.to ≡ (get_or outs i now).to → now.link.ring ≡ (get_or outs i now).link.ring
+    → Adds (get_or outs i now).link.kept row now.link.kept
+    → SendAll placement receivers rows false gave outs → SendAll placement receivers (rows ++ row ∷ []) false gave (set outs i now)
+unfolding SendAll
+one-more placement [] rows row gave [] i now less own to ring adds h = absurd (omega arith)
+one-more placement [] rows row gave (one ∷ outs) i now less own to ring adds h = absurd h
+one-more placement (receiver ∷ receivers) rows row gave [] i now less own to ring adds h = absurd h
+one-more placement (receiver ∷ receivers) rows row gave (one ∷ outs) zero now less own to ring adds h =
+    let here : placement.route row ≡ receiver = sym (own one) ∙ h.0.to in (
+      sends-more placement receiver rows row (gave receiver) one now here to ring adds h.0,
+      h.1,
+      all-other placement receivers rows row gave outs (ap (λ n. list_any (λ other. eqb other n) receivers) here ∙ h.1) h.2,
+    )
+one-more placement (receiver ∷ receivers) rows row gave (one ∷ outs) (suc i) now less own to ring adds h = (
+  sends-other placement receiver rows row (gave receiver) one (by (eqb (placement.route row) receiver) refl) h.0,
+  h.1,
+  one-more placement receivers rows row gave outs i now (omega arith) own to ring adds h.2,
+)
+  where
+    by : (b : Bool) → eqb (placement.route row) receiver ≡ b → b ≡ false
+    by true e =
+        let here : placement.route row ≡ receiver = eqb-true (placement.route row) receiver e in
+        absurd (false≢true (sym (ap (λ n. list_any (λ other. eqb other n) receivers) here ∙ h.1) ∙ is-receiver placement receivers rows gave outs i (omega arith) (placement.route row) own h.2))
+    by false e = refl
+
+-- the row goes to the receiver with its number
+pub send_all-row : (placement : Placement) (receivers : List ℕ) (rows : List (List Value)) (row : List Value) (gave : ℕ → List Batch) (outs after : List Receiver) (number : ℕ)
+    → (0 < length receivers → number ≡ placement.route row)
+    → SendAll placement receivers rows false gave outs → IsHandedOn number row outs after → SendAll placement receivers (rows ++ row ∷ []) false gave after
+send_all-row placement receivers rows row gave outs after number routes h handed = by handed.place handed.so
+  where
+    nobody : (receivers : List ℕ) → (0 < length receivers → number ≡ placement.route row) → list_any (λ other. eqb other number) receivers ≡ false
+        → list_any (λ other. eqb other (placement.route row)) receivers ≡ false
+    nobody [] routed none = refl
+    nobody (receiver ∷ receivers) routed none = ap (λ n. list_any (λ other. eqb other n) (receiver ∷ receivers)) (sym (routed (omega arith))) ∙ none
+
+    some-receiver : (receivers : List ℕ) → list_any (λ other. eqb other number) receivers ≡ true → 0 < length receivers
+    some-receiver [] e = absurd (false≢true e)
+    some-receiver (receiver ∷ receivers) e = omega arith
+
+    by : (place : Option ℕ)
+        → MatchOption place ((list_any (λ (one : Receiver). eqb one.to number) outs ≡ false) × (after ≡ outs)) (λ i. HandsOn i row outs after × ((d : Receiver) → (get_or outs i d).to ≡ number))
+        → SendAll placement receivers (rows ++ row ∷ []) false gave after
+    by None (none, same) =
+        subst (λ l. SendAll placement receivers (rows ++ row ∷ []) false gave l) (sym same)
+        (all-other placement receivers rows row gave outs (nobody receivers routes (sym (sends-to-all placement receivers rows false gave outs number h) ∙ none)) h)
+    by (Some i) (hands, own) =
+        let there = some-receiver receivers (is-receiver placement receivers rows gave outs i hands.within number own h) in
+        subst (λ l. SendAll placement receivers (rows ++ row ∷ []) false gave l) (sym hands.is)
+        (one-more placement receivers rows row gave outs i hands.now hands.within (λ d. own d ∙ routes there) hands.to hands.ring hands.adds h)
+
+-- ---- the end
+
+sends-end : (placement : Placement) (receiver : ℕ) (rows : List (List Value)) (gave : List Batch) (one now : Receiver) → Sends placement receiver rows false gave one → IsEnded one now
+    → Sends placement receiver rows true gave now
+sends-end placement receiver rows gave one now h ends = record {
+  to = ends.to ∙ h.to;
+  size = ends.closes.size ∙ h.size;
+  over = ends.closes.ended;
+  carries = subst (λ l. Carries now.link.kept (gave ++ l) (stream_to placement receiver rows)) (sym (ap sent ends.ring)) (ends.closes.each (gave ++ sent one.link.ring) (stream_to placement receiver rows) h.carries);
+}
+
+pub send_all-end : (placement : Placement) (receivers : List ℕ) (rows : List (List Value)) (gave : ℕ → List Batch) (outs after : List Receiver)
+    → SendAll placement receivers rows false gave outs → AreEnded outs after → SendAll placement receivers rows true gave after
+unfolding SendAll Pairwise
+send_all-end placement [] rows gave [] [] h ends = tt
+send_all-end placement [] rows gave [] (now ∷ after) h ends = absurd ends
+send_all-end placement [] rows gave (one ∷ outs) after h ends = absurd h
+send_all-end placement (receiver ∷ receivers) rows gave [] after h ends = absurd h
+send_all-end placement (receiver ∷ receivers) rows gave (one ∷ outs) [] h ends = absurd ends
+send_all-end placement (receiver ∷ receivers) rows gave (one ∷ outs) (now ∷ after) h ends =
+    (sends-end placement receiver rows (gave receiver) one now h.0 ends.0, h.1, send_all-end placement receivers rows gave outs after h.2 ends.1)
+
+-- ---- batches go on
+
+-- at this place batches were sent
+pub send_all-sent : (placement : Placement) (receivers : List ℕ) (rows : List (List Value)) (ended : Bool) (gave : ℕ → List Batch) (outs : List Receiver) (j : ℕ) (d out : Receiver)
+    → j < length outs → Forwards (get_or outs j d).link out.link
+    → SendAll placement receivers rows ended gave outs → SendAll placement receivers rows ended gave (set outs j (record (get_or outs j d) { link = out.link }))
+unfolding SendAll
+send_all-sent placement [] rows ended gave [] j d out less sends h = absurd (omega arith)
+send_all-sent placement [] rows ended gave (one ∷ outs) j d out less sends h = absurd h
+send_all-sent placement (receiver ∷ receivers) rows ended gave [] j d out less sends h = absurd h
+send_all-sent placement (receiver ∷ receivers) rows ended gave (one ∷ outs) zero d out less sends h = (
+  record {
+    to = h.0.to;
+    size = ap (λ (o : Outgoing). o.size) sends.only ∙ h.0.size;
+    over = ap (λ (o : Outgoing). o.ended) sends.only ∙ h.0.over;
+    carries = carries-forwards one.link out.link (gave receiver) (stream_to placement receiver rows) sends h.0.carries;
+  },
+  h.1,
+  h.2,
+)
+send_all-sent placement (receiver ∷ receivers) rows ended gave (one ∷ outs) (suc j) d out less sends h =
+    (h.0, h.1, send_all-sent placement receivers rows ended gave outs j d out (omega arith) sends h.2)

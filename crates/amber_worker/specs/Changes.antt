@@ -1,0 +1,58 @@
+-- What commands change of a worker between legs.
+use Rattle.std.specs.Prelude.{◌≡◌, ℕ, ◌||◌, not, List, [], ◌∷◌, Option, Result, Bool, false}
+use Rattle.amber_rows.specs.Columns.{kind_of}
+use Rattle.amber_rows.specs.declared.value.Value.{Value}
+use Rattle.amber_rows.specs.declared.flow.Operator.{Operator}
+use Rattle.amber_rows.specs.declared.record.RowFault.{RowFault}
+use Rattle.amber_meaning.specs.Plan.{role_of}
+use Rattle.amber_meaning.specs.Position.{Position, origin}
+use Rattle.amber_meaning.specs.Rules.{Orders}
+use Rattle.amber_meaning.specs.State.{let_go}
+use Rattle.amber_scan.specs.declared.share.Scanned.{Scanned}
+use Rattle.amber_link.specs.Links.{has_some}
+use Rattle.amber_worker.specs.AtPosition.{Base, HasShare, IsAtPosition, Placement, Shows, first_orders, no_base, placement_of}
+use Rattle.amber_worker.specs.WorkerState.{WorkerState}
+use Rattle.amber_worker.specs.declared.operator_state.OperatorState.{OperatorState}
+use Rattle.amber_worker.specs.declared.operator_state.OperatorState.TheVariants as operator_state
+
+-- a new worker stands at the beginning, where its share is that of some records
+unfoldable pub StandsNew : List Operator → ℕ → ℕ → Option (List Scanned) → WorkerState → Type 0
+StandsNew flow worker size share made = (records : List (List (Result (List Value) RowFault))) → HasShare share (role_of flow records worker)
+    → IsAtPosition (placement_of flow records size worker) (first_orders flow worker) made origin origin no_base
+
+-- a turn begins with a look for a batch: the worker goes on, and has neither a row that is pending nor one that was handed and not
+-- taken
+abbrev pub wants_batch : WorkerState → Bool
+wants_batch w = not ((w.finished || w.paused) || (has_some w.pending || has_some w.rest))
+
+-- it is a filter, whose constant may become this one
+abbrev pub MaySet : Value → OperatorState → Type 0
+MaySet value operator_state.Scan = ⊥
+MaySet value (operator_state.Filter cond) = kind_of value ≡ kind_of cond.constant
+MaySet value (operator_state.Project from) = ⊥
+MaySet value (operator_state.Join state) = ⊥
+MaySet value (operator_state.Group state) = ⊥
+MaySet value operator_state.Sink = ⊥
+
+-- a filter with another constant
+abbrev pub with_value : Value → OperatorState → OperatorState
+with_value value operator_state.Scan = operator_state.Scan
+with_value value (operator_state.Filter cond) = operator_state.Filter (record cond { constant = value })
+with_value value (operator_state.Project from) = operator_state.Project from
+with_value value (operator_state.Join state) = operator_state.Join state
+with_value value (operator_state.Group state) = operator_state.Group state
+with_value value operator_state.Sink = operator_state.Sink
+
+-- what it shows under any orders it shows under those with this constant
+unfoldable pub ShowsSet : Value → WorkerState → WorkerState → Type 0
+ShowsSet value old new = (placement : Placement) (orders : Orders) (p : Position) (base : Base)
+    → Shows placement orders old p base → Shows placement (record orders { constants = value ∷ [] }) new p base
+
+-- a leg begins: pauses end, a held row may go, and nothing was done since
+abbrev pub with_leg : WorkerState → WorkerState
+with_leg w = record w { paused = false; held = false; waved = w.held || w.waved; journal = [] }
+
+-- wherever it stood, it stands where the leg begins
+unfoldable pub StandsAtLeg : WorkerState → WorkerState → Type 0
+StandsAtLeg old new = (placement : Placement) (orders : Orders) (p : Position) (base : Base)
+    → Shows placement orders old p base → IsAtPosition placement orders new (let_go p) (let_go p) base
