@@ -1,14 +1,23 @@
 -- Where the workers of a home stand.
-use Rattle.std.specs.Prelude.{◌≡◌, ◌≢◌, ℕ, ◌<◌, List, [], ◌++◌, All, length, slice_index_or, sum_by, true, false}
-use Rattle.amber_rows.specs.Crew.{crew_of}
+use Rattle.std.specs.Prelude.{◌≡◌, ◌≢◌, ℕ, ◌<◌, ◌==◌, List, [], slice_index_or, length, sum_by, None, true, false}
+use Rattle.std.specs.List.{list_any}
+use Rattle.rtrb.specs.Ring.{known_items, received, sent}
+use Rattle.amber_rows.specs.Crew.{crew_of, senders_of}
 use Rattle.amber_rows.specs.FlowRules.{IsFlow}
-use Rattle.amber_rows.specs.declared.batch.Batch.{Batch}
+use Rattle.amber_rows.specs.declared.flow.Operator.{Operator}
+use Rattle.amber_link.specs.declared.receivers.Receiver.{Receiver}
+use Rattle.amber_link.specs.declared.senders.Sender.{Sender}
+use Rattle.amber_lines.specs.Moving.{orders_in}
 use Rattle.amber_meaning.specs.Legal.{Query}
-use Rattle.amber_meaning.specs.Position.{Position, origin, taken_from}
-use Rattle.amber_worker.specs.Links.{waiting_from}
-use Rattle.amber_worker.specs.AtPosition.{IsAtPosition, first_orders, placement_of}
+use Rattle.amber_meaning.specs.Position.{Position}
+use Rattle.amber_meaning.specs.State.{Arms, State, arms_at, position_at}
+use Rattle.amber_worker.specs.AtPosition.{IsAtPosition, Placement, no_base, placement_of}
+use Rattle.amber_worker.specs.Pairs.{AreJoined, AreSettledAt, IsLinkAt}
 use Rattle.amber_worker.specs.WorkerState.{WorkerState, steps_made}
 use Rattle.amber_worker.specs.declared.operator_state.OperatorState.TheVariants as operator_state
+use Rattle.amber_worker.specs.declared.route.Route.TheVariants as route
+
+-- ---- one of the workers
 
 -- a worker that is not there
 abbrev pub no_worker_state : WorkerState
@@ -26,6 +35,7 @@ no_worker_state = record {
   batches = 0;
   refused = [];
   kept = [];
+  watch = None;
   hand = 0;
   held = false;
   waved = false;
@@ -33,6 +43,7 @@ no_worker_state = record {
   finished = false;
   ins = [];
   outs = [];
+  route = route.One 0;
   journal = [];
 }
 
@@ -40,34 +51,85 @@ no_worker_state = record {
 abbrev pub worker_state_at : List WorkerState → ℕ → WorkerState
 worker_state_at crew worker = slice_index_or crew worker no_worker_state
 
--- what one worker has sent to another: what the other has taken, and what waits in its inbox
-abbrev pub sent_by : List WorkerState → (ℕ → Position) → ℕ → ℕ → List Batch
-sent_by crew positions sender receiver = taken_from (positions receiver).taken sender ++ waiting_from sender (worker_state_at crew receiver).ins
+-- the place of a query's worker
+abbrev pub placement_at : Query → ℕ → Placement
+placement_at query worker = placement_of query.flow query.records query.size worker
 
--- each worker stands at its position, with a journal that leads there from the start
-pub record AreAtPositions (query : Query) (crew : List WorkerState) (positions : ℕ → Position) : Type 0 where
+-- ---- their links
+
+-- a worker sends to another
+abbrev pub SendsTo : List Operator → ℕ → ℕ → Type 0
+SendsTo flow from to = (to < crew_of flow) × (list_any (λ one. one == from) (senders_of flow to) ≡ true)
+
+-- all that the one has sent to the other has come there, though more may wait to be sent
+pub record AllHasCome (from to : WorkerState) : Type 0 where
+  pub j : ℕ
+  pub k : ℕ
+  pub places : IsLinkAt from to j k
+  pub out : Receiver
+  pub into : Sender
+  pub out_is : (one : Receiver) → slice_index_or from.outs j one ≡ out
+  pub into_is : (one : Sender) → slice_index_or to.ins k one ≡ into
+  pub come : received into.link.ring ≡ sent out.link.ring
+  pub known : known_items into.link.ring ≡ []
+
+-- ---- all of them
+
+-- at an operator nothing is watched and nothing is counted
+pub record IsQuiet (arms : Arms) : Type 0 where
+  pub unwatched : arms.watch ≡ None
+  pub uncounted : arms.count ≡ None
+
+-- each worker stands at its position, with a journal that leads there from where it stood in the state in which the leg began
+pub record AreAtPositions (query : Query) (start : State) (crew : List WorkerState) (positions : ℕ → Position) : Type 0 where
   pub all : length crew ≡ crew_of query.flow
   pub each : (worker : ℕ) → worker < crew_of query.flow
-      → IsAtPosition (placement_of query.flow query.records query.size worker) (first_orders query.flow worker) (worker_state_at crew worker) origin (positions worker) (sent_by crew positions worker)
+      → IsAtPosition (placement_at query worker) (orders_in query start worker) (worker_state_at crew worker)
+      (position_at start.positions worker) (positions worker) no_base
 
--- no batch waits to be moved into an inbox
-abbrev pub AreMoved : List WorkerState → Type 0
-AreMoved crew = (worker : ℕ) → All (λ one. one.waiting ≡ []) (worker_state_at crew worker).outs
-
--- the workers of a workflow stand somewhere, and all that they made was moved
-pub record AreAtWork (query : Query) (crew : List WorkerState) : Type 0 where
+-- the workers of a workflow stand somewhere, and who sends to whom hold the two ends of a link
+pub record AreJoinedAt (query : Query) (start : State) (crew : List WorkerState) (positions : ℕ → Position) : Type 0 where
   pub flow : IsFlow query.flow
-  pub positions : ℕ → Position
-  pub at_positions : AreAtPositions query crew positions
-  pub moved : AreMoved crew
+  pub quiet : (op : ℕ) → IsQuiet (arms_at start op)
+  pub at_positions : AreAtPositions query start crew positions
+  pub joined : (from to : ℕ) → from < crew_of query.flow → to < crew_of query.flow → AreJoined (worker_state_at crew from) (worker_state_at crew to)
+
+-- and all that they made is in the inboxes
+pub record AreAtWork (query : Query) (start : State) (crew : List WorkerState) (positions : ℕ → Position) : Type 0 where
+  pub at : AreJoinedAt query start crew positions
+  pub settled : (from to : ℕ) → SendsTo query.flow from to → AreSettledAt (worker_state_at crew from) (worker_state_at crew to)
+
+-- the workers of some workflow stand somewhere
+abbrev pub IsJoinedCrew : List WorkerState → Type 0
+IsJoinedCrew crew = (query : Query) × (start : State) × (positions : ℕ → Position) × AreJoinedAt query start crew positions
 
 -- the workers of some workflow are at work
 abbrev pub IsCrew : List WorkerState → Type 0
-IsCrew crew = (query : Query) × AreAtWork query crew
+IsCrew crew = (query : Query) × (start : State) × (positions : ℕ → Position) × AreAtWork query start crew positions
 
--- of whatever workflow they are the workers, they still are
-unfoldable pub StayAtWork : List WorkerState → List WorkerState → Type 0
-StayAtWork old new = (query : Query) → AreAtWork query old → AreAtWork query new
+-- ---- what they do
+
+-- of whatever workflow they are the workers, they still are, and stand where they stood
+unfoldable pub StayPut : List WorkerState → List WorkerState → Type 0
+StayPut old new = (query : Query) (start : State) (positions : ℕ → Position) → AreJoinedAt query start old positions → AreJoinedAt query start new positions
+
+-- the links between other workers than these two stay settled
+abbrev pub SettledStay : (ℕ → ℕ → Type 0) → List WorkerState → List WorkerState → Type 0
+SettledStay P old new = (from to : ℕ) → P from to → AreSettledAt (worker_state_at old from) (worker_state_at old to)
+    → AreSettledAt (worker_state_at new from) (worker_state_at new to)
+
+-- they have moved on
+unfoldable pub GoOn : List WorkerState → List WorkerState → Type 0
+GoOn old new = (query : Query) (start : State) (positions : ℕ → Position) → AreAtWork query start old positions
+    → (later : ℕ → Position) × AreAtWork query start new later
+
+-- a worker has perhaps other batches at the ends of its links, and is as it was but for that
+abbrev pub IsSameBesides : WorkerState → WorkerState → Type 0
+IsSameBesides old new = new ≡ record old { ins = new.ins; outs = new.outs }
+
+-- none but this worker has done anything
+abbrev pub MovesOnly : List WorkerState → List WorkerState → ℕ → Type 0
+MovesOnly old new worker = (other : ℕ) → other ≢ worker → IsSameBesides (worker_state_at old other) (worker_state_at new other)
 
 -- the steps that they have made together
 unfoldable pub steps_by : List WorkerState → ℕ
@@ -76,7 +138,3 @@ steps_by crew = sum_by steps_made crew
 -- the first workers have finished
 abbrev pub HaveFinished : ℕ → List WorkerState → Type 0
 HaveFinished workers crew = (worker : ℕ) → worker < workers → (worker_state_at crew worker).finished ≡ true
-
--- none but this worker has made a step
-abbrev pub MovesOnly : List WorkerState → List WorkerState → ℕ → Type 0
-MovesOnly old new worker = (other : ℕ) → other ≢ worker → steps_made (worker_state_at new other) ≡ steps_made (worker_state_at old other)

@@ -1,18 +1,20 @@
--- What a home keeps, and what a leg to the end changes.
-use Rattle.std.specs.Prelude.{◌≡◌, ℕ, List, [], ◌∷◌, ◌++◌, None, Some, Result, Ok, Err, ⊤, Bool, true, false}
+-- What a home keeps, and what its calls change.
+use Rattle.std.specs.Prelude.{◌≡◌, ℕ, ◌+◌, List, [], ◌∷◌, ◌++◌, None, Some, Result, Ok, Err, ⊤, Bool, true, false, if◌then◌else◌}
 use Rattle.amber_rows.specs.declared.flow.Operator.{Operator}
+use Rattle.amber_lines.specs.KeptStops.{kept_stops}
+use Rattle.amber_log.specs.declared.command.Command.{Command}
+use Rattle.amber_log.specs.declared.command.Command.TheVariants as command
 use Rattle.amber_log.specs.declared.leg.Close.{Close}
 use Rattle.amber_log.specs.declared.leg.Close.TheVariants as close
 use Rattle.amber_log.specs.declared.leg.Part.{Part}
 use Rattle.amber_log.specs.declared.log.Item.{Item}
 use Rattle.amber_log.specs.declared.log.Item.TheVariants as item
 use Rattle.amber_log.specs.declared.log.Log.{Log}
-use Rattle.amber_meaning.specs.declared.answer.Answer.{Answer}
-use Rattle.amber_meaning.specs.Legal.{Query, query_over}
+use Rattle.amber_meaning.specs.declared.view.Stop.{Stop}
+use Rattle.amber_meaning.specs.Legal.{ClosesEnd, ClosesRun, Query, leg_start, query_over, stops_in}
 use Rattle.amber_meaning.specs.Plain.{wrong_header}
-use Rattle.amber_meaning.specs.Replay.{state_after}
-use Rattle.amber_meaning.specs.State.{have_finished, steps_in}
-use Rattle.amber_meaning.specs.Views.{answer_in}
+use Rattle.amber_meaning.specs.Replay.{after_leg, state_after}
+use Rattle.amber_meaning.specs.State.{State, steps_in}
 use Rattle.amber_home.specs.declared.error.HomeErr.{HomeErr}
 use Rattle.amber_home.specs.declared.error.HomeErr.TheVariants as home_err
 use Rattle.amber_home.specs.declared.error.LegErr.{LegErr}
@@ -28,15 +30,73 @@ pub record HomeState : Type 0 where
   pub most : ℕ
   pub log : Log
   pub phase : Phase
+  -- what the workers have done in the leg that is open
+  pub parts : List Part
 
 -- what is run
 abbrev pub query_of : HomeState → Query
 query_of e = query_over e.flow e.files e.log.batch e.most
 
+-- ---- phases
+
 abbrev pub is_spent : Phase → Bool
 is_spent phase.Resting = false
+is_spent (phase.Open to_end) = false
 is_spent phase.Over = false
 is_spent phase.Spent = true
+
+-- the workers are there
+abbrev pub has_crew : Phase → Bool
+has_crew phase.Resting = true
+has_crew (phase.Open to_end) = true
+has_crew phase.Over = false
+has_crew phase.Spent = false
+
+-- a leg is open
+abbrev pub is_open : Phase → Bool
+is_open phase.Resting = false
+is_open (phase.Open to_end) = true
+is_open phase.Over = false
+is_open phase.Spent = false
+
+-- the leg that is open is one to the end
+abbrev pub runs_to_end : Phase → Bool
+runs_to_end phase.Resting = false
+runs_to_end (phase.Open to_end) = to_end
+runs_to_end phase.Over = false
+runs_to_end phase.Spent = false
+
+-- ---- where it stands
+
+-- the state that the log leads to
+abbrev pub rest_state : HomeState → State
+rest_state e = state_after (query_of e) e.log.items
+
+-- the state that a leg behind the log comes to with these parts
+abbrev pub leg_state : HomeState → Bool → List Part → State
+leg_state e to_end parts = after_leg (query_of e) (leg_start to_end (rest_state e)) parts
+
+-- the state in which the workers stand
+abbrev pub state_at : Phase → HomeState → State
+state_at phase.Resting e = rest_state e
+state_at (phase.Open to_end) e = leg_state e to_end e.parts
+state_at phase.Over e = rest_state e
+state_at phase.Spent e = rest_state e
+
+unfoldable pub state_of : HomeState → State
+state_of e = state_at e.phase e
+
+-- the stops that stand within a leg; outside of one those of the last leg, before its end took any away
+abbrev pub stops_at : Phase → HomeState → List Stop
+stops_at phase.Resting e = kept_stops (query_of e) e.log.items
+stops_at (phase.Open to_end) e = stops_in (query_of e) (leg_state e to_end e.parts)
+stops_at phase.Over e = kept_stops (query_of e) e.log.items
+stops_at phase.Spent e = kept_stops (query_of e) e.log.items
+
+unfoldable pub stops_of_home : HomeState → List Stop
+stops_of_home e = stops_at e.phase e
+
+-- ---- how a run begins
 
 -- the first scan is named whose file does not begin with the names of its columns
 abbrev pub NamesScan : HomeErr → List Operator → List (List ℕ) → Type 0
@@ -48,26 +108,53 @@ abbrev pub BeginsOrNames : {A : Type 0} → Result A HomeErr → List Operator �
 BeginsOrNames (Ok made) flow files = wrong_header 1 files flow ≡ None
 BeginsOrNames (Err error) flow files = NamesScan error flow files
 
--- a leg to the end with these parts, closed so
-abbrev pub end_item : List Part → Close → Item
-end_item parts close = item.End (record { parts = parts; close = close })
+-- ---- what the log grows by
 
 -- the log with an item more
 abbrev pub with_item : Log → Item → Log
 with_item log one = record log { items = log.items ++ one ∷ [] }
 
--- the last leg stands in the log, closed so, and nothing else has changed
-pub record ClosesLeg (old new : HomeState) (closed : Close) : Type 0 where
-  pub parts : List Part
-  pub is : new ≡ record old { log = with_item old.log (end_item parts closed); phase = phase.Over }
+-- a command that a home does at rest
+abbrev pub is_done_at_rest : Command → Bool
+is_done_at_rest command.Run = false
+is_done_at_rest command.End = false
+is_done_at_rest (command.Pause op n) = true
+is_done_at_rest (command.Count op n) = false
+is_done_at_rest (command.When op cond) = false
+is_done_at_rest (command.Clear op) = true
+is_done_at_rest (command.Set op value) = true
+is_done_at_rest (command.Drop op worker) = false
+is_done_at_rest (command.Inspect op) = true
+is_done_at_rest (command.Lose op worker) = false
 
--- what a leg to the end leaves: all have finished, and the answer is that of the state; or the steps are as many as may be, and
--- somebody has not finished; or only memory was wanting
-abbrev pub Ends : Result Answer LegErr → HomeState → HomeState → Type 0
-Ends (Ok answer) old new =
-    ClosesLeg old new close.Cut × (have_finished (state_after (query_of old) new.log.items) ≡ true)
-    × (answer ≡ answer_in (query_of old) (state_after (query_of old) new.log.items))
-Ends (Err leg_err.Long) old new =
-    ClosesLeg old new close.Long × (have_finished (state_after (query_of old) new.log.items) ≡ false)
-    × (steps_in (state_after (query_of old) new.log.items) ≡ old.most)
-Ends (Err leg_err.NoMemory) old new = new ≡ record old { phase = phase.Spent }
+-- a leg as an item, up to a stop or to the end
+abbrev pub leg_item : Bool → List Part → Close → Item
+leg_item true parts close = item.End (record { parts = parts; close = close })
+leg_item false parts close = item.Run (record { parts = parts; close = close })
+
+-- how a leg may be closed in a state
+abbrev pub ClosesIn : Bool → Query → State → Close → Type 0
+ClosesIn true query state close = ClosesEnd query state close
+ClosesIn false query state close = ClosesRun query state close
+
+-- the leg that is open stands in the log, closed so
+abbrev pub with_leg : HomeState → Close → HomeState
+with_leg e closed = record e { log = with_item e.log (leg_item (runs_to_end e.phase) e.parts closed); phase = phase.Resting; parts = [] }
+
+-- the leg stands in the log, closed so, and nothing else has changed
+pub record ClosesLeg (to_end : Bool) (old new : HomeState) (closed : Close) : Type 0 where
+  pub parts : List Part
+  pub so : ClosesIn to_end (query_of old) (leg_state old to_end parts) closed
+  pub is : new ≡ record old { log = with_item old.log (leg_item to_end parts closed); phase = phase.Resting; parts = [] }
+
+-- what a leg leaves: a stop stands, to the end all have finished; or the steps are as many as may be, and that is not so; or only
+-- memory was wanting
+abbrev pub Ends : Result (Unit {0}) LegErr → Bool → HomeState → HomeState → Type 0
+Ends (Ok done) to_end old new = ClosesLeg to_end old new close.Cut
+Ends (Err leg_err.Long) to_end old new = ClosesLeg to_end old new close.Long
+Ends (Err leg_err.NoMemory) to_end old new = new ≡ record old { phase = phase.Spent; parts = [] }
+
+-- a leg has gone on by one step, and nothing else has changed
+pub record StepsOn (old new : HomeState) : Type 0 where
+  pub only : new ≡ record old { parts = new.parts }
+  pub one : steps_in (state_of new) ≡ steps_in (state_of old) + 1

@@ -1,24 +1,26 @@
-ghost use Rattle.std.specs.Prelude.{◌≡◌, ◌<◌, ◌≤◌, ◌^◌, ◌+◌, [], false, length, IfOk};
+ghost use Rattle.std.specs.Prelude.{◌≡◌, ◌+◌, ◌^◌, ◌<◌, ◌≤◌, ◌≢◌, [], IfOk, OnErr, OnOk, false, true, length};
+ghost use Rattle.amber_log.specs.Fits.{fits_of};
 ghost use Rattle.amber_log.specs.Grammar.{ends_over};
+ghost use Rattle.amber_log.specs.declared.log.Item.TheVariants as item;
 ghost use Rattle.amber_meaning.specs.Legal.{IsLegal};
 ghost use Rattle.amber_meaning.specs.Plain.{scan_count};
-ghost use Rattle.amber_rows.specs.Crew.{AreAlone};
-ghost use Rattle.amber_home.specs.HomeState.{BeginsOrNames, Ends, is_spent, query_of};
+ghost use Rattle.amber_meaning.specs.State.{have_finished, steps_in};
+ghost use Rattle.amber_meaning.specs.Views.{answer_in, inspected_of};
+ghost use Rattle.amber_home.specs.HomeState.{BeginsOrNames, ClosesIn, Ends, StepsOn, has_crew, is_done_at_rest, is_open, query_of, runs_to_end, state_of, stops_of_home, with_item, with_leg};
 
 use crate::crew::start_crew;
 use crate::error::{HomeErr, LegErr};
-use crate::finish::{Finished, finish};
 use crate::phase::Phase;
-use amber_log::{Close, Item, Items, Leg, Log};
-use amber_meaning::Answer;
+use amber_arms::InForce;
+use amber_log::{Close, Command, Item, Items, Leg, Log};
+use amber_meaning::{Answer, Inspected, Stops};
 use amber_rows::{Files, Flow};
 use amber_worker::Worker;
-use std::alloc::Global;
+use std::alloc::{AllocError, Global};
 use std::marker::Model;
-use std::mem;
 
-/// The home of a run.
-#[derive(Debug, Drop)]
+/// The home of a run, seen as a `HomeState`.
+#[derive(Drop)]
 pub struct Home {
     flow: Flow,
     files: Files,
@@ -27,18 +29,36 @@ pub struct Home {
     phase: Phase,
     // The workers; none once they have given their answer.
     crew: Vec<Worker>,
+    arms: InForce,
+    // The stops of the last leg, as they stood before its end took any away.
+    stops: Stops,
 }
 
 impl Model for Home {
     ghost use Rattle.amber_home.specs.HomeState.{HomeState};
+    ghost use Rattle.amber_home.specs.Parts.{open_parts};
 
     ghost Value = { HomeState };
 
-    ghost view = { λ a. record { flow = a.flow; files = a.files; most = a.most; log = a.log; phase = a.phase } };
+    ghost view = { λ a. record {
+      flow = a.flow;
+      files = a.files;
+      most = a.most;
+      log = a.log;
+      phase = a.phase;
+      parts = open_parts a.phase a.crew.items;
+    } };
 
     ghost use Rattle.amber_home.specs.Kept.{IsHome};
 
-    ghost invariant = { λ a. IsHome a.flow a.files a.most a.log a.phase a.crew.items };
+    ghost invariant = { λ a. IsHome (record {
+      flow = a.flow;
+      files = a.files;
+      most = a.most;
+      log = a.log;
+      phase = a.phase;
+      parts = open_parts a.phase a.crew.items;
+    }) a.crew.items a.arms a.stops };
 }
 
 impl Home {
@@ -59,14 +79,18 @@ impl Home {
         requires some { 0 < batch }
         requires few { batch ≤ 65536 }
         requires steps { most ≤ 2 ^ 40 }
-
-        // For now every operator has one worker.
-        requires alone { AreAlone flow }
-        ensures begins { IfOk result (λ home. home ≡ record { flow = flow; files = files; most = most; log = record { batch = batch; items = [] }; phase = Phase.Resting }) }
+        ensures begins { IfOk result (λ home. home ≡ record {
+          flow = flow;
+          files = files;
+          most = most;
+          log = record { batch = batch; items = [] };
+          phase = Phase.Resting;
+          parts = [];
+        }) }
         ensures header { BeginsOrNames result flow files }
-        ensures legal { IfOk result (λ home. IsLegal (query_of home) home.log) }
     {
         let crew = start_crew(alloc, &flow, &files, batch)?;
+        let arms = InForce::new(alloc, &flow)?;
         let items = Items::new(Vec::new(alloc));
         Ok(Home {
             flow,
@@ -75,39 +99,125 @@ impl Home {
             log: Log { batch, items },
             phase: Phase::Resting,
             crew,
+            arms,
+            stops: Stops::new(Vec::new(alloc)),
         })
     }
 
-    /// Runs a leg to the end: until all workers have finished, or the run has made as many steps as it may. The answer is
-    /// handed out, and nothing may follow.
+    /// Does a command that is no leg: a pause, another constant, a look, or taking back all that was asked to stop at an
+    /// operator. The log grows by it, and what it names changes. Want of memory leaves all as before.
+    pub fn apply(&mut self, alloc: Global, command: &Command) -> Result<(), AllocError>
+        requires resting { self.old.phase ≡ Phase.Resting }
+        requires open { ends_over false self.old.log.items ≡ false }
+        requires fits { fits_of self.old.flow command.now ≡ true }
+        requires at_rest { is_done_at_rest command.now ≡ true }
+        ensures ok { OnOk result (self.new ≡ record self.old {
+          log = with_item self.old.log (item.Do command.now)
+        }) }
+        ensures err { OnErr result (self.new ≡ self.old) }
+    {
+        Err(AllocError)
+    }
+
+    /// Opens a leg, up to a stop or to the end. To the end nothing is armed any more.
+    pub fn open_leg(&mut self, to_end: bool)
+        requires resting { self.old.phase ≡ Phase.Resting }
+        requires open { ends_over false self.old.log.items ≡ false }
+        ensures { self.new ≡ record self.old { phase = Phase.Open to_end; parts = [] } }
+    {
+        self.phase = Phase::Spent;
+    }
+
+    /// One step of the unfinished worker with the smallest number. After want of memory the log is as before, and the run cannot
+    /// go on.
+    pub fn home_step(&mut self) -> Result<(), AllocError>
+        requires within { is_open self.old.phase ≡ true }
+        requires unfinished { have_finished (state_of self.old) ≡ false }
+        requires few { steps_in (state_of self.old) < self.old.most }
+        ensures ok { OnOk result (StepsOn self.old self.new) }
+        ensures err { OnErr result (self.new ≡ record self.old { phase = Phase.Spent; parts = [] }) }
+    {
+        self.phase = Phase::Spent;
+        Err(AllocError)
+    }
+
+    /// Closes the leg that is open. After want of memory the log is as before, and the run cannot go on.
+    pub fn close_leg(&mut self, alloc: Global, close: Close) -> Result<(), AllocError>
+        requires within { is_open self.old.phase ≡ true }
+        requires closes { ClosesIn (runs_to_end self.old.phase) (query_of self.old)
+            (state_of self.old) close }
+        ensures ok { OnOk result (self.new ≡ with_leg self.old close) }
+        ensures err { OnErr result (self.new ≡ record self.old { phase = Phase.Spent; parts = [] }) }
+    {
+        self.phase = Phase::Spent;
+        Err(AllocError)
+    }
+
+    /// Runs a leg, up to a stop or to the end: the unfinished worker with the smallest number makes its steps, until a stop
+    /// stands, or until all have finished. What stands then is taken away behind a leg up to a stop.
     ///
     /// # Errors
     ///
-    /// `Long` exactly where somebody has not finished after the last step that the run may make; the leg stands in the log.
-    /// After `NoMemory` the log is as before, and the run cannot go on.
-    pub fn run_to_end(&mut self, alloc: Global) -> Result<Answer, LegErr>
-        requires unspent { is_spent self.old.phase ≡ false }
+    /// `Long` exactly where the run has made as many steps as it may and no stop stands, or to the end somebody has not
+    /// finished; the leg stands in the log. After `NoMemory` the log is as before, and the run cannot go on.
+    pub fn leg_home(&mut self, alloc: Global, to_end: bool) -> Result<(), LegErr>
+        requires resting { self.old.phase ≡ Phase.Resting }
         requires open { ends_over false self.old.log.items ≡ false }
-        ensures ends { Ends result self.old self.new }
-        ensures legal { IsLegal (query_of self.new) self.new.log }
+        ensures ends { Ends result to_end self.old self.new }
     {
         self.phase = Phase::Spent;
-        let crew = mem::replace(&mut self.crew, Vec::new(alloc));
-        let Finished { parts, answer } = finish(alloc, &self.flow, self.most, crew)?;
-        match answer {
-            Some(answer) => {
-                let close = Close::Cut;
-                self.log.items.push(Item::End(Leg { parts, close }))?;
-                self.phase = Phase::Over;
-                Ok(answer)
-            }
-            None => {
-                let close = Close::Long;
-                self.log.items.push(Item::End(Leg { parts, close }))?;
-                self.phase = Phase::Over;
-                Err(LegErr::Long)
-            }
-        }
+        Err(LegErr::NoMemory)
+    }
+
+    /// The stops that stand within a leg. Outside of one those of the last leg, as they stood before its end took any away,
+    /// whatever commands followed; none before the first leg.
+    pub fn stops(&self, alloc: Global) -> Result<Stops, AllocError>
+        requires there { has_crew self.now.phase ≡ true }
+        ensures { IfOk result (λ stops. stops ≡ stops_of_home self.now) }
+    {
+        Err(AllocError)
+    }
+
+    /// What the workers of an operator show, and what is in force there.
+    pub fn inspect(&self, alloc: Global, op: u32) -> Result<Inspected, AllocError>
+        requires there { has_crew self.now.phase ≡ true }
+        requires some { 0 < op }
+        requires within { op ≤ length self.now.flow }
+        ensures { IfOk result
+            (λ shown. shown ≡ inspected_of (query_of self.now) (state_of self.now) op) }
+    {
+        Err(AllocError)
+    }
+
+    /// The answer, once all have finished.
+    pub fn answer(&self, alloc: Global) -> Result<Answer, AllocError>
+        requires there { has_crew self.now.phase ≡ true }
+        requires finished { have_finished (state_of self.now) ≡ true }
+        ensures { IfOk result
+            (λ answer. answer ≡ answer_in (query_of self.now) (state_of self.now)) }
+    {
+        Err(AllocError)
+    }
+
+    /// The same answer, handed out without a copy of its rows. The workers are then no longer there.
+    pub fn take_answer(&mut self, alloc: Global) -> Result<Answer, AllocError>
+        requires resting { self.old.phase ≡ Phase.Resting }
+        requires finished { have_finished (state_of self.old) ≡ true }
+        ensures answer { IfOk result
+            (λ answer. answer ≡ answer_in (query_of self.old) (state_of self.old)) }
+        ensures over { self.new ≡ record self.old { phase = Phase.Over } }
+    {
+        self.phase = Phase::Over;
+        Err(AllocError)
+    }
+
+    /// How many steps the workers have made.
+    pub fn steps(&self) -> u64
+        requires there { has_crew self.now.phase ≡ true }
+        ensures { result ≡ steps_in (state_of self.now) }
+    {
+        let mut steps = 0;
+        steps
     }
 
     /// The log of the run so far.
@@ -116,6 +226,13 @@ impl Home {
         ensures legal { IsLegal (query_of self.now) self.now.log }
     {
         &self.log
+    }
+
+    /// Whether nothing may follow: the last leg was one to the end, or was closed as too long.
+    pub fn closed(&self) -> bool
+        ensures { result ≡ ends_over false self.now.log.items }
+    {
+        false
     }
 
     /// The workflow that is run.

@@ -3,7 +3,9 @@
 pub enum Phase {
     /// At rest between two commands.
     Resting,
-    /// The last leg is closed, and nothing may follow.
+    /// Within a leg, up to a stop or to the end.
+    Open { to_end: bool },
+    /// The workers have given their answer.
     Over,
     /// Memory ran out inside a leg, and nothing can follow.
     Spent,

@@ -22,7 +22,8 @@ pub mod settling;
 pub use ends::{In, Out, Sent, link, settle};
 pub use outbox::Outbox;
 pub use receivers::{
-    Receiver, end_all, has_receiver, place_to, push_at, reserve_at, reserve_ends, waiting_receiver,
+    Receiver, end_all, has_receiver, place_to, push_at, reserve_at, reserve_ends, waiting_at,
+    waiting_receiver,
 };
 pub use senders::{
     Found, Sender, has_sender, have_built, have_ended, is_empty_at, place_of, ready_place, take_at,

@@ -68,6 +68,21 @@ pub fn waiting_receiver(outs: &[Receiver]) -> Option<u32>
     None
 }
 
+/// The running number of the receiver at a place, if a batch waits to be sent to it.
+pub fn waiting_at(outs: &[Receiver], place: usize) -> Option<u32>
+    requires { place < length outs.now }
+    ensures none { IfNone result ((d : OneReceiver)
+        → has_some (slice_index_or outs.now place d).link.kept.waiting ≡ false) }
+    ensures some { IfSome result
+        (λ to. (d : OneReceiver) → (slice_index_or outs.now place d).to ≡ to) }
+{
+    let one = &outs[place];
+    if one.link.is_sent() {
+        return None;
+    }
+    Some(one.to)
+}
+
 /// Makes room for one row and the end, for the receiver at this place.
 pub fn reserve_at(outs: &mut [Receiver], place: usize) -> Result<(), AllocError>
     requires there { place < length outs.old }

@@ -1,14 +1,16 @@
-ghost use Rattle.std.specs.Prelude.{All, false, MatchBool, ◌≡◌, ◌^◌, ◌<◌, ◌≤◌, ◌==◌, [], true, is_ok, is_some, map, length, nat_lt, IfOk, OnErr, OnOk};
+ghost use Rattle.std.specs.Prelude.{All, false, MatchBool, ◌≡◌, ◌^◌, ◌<◌, ◌≤◌, ◌==◌, [], true, is_ok, is_some, map, length, nat_lt, slice_index_or, IfNone, IfOk, IfSome, OnErr, OnOk};
 ghost use Rattle.std.specs.List.{list_any};
 ghost use Rattle.amber_rows.specs.Crew.{crew_of, op_of, receivers_of, senders_of, what_at};
 ghost use Rattle.amber_rows.specs.Kinds.{is_scan};
 ghost use Rattle.amber_link.specs.Links.{has_some};
 ghost use Rattle.amber_link.specs.Sides.{have_all_ended};
+ghost use Rattle.amber_link.specs.declared.receivers.Receiver.{Receiver as OneReceiver};
+ghost use Rattle.amber_link.specs.declared.senders.Sender.{Sender as OneSender};
 ghost use Rattle.amber_worker.specs.WorkerState.{has_ready, steps_made};
 ghost use Rattle.amber_worker.specs.Steps.{EmitsRow, Finishes, IsCalm, IsShown, TakesBatch, TakesRow};
 ghost use Rattle.amber_worker.specs.Made.{IsFresh, IsFreshIn, IsFreshOut, end_of, link_of, roomless};
 ghost use Rattle.amber_worker.specs.AtPosition.{HasSameEnds, HasTurned, IsGivenOf, IsLookedAt, IsNextTurn, IsViewOf, Keeps};
-ghost use Rattle.amber_worker.specs.Changes.{MaySet, ShowsSet, StandsAtLeg, StandsNew, wants_batch, with_leg, with_value};
+ghost use Rattle.amber_worker.specs.Changes.{AreUnsent, MaySet, ShowsSet, StandsAtLeg, StandsNew, wants_batch, with_leg, with_value};
 ghost use Rattle.amber_worker.specs.Links.{Passes};
 ghost use Rattle.amber_worker.specs.Pairs.{AreJoined, AreSettledAt, Offers, OffersAll, PassesOn, StaysAt};
 
@@ -26,7 +28,7 @@ use crate::taking::{Gains, Rest, close, closing_of, is_last, side_columns, take_
 use crate::turn::Turn;
 use amber_link::{
     Found, In, Out, Receiver, Sender, end_all, has_receiver, has_sender, have_built, have_ended,
-    is_empty_at, ready_place, reserve_ends, take_at,
+    is_empty_at, ready_place, reserve_ends, take_at, waiting_at,
 };
 use amber_log::{Entries, Entry};
 use amber_meaning::{Refusals, WorkerView};
@@ -240,6 +242,8 @@ impl Worker {
         ensures moved { IfOk result (λ turn. HasTurned turn self.old self.new) }
         ensures err { OnErr result (IsLookedAt self.old self.new) }
         ensures ends { HasSameEnds self.old self.new }
+        ensures unsent { AreUnsent self.old self.new }
+        ensures unlooked { wants_batch self.old ≡ false → self.new.ins ≡ self.old.ins }
     {
         if self.is_over() {
             return Ok(Turn::Ended);
@@ -272,7 +276,8 @@ impl Worker {
 
     /// Whether the worker has nothing more to do.
     pub fn is_finished(&self) -> bool
-        ensures { result ≡ self.now.finished }
+        ensures finished { result ≡ self.now.finished }
+        ensures calm { IsCalm self.now }
     {
         self.finished
     }
@@ -311,6 +316,46 @@ impl Worker {
         ensures { result ≡ nat_lt (steps_made self.now) (2 ^ 40) }
     {
         self.steps() < MOST_STEPS
+    }
+
+    /// How many workers send to the worker.
+    pub fn senders(&self) -> usize
+        ensures { result ≡ length self.now.ins }
+    {
+        self.ins.len()
+    }
+
+    /// The running number of the sender at a place.
+    pub fn sender_at(&self, place: usize) -> u32
+        requires { place < length self.now.ins }
+        ensures { (d : OneSender) → result ≡ (slice_index_or self.now.ins place d).from }
+    {
+        self.ins[place].from()
+    }
+
+    /// To how many workers the worker sends.
+    pub fn receivers(&self) -> usize
+        ensures { result ≡ length self.now.outs }
+    {
+        self.outs.len()
+    }
+
+    /// The running number of the receiver at a place, if a batch waits to be sent to it.
+    pub fn waiting_at(&self, place: usize) -> Option<u32>
+        requires { place < length self.now.outs }
+        ensures none { IfNone result ((d : OneReceiver)
+            → has_some (slice_index_or self.now.outs place d).link.kept.waiting ≡ false) }
+        ensures some { IfSome result
+            (λ to. (d : OneReceiver) → (slice_index_or self.now.outs place d).to ≡ to) }
+    {
+        waiting_at(self.outs.as_slice(), place)
+    }
+
+    /// How many rows the worker has emitted.
+    pub fn emitted(&self) -> u64
+        ensures { result ≡ self.now.emitted }
+    {
+        self.emitted
     }
 
     /// What the worker has done since its journal was handed out.
