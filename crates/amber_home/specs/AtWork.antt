@@ -113,11 +113,6 @@ IsCrew crew = (query : Query) × (start : State) × (positions : ℕ → Positio
 unfoldable pub StayPut : List WorkerState → List WorkerState → Type 0
 StayPut old new = (query : Query) (start : State) (positions : ℕ → Position) → AreJoinedAt query start old positions → AreJoinedAt query start new positions
 
--- the links between other workers than these two stay settled
-abbrev pub SettledStay : (ℕ → ℕ → Type 0) → List WorkerState → List WorkerState → Type 0
-SettledStay P old new = (from to : ℕ) → P from to → AreSettledAt (worker_state_at old from) (worker_state_at old to)
-    → AreSettledAt (worker_state_at new from) (worker_state_at new to)
-
 -- they have moved on
 unfoldable pub GoOn : List WorkerState → List WorkerState → Type 0
 GoOn old new = (query : Query) (start : State) (positions : ℕ → Position) → AreAtWork query start old positions

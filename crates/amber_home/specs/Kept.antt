@@ -1,5 +1,5 @@
 -- What a home keeps.
-use Rattle.std.specs.Prelude.{◌≡◌, ℕ, ◌^◌, ◌<◌, ◌≤◌, List, [], Unit, length, Bool, false}
+use Rattle.std.specs.Prelude.{◌≡◌, ℕ, ◌^◌, ◌<◌, ◌≤◌, List, [], length, Bool, false}
 use Rattle.amber_lines.specs.KeptStops.{kept_stops}
 use Rattle.amber_log.specs.Grammar.{ends_over}
 use Rattle.amber_meaning.specs.declared.view.Stop.{Stop}

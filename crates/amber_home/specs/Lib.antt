@@ -1,8 +1,4 @@
-pub mod Answers
-pub mod HomeState
-pub mod Finish
-pub mod Kept
-pub mod Leg
-pub mod Parts
 pub mod AtWork
-pub mod Start
+pub mod HomeState
+pub mod Kept
+pub mod Passing

@@ -1,64 +1,77 @@
--- The worker moves, and what it made is moved on.
-use Rattle.std.proofs.Common.{◌∙◌}
-use Rattle.amber_home.proofs.Only.{only-passed, only-turned}
-use Rattle.amber_home.proofs.Steps.{sum-passed}
-use Rattle.amber_home.proofs.Stepping.{moved-at, none-stays, receives-at, sends-at, some-passed}
+-- The worker moves, and its links are settled again.
+use Rattle.std.proofs.Common.{◌≡◌, ◌∙◌}
+use Rattle.amber_home.proofs.Numbers.{length-put}
+use Rattle.amber_home.proofs.Passed.{besides-then, joined-put}
+use Rattle.amber_home.proofs.Stepped.{IsTurn, at-crew, come-then, goes-on, goes-on-settled, joined-then, not-wanted, one-then, only-then, steps-then}
 use Rattle.amber_home.proofs.leg.step.Goals as goal
 
-pub pass_on-requires-clause-before : goal.pass_on-requires-clause-before
-pass_on-requires-clause-before c =
-    (some-passed c.args.crew.now c.args.number c.turn.new.self c.index-crew-number.result c.index-crew-number-2.result c.requires.there c.in-Some.to
-    c.requires.crew c.in_ok-turn.ensures.keeps c.in-Some.ensures.one c.in-Some.ensures.waits).0.before
+pub settle_outputs-requires-clause-crew : goal.settle_outputs-requires-clause-crew
+settle_outputs-requires-clause-crew c =
+    let t = c.in_ok-turn.ensures in
+    let turn : IsTurn c.args.crew.now c.args.number c.turn.new.self c.index-crew-number-2.result c.requires.there c.in_ok-turn.field-0 =
+    record { keeps = t.keeps; answer = t.answer; moved = t.moved; ends = t.ends; unsent = t.unsent; unlooked = t.unlooked } in
+    joined-then c.args.crew.now c.args.number c.turn.new.self c.index-crew-number-2.result c.requires.there c.in_ok-turn.field-0 turn (at-crew c.args.crew.now c.requires.crew)
 
-pub pass_on-requires-clause-there : goal.pass_on-requires-clause-there
-pass_on-requires-clause-there c =
-    (some-passed c.args.crew.now c.args.number c.turn.new.self c.index-crew-number.result c.index-crew-number-2.result c.requires.there c.in-Some.to
-    c.requires.crew c.in_ok-turn.ensures.keeps c.in-Some.ensures.one c.in-Some.ensures.waits).0.there
+pub settle_outputs-requires-clause-come : goal.settle_outputs-requires-clause-come
+settle_outputs-requires-clause-come c =
+    let t = c.in_ok-turn.ensures in
+    let turn : IsTurn c.args.crew.now c.args.number c.turn.new.self c.index-crew-number-2.result c.requires.there c.in_ok-turn.field-0 =
+    record { keeps = t.keeps; answer = t.answer; moved = t.moved; ends = t.ends; unsent = t.unsent; unlooked = t.unlooked } in
+    come-then c.args.crew.now c.args.number c.turn.new.self c.index-crew-number-2.result c.requires.there c.in_ok-turn.field-0 turn c.requires.crew
 
-pub pass_on-requires-clause-sends : goal.pass_on-requires-clause-sends
-pass_on-requires-clause-sends c =
-    sends-at c.args.crew.now c.args.number c.turn.new.self c.index-crew-number.result c.index-crew-number-2.result c.requires.there c.in-Some.to
-    (some-passed c.args.crew.now c.args.number c.turn.new.self c.index-crew-number.result c.index-crew-number-2.result c.requires.there c.in-Some.to
-    c.requires.crew c.in_ok-turn.ensures.keeps c.in-Some.ensures.one c.in-Some.ensures.waits).0
-    c.in-Some.ensures.waits
+pub returns-then-not-wanted-clause-on : goal.returns-then-not-wanted-clause-on
+returns-then-not-wanted-clause-on c =
+    let t = c.in_ok-turn.ensures in
+    let turn : IsTurn c.args.crew.now c.args.number c.turn.new.self c.index-crew-number-2.result c.requires.there c.in_ok-turn.field-0 =
+    record { keeps = t.keeps; answer = t.answer; moved = t.moved; ends = t.ends; unsent = t.unsent; unlooked = t.unlooked } in
+    let s = c.in_ok-settle_outputs.ensures in
+    goes-on c.args.crew.now c.args.number c.turn.new.self c.index-crew-number-2.result c.requires.there c.in_ok-turn.field-0 turn c.settle_outputs.new.crew s.put s.others s.settled
+    (not-wanted c.args.crew.now c.args.number c.index-crew-number.result c.index-crew-number-2.result c.wants_batch-wanted.result c.requires.there
+    c.wants_batch-wanted.ensures c.if-not-wanted.true)
 
-pub pass_on-requires-clause-receives : goal.pass_on-requires-clause-receives
-pass_on-requires-clause-receives c =
-    receives-at c.args.crew.now c.args.number c.turn.new.self c.index-crew-number.result c.index-crew-number-2.result c.requires.there c.in-Some.to
-    (some-passed c.args.crew.now c.args.number c.turn.new.self c.index-crew-number.result c.index-crew-number-2.result c.requires.there c.in-Some.to
-    c.requires.crew c.in_ok-turn.ensures.keeps c.in-Some.ensures.one c.in-Some.ensures.waits).0
+pub returns-then-not-wanted-clause-one : goal.returns-then-not-wanted-clause-one
+returns-then-not-wanted-clause-one c =
+    let t = c.in_ok-turn.ensures in
+    let turn : IsTurn c.args.crew.now c.args.number c.turn.new.self c.index-crew-number-2.result c.requires.there c.in_ok-turn.field-0 =
+    record { keeps = t.keeps; answer = t.answer; moved = t.moved; ends = t.ends; unsent = t.unsent; unlooked = t.unlooked } in
+    let joined = joined-then c.args.crew.now c.args.number c.turn.new.self c.index-crew-number-2.result c.requires.there c.in_ok-turn.field-0 turn (at-crew c.args.crew.now c.requires.crew) in
+    let s = c.in_ok-settle_outputs.ensures in
+    steps-then c.args.crew.now c.args.number c.turn.new.self c.index-crew-number-2.result c.requires.there c.settle_outputs.new.crew (length-put _ c.settle_outputs.new.crew joined s.put) s.aside
+    (one-then c.args.crew.now c.args.number c.turn.new.self c.index-crew-number-2.result c.requires.there c.in_ok-turn.field-0 turn c.requires.crew c.requires.first c.requires.unfinished)
 
-pub returns-in-None-clause-stay : goal.returns-in-None-clause-stay
-returns-in-None-clause-stay c =
-    none-stays c.args.crew.now c.args.number c.turn.new.self c.index-crew-number.result c.index-crew-number-2.result c.requires.there
-    c.in_ok-turn.ensures.keeps c.in-None.ensures.waits
+pub returns-then-not-wanted-clause-only : goal.returns-then-not-wanted-clause-only
+returns-then-not-wanted-clause-only c = only-then c.args.crew.now c.args.number c.turn.new.self c.index-crew-number-2.result c.requires.there c.settle_outputs.new.crew c.in_ok-settle_outputs.ensures.aside
 
-pub returns-in-None-clause-one : goal.returns-in-None-clause-one
-returns-in-None-clause-one c =
-    moved-at c.args.crew.now c.args.number c.turn.new.self c.index-crew-number.result c.index-crew-number-2.result c.requires.there c.in_ok-turn.field-0
-    c.requires.crew c.requires.first c.requires.unfinished c.in_ok-turn.ensures.answer c.in_ok-turn.ensures.moved
+pub settle_inputs-requires-clause-crew : goal.settle_inputs-requires-clause-crew
+settle_inputs-requires-clause-crew c =
+    let t = c.in_ok-turn.ensures in
+    let turn : IsTurn c.args.crew.now c.args.number c.turn.new.self c.index-crew-number-2.result c.requires.there c.in_ok-turn.field-0 =
+    record { keeps = t.keeps; answer = t.answer; moved = t.moved; ends = t.ends; unsent = t.unsent; unlooked = t.unlooked } in
+    joined-put _ c.settle_outputs.new.crew (joined-then c.args.crew.now c.args.number c.turn.new.self c.index-crew-number-2.result c.requires.there c.in_ok-turn.field-0 turn (at-crew c.args.crew.now c.requires.crew)) c.in_ok-settle_outputs.ensures.put
 
-pub returns-in_ok-pass_on-in-Some-clause-stay : goal.returns-in_ok-pass_on-in-Some-clause-stay
-returns-in_ok-pass_on-in-Some-clause-stay c =
-    rw c.in_ok-pass_on-in-Some.ensures
-    (some-passed c.args.crew.now c.args.number c.turn.new.self c.index-crew-number.result c.index-crew-number-2.result c.requires.there c.in-Some.to
-    c.requires.crew c.in_ok-turn.ensures.keeps c.in-Some.ensures.one c.in-Some.ensures.waits).1
+pub returns-clause-on : goal.returns-clause-on
+returns-clause-on c =
+    let t = c.in_ok-turn.ensures in
+    let turn : IsTurn c.args.crew.now c.args.number c.turn.new.self c.index-crew-number-2.result c.requires.there c.in_ok-turn.field-0 =
+    record { keeps = t.keeps; answer = t.answer; moved = t.moved; ends = t.ends; unsent = t.unsent; unlooked = t.unlooked } in
+    let s = c.in_ok-settle_outputs.ensures in
+    let z = c.in_ok-settle_inputs.ensures in
+    goes-on-settled c.args.crew.now c.args.number c.turn.new.self c.index-crew-number-2.result c.requires.there c.in_ok-turn.field-0 turn c.settle_outputs.new.crew s.put s.others s.settled c.settle_inputs.new.crew z.put z.others z.settled
 
-pub returns-in_ok-pass_on-in-Some-clause-one : goal.returns-in_ok-pass_on-in-Some-clause-one
-returns-in_ok-pass_on-in-Some-clause-one c =
-    let link = (some-passed c.args.crew.now c.args.number c.turn.new.self c.index-crew-number.result c.index-crew-number-2.result c.requires.there c.in-Some.to
-    c.requires.crew c.in_ok-turn.ensures.keeps c.in-Some.ensures.one c.in-Some.ensures.waits).0 in
-    rw c.in_ok-pass_on-in-Some.ensures
-    (sum-passed _ c.args.number c.in-Some.to link.before link.there
-    ∙ moved-at c.args.crew.now c.args.number c.turn.new.self c.index-crew-number.result c.index-crew-number-2.result c.requires.there c.in_ok-turn.field-0
-    c.requires.crew c.requires.first c.requires.unfinished c.in_ok-turn.ensures.answer c.in_ok-turn.ensures.moved)
+pub returns-clause-one : goal.returns-clause-one
+returns-clause-one c =
+    let t = c.in_ok-turn.ensures in
+    let turn : IsTurn c.args.crew.now c.args.number c.turn.new.self c.index-crew-number-2.result c.requires.there c.in_ok-turn.field-0 =
+    record { keeps = t.keeps; answer = t.answer; moved = t.moved; ends = t.ends; unsent = t.unsent; unlooked = t.unlooked } in
+    let joined = joined-then c.args.crew.now c.args.number c.turn.new.self c.index-crew-number-2.result c.requires.there c.in_ok-turn.field-0 turn (at-crew c.args.crew.now c.requires.crew) in
+    let s = c.in_ok-settle_outputs.ensures in
+    let z = c.in_ok-settle_inputs.ensures in
+    steps-then c.args.crew.now c.args.number c.turn.new.self c.index-crew-number-2.result c.requires.there c.settle_inputs.new.crew
+    (length-put c.settle_outputs.new.crew c.settle_inputs.new.crew (joined-put _ c.settle_outputs.new.crew joined s.put) z.put ∙ length-put _ c.settle_outputs.new.crew joined s.put)
+    (besides-then _ c.settle_outputs.new.crew c.settle_inputs.new.crew s.aside z.aside)
+    (one-then c.args.crew.now c.args.number c.turn.new.self c.index-crew-number-2.result c.requires.there c.in_ok-turn.field-0 turn c.requires.crew c.requires.first c.requires.unfinished)
 
-pub returns-in-None-clause-only : goal.returns-in-None-clause-only
-returns-in-None-clause-only c = only-turned c.args.crew.now c.args.number c.turn.new.self
-
-pub returns-in_ok-pass_on-in-Some-clause-only : goal.returns-in_ok-pass_on-in-Some-clause-only
-returns-in_ok-pass_on-in-Some-clause-only c =
-    let link = (some-passed c.args.crew.now c.args.number c.turn.new.self c.index-crew-number.result c.index-crew-number-2.result c.requires.there c.in-Some.to
-    c.requires.crew c.in_ok-turn.ensures.keeps c.in-Some.ensures.one c.in-Some.ensures.waits).0 in
-    rw c.in_ok-pass_on-in-Some.ensures
-    (only-passed c.args.crew.now c.args.number c.in-Some.to c.turn.new.self link.before link.there)
+pub returns-clause-only : goal.returns-clause-only
+returns-clause-only c =
+    only-then c.args.crew.now c.args.number c.turn.new.self c.index-crew-number-2.result c.requires.there c.settle_inputs.new.crew
+    (besides-then _ c.settle_outputs.new.crew c.settle_inputs.new.crew c.in_ok-settle_outputs.ensures.aside c.in_ok-settle_inputs.ensures.aside)

@@ -1,0 +1,14 @@
+pub mod Alone
+pub mod Answered
+pub mod Begin
+pub mod Ends
+pub mod Wholes
+pub mod Gathered
+pub mod Homes
+pub mod Links
+pub mod Only
+pub mod PartFacts
+pub mod Reached
+pub mod Stepping
+pub mod Steps
+pub mod Turns
