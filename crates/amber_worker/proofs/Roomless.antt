@@ -1,5 +1,5 @@
 -- Receivers, whatever room there is.
-use Rattle.std.proofs.Common.{◌≡◌, ℕ, ◌<◌, eqb, ◌||◌, List, [], ◌∷◌, length, map, All, refl, sym, ap, subst}
+use Rattle.std.proofs.Common.{◌≡◌, ℕ, ◌<◌, eqb, ◌||◌, List, [], ◌∷◌, length, map, get_or, All, refl, sym, ap, ◌∙◌, subst}
 use Rattle.std.specs.List.{list_any}
 use Rattle.amber_link.specs.Sides.{without_room}
 use Rattle.amber_link.specs.declared.receivers.Receiver.{Receiver}
@@ -22,3 +22,7 @@ all-roomy P outs h k d less = subst P (map-at without_room outs k d d less) (h k
 -- and stays where room alone is made
 pub still-all : (P : Receiver → Type 0) (outs after : List Receiver) → map without_room after ≡ map without_room outs → All (λ one. P (without_room one)) outs → All (λ one. P (without_room one)) after
 still-all P outs after same h = all-roomy P after (subst (λ l. All P l) (sym same) (all-roomless P outs h))
+
+-- the receiver at a place
+pub same-at : (outs : List Receiver) (i n : ℕ) → i < length outs → ((d : Receiver) → (get_or outs i d).to ≡ n) → (d : Receiver) → (get_or (map without_room outs) i d).to ≡ n
+same-at outs i n within own d = ap (λ (one : Receiver). one.to) (map-at without_room outs i d d within) ∙ own d
