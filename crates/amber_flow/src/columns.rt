@@ -135,7 +135,7 @@ pub fn add_columns(made: &mut Vec<Column>, columns: &[Column]) -> Result<(), All
     ensures { OnOk result (made.new.items ≡ made.old.items ++ columns.now) }
 {
     for column in columns {
-        made.push(column.copy()?)?;
+        made.push(column.clone()?)?;
     }
     Ok(())
 }
@@ -146,7 +146,7 @@ fn copy_named(columns: &[Column], name: &str) -> Result<Option<Column>, AllocErr
 {
     match column_with(columns, name) {
         None => Ok(None),
-        Some(column) => Ok(Some(column.copy()?)),
+        Some(column) => Ok(Some(column.clone()?)),
     }
 }
 

@@ -91,7 +91,7 @@ pub fn read_filter(
         Ok(cond) => cond,
         Err(why) => return Ok(Err(why)),
     };
-    let schema = columns.copy(alloc)?;
+    let schema = columns.clone()?;
     Ok(Ok(Parts {
         what: What::Filter { input, cond },
         schema,

@@ -32,7 +32,7 @@ pub fn read_sink(
     let Some(input) = find_operator(before, id) else {
         return Ok(Err(FlowWhy::Forward));
     };
-    let schema = schema_at(before, input).copy(alloc)?;
+    let schema = schema_at(before, input).clone()?;
     Ok(Ok(Parts {
         what: What::Sink { input },
         schema,

@@ -49,11 +49,11 @@ fn add_group(
     ensures refused { OnOk result (refused.new.items
         ≡ refused.old.items ++ refused_of ((key.now, runnings.now) ∷ [])) }
 {
-    let cells = key.copy()?.into_inner();
+    let cells = key.clone()?.into_inner();
     let values = with_values(cells, runnings)?;
     match values {
         Some(cells) => rows.push(Row::new(cells))?,
-        None => refused.push(key.copy()?)?,
+        None => refused.push(key.clone()?)?,
     }
     Ok(())
 }

@@ -139,10 +139,10 @@ fn lesser(best: &Option<Value>, cell: Option<&Value>) -> Result<Option<Value>, A
 {
     match (best, cell) {
         (_, None) => Ok(None),
-        (None, Some(cell)) => Ok(Some(cell.copy()?)),
+        (None, Some(cell)) => Ok(Some(cell.clone()?)),
         (Some(best), Some(cell)) => {
             if cell.cmp(best).is_lt() {
-                Ok(Some(cell.copy()?))
+                Ok(Some(cell.clone()?))
             } else {
                 Ok(None)
             }
@@ -157,10 +157,10 @@ fn greater(best: &Option<Value>, cell: Option<&Value>) -> Result<Option<Value>, 
 {
     match (best, cell) {
         (_, None) => Ok(None),
-        (None, Some(cell)) => Ok(Some(cell.copy()?)),
+        (None, Some(cell)) => Ok(Some(cell.clone()?)),
         (Some(best), Some(cell)) => {
             if cell.cmp(best).is_gt() {
-                Ok(Some(cell.copy()?))
+                Ok(Some(cell.clone()?))
             } else {
                 Ok(None)
             }
@@ -201,7 +201,7 @@ fn copied(cell: &Option<Value>) -> Result<Option<Value>, AllocError>
     ensures { IfOk result (λ copy. copy ≡ cell.now) }
 {
     match cell {
-        Some(cell) => Ok(Some(cell.copy()?)),
+        Some(cell) => Ok(Some(cell.clone()?)),
         None => Ok(None),
     }
 }

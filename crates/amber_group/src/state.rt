@@ -80,7 +80,7 @@ impl GroupState {
     /// A row for each key of the rows that it was fed: the key, and then its aggregates. A key with a sum that 64
     /// bits do not hold, or with an aggregate of a column that none of its rows has, stands in `refused` instead.
     /// Keys stand in the order in which they came first.
-    pub fn finish(&self) -> Result<Grouped, AllocError>
+    pub fn finish(&self, alloc: Global) -> Result<Grouped, AllocError>
         ensures rows { IfOk result
             (λ groups. (rows : List (List Cell)) → IsFedWith self.now rows → groups.rows
             ≡ group_result self.now.keys self.now.aggs rows) }
@@ -88,7 +88,7 @@ impl GroupState {
             (λ groups. (rows : List (List Cell)) → IsFedWith self.now rows → groups.refused
             ≡ refused_keys self.now.keys self.now.aggs rows) }
     {
-        finish(self.alloc, &self.groups)
+        finish(alloc, &self.groups)
     }
 
     /// How many rows it was fed.
@@ -105,17 +105,16 @@ impl GroupState {
     {
         self.groups.len() as u64
     }
+}
 
-    /// Another state that stands for the same rows, with equal columns and aggregates.
-    pub fn copy(&self) -> Result<Self, AllocError>
-        ensures { IfOk result (λ copy. copy ≡ self.now) }
-    {
-        let keys = Vec::from_slice(self.alloc, self.keys.get())?;
-        let aggs = Vec::from_slice(self.alloc, self.aggs.get())?;
+impl Clone for GroupState {
+    ghost is_clone = { λ a copy. copy ≡ a };
+
+    fn clone(&self) -> Result<Self, AllocError> {
         Ok(GroupState {
             alloc: self.alloc,
-            keys: Cols::new(keys),
-            aggs: Aggs::new(aggs),
+            keys: self.keys.clone()?,
+            aggs: self.aggs.clone()?,
             fed: self.fed,
             groups: self.groups.clone()?,
             changes: Vec::new(self.alloc),

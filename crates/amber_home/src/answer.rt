@@ -12,7 +12,7 @@ pub(crate) fn gather(alloc: Global, flow: &Flow, crew: Vec<Worker>) -> Result<An
     ensures { IfOk result (IsGatheredFrom flow.now crew.items) }
 {
     let operators = flow.get();
-    let columns = operators[operators.len() - 1].schema.copy(alloc)?;
+    let columns = operators[operators.len() - 1].schema.clone()?;
     let mut refused = Vec::new(alloc);
     let mut rows = Rows::new(Vec::new(alloc));
     for worker in crew {

@@ -10,7 +10,7 @@ fn add_cells(row: &Row, cells: &mut Vec<Value>) -> Result<(), AllocError>
 {
     let all = row.get();
     for cell in all {
-        cells.push(cell.copy()?)?;
+        cells.push(cell.clone()?)?;
     }
     Ok(())
 }

@@ -89,21 +89,16 @@ impl JoinState {
 
     /// The probe row followed by each build row whose keys equal its own, in the order in which the build rows
     /// came. No row where no key is equal.
-    pub fn probe(&self, row: &Row) -> Result<Rows, AllocError>
+    pub fn probe(&self, alloc: Global, row: &Row) -> Result<Rows, AllocError>
         requires { self.now.sealed ≡ true }
         ensures { IfOk result
             (λ rows. rows ≡ matches_of self.now.build_keys self.now.probe_keys
             self.now.rows row.now) }
     {
-        let key = Key::of(self.alloc, row, &self.probe_keys)?;
+        let key = Key::of(alloc, row, &self.probe_keys)?;
         match self.table.get(&key) {
-            Some(places) => Ok(Rows::new(matches(
-                self.alloc,
-                row,
-                self.rows.as_slice(),
-                places.get(),
-            )?)),
-            None => Ok(Rows::new(Vec::new(self.alloc))),
+            Some(places) => Ok(Rows::new(matches(alloc, row, self.rows.as_slice(), places.get())?)),
+            None => Ok(Rows::new(Vec::new(alloc))),
         }
     }
 
@@ -120,36 +115,19 @@ impl JoinState {
     {
         self.rows.len() as u64
     }
+}
 
-    /// Another state with equal columns, equal build rows in the same order, and sealed where this one is.
-    pub fn copy(&self) -> Result<Self, AllocError>
-        ensures { IfOk result (λ copy. copy ≡ self.now) }
-    {
+impl Clone for JoinState {
+    ghost is_clone = { λ a copy. copy ≡ a };
+
+    fn clone(&self) -> Result<Self, AllocError> {
         Ok(JoinState {
             alloc: self.alloc,
-            build_keys: copied_cols(self.alloc, &self.build_keys)?,
-            probe_keys: copied_cols(self.alloc, &self.probe_keys)?,
-            rows: copied_rows(self.alloc, self.rows.as_slice())?,
+            build_keys: self.build_keys.clone()?,
+            probe_keys: self.probe_keys.clone()?,
+            rows: self.rows.clone()?,
             table: self.table.clone()?,
             sealed: self.sealed,
         })
     }
-}
-
-// Columns equal to these.
-fn copied_cols(alloc: Global, cols: &Cols) -> Result<Cols, AllocError>
-    ensures { IfOk result (λ copy. copy ≡ cols.now) }
-{
-    Ok(Cols::new(Vec::from_slice(alloc, cols.get())?))
-}
-
-// Rows equal to these, in their order.
-fn copied_rows(alloc: Global, rows: &[Row]) -> Result<Vec<Row>, AllocError>
-    ensures { IfOk result (λ copies. copies.items ≡ rows.now) }
-{
-    let mut copies = Vec::with_capacity(alloc, rows.len())?;
-    for row in rows {
-        copies.push(row.copy()?)?;
-    }
-    Ok(copies)
 }

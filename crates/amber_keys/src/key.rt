@@ -50,7 +50,7 @@ impl Clone for Key {
 
     fn clone(&self) -> Result<Self, AllocError> {
         Ok(Key {
-            row: self.row.copy()?,
+            row: self.row.clone()?,
         })
     }
 }

@@ -11,13 +11,13 @@ yields_if task before from constants (Some row) = yields_row task task.kind befo
 
 -- the rows that something handed to a worker yields, where these were handed before it
 unfoldable pub yields : Task → List Arrival → Arrival → List Value → List (List Value)
-yields task before arrivals constants = yields_if task before arrivals.from constants (suiting task arrivals)
+yields task before arrival constants = yields_if task before arrival.from constants (suiting task arrival)
 
 -- what a worker produces of what it was handed, of which it took as many as there are constants, each under those then in force
 unfoldable pub produce : Task → List Arrival → List Arrival → List (List Value) → List (List Value)
 produce task before [] constants = []
-produce task before (arrivals ∷ more) [] = []
-produce task before (arrivals ∷ more) (constants ∷ later) = yields task before arrivals constants ++ produce task (before ++ arrivals ∷ []) more later
+produce task before (arrival ∷ more) [] = []
+produce task before (arrival ∷ more) (constants ∷ later) = yields task before arrival constants ++ produce task (before ++ arrival ∷ []) more later
 
 -- what a worker produces at the end, once it was handed all of this: the rows of its groups
 unfoldable pub closing : Task → List Arrival → List (List Value)

@@ -42,7 +42,7 @@ row_in columns (Ok row) = if suits_of columns row then Some row else None
 
 -- the row that a worker was handed, if it is one and suits its columns
 abbrev pub suiting : Task → Arrival → Option (List Value)
-suiting task arrivals = row_in (columns_from task arrivals.from) arrivals.what
+suiting task arrival = row_in (columns_from task arrival.from) arrival.what
 
 -- the rows that a worker took and that suit
 abbrev pub rows_in : Task → List Arrival → List (List Value)

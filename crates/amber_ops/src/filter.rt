@@ -55,24 +55,14 @@ impl FilterState {
     {
         self.cond.constant = value;
     }
-
-    /// Another state with an equal condition.
-    pub fn copy(&self) -> Result<Self, AllocError>
-        ensures { IfOk result (λ copy. copy ≡ self.now) }
-    {
-        Ok(FilterState {
-            cond: copied(&self.cond)?,
-        })
-    }
 }
 
-// A condition equal to this one.
-fn copied(cond: &Cond) -> Result<Cond, AllocError>
-    ensures { IfOk result (λ copy. copy ≡ cond.now) }
-{
-    Ok(Cond {
-        column: cond.column,
-        op: cond.op,
-        constant: cond.constant.copy()?,
-    })
+impl Clone for FilterState {
+    ghost is_clone = { λ a copy. copy ≡ a };
+
+    fn clone(&self) -> Result<Self, AllocError> {
+        Ok(FilterState {
+            cond: self.cond.clone()?,
+        })
+    }
 }

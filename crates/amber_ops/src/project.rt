@@ -44,15 +44,15 @@ impl ProjectState {
     {
         row.pick(self.alloc, &self.from)
     }
+}
 
-    /// Another state with the same columns.
-    pub fn copy(&self) -> Result<Self, AllocError>
-        ensures { IfOk result (λ copy. copy ≡ self.now) }
-    {
-        let from = Vec::from_slice(self.alloc, self.from.get())?;
+impl Clone for ProjectState {
+    ghost is_clone = { λ a copy. copy ≡ a };
+
+    fn clone(&self) -> Result<Self, AllocError> {
         Ok(ProjectState {
             alloc: self.alloc,
-            from: Cols::new(from),
+            from: self.from.clone()?,
         })
     }
 }

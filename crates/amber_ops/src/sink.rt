@@ -43,20 +43,22 @@ impl SinkState {
     }
 
     /// The rows that it was fed, in the order of rows. Equal rows all stay.
-    pub fn sorted(&self) -> Result<Rows, AllocError>
+    pub fn sorted(&self, alloc: Global) -> Result<Rows, AllocError>
         ensures { IfOk result (λ rows. rows ≡ sort_rows self.now) }
     {
-        let mut rows = copied(*self.rows.allocator(), self.rows.as_slice())?;
+        let mut rows = copied(alloc, self.rows.as_slice())?;
         sort(&mut rows);
         Ok(Rows::new(rows))
     }
+}
 
-    /// Another state with equal rows in the same order.
-    pub fn copy(&self) -> Result<Self, AllocError>
-        ensures { IfOk result (λ copy. copy ≡ self.now) }
-    {
-        let rows = copied(*self.rows.allocator(), self.rows.as_slice())?;
-        Ok(SinkState { rows })
+impl Clone for SinkState {
+    ghost is_clone = { λ a copy. copy ≡ a };
+
+    fn clone(&self) -> Result<Self, AllocError> {
+        Ok(SinkState {
+            rows: self.rows.clone()?,
+        })
     }
 }
 
@@ -66,7 +68,7 @@ fn copied(alloc: Global, rows: &[Row]) -> Result<Vec<Row>, AllocError>
 {
     let mut copies = Vec::with_capacity(alloc, rows.len())?;
     for row in rows {
-        copies.push(row.copy()?)?;
+        copies.push(row.clone()?)?;
     }
     Ok(copies)
 }

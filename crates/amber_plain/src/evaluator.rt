@@ -53,7 +53,7 @@ fn refuse_groups(op: u32, keys: &[Row], refused: &mut Vec<Refusal>) -> Result<()
         ≡ refused.old.items ++ map (refusal.Group op) keys.now) }
 {
     for key in keys {
-        let key = key.copy()?;
+        let key = key.clone()?;
         refused.push(Refusal::Group { op, key })?;
     }
     Ok(())
@@ -164,7 +164,7 @@ fn answer(
 {
     let operators = flow.get();
     let sink = &operators[operators.len() - 1];
-    let columns = sink.schema.copy(alloc)?;
+    let columns = sink.schema.clone()?;
     let rows = take_rows(alloc, &mut lists, operators.len() as u32);
     Ok(Answer {
         refused: Refusals::new(refused),

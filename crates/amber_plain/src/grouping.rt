@@ -32,8 +32,8 @@ fn fed_with(
     ensures aggs { IfOk result (λ state. state.aggs ≡ aggs.now) }
     ensures rows { IfOk result (λ state. IsFedWith state rows.items) }
 {
-    let keys = Cols::new(Vec::from_slice(alloc, keys.get())?);
-    let aggs = Aggs::new(Vec::from_slice(alloc, aggs.get())?);
+    let keys = keys.clone()?;
+    let aggs = aggs.clone()?;
     let mut state = GroupState::new(alloc, keys, aggs);
     for row in rows {
         add_row(&mut state, &row)?;
@@ -54,5 +54,5 @@ pub fn group_rows(
         (λ groups. groups.refused ≡ refused_keys keys.now aggs.now rows.items) }
 {
     let state = fed_with(alloc, keys, aggs, rows)?;
-    state.finish()
+    state.finish(alloc)
 }

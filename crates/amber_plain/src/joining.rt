@@ -6,13 +6,6 @@ use amber_join::JoinState;
 use amber_rows::{Cols, Row};
 use std::alloc::{AllocError, Global};
 
-// Columns equal to these.
-fn copied(alloc: Global, cols: &Cols) -> Result<Cols, AllocError>
-    ensures { IfOk result (λ copy. copy ≡ cols.now) }
-{
-    Ok(Cols::new(Vec::from_slice(alloc, cols.get())?))
-}
-
 // Keeps a build row.
 fn add_build(state: &mut JoinState, row: Row) -> Result<(), AllocError>
     requires { state.old.sealed ≡ false }
@@ -39,8 +32,8 @@ fn built(
           sealed = true;
         }) }
 {
-    let build_columns = copied(alloc, build_keys)?;
-    let probe_columns = copied(alloc, probe_keys)?;
+    let build_columns = build_keys.clone()?;
+    let probe_columns = probe_keys.clone()?;
     let mut state = JoinState::new(alloc, build_columns, probe_columns);
     for row in build {
         add_build(&mut state, row)?;
@@ -58,7 +51,7 @@ fn probed(alloc: Global, state: &JoinState, probe: Vec<Row>) -> Result<Vec<Row>,
 {
     let mut made = Vec::new(alloc);
     for row in probe {
-        let mut matches = state.probe(&row)?.into_inner();
+        let mut matches = state.probe(alloc, &row)?.into_inner();
         made.append(&mut matches)?;
     }
     Ok(made)

@@ -1,5 +1,6 @@
 ghost use Rattle.std.specs.Prelude.{◌≡◌, IfOk, length};
 
+use std::alloc::AllocError;
 use std::marker::Model;
 
 /// What a group says of the rows with one key. A column is a number from 1.
@@ -43,5 +44,15 @@ impl Aggs {
         ensures { result.now ≡ self.now }
     {
         self.inner.as_slice()
+    }
+}
+
+impl Clone for Aggs {
+    ghost is_clone = { λ a copy. copy ≡ a };
+
+    fn clone(&self) -> Result<Self, AllocError> {
+        Ok(Aggs {
+            inner: self.inner.clone()?,
+        })
     }
 }

@@ -33,13 +33,12 @@ pub struct Column {
     pub kind: ColKind,
 }
 
-impl Column {
-    /// Another column equal to this one.
-    pub fn copy(&self) -> Result<Self, AllocError>
-        ensures { IfOk result (λ column. column ≡ self.now) }
-    {
+impl Clone for Column {
+    ghost is_clone = { λ a copy. copy ≡ a };
+
+    fn clone(&self) -> Result<Self, AllocError> {
         Ok(Column {
-            name: self.name.copy()?,
+            name: self.name.clone()?,
             kind: self.kind,
         })
     }
@@ -81,17 +80,15 @@ impl Schema {
     {
         self.inner.len()
     }
+}
 
-    /// Another list of equal columns.
-    pub fn copy(&self, alloc: Global) -> Result<Self, AllocError>
-        ensures { IfOk result (λ schema. schema ≡ self.now) }
-    {
-        let mut columns = Vec::with_capacity(alloc, self.len())?;
-        let all = self.get();
-        for column in all {
-            columns.push(column.copy()?)?;
-        }
-        Ok(Schema { inner: columns })
+impl Clone for Schema {
+    ghost is_clone = { λ a copy. copy ≡ a };
+
+    fn clone(&self) -> Result<Self, AllocError> {
+        Ok(Schema {
+            inner: self.inner.clone()?,
+        })
     }
 }
 
@@ -122,5 +119,15 @@ impl Cols {
         ensures { result.now ≡ self.now }
     {
         self.inner.as_slice()
+    }
+}
+
+impl Clone for Cols {
+    ghost is_clone = { λ a copy. copy ≡ a };
+
+    fn clone(&self) -> Result<Self, AllocError> {
+        Ok(Cols {
+            inner: self.inner.clone()?,
+        })
     }
 }

@@ -3,6 +3,7 @@ ghost use Rattle.amber_rows.specs.Cond.{holds_of, meets};
 
 use crate::row::Row;
 use crate::value::Value;
+use std::alloc::AllocError;
 use std::cmp::Ordering;
 
 /// How a cell is compared with a constant.
@@ -38,6 +39,18 @@ pub struct Cond {
     pub column: u32,
     pub op: Cmp,
     pub constant: Value,
+}
+
+impl Clone for Cond {
+    ghost is_clone = { λ a copy. copy ≡ a };
+
+    fn clone(&self) -> Result<Self, AllocError> {
+        Ok(Cond {
+            column: self.column,
+            op: self.op,
+            constant: self.constant.clone()?,
+        })
+    }
 }
 
 /// Whether a condition holds of a row. It does not where the row has no such column.

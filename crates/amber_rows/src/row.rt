@@ -90,7 +90,7 @@ impl Row {
     {
         let found = self.cell(column);
         if let Some(cell) = found {
-            cells.push(cell.copy()?)?;
+            cells.push(cell.clone()?)?;
         }
         Ok(())
     }
@@ -106,19 +106,15 @@ impl Row {
         }
         Ok(Row::new(cells))
     }
+}
 
-    /// Another row of equal cells.
-    pub fn copy(&self) -> Result<Self, AllocError>
-        ensures { IfOk result (λ row. row ≡ self.now) }
-    {
-        let mut cells = Vec::with_capacity(*self.inner.allocator(), self.len())?;
-        let all = self.get();
-        for cell in all {
-            cells.push(cell.copy()?)?;
-        }
+impl Clone for Row {
+    ghost is_clone = { λ a copy. copy ≡ a };
+
+    fn clone(&self) -> Result<Self, AllocError> {
         Ok(Row {
             key: self.key,
-            inner: cells,
+            inner: self.inner.clone()?,
         })
     }
 }

@@ -45,11 +45,12 @@ impl Text {
     {
         self.inner.len()
     }
+}
 
-    /// Another text of the same bytes.
-    pub fn copy(&self) -> Result<Self, AllocError>
-        ensures { IfOk result (λ text. text ≡ self.now) }
-    {
+impl Clone for Text {
+    ghost is_clone = { λ a copy. copy ≡ a };
+
+    fn clone(&self) -> Result<Self, AllocError> {
         Ok(Text {
             inner: self.inner.clone()?,
         })
@@ -138,11 +139,12 @@ impl Bytes {
     {
         self.inner.len()
     }
+}
 
-    /// The same bytes once more.
-    pub fn copy(&self) -> Result<Self, AllocError>
-        ensures { IfOk result (λ bytes. bytes ≡ self.now) }
-    {
+impl Clone for Bytes {
+    ghost is_clone = { λ a copy. copy ≡ a };
+
+    fn clone(&self) -> Result<Self, AllocError> {
         Ok(Bytes {
             inner: self.inner.clone()?,
         })

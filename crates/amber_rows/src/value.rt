@@ -12,14 +12,13 @@ pub enum Value {
     Text(Text),
 }
 
-impl Value {
-    /// Another value equal to this one.
-    pub fn copy(&self) -> Result<Self, AllocError>
-        ensures { IfOk result (λ value. value ≡ self.now) }
-    {
+impl Clone for Value {
+    ghost is_clone = { λ a copy. copy ≡ a };
+
+    fn clone(&self) -> Result<Self, AllocError> {
         match self {
             Value::Int(number) => Ok(Value::Int(*number)),
-            Value::Text(text) => Ok(Value::Text(text.copy()?)),
+            Value::Text(text) => Ok(Value::Text(text.clone()?)),
         }
     }
 }

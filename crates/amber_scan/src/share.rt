@@ -12,13 +12,12 @@ pub struct Scanned {
     pub what: Result<Row, RowFault>,
 }
 
-impl Scanned {
-    /// Another record of the same number and an equal row, or the same fault.
-    pub fn copy(&self) -> Result<Self, AllocError>
-        ensures { IfOk result (λ one. one ≡ self.now) }
-    {
+impl Clone for Scanned {
+    ghost is_clone = { λ a copy. copy ≡ a };
+
+    fn clone(&self) -> Result<Self, AllocError> {
         let what = match &self.what {
-            Ok(row) => Ok(row.copy()?),
+            Ok(row) => Ok(row.clone()?),
             Err(fault) => Err(*fault),
         };
         Ok(Scanned {
@@ -75,15 +74,14 @@ impl Share {
     {
         self.records.len() as u64
     }
+}
 
-    /// Another share with the same records left.
-    pub fn copy(&self) -> Result<Self, AllocError>
-        ensures { IfOk result (λ share. share ≡ self.now) }
-    {
-        let mut records = VecDeque::with_capacity(*self.records.allocator(), self.records.len())?;
-        for one in self.records.iter() {
-            records.push_back(one.copy()?)?;
-        }
-        Ok(Share { records })
+impl Clone for Share {
+    ghost is_clone = { λ a copy. copy ≡ a };
+
+    fn clone(&self) -> Result<Self, AllocError> {
+        Ok(Share {
+            records: self.records.clone()?,
+        })
     }
 }

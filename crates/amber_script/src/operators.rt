@@ -74,6 +74,6 @@ pub fn read_constant(kind: ColKind, word: &Text) -> Result<Result<Value, ScriptW
             Some(number) => Ok(Ok(Value::Int(number))),
             None => Ok(Err(ScriptWhy::Mismatch)),
         },
-        ColKind::Text => Ok(Ok(Value::Text(word.copy()?))),
+        ColKind::Text => Ok(Ok(Value::Text(word.clone()?))),
     }
 }

@@ -95,12 +95,12 @@ const GROUPS: [Case; 4] = [
 fn fed(alloc: Global, keys: &str, wanted: &str, written: &str) -> Result<GroupState, Fail> {
     let mut state = GroupState::new(alloc, cols(alloc, keys)?, aggs(alloc, wanted)?);
     feed_all(alloc, &mut state, written)?;
-    Ok(state.copy()?)
+    Ok(state.clone()?)
 }
 
 // Whether a group gives these rows, and refuses these keys.
 fn gives(alloc: Global, state: &GroupState, want: &str, refused: &str) -> Result<bool, Fail> {
-    let found = state.finish()?;
+    let found = state.finish(alloc)?;
     let want = rows(alloc, want)?;
     let refused = rows(alloc, refused)?;
     Ok(found.rows.get() == want.as_slice() && found.refused.get() == refused.as_slice())

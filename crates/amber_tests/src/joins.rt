@@ -26,7 +26,7 @@ fn probed(alloc: Global, state: &JoinState, written: &str) -> Result<Vec<Row>, F
 {
     let mut made = Vec::new(alloc);
     for row in rows(alloc, written)? {
-        for found in state.probe(&row)?.into_inner() {
+        for found in state.probe(alloc, &row)?.into_inner() {
             made.push(found)?;
         }
     }
@@ -92,7 +92,7 @@ fn built(
 {
     let mut state = JoinState::new(alloc, cols(alloc, build_keys)?, cols(alloc, probe_keys)?);
     build_all(alloc, &mut state, written)?;
-    let mut copy = state.copy()?;
+    let mut copy = state.clone()?;
     copy.seal();
     Ok(copy)
 }

@@ -32,7 +32,7 @@ fn a_filter_gives_the_rows_that_hold_under_the_constant_in_force(
     });
     let fed = "'a 3 / 'b 1 / 'a 3 / 'c 2 / 'd";
     let under_two = given(alloc, &mut filter, fed)?;
-    let mut copy = filter.copy()?;
+    let mut copy = filter.clone()?;
     filter.set(Value::Int(3));
     let cases = [
         (under_two, "'a 3 / 'a 3 / 'c 2"),
@@ -53,7 +53,7 @@ fn a_filter_gives_the_rows_that_hold_under_the_constant_in_force(
 fn a_projection_gives_the_cells_in_the_order_of_its_columns(rt: HostRuntime) -> Result<(), Fail> {
     let alloc = rt.alloc();
     let mut project = ProjectState::new(alloc, cols(alloc, "3 1 3")?);
-    let mut copy = project.copy()?;
+    let mut copy = project.clone()?;
     for (fed, want) in [("7 'pear 12", "12 7 12"), ("'x 0 'y 1", "'y 'x 'y")] {
         let want = row(alloc, want)?;
         assert_eq!(rt; project.feed(&row(alloc, fed)?)?, want, "of {fed}");
@@ -80,14 +80,14 @@ fn feed_all(alloc: Global, sink: &mut SinkState, written: &str) -> Result<(), Fa
 fn a_sink_sorts_its_rows_and_keeps_equal_ones(rt: HostRuntime) -> Result<(), Fail> {
     let alloc = rt.alloc();
     let mut sink = SinkState::new(alloc);
-    assert!(rt; sink.sorted()?.is_empty());
+    assert!(rt; sink.sorted(alloc)?.is_empty());
     feed_all(alloc, &mut sink, "2 'b / 'a / 2 'b / -7")?;
-    let copy = sink.copy()?;
+    let copy = sink.clone()?;
     feed_all(alloc, &mut sink, "'a / 2")?;
     let cases = [
-        (sink.sorted()?, "-7 / 2 / 2 'b / 2 'b / 'a / 'a"),
-        (copy.sorted()?, "-7 / 2 'b / 2 'b / 'a"),
-        (sink.sorted()?, "-7 / 2 / 2 'b / 2 'b / 'a / 'a"),
+        (sink.sorted(alloc)?, "-7 / 2 / 2 'b / 2 'b / 'a / 'a"),
+        (copy.sorted(alloc)?, "-7 / 2 'b / 2 'b / 'a"),
+        (sink.sorted(alloc)?, "-7 / 2 / 2 'b / 2 'b / 'a / 'a"),
     ];
     for (found, want) in &cases {
         assert_eq!(rt; found.get(), rows(alloc, want)?.as_slice(), "not {want}");

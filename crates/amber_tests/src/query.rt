@@ -10,7 +10,8 @@ use std::alloc::Global;
 
 /// One column of numbers.
 pub fn columns(alloc: Global) -> Result<Schema, NoMemory>
-    ensures { IfOk result (λ columns. columns ≡ record { name = codes "n"; kind = ColKind.Int } ∷ []) }
+    ensures { IfOk result
+        (λ columns. columns ≡ record { name = codes "n"; kind = ColKind.Int } ∷ []) }
 {
     let name = text(alloc, "n")?;
     let kind = ColKind::Int;

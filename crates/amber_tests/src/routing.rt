@@ -4,43 +4,111 @@ use amber_flow::read_flow;
 use amber_rows::{NoMemory, key_bytes, route};
 use std::test::Fail;
 
-// Bytes, how many workers, and the worker: vectors of FNV-1a with 64 bits, by two moduli that show its low and its high half.
-const HASHES: [(&str, u32, u32); 6] = [
-    ("", 2_147_483_648, 69_346_085),
-    ("", 4_294_967_295, 1_343_537_162),
-    ("a", 2_147_483_648, 100_789_388),
-    ("a", 4_294_967_295, 895_863_001),
-    ("foobar", 2_147_483_648, 2_000_250_856),
-    ("foobar", 4_294_967_295, 2_093_853_018),
+// Bytes, and the worker that they give of so many. The bytes are vectors of FNV-1a with 64 bits, by two moduli that show its low and
+// its high half.
+struct HashCase {
+    bytes: &'static str,
+    workers: u32,
+    worker: u32,
+}
+
+const HASHES: [HashCase; 6] = [
+    HashCase {
+        bytes: "",
+        workers: 2_147_483_648,
+        worker: 69_346_085,
+    },
+    HashCase {
+        bytes: "",
+        workers: 4_294_967_295,
+        worker: 1_343_537_162,
+    },
+    HashCase {
+        bytes: "a",
+        workers: 2_147_483_648,
+        worker: 100_789_388,
+    },
+    HashCase {
+        bytes: "a",
+        workers: 4_294_967_295,
+        worker: 895_863_001,
+    },
+    HashCase {
+        bytes: "foobar",
+        workers: 2_147_483_648,
+        worker: 2_000_250_856,
+    },
+    HashCase {
+        bytes: "foobar",
+        workers: 4_294_967_295,
+        worker: 2_093_853_018,
+    },
 ];
 
 #[test]
 fn hashes_are_those_of_the_published_vectors(rt: HostRuntime) -> Result<(), Fail> {
-    for (bytes, workers, wanted) in HASHES {
-        assert_eq!(rt; route(bytes.as_bytes(), workers), wanted);
+    for case in HASHES {
+        assert_eq!(rt; route(case.bytes.as_bytes(), case.workers), case.worker);
     }
     Ok(())
 }
 
-// A row, key columns, the key's bytes, and its worker of 16 and of 4.
-const KEYS: [(&str, &str, &str, u32, u32); 5] = [
-    ("'nut", "1", "t3:nut;", 14, 2),
-    ("7 'bolt", "2", "t4:bolt;", 15, 3),
-    ("'cog 3", "1", "t3:cog;", 2, 2),
-    ("' -7", "2 1", "i-7;t0:;", 14, 2),
-    ("1", "", "", 5, 1),
+// A row, the columns of its key, the key's bytes, and its worker of 16 and of 4.
+struct KeyCase {
+    row: &'static str,
+    columns: &'static str,
+    bytes: &'static str,
+    of_16: u32,
+    of_4: u32,
+}
+
+const KEYS: [KeyCase; 5] = [
+    KeyCase {
+        row: "'nut",
+        columns: "1",
+        bytes: "t3:nut;",
+        of_16: 14,
+        of_4: 2,
+    },
+    KeyCase {
+        row: "7 'bolt",
+        columns: "2",
+        bytes: "t4:bolt;",
+        of_16: 15,
+        of_4: 3,
+    },
+    KeyCase {
+        row: "'cog 3",
+        columns: "1",
+        bytes: "t3:cog;",
+        of_16: 2,
+        of_4: 2,
+    },
+    KeyCase {
+        row: "' -7",
+        columns: "2 1",
+        bytes: "i-7;t0:;",
+        of_16: 14,
+        of_4: 2,
+    },
+    KeyCase {
+        row: "1",
+        columns: "",
+        bytes: "",
+        of_16: 5,
+        of_4: 1,
+    },
 ];
 
 #[test]
 fn keys_of_rows_go_to_their_workers(rt: HostRuntime) -> Result<(), Fail> {
     let alloc = rt.alloc();
-    for (written, keys, bytes, of_16, of_4) in KEYS {
-        let key = key_bytes(alloc, &row(alloc, written)?, &cols(alloc, keys)?)?;
-        assert_eq!(rt; key.as_slice(), bytes.as_bytes());
-        assert_eq!(rt;
-            (route(key.as_slice(), 16), route(key.as_slice(), 4)),
-            (of_16, of_4)
-        );
+    for case in KEYS {
+        let columns = cols(alloc, case.columns)?;
+        let key = key_bytes(alloc, &row(alloc, case.row)?, &columns)?;
+        assert_eq!(rt; key.as_slice(), case.bytes.as_bytes());
+        assert_eq!(rt; route(key.as_slice(), 16), case.of_16);
+        assert_eq!(rt; route(key.as_slice(), 4), case.of_4);
     }
     Ok(())
 }
@@ -53,30 +121,52 @@ const WORKFLOW: &str = r#"{"operators":[
 {"id":"s","kind":"sink","input":"j"}]}"#;
 
 // Of each worker, those that send to it and those to which it sends.
-const LINKS: [(u32, &str, &str); 5] = [
-    (0, "", "3"),
-    (1, "", "2"),
-    (2, "1", "3"),
-    (3, "0 2", "4"),
-    (4, "3", ""),
+struct LinkCase {
+    worker: u32,
+    senders: &'static str,
+    receivers: &'static str,
+}
+
+const LINKS: [LinkCase; 5] = [
+    LinkCase {
+        worker: 0,
+        senders: "",
+        receivers: "3",
+    },
+    LinkCase {
+        worker: 1,
+        senders: "",
+        receivers: "2",
+    },
+    LinkCase {
+        worker: 2,
+        senders: "1",
+        receivers: "3",
+    },
+    LinkCase {
+        worker: 3,
+        senders: "0 2",
+        receivers: "4",
+    },
+    LinkCase {
+        worker: 4,
+        senders: "3",
+        receivers: "",
+    },
 ];
 
 #[test]
 fn workers_know_their_senders_and_receivers(rt: HostRuntime) -> Result<(), Fail> {
     let alloc = rt.alloc();
     let flow = read_flow(alloc, WORKFLOW.as_bytes())?;
-    for (worker, senders, receivers) in LINKS {
-        if worker >= flow.workers() {
+    for case in LINKS {
+        if case.worker >= flow.workers() {
             return Err(NoMemory.into());
         }
-        assert_eq!(rt;
-            flow.senders(alloc, worker)?.get(),
-            cols(alloc, senders)?.get()
-        );
-        assert_eq!(rt;
-            flow.receivers(alloc, worker)?.get(),
-            cols(alloc, receivers)?.get()
-        );
+        let senders = flow.senders(alloc, case.worker)?;
+        assert_eq!(rt; senders.get(), cols(alloc, case.senders)?.get());
+        let receivers = flow.receivers(alloc, case.worker)?;
+        assert_eq!(rt; receivers.get(), cols(alloc, case.receivers)?.get());
     }
     Ok(())
 }

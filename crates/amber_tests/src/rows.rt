@@ -30,14 +30,80 @@ fn rows_of_other_widths_and_kinds_have_an_order_too(rt: HostRuntime) -> Result<(
     Ok(())
 }
 
-// An `x` for each column and constant with which the condition of this sign holds of the row, else a `.`.
-fn marks(alloc: Global, row: &Row, op: Cmp, cases: &[(u32, &str)]) -> Result<String, Fail> {
+// A column, and a constant with which its cell is compared.
+struct Compared {
+    column: u32,
+    constant: &'static str,
+}
+
+const COMPARED: [Compared; 6] = [
+    Compared {
+        column: 1,
+        constant: "7",
+    },
+    Compared {
+        column: 1,
+        constant: "'7",
+    },
+    Compared {
+        column: 2,
+        constant: "'pear",
+    },
+    Compared {
+        column: 2,
+        constant: "9",
+    },
+    Compared {
+        column: 0,
+        constant: "7",
+    },
+    Compared {
+        column: 3,
+        constant: "7",
+    },
+];
+
+// A sign, and with which of these it holds of the row: an `x` where it does, else a `.`.
+struct SignCase {
+    op: Cmp,
+    marks: &'static str,
+}
+
+const SIGNS: [SignCase; 6] = [
+    SignCase {
+        op: Cmp::Eq,
+        marks: "x.x...",
+    },
+    SignCase {
+        op: Cmp::Ne,
+        marks: ".x.x..",
+    },
+    SignCase {
+        op: Cmp::Lt,
+        marks: ".x....",
+    },
+    SignCase {
+        op: Cmp::Le,
+        marks: "xxx...",
+    },
+    SignCase {
+        op: Cmp::Gt,
+        marks: "...x..",
+    },
+    SignCase {
+        op: Cmp::Ge,
+        marks: "x.xx..",
+    },
+];
+
+// The marks of a sign.
+fn marks(alloc: Global, row: &Row, op: Cmp) -> Result<String, Fail> {
     let mut found = String::new(alloc);
-    for (column, constant) in cases {
+    for case in COMPARED {
         let cond = Cond {
-            column: *column,
+            column: case.column,
             op,
-            constant: cell(alloc, constant)?,
+            constant: cell(alloc, case.constant)?,
         };
         found.push(if holds(&cond, row) { 'x' } else { '.' })?;
     }
@@ -47,25 +113,9 @@ fn marks(alloc: Global, row: &Row, op: Cmp, cases: &[(u32, &str)]) -> Result<Str
 #[test]
 fn a_condition_compares_a_cell_with_a_constant_of_any_kind(rt: HostRuntime) -> Result<(), Fail> {
     let row = row(rt.alloc(), "7 'pear")?;
-    let cases = [
-        (1, "7"),
-        (1, "'7"),
-        (2, "'pear"),
-        (2, "9"),
-        (0, "7"),
-        (3, "7"),
-    ];
-    let signs = [
-        (Cmp::Eq, "x.x..."),
-        (Cmp::Ne, ".x.x.."),
-        (Cmp::Lt, ".x...."),
-        (Cmp::Le, "xxx..."),
-        (Cmp::Gt, "...x.."),
-        (Cmp::Ge, "x.xx.."),
-    ];
-    for (op, want) in signs {
-        let found = marks(rt.alloc(), &row, op, &cases)?;
-        assert_eq!(rt; found.as_str(), want, "{op:?}");
+    for case in SIGNS {
+        let found = marks(rt.alloc(), &row, case.op)?;
+        assert_eq!(rt; found.as_str(), case.marks, "{:?}", case.op);
     }
     Ok(())
 }
@@ -73,13 +123,13 @@ fn a_condition_compares_a_cell_with_a_constant_of_any_kind(rt: HostRuntime) -> R
 #[test]
 fn texts_bytes_and_columns_copy(rt: HostRuntime) -> Result<(), Fail> {
     let name = text(rt.alloc(), "hé")?;
-    assert_eq!(rt; name.copy()?.get(), "hé");
+    assert_eq!(rt; name.clone()?.get(), "hé");
     assert_eq!(rt; name.len(), 3);
     let bytes = Bytes::new(Vec::from_slice(rt.alloc(), b"a,b")?);
-    assert_eq!(rt; bytes.copy()?.get(), bytes.get());
+    assert_eq!(rt; bytes.clone()?.get(), bytes.get());
     assert_eq!(rt; bytes.len(), 3);
     let schema = two_columns(rt.alloc())?;
-    let copy = schema.copy(rt.alloc())?;
+    let copy = schema.clone()?;
     assert_eq!(rt; (schema.len(), copy.len()), (2, 2));
     assert_eq!(rt;
         format!(in rt.alloc(); "{copy:?}")?,
@@ -91,7 +141,7 @@ fn texts_bytes_and_columns_copy(rt: HostRuntime) -> Result<(), Fail> {
 #[test]
 fn rows_copy_and_give_their_cells(rt: HostRuntime) -> Result<(), Fail> {
     let row = row(rt.alloc(), "7 'pear")?;
-    let copy = row.copy()?;
+    let copy = row.clone()?;
     assert_eq!(rt; row, copy);
     assert_eq!(rt; (row.len(), row.is_empty()), (2, false));
     let columns = Cols::new(Vec::from_slice(rt.alloc(), &[2, 3, 1, 0, 2])?);
@@ -108,7 +158,7 @@ fn cells_print_as_numbers_and_texts(rt: HostRuntime) -> Result<(), Fail> {
     let row = row(rt.alloc(), "-12 'a 'b,c")?;
     let mut printed = String::new(rt.alloc());
     for value in row.get() {
-        let copy = value.copy()?;
+        let copy = value.clone()?;
         printed.push_str(format!(in rt.alloc(); "{copy};")?.as_str())?;
     }
     assert_eq!(rt; printed.as_str(), "-12;a;b,c;");

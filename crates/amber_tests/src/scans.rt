@@ -85,7 +85,7 @@ fn a_copy_has_what_is_left(rt: HostRuntime) -> Result<(), Fail> {
     for mut share in shares {
         let before = share.left();
         assert!(rt; share.next().is_some());
-        let mut copy = share.copy()?;
+        let mut copy = share.clone()?;
         assert_eq!(rt; share.left() + 1, before);
         assert_eq!(rt; copy.left(), share.left());
         assert_eq!(rt;

@@ -1,5 +1,5 @@
 -- The links of a worker.
-use Rattle.std.specs.Prelude.{◌≡◌, ℕ, ◌+◌, ◌==◌, ◌<◌, ◌≤◌, ◌^◌, List, ◌∷◌, length, slice_index_or, MatchOption, Option, Bool, false, true}
+use Rattle.std.specs.Prelude.{◌≡◌, ℕ, ◌+◌, ◌==◌, ◌<◌, ◌≤◌, ◌^◌, List, ◌∷◌, length, map, slice_index_or, MatchOption, Option, Bool, false, true}
 use Rattle.std.specs.List.{list_any}
 use Rattle.amber_rows.specs.Routing.{key_bytes_of, route_of}
 use Rattle.amber_rows.specs.declared.value.Value.{Value}
@@ -33,6 +33,10 @@ pub record EmitsFirst (to : Route) (rows : List (List Value)) (outs : List Recei
   pub row : List Value
   pub first : rows ≡ row ∷ later
   pub handed : IsHandedOn (number_to to row) row outs after
+
+-- nothing was sent: the rings of the receivers are as they were
+abbrev pub HaveSentNothing : List Receiver → List Receiver → Type 0
+HaveSentNothing old new = map (λ one. one.link.ring) new ≡ map (λ one. one.link.ring) old
 
 -- ---- from whom a batch comes
 

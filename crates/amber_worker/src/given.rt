@@ -22,7 +22,7 @@ pub(crate) fn refused_keys(
 {
     match operator_state {
         OperatorState::Group(state) => {
-            let group_result = state.finish()?;
+            let group_result = state.finish(alloc)?;
             Ok(group_result.refused.into_inner())
         }
         OperatorState::Scan

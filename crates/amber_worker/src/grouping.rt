@@ -7,7 +7,7 @@ ghost use Rattle.amber_worker.specs.Steps.{Feeds, FeedsNext, GivesGroups, Groups
 
 use amber_group::GroupState;
 use amber_rows::{Row, Schema, suits};
-use std::alloc::AllocError;
+use std::alloc::{AllocError, Global};
 use std::collections::VecDeque;
 
 // Feeds a row, if it suits.
@@ -24,10 +24,10 @@ fn feed(state: &mut GroupState, columns: &Schema, row: &Row) -> Result<(), Alloc
 }
 
 // The rows of the groups.
-pub(crate) fn rows_of_groups(state: &GroupState) -> Result<VecDeque<Row>, AllocError>
+pub(crate) fn rows_of_groups(alloc: Global, state: &GroupState) -> Result<VecDeque<Row>, AllocError>
     ensures { IfOk result (λ rows. GivesGroups state.now true rows.items) }
 {
-    let group_result = state.finish()?;
+    let group_result = state.finish(alloc)?;
     Ok(VecDeque::from_vec(group_result.rows.into_inner()))
 }
 
@@ -43,9 +43,9 @@ fn feed_last(
     ensures state_on_err { OnErr result (state.new ≡ state.old) }
     ensures pending_on_err { OnErr result (pending.new.items ≡ pending.old.items) }
 {
-    let mut fed = state.copy()?;
+    let mut fed = state.clone()?;
     feed(&mut fed, columns, row)?;
-    let mut last = rows_of_groups(&fed)?;
+    let mut last = rows_of_groups(*pending.allocator(), &fed)?;
     pending.append(&mut last)?;
     *state = fed;
     Ok(())

@@ -43,7 +43,7 @@ fn probe_first(
     let Some(next) = rows.front() else {
         unreachable!()
     };
-    let found = state.probe(next)?;
+    let found = state.probe(*pending.allocator(), next)?;
     let mut matches = VecDeque::from_vec(found.into_inner());
     pending.append(&mut matches)?;
     let Some(_row) = rows.pop_front() else {

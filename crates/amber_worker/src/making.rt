@@ -7,7 +7,7 @@ ghost use Rattle.amber_rows.specs.Columns.{columns_at};
 ghost use Rattle.amber_rows.specs.declared.value.Value.{Value as Cell};
 ghost use Rattle.amber_meaning.specs.Plan.{built_columns};
 ghost use Rattle.amber_worker.specs.Links.{IsSoundRoute, number_to};
-ghost use Rattle.amber_worker.specs.Made.{AreFreshSenders, IsFreshIn, IsOperatorStateOf, builds_for, from_of, handing_operator, is_join, link_of, to_of};
+ghost use Rattle.amber_worker.specs.Made.{AreFreshSenders, IsFreshIn, IsOperatorStateOf, builds_for, from_of, handing_operator, end_of, is_join, out_of, to_of};
 
 use crate::operator_state::OperatorState;
 use crate::route::Route;
@@ -18,42 +18,15 @@ use amber_ops::{FilterState, ProjectState};
 use amber_rows::{Aggs, Cols, Cond, Flow, Schema, What};
 use std::alloc::{AllocError, Global};
 
-// A condition equal to this one.
-fn condition_of(cond: &Cond) -> Result<Cond, AllocError>
-    ensures { IfOk result (λ copy. copy ≡ cond.now) }
-{
-    Ok(Cond {
-        column: cond.column,
-        op: cond.op,
-        constant: cond.constant.copy()?,
-    })
-}
-
-// Columns equal to these.
-fn copied_cols(alloc: Global, cols: &Cols) -> Result<Cols, AllocError>
-    ensures { IfOk result (λ copy. copy ≡ cols.now) }
-{
-    Ok(Cols::new(Vec::from_slice(alloc, cols.get())?))
-}
-
-// Aggregates equal to these.
-fn copied_aggs(alloc: Global, aggs: &Aggs) -> Result<Aggs, AllocError>
-    ensures { IfOk result (λ copy. copy ≡ aggs.now) }
-{
-    Ok(Aggs::new(Vec::from_slice(alloc, aggs.get())?))
-}
-
 // What a worker of this kind does with a row.
 pub(crate) fn operator_state_of(alloc: Global, what: &What) -> Result<OperatorState, AllocError>
     ensures { IfOk result (λ operator_state. IsOperatorStateOf operator_state what.now) }
 {
     match what {
         What::Scan { .. } => Ok(OperatorState::Scan),
-        What::Filter { cond, .. } => Ok(OperatorState::Filter(FilterState::new(condition_of(
-            cond,
-        )?))),
+        What::Filter { cond, .. } => Ok(OperatorState::Filter(FilterState::new(cond.clone()?))),
         What::Project { from, .. } => {
-            let columns = copied_cols(alloc, from)?;
+            let columns = from.clone()?;
             Ok(OperatorState::Project(ProjectState::new(alloc, columns)))
         }
         What::Join {
@@ -61,13 +34,13 @@ pub(crate) fn operator_state_of(alloc: Global, what: &What) -> Result<OperatorSt
             probe_keys,
             ..
         } => {
-            let build = copied_cols(alloc, build_keys)?;
-            let probe = copied_cols(alloc, probe_keys)?;
+            let build = build_keys.clone()?;
+            let probe = probe_keys.clone()?;
             Ok(OperatorState::Join(JoinState::new(alloc, build, probe)))
         }
         What::Group { keys, aggs, .. } => {
-            let keys = copied_cols(alloc, keys)?;
-            let aggs = copied_aggs(alloc, aggs)?;
+            let keys = keys.clone()?;
+            let aggs = aggs.clone()?;
             Ok(OperatorState::Group(GroupState::new(alloc, keys, aggs)))
         }
         What::Sink { .. } => Ok(OperatorState::Sink),
@@ -94,7 +67,7 @@ fn schema_of(alloc: Global, flow: &Flow, op: u32) -> Result<Schema, AllocError>
 {
     match flow.operator(op) {
         None => Ok(Schema::new(Vec::new(alloc))),
-        Some(operator) => operator.schema.copy(alloc),
+        Some(operator) => operator.schema.clone(),
     }
 }
 
@@ -163,7 +136,7 @@ pub(crate) fn senders_of(
     requires fresh { All IsFreshIn ins.items }
     ensures numbers { IfOk result (λ made. map from_of made.items ≡ senders_of flow.now worker) }
     ensures fresh { IfOk result (λ made. AreFreshSenders flow.now what.now made.items) }
-    ensures rings { IfOk result (λ made. map (λ one. one.link.ring) made.items ≡ map (λ into. into.ring) ins.items) }
+    ensures ends { IfOk result (λ made. map end_of made.items ≡ ins.items) }
 {
     Err(AllocError)
 }
@@ -178,9 +151,17 @@ pub(crate) fn receivers_of(
     requires there { worker < crew_of flow.now }
     requires all { length outs.items ≡ length (receivers_of flow.now worker) }
     ensures numbers { IfOk result (λ made. map to_of made.items ≡ receivers_of flow.now worker) }
-    ensures links { IfOk result (λ made. map link_of made.items ≡ outs.items) }
+    ensures links { IfOk result (λ made. map out_of made.items ≡ outs.items) }
 {
-    Err(AllocError)
+    let found = flow.receivers(alloc, worker)?;
+    let numbers = found.get();
+    let mut receivers = Vec::new(alloc);
+    let mut place: usize = 0;
+    for link in outs {
+        receivers.push(Receiver::new(numbers[place], link))?;
+        place += 1;
+    }
+    Ok(receivers)
 }
 
 // The keys by which the rows of an operator go into this kind of operator, if they go by keys.

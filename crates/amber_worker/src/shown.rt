@@ -17,7 +17,7 @@ pub(crate) fn first_copy(rows: &VecDeque<Row>) -> Result<Option<Row>, AllocError
 {
     match rows.front() {
         None => Ok(None),
-        Some(row) => Ok(Some(row.copy()?)),
+        Some(row) => Ok(Some(row.clone()?)),
     }
 }
 

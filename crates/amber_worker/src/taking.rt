@@ -290,7 +290,7 @@ pub(crate) fn closing_of(
     }
     match operator_state {
         OperatorState::Group(state) => {
-            let last = rows_of_groups(state)?;
+            let last = rows_of_groups(alloc, state)?;
             Ok(last)
         }
         OperatorState::Scan

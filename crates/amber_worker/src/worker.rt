@@ -3,13 +3,14 @@ ghost use Rattle.std.specs.List.{list_any};
 ghost use Rattle.amber_rows.specs.Crew.{crew_of, op_of, receivers_of, senders_of, what_at};
 ghost use Rattle.amber_rows.specs.Kinds.{is_scan};
 ghost use Rattle.amber_link.specs.Links.{has_some};
-ghost use Rattle.amber_link.specs.Sides.{have_all_ended};
+ghost use Rattle.amber_rows.specs.Lists.{first_of};
+ghost use Rattle.amber_link.specs.Sides.{have_all_ended, numbers_waiting};
 ghost use Rattle.amber_worker.specs.WorkerState.{has_ready, steps_made};
 ghost use Rattle.amber_worker.specs.Steps.{EmitsRow, Finishes, IsCalm, IsShown, TakesBatch, TakesRow};
 ghost use Rattle.amber_worker.specs.Made.{IsFresh, IsFreshIn, IsFreshOut, end_of, link_of, roomless};
 ghost use Rattle.amber_worker.specs.AtPosition.{HasSameEnds, HasTurned, IsGivenOf, IsLookedAt, IsNextTurn, IsViewOf, Keeps};
 ghost use Rattle.amber_worker.specs.Changes.{MaySet, ShowsSet, StandsAtLeg, StandsNew, wants_batch, with_leg, with_value};
-ghost use Rattle.amber_worker.specs.Links.{MayTakeAt, Passes};
+ghost use Rattle.amber_worker.specs.Links.{HaveSentNothing, MayTakeAt, Passes};
 ghost use Rattle.amber_worker.specs.Pairs.{AreJoined, AreSettledAt, Offers, OffersAll, PassesOn, StaysAt};
 
 use crate::given::{Given, add_keys, refused_keys};
@@ -26,7 +27,7 @@ use crate::taking::{Gains, Rest, close, closing_of, is_last, side_columns, take_
 use crate::turn::Turn;
 use amber_link::{
     Found, In, Out, Receiver, Sender, end_all, has_receiver, has_sender, have_built, have_ended,
-    is_empty_at, ready_place, reserve_ends, take_at,
+    is_empty_at, ready_place, reserve_ends, take_at, waiting_receiver,
 };
 use amber_log::{Entries, Entry};
 use amber_meaning::{Refusals, WorkerView};
@@ -306,6 +307,8 @@ impl Worker {
         ensures moved { IfOk result (λ turn. HasTurned turn self.old self.new) }
         ensures err { OnErr result (IsLookedAt self.old self.new) }
         ensures ends { HasSameEnds self.old self.new }
+        ensures unsent { HaveSentNothing self.old.outs self.new.outs }
+        ensures unlooked { wants_batch self.old ≡ false → self.new.ins ≡ self.old.ins }
     {
         if self.is_over() {
             return Ok(Turn::Ended);
@@ -338,7 +341,8 @@ impl Worker {
 
     /// Whether the worker has nothing more to do.
     pub fn is_finished(&self) -> bool
-        ensures { result ≡ self.now.finished }
+        ensures over { result ≡ self.now.finished }
+        ensures calm { IsCalm self.now }
     {
         self.finished
     }
@@ -377,6 +381,16 @@ impl Worker {
         ensures { result ≡ nat_lt (steps_made self.now) (2 ^ 40) }
     {
         self.steps() < MOST_STEPS
+    }
+
+    /// The first of its receivers for which a batch waits to be sent, by its running number.
+    pub fn first_waiting(&self) -> Option<u32>
+        ensures first { result ≡ first_of (numbers_waiting self.now.outs) }
+        ensures none { IfNone result (All (λ one. one.link.kept.waiting ≡ []) self.now.outs) }
+        ensures some { IfSome result
+            (λ to. list_any (λ one. one.to == to) self.now.outs ≡ true) }
+    {
+        waiting_receiver(self.outs.as_slice())
     }
 
     /// What the worker has done since its journal was handed out.

@@ -11,7 +11,7 @@ returns c =
     let none : into_iter_items c.loop-worker.worker-iterator ≡ [] = nil_from_length (into_iter_items c.loop-worker.worker-iterator) (search rules) in
     let columns : c.in_ok-columns.columns ≡ columns_at c.args.flow.now (length c.args.flow.now) =
     columns-last c.args.flow.now c.get-operators.result.now c.index-operators-operators.result c.in_ok-columns.columns c.get-operators.ensures.flow
-    c.get-operators.ensures.operators c.index-operators-operators.is c.in_ok-columns.ensures in
+    c.get-operators.ensures.operators c.index-operators-operators.is c.in_ok-columns.ensures.cases in
     given-all c.args.flow.now c.loop-worker.yielded (into_iter_items c.loop-worker.worker-iterator) c.args.crew.items c.loop-worker.refused.items c.new-2.result
     c.loop-worker.rows c.in_ok-columns.columns c.loop-worker.invariant.all none c.loop-worker.invariant.given c.new-2.ensures columns
 

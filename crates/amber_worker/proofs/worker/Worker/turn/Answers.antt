@@ -1,9 +1,10 @@
 -- Each kind of turn.
-use Rattle.std.proofs.Common.{Result, Ok, Err, refl, sym, subst}
+use Rattle.std.proofs.Common.{Result, Ok, Err, refl, sym, subst, ap, ◌∙◌}
 use Rattle.std.specs.Result.{OnErr}
+use Rattle.amber_worker.specs.WorkerState.{WorkerState}
 use Rattle.amber_worker.specs.AtPosition.{HasSameEnds, Keeps}
 use Rattle.amber_worker.proofs.KeptPosition.{Keeps-refl}
-use Rattle.amber_worker.proofs.Turns.{ends-done, ends-emitted, ends-looked, ends-same, ends-taken_batch, ends-taken_row, keeps-done, keeps-emitted, keeps-idle, keeps-looked, keeps-same, keeps-taken_batch, keeps-taken_row, looked-none, is-idle, next-done, next-idle, next-over, next-pending, next-plain, next-rest, next-taken, not-taken}
+use Rattle.amber_worker.proofs.Turns.{ends-done, ends-emitted, ends-looked, ends-same, ends-taken_batch, ends-taken_row, is-idle, keeps-done, keeps-emitted, keeps-idle, keeps-looked, keeps-same, keeps-taken_batch, keeps-taken_row, looked-none, next-done, next-idle, next-over, next-pending, next-plain, next-rest, next-taken, not-taken, unsent-done, unsent-emitted, unsent-looked, unsent-same, unsent-taken_batch, unsent-taken_row, unwanted}
 use Rattle.amber_worker.proofs.worker.Worker.turn.Goals as goal
 
 err_so : {T E : Type 0} (r : Result T E) (P : Type 0) → P → OnErr r P
@@ -124,3 +125,65 @@ returns-clause-moved c =
     let looked = not-taken _ c.take_batch.new.self c.in_ok-taken.taken c.if-taken.false c.in_ok-taken.ensures.found in
     is-idle c.args.self.now c.take_batch.new.self c.finish.new.self c.in_ok-ended.ended (sym c.if-is_over.ensures.over) (sym c.if-has_pending.ensures) (sym c.if-has_rest.ensures) looked
     (c.in_ok-taken.ensures.none c.if-taken.false) c.in_ok-ended.ensures.ended c.if-ended.false c.in_ok-ended.ensures.done
+
+-- ---- nothing is sent
+
+pub returns-in_err-emit_row-clause-unsent : goal.returns-in_err-emit_row-clause-unsent
+returns-in_err-emit_row-clause-unsent c = unsent-same _ _ c.in_err-emit_row.ensures.err
+
+pub returns-then-has_pending-clause-unsent : goal.returns-then-has_pending-clause-unsent
+returns-then-has_pending-clause-unsent c = unsent-emitted _ c.emit_row.new.self c.in_ok-emit_row.ensures.ok
+
+pub returns-in_err-take_row-clause-unsent : goal.returns-in_err-take_row-clause-unsent
+returns-in_err-take_row-clause-unsent c = unsent-same _ _ c.in_err-take_row.ensures.err
+
+pub returns-then-has_rest-clause-unsent : goal.returns-then-has_rest-clause-unsent
+returns-then-has_rest-clause-unsent c = unsent-taken_row _ c.take_row.new.self c.in_ok-take_row.ensures.ok
+
+pub returns-in_err-taken-clause-unsent : goal.returns-in_err-taken-clause-unsent
+returns-in_err-taken-clause-unsent c = unsent-looked _ c.take_batch.new.self c.in_err-taken.ensures.err
+
+pub returns-then-taken-clause-unsent : goal.returns-then-taken-clause-unsent
+returns-then-taken-clause-unsent c = unsent-taken_batch _ c.take_batch.new.self c.in_ok-taken.taken c.in_ok-taken.ensures.found
+
+pub returns-in_err-ended-clause-unsent : goal.returns-in_err-ended-clause-unsent
+returns-in_err-ended-clause-unsent c = unsent-same _ _ c.in_err-ended.ensures.err ∙ unsent-taken_batch _ c.take_batch.new.self c.in_ok-taken.taken c.in_ok-taken.ensures.found
+
+pub returns-then-ended-clause-unsent : goal.returns-then-ended-clause-unsent
+returns-then-ended-clause-unsent c =
+    let looked = not-taken _ c.take_batch.new.self c.in_ok-taken.taken c.if-taken.false c.in_ok-taken.ensures.found in
+    unsent-done _ c.take_batch.new.self c.finish.new.self c.in_ok-ended.ended looked c.in_ok-ended.ensures.done
+
+pub returns-clause-unsent : goal.returns-clause-unsent
+returns-clause-unsent c =
+    let looked = not-taken _ c.take_batch.new.self c.in_ok-taken.taken c.if-taken.false c.in_ok-taken.ensures.found in
+    unsent-done _ c.take_batch.new.self c.finish.new.self c.in_ok-ended.ended looked c.in_ok-ended.ensures.done
+
+-- ---- no look was made
+
+pub returns-in_err-emit_row-clause-unlooked : goal.returns-in_err-emit_row-clause-unlooked
+returns-in_err-emit_row-clause-unlooked c h = ap (λ (w : WorkerState). w.ins) c.in_err-emit_row.ensures.err
+
+pub returns-then-has_pending-clause-unlooked : goal.returns-then-has_pending-clause-unlooked
+returns-then-has_pending-clause-unlooked c h = ap (λ (w : WorkerState). w.ins) c.in_ok-emit_row.ensures.ok.after
+
+pub returns-in_err-take_row-clause-unlooked : goal.returns-in_err-take_row-clause-unlooked
+returns-in_err-take_row-clause-unlooked c h = ap (λ (w : WorkerState). w.ins) c.in_err-take_row.ensures.err
+
+pub returns-then-has_rest-clause-unlooked : goal.returns-then-has_rest-clause-unlooked
+returns-then-has_rest-clause-unlooked c h = ap (λ (w : WorkerState). w.ins) c.in_ok-take_row.ensures.ok.after
+
+pub returns-in_err-taken-clause-unlooked : goal.returns-in_err-taken-clause-unlooked
+returns-in_err-taken-clause-unlooked c h = unwanted c.args.self.now _ c.is_over.ensures.calm (sym c.if-is_over.ensures.over) (sym c.if-has_pending.ensures) (sym c.if-has_rest.ensures) h
+
+pub returns-then-taken-clause-unlooked : goal.returns-then-taken-clause-unlooked
+returns-then-taken-clause-unlooked c h = unwanted c.args.self.now _ c.is_over.ensures.calm (sym c.if-is_over.ensures.over) (sym c.if-has_pending.ensures) (sym c.if-has_rest.ensures) h
+
+pub returns-in_err-ended-clause-unlooked : goal.returns-in_err-ended-clause-unlooked
+returns-in_err-ended-clause-unlooked c h = unwanted c.args.self.now _ c.is_over.ensures.calm (sym c.if-is_over.ensures.over) (sym c.if-has_pending.ensures) (sym c.if-has_rest.ensures) h
+
+pub returns-then-ended-clause-unlooked : goal.returns-then-ended-clause-unlooked
+returns-then-ended-clause-unlooked c h = unwanted c.args.self.now _ c.is_over.ensures.calm (sym c.if-is_over.ensures.over) (sym c.if-has_pending.ensures) (sym c.if-has_rest.ensures) h
+
+pub returns-clause-unlooked : goal.returns-clause-unlooked
+returns-clause-unlooked c h = unwanted c.args.self.now _ c.is_over.ensures.calm (sym c.if-is_over.ensures.over) (sym c.if-has_pending.ensures) (sym c.if-has_rest.ensures) h

@@ -1,0 +1,99 @@
+ghost use Rattle.std.specs.Prelude.{◌≡◌, ◌∷◌, ◌<◌, ◌≤◌, [], IfOk, None, Some, length, map, option_map};
+ghost use Rattle.amber_rows.specs.Lists.{changed_at, nth};
+ghost use Rattle.amber_meaning.specs.State.{start_of, without_arms};
+
+use crate::armed::Armed;
+use amber_rows::{Flow, Value};
+use std::alloc::{AllocError, Global};
+use std::marker::Model;
+
+/// What is in force at each operator of a workflow. Operators are numbered from 1.
+#[derive(Debug, Drop)]
+pub struct InForce {
+    arms: Vec<Armed>,
+}
+
+impl Model for InForce {
+    ghost use Rattle.std.specs.Prelude.{List};
+    ghost use Rattle.amber_meaning.specs.State.{Arms};
+
+    ghost Value = { List Arms };
+
+    ghost view = { λ a. a.arms.items };
+}
+
+impl InForce {
+    /// What is in force before any command: nothing is armed, and filters have their own constants.
+    pub fn new(alloc: Global, flow: &Flow) -> Result<InForce, AllocError>
+        ensures { IfOk result (λ arms. arms ≡ (start_of flow.now).arms) }
+    {
+        let operators = flow.get();
+        let mut arms = Vec::with_capacity(alloc, operators.len())?;
+        for operator in operators {
+            arms.push(Armed::new(&operator.what)?)?;
+        }
+        Ok(InForce { arms })
+    }
+
+    /// How many operators there are.
+    pub fn len(&self) -> usize
+        ensures { result ≡ length self.now }
+    {
+        self.arms.len()
+    }
+
+    /// What is in force at an operator, if there is such a one.
+    pub fn at(&self, op: u32) -> Option<&Armed>
+        ensures { option_map (λ arms. arms.now) result ≡ nth self.now op }
+    {
+        if op == 0 {
+            return None;
+        }
+        self.arms.get(op as usize - 1)
+    }
+
+    /// Arms a pause of an operator after so many rows, in place of an earlier one.
+    pub fn pause(&mut self, op: u32, rows: u64)
+        requires some { 0 < op }
+        requires there { op ≤ length self.old }
+        ensures { self.new ≡ changed_at (λ arms. record arms { pause = Some rows }) op self.old }
+    {
+        self.arms[op as usize - 1].set_pause(rows);
+    }
+
+    /// Ends the pause of an operator, if one is armed.
+    pub fn end_pause(&mut self, op: u32)
+        requires some { 0 < op }
+        requires there { op ≤ length self.old }
+        ensures { self.new ≡ changed_at (λ arms. record arms { pause = None }) op self.old }
+    {
+        self.arms[op as usize - 1].end_pause();
+    }
+
+    /// Puts a constant in force at an operator, in place of the earlier one.
+    pub fn set(&mut self, op: u32, value: Value)
+        requires some { 0 < op }
+        requires there { op ≤ length self.old }
+        ensures { self.new ≡ changed_at (λ arms. record arms { constants = value ∷ [] }) op self.old }
+    {
+        self.arms[op as usize - 1].set_constant(value);
+    }
+
+    /// Takes back all that was asked to stop at an operator.
+    pub fn clear(&mut self, op: u32)
+        requires some { 0 < op }
+        requires there { op ≤ length self.old }
+        ensures { self.new ≡ changed_at without_arms op self.old }
+    {
+        self.arms[op as usize - 1].clear();
+    }
+
+    /// Takes back all that was asked to stop anywhere.
+    pub fn clear_all(&mut self)
+        ensures { self.new ≡ map without_arms self.old }
+    {
+        for arms in self.arms.iter_mut() {
+            arms.clear();
+        }
+    }
+}
