@@ -28,17 +28,17 @@ use Rattle.amber_meaning.specs.Total.{dealt_to, total_arrivals, arrivals_from}
 use Rattle.amber_meaning.specs.Views.{answer_in, by_number, op_refuses, sink_rows, taken_by, taken_of, worker_refuses}
 use Rattle.amber_meaning.specs.declared.answer.Refusal.{Refusal}
 use Rattle.amber_meaning.specs.declared.answer.Refusal.TheVariants as refusal
+use Rattle.amber_meaning.proofs.Numbers.{among, row-in}
 use Rattle.amber_meaning.proofs.Operators.{list_at-is, nth-here, refusals-end, refusals-more, rows-before, rows-here}
 use Rattle.amber_meaning.proofs.OneState.{position-get_or}
 use Rattle.amber_meaning.proofs.Senders.{flows_send_forward}
-use Rattle.amber_laws.proofs.Bags.{Same, Join, among, equal-among, same-among, same-filter_map, same-flat_map, same-length, same-self, same-sorted}
+use Rattle.amber_laws.proofs.Bags.{Same, Join, equal-among, same-among, same-filter_map, same-flat_map, same-length, same-self, same-sorted}
 use Rattle.amber_laws.proofs.Counted.{all-at}
-use Rattle.amber_laws.proofs.Crews.{worker-known, worker-op}
+use Rattle.amber_meaning.proofs.Crews.{worker-known, worker-op}
 use Rattle.amber_laws.proofs.Emitted.{finished-given, stands}
-use Rattle.amber_laws.proofs.Flows.{input-earlier, kind-there, sink-last, there}
+use Rattle.amber_meaning.proofs.Flows.{input-earlier, kind-there, sink-last, there}
 use Rattle.amber_laws.proofs.Grouping.{refused_keys-same}
 use Rattle.amber_laws.proofs.Links.{fed_by, feeders_of, rows-whole, scan-whole}
-use Rattle.amber_laws.proofs.Numbers.{row-in}
 use Rattle.amber_laws.proofs.Reached.{IsRun}
 use Rattle.amber_laws.proofs.Recorded.{ordered-same, records-ordered, records-refused}
 

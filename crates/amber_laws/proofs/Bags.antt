@@ -1,7 +1,7 @@
 -- Lists with the same elements in any order, and lists of part of another's elements.
 use Rattle.std.proofs.Common.{◌≡◌, ℕ, suc, ◌≤◌, ◌&&◌, ◌||◌, not, cond, eqb, Bool, true, false, Option, Some, None, List, [], ◌∷◌, ◌++◌, length, map, filter, append_assoc, refl, sym, ◌∙◌, ap, arith, ◌⊎◌, inl, inr}
 use Rattle.std.specs.List.{cons_option, filter_map, flat_map, list_all, list_any, sum_by}
-use Rattle.std.proofs.lemmas.Bool.{and_parts, eqb-false, eqb-true, false≢true, ne_eqb, not-true, or_cases, or_parts, or_right}
+use Rattle.std.proofs.lemmas.Bool.{and_parts, eqb-false, eqb-true, false≢true, ne_eqb, not-true, or_cases, or_parts}
 use Rattle.std.proofs.lemmas.Grind.{flat_map-append}
 use Rattle.std.proofs.lemmas.List.{append-nil, length-append, map-append}
 use Rattle.std.proofs.lemmas.List.Elements.{filter-append, filter_map-append}
@@ -9,6 +9,7 @@ use Rattle.std.proofs.lemmas.List.Sums.{sum_by-cons}
 use Rattle.amber_rows.proofs.Sorting.{sort-bag}
 use Rattle.amber_rows.specs.Order.{sort_rows, times}
 use Rattle.amber_rows.specs.declared.value.Value.{Value}
+use Rattle.amber_meaning.proofs.Numbers.{among, among-first, among-more, are_different}
 
 -- the same elements, each as often, in any order
 pub data Same {X : Type 0} : List X → List X → Type 0 where
@@ -166,28 +167,6 @@ same-any test (Turn x y xs) = any_turn (test x) (test y) (list_any test xs)
 same-any test (Join xs ys zs h k) = same-any test h ∙ same-any test k
 
 -- ---- numbers in a list
-
--- whether a number is in a list
-abbrev pub among : ℕ → List ℕ → Bool
-among n ns = list_any (λ x. eqb x n) ns
-
--- no number stands twice
-abbrev pub are_different : List ℕ → Bool
-are_different [] = true
-are_different (n ∷ ns) = not (among n ns) && are_different ns
-
-eq_same : (n : ℕ) → eqb n n ≡ true
-eq_same n = by (eqb n n) refl
-  where
-    by : (b : Bool) → eqb n n ≡ b → b ≡ true
-    by true e = refl
-    by false e = absurd (eqb-false n n e refl)
-
-pub among-first : (n : ℕ) (ns : List ℕ) → among n (n ∷ ns) ≡ true
-among-first n ns = rw (eq_same n) refl
-
-pub among-more : (n m : ℕ) (ns : List ℕ) → among n ns ≡ true → among n (m ∷ ns) ≡ true
-among-more n m ns h = or_right (eqb m n) (among n ns) h
 
 -- pointwise for the members alone
 pub same-among : {Y : Type 0} (f g : ℕ → List Y) (ns : List ℕ) → ((n : ℕ) → among n ns ≡ true → Same (f n) (g n)) → Same (flat_map f ns) (flat_map g ns)

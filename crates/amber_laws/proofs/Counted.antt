@@ -16,14 +16,14 @@ use Rattle.amber_meaning.specs.Position.{Position, Taken, emitted_count, emitted
 use Rattle.amber_meaning.specs.State.{State, position_at, steps_in}
 use Rattle.amber_meaning.specs.Task.{Role}
 use Rattle.amber_meaning.specs.Total.{dealt_stream, dealt_to, step_total, work_of}
+use Rattle.amber_meaning.proofs.Numbers.{among, below-in, in-below}
 use Rattle.amber_meaning.proofs.OneState.{position-get_or}
 use Rattle.amber_meaning.proofs.Senders.{flows_send_forward}
-use Rattle.amber_laws.proofs.Bags.{among, part-filter, part-length, same-dealt, same-filter, same-length, sent_to, sum-equal, sum-most, sum-whole}
+use Rattle.amber_laws.proofs.Bags.{part-filter, part-length, same-dealt, same-filter, same-length, sent_to, sum-equal, sum-most, sum-whole}
 use Rattle.amber_meaning.proofs.Chunks.{front-count}
 use Rattle.amber_laws.proofs.Emitted.{emitted-front, emitted-part, ended-given, fed-part, finished-dealt, has-ended, rows-whole, sender-before, stands, taken-begins}
 use Rattle.amber_laws.proofs.Finished.{took-all}
 use Rattle.amber_laws.proofs.Given.{senders-apart}
-use Rattle.amber_laws.proofs.Numbers.{below-in, in-below}
 use Rattle.amber_laws.proofs.Reached.{IsRun, legal-run, open-run}
 use Rattle.amber_laws.proofs.Sound.{IsSound}
 use Rattle.amber_laws.specs.StepLaws.{KeepsTotal, OpenLegsTakeOneTotal, SchedulesTakeOneTotal}

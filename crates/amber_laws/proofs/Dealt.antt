@@ -5,6 +5,7 @@ use Rattle.std.proofs.lemmas.List.{get_or_append_left, get_or_push, length_push}
 use Rattle.amber_rows.specs.Crew.{crew_of}
 use Rattle.amber_rows.specs.FlowRules.{IsFlow}
 use Rattle.amber_rows.specs.declared.value.Value.{Value}
+use Rattle.amber_meaning.proofs.Numbers.{among}
 use Rattle.amber_meaning.proofs.Lists.{numbered_or}
 use Rattle.amber_meaning.proofs.Senders.{flows_send_forward}
 use Rattle.amber_meaning.specs.Laws.{SendersFirst}
@@ -13,7 +14,7 @@ use Rattle.amber_rows.specs.Lists.{list_at}
 use Rattle.amber_meaning.specs.Plan.{role_of}
 use Rattle.amber_meaning.specs.Position.{share_or}
 use Rattle.amber_meaning.specs.Total.{dealt_by, dealt_stream, dealt_to, total_arrivals, gives, arrivals_from}
-use Rattle.amber_laws.proofs.Bags.{among, equal-among}
+use Rattle.amber_laws.proofs.Bags.{equal-among}
 
 -- what a worker gives, from what those before it give
 abbrev next_dealt : Query → ℕ → List (List Value)

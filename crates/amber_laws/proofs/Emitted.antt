@@ -15,8 +15,9 @@ use Rattle.amber_meaning.specs.Task.{Arrival, Role}
 use Rattle.amber_meaning.specs.Produce.{closing, produce, yields}
 use Rattle.amber_meaning.specs.Total.{dealt_stream, dealt_to, total_arrivals, gives, arrivals_from, task_constants}
 use Rattle.amber_meaning.specs.Views.{taken_of}
+use Rattle.amber_meaning.proofs.Numbers.{among}
 use Rattle.amber_meaning.proofs.Lists.{list_all-member}
-use Rattle.amber_laws.proofs.Bags.{Join, Part, Same, among, part-begin, part-both, part-filter, part-flat_map, part-none, part-same, part-then, same-filter}
+use Rattle.amber_laws.proofs.Bags.{Join, Part, Same, part-begin, part-both, part-filter, part-flat_map, part-none, part-same, part-then, same-filter}
 use Rattle.amber_meaning.proofs.Chunks.{IsWhole, batch_rows, front-rows, front-whole}
 use Rattle.amber_laws.proofs.Dealt.{dealt-from}
 use Rattle.amber_laws.proofs.Finished.{emitted-whole, flat_map-same, taken-all, yields-constant}

@@ -20,10 +20,10 @@ use Rattle.amber_meaning.specs.Task.{Arrival, Task, built_of, columns_from, is_b
 use Rattle.amber_meaning.specs.Produce.{closing, yields}
 use Rattle.amber_meaning.specs.Kinds.{yields_row}
 use Rattle.amber_meaning.specs.Total.{gives, arrivals_from}
-use Rattle.amber_laws.proofs.Bags.{among, among-first, among-more, equal-among}
+use Rattle.amber_meaning.proofs.Numbers.{among, among-first, among-left, among-more}
+use Rattle.amber_laws.proofs.Bags.{equal-among}
 use Rattle.amber_laws.proofs.Links.{fed_by, filter_flat}
 use Rattle.amber_laws.proofs.Made.{task_with}
-use Rattle.amber_laws.proofs.Numbers.{among-left}
 use Rattle.amber_laws.proofs.Spread.{flat-flat}
 
 -- each of these workers gives rows that suit the task

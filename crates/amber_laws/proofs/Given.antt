@@ -18,10 +18,10 @@ use Rattle.amber_meaning.specs.Task.{Arrival, Task, built_of, is_builder, suitin
 use Rattle.amber_meaning.specs.Produce.{closing, produce, yields, yields_if}
 use Rattle.amber_meaning.specs.Kinds.{closing_rows, yields_row}
 use Rattle.amber_meaning.specs.Total.{gives, arrivals_from, task_constants}
-use Rattle.amber_laws.proofs.Bags.{Same, Empty, Join, Part, among, are_different, equal-among, part-among, part-begin, part-both, part-filter, part-filter_map, part-map, part-none, part-self, part-then, same-among, same-both, same-dealt, same-each, same-filter, same-filter_map, same-flat_map, same-map, same-self, same-turned, sent_to}
+use Rattle.amber_laws.proofs.Bags.{Same, Empty, Join, Part, equal-among, part-among, part-begin, part-both, part-filter, part-filter_map, part-map, part-none, part-self, part-then, same-among, same-both, same-dealt, same-each, same-filter, same-filter_map, same-flat_map, same-map, same-self, same-turned, sent_to}
+use Rattle.amber_meaning.proofs.Numbers.{among, are_different, different-below, different-kept}
 use Rattle.amber_meaning.proofs.Chunks.{batch_rows}
 use Rattle.amber_laws.proofs.Grouping.{group_result-same}
-use Rattle.amber_laws.proofs.Numbers.{different-below, different-kept}
 
 -- ---- what a task gives
 

@@ -1,14 +1,12 @@
 pub mod Answered
 pub mod Bags
 pub mod Counted
-pub mod Crews
 pub mod Dealt
 pub mod Emitted
 pub mod Ended
 pub mod Example
 pub mod Fed
 pub mod Finished
-pub mod Flows
 pub mod Given
 pub mod Grouping
 pub mod Links

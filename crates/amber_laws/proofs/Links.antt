@@ -16,6 +16,7 @@ use Rattle.amber_rows.specs.declared.record.RowFault.{RowFault}
 use Rattle.amber_rows.specs.declared.flow.What.{What}
 use Rattle.amber_rows.specs.declared.flow.What.TheVariants as what
 use Rattle.amber_rows.specs.declared.flow.Operator.{Operator}
+use Rattle.amber_meaning.proofs.Numbers.{among, among-cases, among-first, among-flat, among-kept, among-more, are_different, below-in, different-below, different-both, different-kept, in-below, kept-among}
 use Rattle.amber_meaning.proofs.Lists.{list_all-every}
 use Rattle.amber_meaning.specs.Legal.{Query}
 use Rattle.amber_meaning.specs.Plan.{role_of, task_of, numbered_record, record_number}
@@ -23,10 +24,10 @@ use Rattle.amber_rows.specs.Shares.{share_of, turn_of, with_numbers}
 use Rattle.amber_meaning.specs.Position.{share_or}
 use Rattle.amber_meaning.specs.Task.{Arrival}
 use Rattle.amber_meaning.specs.Total.{dealt_stream, total_arrivals, arrivals_from}
-use Rattle.amber_laws.proofs.Bags.{Same, Join, among, among-first, among-more, are_different, equal-among, same-among, same-dealt, same-flat_map, same-is, sent_to}
-use Rattle.amber_laws.proofs.Numbers.{among-cases, among-flat, among-kept, below-in, different-below, different-both, different-kept, in-below, kept-among, same-members}
-use Rattle.amber_laws.proofs.Crews.{different-workers, own-worker, place-worker, worker-known, worker-op, worker-within}
-use Rattle.amber_laws.proofs.Flows.{reader-is, sides-differ, some-workers}
+use Rattle.amber_laws.proofs.Bags.{Same, Join, equal-among, same-among, same-dealt, same-flat_map, same-is, sent_to}
+use Rattle.amber_laws.proofs.Numbers.{same-members}
+use Rattle.amber_meaning.proofs.Crews.{different-workers, own-worker, place-worker, worker-known, worker-op, worker-within}
+use Rattle.amber_meaning.proofs.Flows.{reader-is, sides-differ, some-workers}
 
 -- ---- the workers from which an operator's workers are given rows
 

@@ -27,9 +27,9 @@ use Rattle.amber_meaning.specs.Task.{Arrival, Task, built_of, columns_from, is_b
 use Rattle.amber_meaning.specs.Produce.{closing, yields, yields_if}
 use Rattle.amber_meaning.specs.Kinds.{yields_row}
 use Rattle.amber_meaning.specs.Total.{dealt_to, total_arrivals, gives}
-use Rattle.amber_laws.proofs.Crews.{op-within}
+use Rattle.amber_meaning.proofs.Crews.{op-within}
 use Rattle.amber_laws.proofs.Dealt.{dealt-is}
-use Rattle.amber_laws.proofs.Flows.{columns-there, kind-there, there}
+use Rattle.amber_meaning.proofs.Flows.{columns-there, kind-there, there}
 use Rattle.amber_laws.proofs.Suited.{all-flat, all-found, all-true, group_result-suit, matches-suit, pick_cells-suit}
 
 -- ---- how an operator's columns come of those of its inputs

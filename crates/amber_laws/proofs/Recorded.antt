@@ -9,7 +9,8 @@ use Rattle.amber_rows.specs.Shares.{with_numbers}
 use Rattle.amber_meaning.specs.Task.{Arrival}
 use Rattle.amber_meaning.specs.Views.{by_number, insert_numbered}
 use Rattle.amber_meaning.specs.declared.answer.Refusal.TheVariants as refusal
-use Rattle.amber_laws.proofs.Bags.{Same, Empty, Keep, Turn, Join, among, are_different, same-any, same-map, same-self}
+use Rattle.amber_meaning.proofs.Numbers.{among, are_different}
+use Rattle.amber_laws.proofs.Bags.{Same, Empty, Keep, Turn, Join, same-any, same-map, same-self}
 
 -- ---- the order of numbers
 

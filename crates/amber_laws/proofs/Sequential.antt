@@ -26,6 +26,7 @@ use Rattle.amber_rows.specs.declared.value.Value.TheVariants as value
 use Rattle.amber_rows.specs.declared.flow.What.{What}
 use Rattle.amber_rows.specs.declared.flow.What.TheVariants as what
 use Rattle.amber_rows.specs.declared.flow.Operator.{Operator}
+use Rattle.amber_meaning.proofs.Numbers.{among, among-first, among-more}
 use Rattle.amber_meaning.proofs.Lists.{list_all-every}
 use Rattle.amber_meaning.proofs.Operators.{list_at-is, records-here, rows-before, rows-here}
 use Rattle.amber_meaning.specs.ScanFiles.{files_left, records_at}
@@ -37,8 +38,8 @@ use Rattle.amber_meaning.specs.Task.{Arrival, rows_in}
 use Rattle.amber_meaning.specs.Produce.{closing, yields}
 use Rattle.amber_meaning.specs.Total.{dealt_to, total_arrivals, gives}
 use Rattle.amber_laws.proofs.Answered.{IsDealtOut, plain_rows, rows_given}
-use Rattle.amber_laws.proofs.Bags.{Same, Join, among, among-first, among-more, equal-among, same-each, same-filter, same-flat_map, same-is, same-map}
-use Rattle.amber_laws.proofs.Flows.{columns-there, input-earlier, kind-there, no-sink, there}
+use Rattle.amber_laws.proofs.Bags.{Same, Join, equal-among, same-each, same-filter, same-flat_map, same-is, same-map}
+use Rattle.amber_meaning.proofs.Flows.{columns-there, input-earlier, kind-there, no-sink, there}
 use Rattle.amber_laws.proofs.Grouping.{group_result-same, refused_keys-same}
 use Rattle.amber_laws.proofs.Links.{scan-whole}
 use Rattle.amber_laws.proofs.Made.{task_with}

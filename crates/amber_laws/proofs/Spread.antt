@@ -7,7 +7,8 @@ use Rattle.std.proofs.lemmas.List.Elements.{filter_map-append}
 use Rattle.amber_rows.specs.Operators.{agg_values, first_keys, group_result, join_result, key_if_none, matches_of, pick_cells, refused_keys, rows_with, same_row}
 use Rattle.amber_rows.specs.declared.agg.Agg.{Agg}
 use Rattle.amber_rows.specs.declared.value.Value.{Value}
-use Rattle.amber_laws.proofs.Bags.{Same, Join, among, are_different, equal-among, same-dealt, same-filter_map, same-flat_map, same-is, sent_to}
+use Rattle.amber_meaning.proofs.Numbers.{among, are_different}
+use Rattle.amber_laws.proofs.Bags.{Same, Join, equal-among, same-dealt, same-filter_map, same-flat_map, same-is, sent_to}
 use Rattle.amber_laws.proofs.Grouping.{filter-turn, keys-are}
 use Rattle.amber_laws.proofs.Suited.{all-kept}
 

@@ -19,22 +19,22 @@ use Rattle.amber_rows.specs.declared.value.Value.{Value}
 use Rattle.amber_rows.specs.declared.flow.What.{What}
 use Rattle.amber_rows.specs.declared.flow.What.TheVariants as what
 use Rattle.amber_rows.specs.declared.flow.Operator.{Operator}
+use Rattle.amber_meaning.proofs.Numbers.{among, among-cases, among-left, among-right}
 use Rattle.amber_meaning.proofs.Lists.{list_all-every}
 use Rattle.amber_meaning.specs.Legal.{Query, role_in}
 use Rattle.amber_meaning.specs.Plan.{task_of}
 use Rattle.amber_meaning.specs.Task.{Arrival, Task, columns_from, suiting, rows_in}
 use Rattle.amber_meaning.specs.Produce.{closing, yields}
 use Rattle.amber_meaning.specs.Total.{dealt_to, total_arrivals, gives, arrivals_from}
-use Rattle.amber_laws.proofs.Bags.{Same, Join, among, equal-among, same-among, same-filter_map, same-flat_map, same-is, sent_to}
-use Rattle.amber_laws.proofs.Crews.{different-workers, place-worker, worker-known, worker-op}
+use Rattle.amber_laws.proofs.Bags.{Same, Join, equal-among, same-among, same-filter_map, same-flat_map, same-is, sent_to}
+use Rattle.amber_meaning.proofs.Crews.{different-workers, place-worker, worker-known, worker-op}
 use Rattle.amber_laws.proofs.Dealt.{dealt-is}
 use Rattle.amber_laws.proofs.Fed.{AreSuiting, filter-gives, group-gives, join-gives, project-gives, rows-fed}
-use Rattle.amber_laws.proofs.Flows.{reader-is, sides-differ, some-workers}
+use Rattle.amber_meaning.proofs.Flows.{reader-is, sides-differ, some-workers}
 use Rattle.amber_laws.proofs.Given.{gives-keeps}
 use Rattle.amber_laws.proofs.Grouping.{refused_keys-same}
 use Rattle.amber_laws.proofs.Links.{fed_by, feeder-reads, feeders_of, filter_flat, filter_arrivals, row_route, rows-given, rows-whole}
 use Rattle.amber_laws.proofs.Made.{dealt-suit, role-task, task_with}
-use Rattle.amber_laws.proofs.Numbers.{among-cases, among-left, among-right}
 use Rattle.amber_laws.proofs.Spread.{by_key, flat-flat, found-flat, group_result-spread, join_result-spread, refused-spread}
 use Rattle.amber_laws.proofs.Suited.{all-kept}
 

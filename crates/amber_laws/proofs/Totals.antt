@@ -19,11 +19,12 @@ use Rattle.amber_rows.specs.Shares.{with_numbers}
 use Rattle.amber_meaning.specs.Stops.{op_numbers}
 use Rattle.amber_meaning.specs.Total.{dealt_to, total_arrivals, arrivals_from, step_total, work_of}
 use Rattle.amber_laws.proofs.Answered.{plain_rows}
-use Rattle.amber_laws.proofs.Bags.{Same, among, among-first, among-more, are_different, same-length, same-sum, same_times}
-use Rattle.amber_laws.proofs.Crews.{different-workers, op-within, own-worker, worker-known, worker-op}
-use Rattle.amber_laws.proofs.Flows.{input-earlier}
+use Rattle.amber_laws.proofs.Bags.{Same, same-length, same-sum, same_times}
+use Rattle.amber_meaning.proofs.Numbers.{among, among-first, among-flat, among-more, are_different, below-in, different-below, different-both, different-row, in-below, in-row}
+use Rattle.amber_meaning.proofs.Crews.{different-workers, op-within, own-worker, worker-known, worker-op}
+use Rattle.amber_meaning.proofs.Flows.{input-earlier}
 use Rattle.amber_laws.proofs.Links.{fed_by, feeders_of, flat_among, rows-whole, scan-whole}
-use Rattle.amber_laws.proofs.Numbers.{among-flat, below-in, different-below, different-both, different-row, in-below, in-row, same-members}
+use Rattle.amber_laws.proofs.Numbers.{same-members}
 use Rattle.amber_laws.proofs.Sequential.{AreTyped, operators-together, typed-over}
 use Rattle.amber_laws.specs.DealtLaws.{DealtRowsAreTheOperators, TakenRowsComeIn, TotalIsByOperator}
 

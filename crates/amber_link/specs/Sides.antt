@@ -1,5 +1,5 @@
 -- The ends that one worker holds: of those that send to it, and of those to which it sends.
-use Rattle.std.specs.Prelude.{◌≡◌, ℕ, ◌+◌, ◌<◌, ◌&&◌, ◌||◌, not, List, [], ◌∷◌, ◌++◌, length, slice_index_or, slice_set, Bool, true, false}
+use Rattle.std.specs.Prelude.{◌≡◌, ℕ, ◌+◌, ◌<◌, ◌&&◌, ◌||◌, not, List, [], ◌∷◌, ◌++◌, filter, map, length, slice_index_or, slice_set, Bool, true, false}
 use Rattle.std.specs.List.{list_all}
 use Rattle.amber_rows.specs.declared.value.Value.{Value}
 use Rattle.amber_rows.specs.declared.batch.Batch.{Batch}
@@ -54,6 +54,10 @@ pub record IsTaken (ins : List Sender) (one : Sender) (batch : Batch) (after : L
 -- a receiver, whatever room there is
 abbrev pub without_room : Receiver → Receiver
 without_room one = record one { link = record one.link { kept = record one.link.kept { room = 0 } } }
+
+-- the numbers of the receivers for which batches wait to be sent
+abbrev pub numbers_waiting : List Receiver → List ℕ
+numbers_waiting outs = map (λ one. one.to) (filter (λ one. has_some one.link.kept.waiting) outs)
 
 -- a row more was pushed for the receiver at this place
 pub record HandsOn (place : ℕ) (row : List Value) (outs after : List Receiver) : Type 0 where

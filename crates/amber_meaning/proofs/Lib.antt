@@ -1,4 +1,5 @@
 pub mod Chunks
+pub mod Crews
 pub mod ExampleCases
 pub mod ExampleFiles
 pub mod ExampleFlows
@@ -6,10 +7,12 @@ pub mod ExampleGiven
 pub mod ExampleRows
 pub mod ExampleSteps
 pub mod ExampleStops
+pub mod Flows
 pub mod Fronts
 pub mod Given
 pub mod Led
 pub mod Lists
+pub mod Numbers
 pub mod OneState
 pub mod Operators
 pub mod Orderly

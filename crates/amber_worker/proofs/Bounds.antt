@@ -15,11 +15,12 @@ use Rattle.amber_scan.specs.declared.share.Scanned.{Scanned}
 use Rattle.amber_link.specs.Sides.{IsTaken, have_all_ended, have_builders_ended}
 use Rattle.amber_link.specs.declared.senders.Sender.{Sender}
 use Rattle.amber_link.specs.declared.receivers.Receiver.{Receiver}
-use Rattle.amber_link.specs.Sides.{AreLooked}
+use Rattle.amber_link.specs.Sides.{AreEnded, AreLooked}
 use Rattle.amber_worker.specs.declared.route.Route.{Route}
+use Rattle.amber_worker.specs.Links.{EmitsFirst}
 use Rattle.amber_worker.specs.Fields.{AreFew, row_from, rows_moved}
 use Rattle.amber_worker.specs.WorkerState.{WorkerState, has_ready}
-use Rattle.amber_worker.specs.Steps.{Becomes, Closes, TakesBatch, TakesRow, columns_at_hand, gives_if, gone_on, keeps_if, turned_to, with_go}
+use Rattle.amber_worker.specs.Steps.{Becomes, Closes, EmitsRow, Finishes, TakesBatch, TakesRow, columns_at_hand, gives_if, gone_on, keeps_if, turned_to, with_go}
 use Rattle.amber_worker.proofs.States.{closes-batch, in_order-batch, in_order-row, in_order-settled}
 use Rattle.amber_worker.specs.declared.operator_state.OperatorState.{OperatorState}
 use Rattle.amber_worker.specs.declared.operator_state.OperatorState.TheVariants as operator_state
@@ -129,10 +130,10 @@ few-emitted does building share taken emitted batches finished ins outs after ro
 
 -- ---- the end
 
-pub few-done : (does : OperatorState) (building : Bool) (share : Option (List Scanned)) (taken emitted batches : ℕ) (ins : List Sender) (outs after : List Receiver)
-    (route : Route) (journal : List Entry) → AreFew does building share taken emitted batches false ins outs route journal → taken + emitted + batches + 0 < 2 ^ 40
+pub few-done : (does : OperatorState) (building : Bool) (share : Option (List Scanned)) (taken emitted batches : ℕ) (finished : Bool) (ins : List Sender) (outs after : List Receiver)
+    (route : Route) (journal : List Entry) → AreFew does building share taken emitted batches finished ins outs route journal → taken + emitted + batches + one_if finished < 2 ^ 40
     → All (λ one. one.link.kept.ended ≡ true) after → AreFew does building share taken emitted batches true ins after route (journal ++ entry.Finish ∷ [])
-few-done does building share taken emitted batches ins outs after route journal few less over = record {
+few-done does building share taken emitted batches finished ins outs after route journal few less over = record {
   in_order = few.in_order;
   scans = few.scans;
   shares = few.shares;
@@ -236,3 +237,22 @@ few-sent does building share taken emitted batches finished ins outs later route
   routed = few.routed;
   moved = few.moved;
 }
+
+-- ---- rows that are emitted
+
+pub emits-row : (w : WorkerState) (later : List (List Value)) (outs after : List Receiver) (journal : List Entry) → EmitsFirst w.route w.pending w.outs later after → outs ≡ after
+    → journal ≡ with_go w.journal 0 1 → w.waved ≡ false → EmitsRow false w (record w { pending = later; emitted = w.emitted + 1; outs = outs; journal = journal })
+emits-row w later outs after journal emits outs_is journal_is waved = record {
+  row = emits.row;
+  later = later;
+  outs = after;
+  first = emits.first;
+  handed = emits.handed;
+  after = rw (waved, outs_is, journal_is) refl;
+}
+
+-- ---- all streams are ended
+
+pub finishes : (w : WorkerState) (outs after : List Receiver) (journal : List Entry) → AreEnded w.outs after → outs ≡ after → journal ≡ w.journal ++ entry.Finish ∷ []
+    → Finishes w (record w { finished = true; outs = outs; journal = journal })
+finishes w outs after journal ends outs_is journal_is = record { outs = after; ends = ends; after = rw (outs_is, journal_is) refl }

@@ -17,4 +17,4 @@ pub mod Turns
 pub mod Commands
 pub mod Roomless
 pub mod PairFacts
-pub mod Unsent
+pub mod Looks

@@ -1,17 +1,18 @@
 -- Each kind of turn leaves a worker where its journal leads, with the same ends.
-use Rattle.std.proofs.Common.{◌≡◌, ℕ, eqb, get_or, ◌||◌, not, List, [], ◌∷◌, Option, Some, None, if◌then◌else◌, Bool, true, false, MatchBool, refl, sym, ap, ◌∙◌, subst}
+use Rattle.std.proofs.Common.{◌≡◌, ℕ, eqb, get_or, map, ◌||◌, not, List, [], ◌∷◌, Option, Some, None, if◌then◌else◌, Bool, true, false, MatchBool, refl, sym, ap, ◌∙◌, subst}
 use Rattle.std.specs.List.{list_any}
 use Rattle.std.specs.Option.{MatchOption}
 use Rattle.std.proofs.lemmas.Bool.{false≢true}
 use Rattle.amber_rows.specs.declared.value.Value.{Value}
 use Rattle.amber_meaning.specs.Rules.{is_watched}
 use Rattle.amber_link.specs.Links.{has_some}
-use Rattle.amber_link.specs.Sides.{AreSameReceivers, HandsOn, IsLooked, have_all_ended}
+use Rattle.amber_link.specs.Sides.{AreEnded, AreSameReceivers, HandsOn, IsLooked, Pairwise, have_all_ended}
 use Rattle.amber_link.specs.declared.receivers.Receiver.{Receiver}
 use Rattle.amber_link.proofs.SameEnds.{ended-ends, handed-ends, looked-ends, receivers-same, receivers-then, senders-same, senders-then, taken-ends}
-use Rattle.amber_link.proofs.Sides.{looked-same, pairwise-refl}
+use Rattle.amber_link.proofs.Sides.{get_or-any, looked-same, map-set-same, pairwise-refl}
 use Rattle.amber_worker.specs.AtPosition.{HasSameEnds, IsIdleAt, IsLookedAt, IsNextTurn, Keeps}
-use Rattle.amber_worker.specs.Links.{IsHandedOn, number_to}
+use Rattle.amber_worker.specs.Links.{IsHandedOn, HaveSentNothing, number_to}
+use Rattle.amber_worker.specs.Changes.{wants_batch}
 use Rattle.amber_worker.specs.WorkerState.{WorkerState, has_ready, next_turn}
 use Rattle.amber_worker.specs.Steps.{EmitsRow, Finishes, IsCalm, TakesBatch, TakesRow, batch_taken}
 use Rattle.amber_worker.specs.declared.turn.Turn.{Turn}
@@ -225,3 +226,58 @@ is-idle old between new ended unfinished none nothing_left looked unready all so
     same : (b : Bool) → b ≡ false → MatchBool b (Finishes between new) (new ≡ between) → new ≡ between
     same true e h = absurd (false≢true (sym e))
     same false e h = h
+
+-- ---- nothing is sent
+
+pub unsent-same : (old new : WorkerState) → new ≡ old → HaveSentNothing old.outs new.outs
+unsent-same old new same = ap (λ (w : WorkerState). map (λ (one : Receiver). one.link.ring) w.outs) same
+
+pub unsent-looked : (old new : WorkerState) → IsLookedAt old new → HaveSentNothing old.outs new.outs
+unsent-looked old new looked = ap (λ (w : WorkerState). map (λ (one : Receiver). one.link.ring) w.outs) looked.only
+
+unsent-handed : (number : ℕ) (row : List Value) (outs after : List Receiver) → IsHandedOn number row outs after → HaveSentNothing outs after
+unsent-handed number row outs after handed = by handed.place handed.so
+  where
+    by : (place : Option ℕ)
+        → MatchOption place ((list_any (λ (one : Receiver). eqb one.to number) outs ≡ false) × (after ≡ outs)) (λ i. HandsOn i row outs after × ((d : Receiver) → (get_or outs i d).to ≡ number))
+        → HaveSentNothing outs after
+    by None so = ap (λ l. map (λ (one : Receiver). one.link.ring) l) so.1
+    by (Some i) so =
+        let h = so.0 in
+        ap (λ l. map (λ (one : Receiver). one.link.ring) l) h.is
+        ∙ map-set-same (λ (one : Receiver). one.link.ring) outs i h.now (λ d. h.ring ∙ ap (λ (one : Receiver). one.link.ring) (get_or-any outs i h.now d h.within))
+
+pub unsent-emitted : (old new : WorkerState) → EmitsRow false old new → HaveSentNothing old.outs new.outs
+unsent-emitted old new emits = ap (λ (w : WorkerState). map (λ (one : Receiver). one.link.ring) w.outs) emits.after ∙ unsent-handed (number_to old.route emits.row) emits.row old.outs emits.outs emits.handed
+
+pub unsent-taken_row : (old new : WorkerState) → TakesRow old new → HaveSentNothing old.outs new.outs
+unsent-taken_row old new takes = ap (λ (w : WorkerState). map (λ (one : Receiver). one.link.ring) w.outs) takes.after
+
+pub unsent-taken_batch : (old new : WorkerState) (taken : Bool) → MatchBool taken (TakesBatch old new) (IsLookedAt old new) → HaveSentNothing old.outs new.outs
+unsent-taken_batch old new true takes = ap (λ (w : WorkerState). map (λ (one : Receiver). one.link.ring) w.outs) takes.after
+unsent-taken_batch old new false looked = unsent-looked old new looked
+
+unsent-ended : (outs after : List Receiver) → AreEnded outs after → HaveSentNothing outs after
+unfolding Pairwise
+unsent-ended [] [] h = refl
+unsent-ended [] (y ∷ ys) h = absurd h
+unsent-ended (x ∷ xs) [] h = absurd h
+unsent-ended (x ∷ xs) (y ∷ ys) h = rw (h.0.ring, unsent-ended xs ys h.1) refl
+
+pub unsent-done : (old between new : WorkerState) (ended : Bool) → IsLookedAt old between → MatchBool ended (Finishes between new) (new ≡ between) → HaveSentNothing old.outs new.outs
+unsent-done old between new true looked done =
+    ap (λ (w : WorkerState). map (λ (one : Receiver). one.link.ring) w.outs) done.after ∙ unsent-ended between.outs done.outs done.ends ∙ unsent-looked old between looked
+unsent-done old between new false looked same = unsent-same between new same ∙ unsent-looked old between looked
+
+-- ---- no look was made
+
+unwanted-by : (a b c d : Bool) → not ((a || b) || (c || d)) ≡ false → a ≡ false → b ≡ false → c ≡ false → d ≡ false → ⊥
+unwanted-by true b c d h e1 e2 e3 e4 = false≢true (sym e1)
+unwanted-by false true c d h e1 e2 e3 e4 = false≢true (sym e2)
+unwanted-by false false true d h e1 e2 e3 e4 = false≢true (sym e3)
+unwanted-by false false false true h e1 e2 e3 e4 = false≢true (sym e4)
+unwanted-by false false false false h e1 e2 e3 e4 = false≢true (sym h)
+
+-- where nothing is pending and nothing is left a look is made
+pub unwanted : (w : WorkerState) (P : Type 0) → IsCalm w → w.finished ≡ false → has_some w.pending ≡ false → has_some w.rest ≡ false → wants_batch w ≡ false → P
+unwanted w P calm unfinished none nothing_left h = absurd (unwanted-by w.finished w.paused (has_some w.pending) (has_some w.rest) h unfinished calm.running none nothing_left)

@@ -1,5 +1,5 @@
 -- What commands change of a worker between legs.
-use Rattle.std.specs.Prelude.{◌≡◌, ℕ, ◌||◌, not, map, List, [], ◌∷◌, Option, Result, Bool, false}
+use Rattle.std.specs.Prelude.{◌≡◌, ℕ, ◌||◌, not, List, [], ◌∷◌, Option, Result, Bool, false}
 use Rattle.amber_rows.specs.Columns.{kind_of}
 use Rattle.amber_rows.specs.declared.value.Value.{Value}
 use Rattle.amber_rows.specs.declared.flow.Operator.{Operator}
@@ -10,7 +10,6 @@ use Rattle.amber_meaning.specs.Rules.{Orders}
 use Rattle.amber_meaning.specs.State.{let_go}
 use Rattle.amber_scan.specs.declared.share.Scanned.{Scanned}
 use Rattle.amber_link.specs.Links.{has_some}
-use Rattle.amber_link.specs.declared.receivers.Receiver.{Receiver}
 use Rattle.amber_worker.specs.AtPosition.{Base, HasShare, IsAtPosition, Placement, Shows, first_orders, no_base, placement_of}
 use Rattle.amber_worker.specs.WorkerState.{WorkerState}
 use Rattle.amber_worker.specs.declared.operator_state.OperatorState.{OperatorState}
@@ -57,7 +56,3 @@ with_leg w = record w { paused = false; held = false; waved = w.held || w.waved;
 unfoldable pub StandsAtLeg : WorkerState → WorkerState → Type 0
 StandsAtLeg old new = (placement : Placement) (orders : Orders) (p : Position) (base : Base)
     → Shows placement orders old p base → IsAtPosition placement orders new (let_go p) (let_go p) base
-
--- a turn sends nothing: what it has made for others waits
-abbrev pub AreUnsent : WorkerState → WorkerState → Type 0
-AreUnsent old new = map (λ (one : Receiver). one.link.ring) new.outs ≡ map (λ (one : Receiver). one.link.ring) old.outs

@@ -1,10 +1,10 @@
 -- The links of a worker.
-use Rattle.std.specs.Prelude.{◌≡◌, ℕ, ◌+◌, ◌==◌, ◌<◌, ◌≤◌, ◌^◌, List, ◌∷◌, length, slice_index_or, MatchOption, Option, Bool, false}
+use Rattle.std.specs.Prelude.{◌≡◌, ℕ, ◌+◌, ◌==◌, ◌<◌, ◌≤◌, ◌^◌, List, ◌∷◌, length, map, slice_index_or, MatchOption, Option, Bool, false, true}
 use Rattle.std.specs.List.{list_any}
 use Rattle.amber_rows.specs.Routing.{key_bytes_of, route_of}
 use Rattle.amber_rows.specs.declared.value.Value.{Value}
 use Rattle.amber_link.specs.Links.{AreLinked}
-use Rattle.amber_link.specs.Sides.{HandsOn, Settles}
+use Rattle.amber_link.specs.Sides.{HandsOn, Settles, have_builders_ended, may_come}
 use Rattle.amber_link.specs.declared.senders.Sender.{Sender}
 use Rattle.amber_link.specs.declared.receivers.Receiver.{Receiver}
 use Rattle.amber_worker.specs.declared.route.Route.{Route}
@@ -33,6 +33,16 @@ pub record EmitsFirst (to : Route) (rows : List (List Value)) (outs : List Recei
   pub row : List Value
   pub first : rows ≡ row ∷ later
   pub handed : IsHandedOn (number_to to row) row outs after
+
+-- nothing was sent: the rings of the receivers are as they were
+abbrev pub HaveSentNothing : List Receiver → List Receiver → Type 0
+HaveSentNothing old new = map (λ one. one.link.ring) new ≡ map (λ one. one.link.ring) old
+
+-- ---- from whom a batch comes
+
+-- a batch of the sender at this place may be taken
+abbrev pub MayTakeAt : List Sender → ℕ → Type 0
+MayTakeAt ins place = (d : Sender) → may_come (have_builders_ended ins) (slice_index_or ins place d) ≡ true
 
 -- ---- the link of two workers
 

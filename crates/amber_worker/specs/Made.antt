@@ -64,6 +64,9 @@ end_of one = one.link
 abbrev pub roomless : Out → Out
 roomless out = record out { kept = record out.kept { room = 0 } }
 
+abbrev pub out_of : Receiver → Out
+out_of one = one.link
+
 abbrev pub link_of : Receiver → Out
 link_of one = roomless one.link
 

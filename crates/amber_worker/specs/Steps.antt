@@ -322,11 +322,13 @@ pub record TakesBatch (old new : WorkerState) : Type 0 where
   pub closes : Closes old.operator_state ((length batch.rows == 0) && have_all_ended ins) last
   pub after : new ≡ batch_taken one batch ins last old
 
--- neither paused nor held, no condition is watched, and no entry speaks of very many rows
+-- neither paused nor held nor waved on, no condition is watched, no unit is at hand, and no entry speaks of very many rows
 pub record IsCalm (w : WorkerState) : Type 0 where
   pub unwatched : w.watch ≡ None
   pub running : w.paused ≡ false
   pub loose : w.held ≡ false
+  pub unwaved : w.waved ≡ false
+  pub empty_hand : w.hand ≡ 0
   pub few : All (λ one. rows_moved one < 2 ^ 63) w.journal
 
 -- what a worker shows by what it does

@@ -3,11 +3,13 @@
 ghost use Rattle.std.specs.Prelude.{All, ◌≡◌, ◌==◌, ◌+◌, ◌^◌, ◌<◌, ◌≤◌, ℕ, Bool, false, true, is_ok, map, OnErr, OnOk};
 ghost use Rattle.std.specs.List.{list_any};
 ghost use Rattle.amber_link.specs.Links.{has_some};
-ghost use Rattle.amber_link.specs.Sides.{have_builders_ended, without_room};
+ghost use Rattle.amber_link.specs.Sides.{AreEnded, have_builders_ended, without_room};
 ghost use Rattle.amber_worker.specs.Links.{AreEndsOf, EmitsFirst, IsSoundRoute, Passes};
 
 use crate::route::Route;
-use amber_link::{Receiver, Sender, place_of, place_to, push_at, reserve_at, settle_at};
+use amber_link::{
+    Receiver, Sender, end_all, place_of, place_to, push_at, reserve_at, reserve_ends, settle_at,
+};
 use amber_rows::Row;
 use std::alloc::{AllocError, Global};
 use std::collections::VecDeque;
@@ -29,7 +31,36 @@ pub(crate) fn emit_first(
     ensures pending_on_err { OnErr result (pending.new.items ≡ pending.old.items) }
     ensures outs_on_err { OnErr result (map without_room outs.new ≡ map without_room outs.old) }
 {
-    Err(AllocError)
+    let Some(next) = pending.front() else {
+        unreachable!()
+    };
+    let number = route.number_to(alloc, next)?;
+    let Some(place) = place_to(outs, number) else {
+        let Some(_row) = pending.pop_front() else {
+            unreachable!()
+        };
+        return Ok(());
+    };
+    reserve_at(outs, place)?;
+    let Some(row) = pending.pop_front() else {
+        unreachable!()
+    };
+    push_at(outs, place, row);
+    Ok(())
+}
+
+// Ends all streams.
+pub(crate) fn end_streams(outs: &mut [Receiver]) -> Result<(), AllocError>
+    requires few { All (λ one. one.link.kept.made < 2 ^ 40) outs.old }
+    requires open { All (λ one. one.link.kept.ended ≡ false) outs.old }
+    ensures ends { OnOk result
+        (AreEnded (map without_room outs.old) (map without_room outs.new)) }
+    ensures ended { OnOk result (All (λ one. one.link.kept.ended ≡ true) outs.new) }
+    ensures err { OnErr result (map without_room outs.new ≡ map without_room outs.old) }
+{
+    reserve_ends(outs)?;
+    end_all(outs);
+    Ok(())
 }
 
 // Moves the batches that were made for a receiver into its inbox of this sender.

@@ -7,7 +7,7 @@ ghost use Rattle.amber_rows.specs.Columns.{columns_at};
 ghost use Rattle.amber_rows.specs.declared.value.Value.{Value as Cell};
 ghost use Rattle.amber_meaning.specs.Plan.{built_columns};
 ghost use Rattle.amber_worker.specs.Links.{IsSoundRoute, number_to};
-ghost use Rattle.amber_worker.specs.Made.{AreFreshSenders, IsFreshIn, IsOperatorStateOf, builds_for, from_of, handing_operator, is_join, link_of, to_of};
+ghost use Rattle.amber_worker.specs.Made.{AreFreshSenders, IsFreshIn, IsOperatorStateOf, builds_for, from_of, handing_operator, end_of, is_join, out_of, to_of};
 
 use crate::operator_state::OperatorState;
 use crate::route::Route;
@@ -136,7 +136,7 @@ pub(crate) fn senders_of(
     requires fresh { All IsFreshIn ins.items }
     ensures numbers { IfOk result (λ made. map from_of made.items ≡ senders_of flow.now worker) }
     ensures fresh { IfOk result (λ made. AreFreshSenders flow.now what.now made.items) }
-    ensures rings { IfOk result (λ made. map (λ one. one.link.ring) made.items ≡ map (λ into. into.ring) ins.items) }
+    ensures ends { IfOk result (λ made. map end_of made.items ≡ ins.items) }
 {
     Err(AllocError)
 }
@@ -151,9 +151,17 @@ pub(crate) fn receivers_of(
     requires there { worker < crew_of flow.now }
     requires all { length outs.items ≡ length (receivers_of flow.now worker) }
     ensures numbers { IfOk result (λ made. map to_of made.items ≡ receivers_of flow.now worker) }
-    ensures links { IfOk result (λ made. map link_of made.items ≡ outs.items) }
+    ensures links { IfOk result (λ made. map out_of made.items ≡ outs.items) }
 {
-    Err(AllocError)
+    let found = flow.receivers(alloc, worker)?;
+    let numbers = found.get();
+    let mut receivers = Vec::new(alloc);
+    let mut place: usize = 0;
+    for link in outs {
+        receivers.push(Receiver::new(numbers[place], link))?;
+        place += 1;
+    }
+    Ok(receivers)
 }
 
 // The keys by which the rows of an operator go into this kind of operator, if they go by keys.

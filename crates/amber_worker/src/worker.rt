@@ -1,22 +1,23 @@
-ghost use Rattle.std.specs.Prelude.{All, false, MatchBool, ◌≡◌, ◌^◌, ◌<◌, ◌≤◌, ◌==◌, [], true, is_ok, is_some, map, length, nat_lt, slice_index_or, IfNone, IfOk, IfSome, OnErr, OnOk};
+ghost use Rattle.std.specs.Prelude.{All, false, IfNone, IfSome, MatchBool, ◌≡◌, ◌^◌, ◌<◌, ◌≤◌, ◌==◌, [], true, is_ok, is_some, map, length, nat_lt, slice_index_or, IfOk, OnErr, OnOk};
 ghost use Rattle.std.specs.List.{list_any};
 ghost use Rattle.amber_rows.specs.Crew.{crew_of, op_of, receivers_of, senders_of, what_at};
 ghost use Rattle.amber_rows.specs.Kinds.{is_scan};
 ghost use Rattle.amber_link.specs.Links.{has_some};
-ghost use Rattle.amber_link.specs.Sides.{have_all_ended};
+ghost use Rattle.amber_rows.specs.Lists.{first_of};
+ghost use Rattle.amber_link.specs.Sides.{have_all_ended, numbers_waiting};
 ghost use Rattle.amber_link.specs.declared.receivers.Receiver.{Receiver as OneReceiver};
 ghost use Rattle.amber_link.specs.declared.senders.Sender.{Sender as OneSender};
 ghost use Rattle.amber_worker.specs.WorkerState.{has_ready, steps_made};
 ghost use Rattle.amber_worker.specs.Steps.{EmitsRow, Finishes, IsCalm, IsShown, TakesBatch, TakesRow};
 ghost use Rattle.amber_worker.specs.Made.{IsFresh, IsFreshIn, IsFreshOut, end_of, link_of, roomless};
 ghost use Rattle.amber_worker.specs.AtPosition.{HasSameEnds, HasTurned, IsGivenOf, IsLookedAt, IsNextTurn, IsViewOf, Keeps};
-ghost use Rattle.amber_worker.specs.Changes.{AreUnsent, MaySet, ShowsSet, StandsAtLeg, StandsNew, wants_batch, with_leg, with_value};
-ghost use Rattle.amber_worker.specs.Links.{Passes};
+ghost use Rattle.amber_worker.specs.Changes.{MaySet, ShowsSet, StandsAtLeg, StandsNew, wants_batch, with_leg, with_value};
+ghost use Rattle.amber_worker.specs.Links.{HaveSentNothing, MayTakeAt, Passes};
 ghost use Rattle.amber_worker.specs.Pairs.{AreJoined, AreSettledAt, Offers, OffersAll, PassesOn, StaysAt};
 
 use crate::given::{Given, add_keys, refused_keys};
 use crate::journal::note_go;
-use crate::links::{emit_first, settle_into};
+use crate::links::{emit_first, end_streams, settle_into};
 use crate::making::{
     build_columns_of, columns_of, is_join, operator_state_of, receivers_of, route_of, senders_of,
 };
@@ -28,7 +29,7 @@ use crate::taking::{Gains, Rest, close, closing_of, is_last, side_columns, take_
 use crate::turn::Turn;
 use amber_link::{
     Found, In, Out, Receiver, Sender, end_all, has_receiver, has_sender, have_built, have_ended,
-    is_empty_at, ready_place, reserve_ends, take_at, waiting_at,
+    is_empty_at, ready_place, reserve_ends, take_at, waiting_at, waiting_receiver,
 };
 use amber_log::{Entries, Entry};
 use amber_meaning::{Refusals, WorkerView};
@@ -208,18 +209,77 @@ impl Worker {
         ensures ok { OnOk result (EmitsRow false self.old self.new) }
         ensures err { OnErr result (self.new ≡ self.old) }
     {
-        Err(AllocError)
+        self.journal.reserve(1)?;
+        emit_first(
+            self.alloc,
+            &self.route,
+            &mut self.gains.pending,
+            self.outs.as_mut_slice(),
+        )?;
+        note_go(&mut self.journal, 0, 1);
+        self.emitted += 1;
+        Ok(())
+    }
+
+    // The place of the first sender of whom a batch may be taken. It looks for batches.
+    fn ready(&mut self) -> Option<usize>
+        ensures looked { IsLookedAt self.old self.new }
+        ensures none { IfNone result (has_ready self.new.ins ≡ false) }
+        ensures some { IfSome result (λ _. has_ready self.new.ins ≡ true) }
+        ensures there { IfSome result (λ place. place < length self.new.ins) }
+        ensures may { IfSome result (λ place. MayTakeAt self.new.ins place) }
+    {
+        let built = have_built(self.ins.as_slice());
+        ready_place(self.ins.as_mut_slice(), built)
+    }
+
+    // Takes the first batch of the sender at this place.
+    fn take_from(&mut self, place: usize) -> Result<(), AllocError>
+        requires few { steps_made self.old < 2 ^ 40 }
+        requires none { has_some self.old.pending ≡ false }
+        requires there { place < length self.old.ins }
+        requires may { MayTakeAt self.old.ins place }
+        requires ready { has_ready self.old.ins ≡ true }
+        ensures ok { OnOk result (TakesBatch self.old self.new) }
+        ensures err { OnErr result (self.new ≡ self.old) }
+    {
+        let empty = is_empty_at(self.ins.as_slice(), place);
+        let last = closing_of(self.alloc, &self.operator_state, empty)?;
+        self.journal.reserve(1)?;
+        let Found {
+            from,
+            builds,
+            number,
+            batch,
+        } = take_at(self.ins.as_mut_slice(), place);
+        let over = have_ended(self.ins.as_slice());
+        close(&mut self.gains.pending, last, over);
+        turn_to(&mut self.operator_state, builds);
+        self.building = builds;
+        self.journal.push_reserved(Entry::Take {
+            from,
+            batch: number,
+        });
+        self.rest.from = from;
+        self.rest.rows = VecDeque::from_vec(batch.rows.into_inner());
+        self.batches += 1;
+        Ok(())
     }
 
     // Takes a batch of the first sender of whom one may be taken, and says whether there was one.
     fn take_batch(&mut self) -> Result<bool, AllocError>
         requires few { steps_made self.old < 2 ^ 40 }
         requires none { has_some self.old.pending ≡ false }
-        ensures found { IfOk result (λ found. MatchBool found (TakesBatch self.old self.new) (IsLookedAt self.old self.new)) }
+        ensures found { IfOk result (λ found. MatchBool found (TakesBatch self.old self.new)
+            (IsLookedAt self.old self.new)) }
         ensures none { IfOk result (λ found. found ≡ false → has_ready self.new.ins ≡ false) }
         ensures err { OnErr result (IsLookedAt self.old self.new) }
     {
-        Err(AllocError)
+        let Some(place) = self.ready() else {
+            return Ok(false);
+        };
+        self.take_from(place)?;
+        Ok(true)
     }
 
     // Finishes where the last batches of all senders were taken, and says whether they were.
@@ -230,7 +290,14 @@ impl Worker {
         ensures done { IfOk result (λ ended. MatchBool ended (Finishes self.old self.new) (self.new ≡ self.old)) }
         ensures err { OnErr result (self.new ≡ self.old) }
     {
-        Err(AllocError)
+        if !have_ended(self.ins.as_slice()) {
+            return Ok(false);
+        }
+        self.journal.reserve(1)?;
+        end_streams(self.outs.as_mut_slice())?;
+        self.journal.push_reserved(Entry::Finish);
+        self.finished = true;
+        Ok(true)
     }
 
     /// Makes one step, if there is one to make. The journal says which. Want of memory leaves all as before, but for batches
@@ -242,7 +309,7 @@ impl Worker {
         ensures moved { IfOk result (λ turn. HasTurned turn self.old self.new) }
         ensures err { OnErr result (IsLookedAt self.old self.new) }
         ensures ends { HasSameEnds self.old self.new }
-        ensures unsent { AreUnsent self.old self.new }
+        ensures unsent { HaveSentNothing self.old.outs self.new.outs }
         ensures unlooked { wants_batch self.old ≡ false → self.new.ins ≡ self.old.ins }
     {
         if self.is_over() {
@@ -276,7 +343,7 @@ impl Worker {
 
     /// Whether the worker has nothing more to do.
     pub fn is_finished(&self) -> bool
-        ensures finished { result ≡ self.now.finished }
+        ensures over { result ≡ self.now.finished }
         ensures calm { IsCalm self.now }
     {
         self.finished
@@ -316,6 +383,16 @@ impl Worker {
         ensures { result ≡ nat_lt (steps_made self.now) (2 ^ 40) }
     {
         self.steps() < MOST_STEPS
+    }
+
+    /// The first of its receivers for which a batch waits to be sent, by its running number.
+    pub fn first_waiting(&self) -> Option<u32>
+        ensures first { result ≡ first_of (numbers_waiting self.now.outs) }
+        ensures none { IfNone result (All (λ one. one.link.kept.waiting ≡ []) self.now.outs) }
+        ensures some { IfSome result
+            (λ to. list_any (λ one. one.to == to) self.now.outs ≡ true) }
+    {
+        waiting_receiver(self.outs.as_slice())
     }
 
     /// How many workers send to the worker.

@@ -1,11 +1,10 @@
 -- Each kind of turn.
-use Rattle.std.proofs.Common.{Result, Ok, Err, ap, false, refl, sym, subst}
-use Rattle.amber_worker.specs.WorkerState.{WorkerState}
+use Rattle.std.proofs.Common.{Result, Ok, Err, refl, sym, subst, ap, ◌∙◌}
 use Rattle.std.specs.Result.{OnErr}
+use Rattle.amber_worker.specs.WorkerState.{WorkerState}
 use Rattle.amber_worker.specs.AtPosition.{HasSameEnds, Keeps}
 use Rattle.amber_worker.proofs.KeptPosition.{Keeps-refl}
-use Rattle.amber_worker.proofs.Turns.{ends-done, ends-emitted, ends-looked, ends-same, ends-taken_batch, ends-taken_row, keeps-done, keeps-emitted, keeps-idle, keeps-looked, keeps-same, keeps-taken_batch, keeps-taken_row, looked-none, is-idle, next-done, next-idle, next-over, next-pending, next-plain, next-rest, next-taken, not-taken}
-use Rattle.amber_worker.proofs.Unsent.{ins-emitted, ins-taken_row, unsent-done, unsent-emitted, unsent-looked, unsent-same, unsent-taken_batch, unsent-taken_row, wants}
+use Rattle.amber_worker.proofs.Turns.{ends-done, ends-emitted, ends-looked, ends-same, ends-taken_batch, ends-taken_row, is-idle, keeps-done, keeps-emitted, keeps-idle, keeps-looked, keeps-same, keeps-taken_batch, keeps-taken_row, looked-none, next-done, next-idle, next-over, next-pending, next-plain, next-rest, next-taken, not-taken, unsent-done, unsent-emitted, unsent-looked, unsent-same, unsent-taken_batch, unsent-taken_row, unwanted}
 use Rattle.amber_worker.proofs.worker.Worker.turn.Goals as goal
 
 err_so : {T E : Type 0} (r : Result T E) (P : Type 0) → P → OnErr r P
@@ -148,45 +147,43 @@ pub returns-then-taken-clause-unsent : goal.returns-then-taken-clause-unsent
 returns-then-taken-clause-unsent c = unsent-taken_batch _ c.take_batch.new.self c.in_ok-taken.taken c.in_ok-taken.ensures.found
 
 pub returns-in_err-ended-clause-unsent : goal.returns-in_err-ended-clause-unsent
-returns-in_err-ended-clause-unsent c =
-    let looked = not-taken _ c.take_batch.new.self c.in_ok-taken.taken c.if-taken.false c.in_ok-taken.ensures.found in
-    unsent-done c.args.self.now c.take_batch.new.self c.finish.new.self false looked c.in_err-ended.ensures.err
+returns-in_err-ended-clause-unsent c = unsent-same _ _ c.in_err-ended.ensures.err ∙ unsent-taken_batch _ c.take_batch.new.self c.in_ok-taken.taken c.in_ok-taken.ensures.found
 
 pub returns-then-ended-clause-unsent : goal.returns-then-ended-clause-unsent
 returns-then-ended-clause-unsent c =
     let looked = not-taken _ c.take_batch.new.self c.in_ok-taken.taken c.if-taken.false c.in_ok-taken.ensures.found in
-    unsent-done c.args.self.now c.take_batch.new.self c.finish.new.self c.in_ok-ended.ended looked c.in_ok-ended.ensures.done
+    unsent-done _ c.take_batch.new.self c.finish.new.self c.in_ok-ended.ended looked c.in_ok-ended.ensures.done
 
 pub returns-clause-unsent : goal.returns-clause-unsent
 returns-clause-unsent c =
     let looked = not-taken _ c.take_batch.new.self c.in_ok-taken.taken c.if-taken.false c.in_ok-taken.ensures.found in
-    unsent-done c.args.self.now c.take_batch.new.self c.finish.new.self c.in_ok-ended.ended looked c.in_ok-ended.ensures.done
+    unsent-done _ c.take_batch.new.self c.finish.new.self c.in_ok-ended.ended looked c.in_ok-ended.ensures.done
 
--- ---- nothing is looked at where something is at hand
+-- ---- no look was made
 
 pub returns-in_err-emit_row-clause-unlooked : goal.returns-in_err-emit_row-clause-unlooked
-returns-in_err-emit_row-clause-unlooked c = λ _. ap (λ (w : WorkerState). w.ins) c.in_err-emit_row.ensures.err
+returns-in_err-emit_row-clause-unlooked c h = ap (λ (w : WorkerState). w.ins) c.in_err-emit_row.ensures.err
 
 pub returns-then-has_pending-clause-unlooked : goal.returns-then-has_pending-clause-unlooked
-returns-then-has_pending-clause-unlooked c = λ _. ins-emitted _ c.emit_row.new.self c.in_ok-emit_row.ensures.ok
+returns-then-has_pending-clause-unlooked c h = ap (λ (w : WorkerState). w.ins) c.in_ok-emit_row.ensures.ok.after
 
 pub returns-in_err-take_row-clause-unlooked : goal.returns-in_err-take_row-clause-unlooked
-returns-in_err-take_row-clause-unlooked c = λ _. ap (λ (w : WorkerState). w.ins) c.in_err-take_row.ensures.err
+returns-in_err-take_row-clause-unlooked c h = ap (λ (w : WorkerState). w.ins) c.in_err-take_row.ensures.err
 
 pub returns-then-has_rest-clause-unlooked : goal.returns-then-has_rest-clause-unlooked
-returns-then-has_rest-clause-unlooked c = λ _. ins-taken_row _ c.take_row.new.self c.in_ok-take_row.ensures.ok
+returns-then-has_rest-clause-unlooked c h = ap (λ (w : WorkerState). w.ins) c.in_ok-take_row.ensures.ok.after
 
 pub returns-in_err-taken-clause-unlooked : goal.returns-in_err-taken-clause-unlooked
-returns-in_err-taken-clause-unlooked c = λ no. wants c.args.self.now (sym c.if-is_over.ensures.over) c.is_over.ensures.calm.running (sym c.if-has_pending.ensures) (sym c.if-has_rest.ensures) no
+returns-in_err-taken-clause-unlooked c h = unwanted c.args.self.now _ c.is_over.ensures.calm (sym c.if-is_over.ensures.over) (sym c.if-has_pending.ensures) (sym c.if-has_rest.ensures) h
 
 pub returns-then-taken-clause-unlooked : goal.returns-then-taken-clause-unlooked
-returns-then-taken-clause-unlooked c = λ no. wants c.args.self.now (sym c.if-is_over.ensures.over) c.is_over.ensures.calm.running (sym c.if-has_pending.ensures) (sym c.if-has_rest.ensures) no
+returns-then-taken-clause-unlooked c h = unwanted c.args.self.now _ c.is_over.ensures.calm (sym c.if-is_over.ensures.over) (sym c.if-has_pending.ensures) (sym c.if-has_rest.ensures) h
 
 pub returns-in_err-ended-clause-unlooked : goal.returns-in_err-ended-clause-unlooked
-returns-in_err-ended-clause-unlooked c = λ no. wants c.args.self.now (sym c.if-is_over.ensures.over) c.is_over.ensures.calm.running (sym c.if-has_pending.ensures) (sym c.if-has_rest.ensures) no
+returns-in_err-ended-clause-unlooked c h = unwanted c.args.self.now _ c.is_over.ensures.calm (sym c.if-is_over.ensures.over) (sym c.if-has_pending.ensures) (sym c.if-has_rest.ensures) h
 
 pub returns-then-ended-clause-unlooked : goal.returns-then-ended-clause-unlooked
-returns-then-ended-clause-unlooked c = λ no. wants c.args.self.now (sym c.if-is_over.ensures.over) c.is_over.ensures.calm.running (sym c.if-has_pending.ensures) (sym c.if-has_rest.ensures) no
+returns-then-ended-clause-unlooked c h = unwanted c.args.self.now _ c.is_over.ensures.calm (sym c.if-is_over.ensures.over) (sym c.if-has_pending.ensures) (sym c.if-has_rest.ensures) h
 
 pub returns-clause-unlooked : goal.returns-clause-unlooked
-returns-clause-unlooked c = λ no. wants c.args.self.now (sym c.if-is_over.ensures.over) c.is_over.ensures.calm.running (sym c.if-has_pending.ensures) (sym c.if-has_rest.ensures) no
+returns-clause-unlooked c h = unwanted c.args.self.now _ c.is_over.ensures.calm (sym c.if-is_over.ensures.over) (sym c.if-has_pending.ensures) (sym c.if-has_rest.ensures) h

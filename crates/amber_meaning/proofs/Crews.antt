@@ -4,9 +4,8 @@ use Rattle.std.proofs.lemmas.Bool.{cases_lt, le-ltb, lt-ltb}
 use Rattle.std.proofs.lemmas.List.Sums.{sum_by-cons}
 use Rattle.amber_rows.specs.Crew.{crew_of, first_worker_of, op_of, worker_count, workers_in, workers_of}
 use Rattle.amber_rows.specs.declared.flow.Operator.{Operator}
+use Rattle.amber_meaning.proofs.Numbers.{among, are_different, different-row, in-row, row-in}
 use Rattle.amber_meaning.proofs.Lists.{nth-next}
-use Rattle.amber_laws.proofs.Bags.{among, are_different}
-use Rattle.amber_laws.proofs.Numbers.{different-row, in-row, row-in}
 
 -- ---- by places from 0
 

@@ -1,0 +1,11 @@
+-- The receivers so far have the first numbers, and the first ends.
+use Rattle.std.proofs.Common.{◌≡◌, length, map, take}
+use Rattle.amber_worker.specs.Made.{out_of, to_of}
+use Rattle.amber_worker.proofs.making.receivers_of.Given as goal
+
+abbrev pub invariant-loop-link : goal.invariant-loop-link
+invariant-loop-link l = record {
+  place : l.place ≡ length l.yielded;
+  numbers : map to_of l.receivers.items ≡ take l.place l.numbers;
+  links : map out_of l.receivers.items ≡ l.yielded;
+}

@@ -1,0 +1,38 @@
+-- A batch is taken.
+use Rattle.std.proofs.Common.{◌≡◌, ◌∙◌, length, ap, arith, rules, refl, sym}
+use Rattle.amber_link.specs.Sides.{IsLooked, have_all_ended}
+use Rattle.amber_link.specs.declared.senders.Sender.{Sender}
+use Rattle.amber_link.proofs.Sides.{looked-same, pairwise-refl}
+use Rattle.amber_worker.proofs.Bounds.{few-batch, no-share, takes-batch, written-back}
+use Rattle.amber_worker.proofs.worker.Worker.take_from.Goals as goal
+
+pub invariant_of-self-2 : goal.invariant_of-self-2
+invariant_of-self-2 c =
+    let few = rw (← c.self.view_is) at c.requires.few in
+    let there = rw (← c.self.view_is) at c.requires.there in
+    let lent = ap length c.as_mut_slice.ensures.value in
+    let len : c.self.inside.ins.len ≡ length c.self.inside.ins.items = omega (arith, lent, c.as_mut_slice.ensures.len) in
+    let stays : length c.take_at-from.new.ins ≡ length c.self.inside.ins.items = omega (arith, lent, c.take_at-from.auto.ins) in
+    rw (c.turn_to.ensures, c.push_reserved.ensures.items, c.reserve.ensures.items, written-back _ _ _ len stays)
+    (few-batch _ _ _ _ _ _ _ _ _ _ _ _ _ c.args.place _ _ _ _ (rw c.as_mut_slice.ensures.value at c.take_at-from.ensures.taken) refl refl c.self.invariant few there
+    (c.take_at-from.ensures.few c.self.inside.batches (rw c.as_mut_slice.ensures.value c.self.invariant.received)))
+
+pub returns-clause-ok : goal.returns-clause-ok
+returns-clause-ok c =
+    let there = rw (← c.self.view_is) at c.requires.there in
+    let ready = rw (← c.self.view_is) at c.requires.ready in
+    let lent = ap length c.as_mut_slice.ensures.value in
+    let len : c.self.inside.ins.len ≡ length c.self.inside.ins.items = omega (arith, lent, c.as_mut_slice.ensures.len) in
+    let stays : length c.take_at-from.new.ins ≡ length c.self.inside.ins.items = omega (arith, lent, c.take_at-from.auto.ins) in
+    let d : Sender = c.take_at-from.ensures.taken.0 in
+    let before = rw c.as_slice.ensures.value at c.is_empty_at-empty.ensures in
+    let after = rw c.as_mut_slice.ensures.value at c.take_at-from.ensures.empty in
+    rw (← c.self.view_is)
+    (takes-batch _ c.take_at-from.result.from c.take_at-from.result.number c.take_at-from.result.builds c.take_at-from.result.batch c.self.inside.ins.items c.take_at-from.new.ins _ _ _
+    c.turn_to.new.operator_state c.in_ok-last.last.items c.close.new.pending.items c.is_empty_at-empty.result c.have_ended-over.result
+    (rw c.as_mut_slice.ensures.value at c.take_at-from.ensures.taken) (pairwise-refl IsLooked looked-same c.self.inside.ins.items) ready (search rules) (search rules)
+    (rw (no-share _ _ c.args.place c.self.invariant.shares there, c.from_vec.ensures.items, c.into_inner.ensures) refl)
+    (written-back _ _ _ len stays)
+    (rw (c.push_reserved.ensures.items, c.reserve.ensures.items) refl)
+    c.turn_to.ensures (sym (before d) ∙ after d) (c.have_ended-over.ensures ∙ ap have_all_ended (c.as_slice-2.ensures.value ∙ written-back _ _ _ len stays))
+    c.in_ok-last.ensures c.close.ensures)
