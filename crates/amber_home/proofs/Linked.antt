@@ -8,7 +8,7 @@ use Rattle.amber_link.specs.declared.senders.Sender.{Sender}
 use Rattle.amber_link.proofs.LinkEnds.{linked-still, none-first, settled-by}
 use Rattle.amber_link.proofs.Sides.{get_or-any, map-at, map-length, pairwise-length}
 use Rattle.amber_worker.specs.AtPosition.{HasSameEnds}
-use Rattle.amber_worker.specs.Changes.{AreUnsent}
+use Rattle.amber_worker.specs.Links.{HaveSentNothing}
 use Rattle.amber_worker.specs.Pairs.{AreJoined, AreSettledAt, IsLinkAt, PassesOn}
 use Rattle.amber_worker.specs.WorkerState.{WorkerState}
 use Rattle.amber_home.specs.AtWork.{AllHasCome}
@@ -68,7 +68,7 @@ module _ (from to from_now to_now : WorkerState) (one : HasSameEnds from from_no
 -- ---- a turn
 
 -- what was sent has still come: a turn sends nothing
-pub come-turned : (from to now : WorkerState) → HasSameEnds from now → AreUnsent from now → AreSettledAt from to → AllHasCome now to
+pub come-turned : (from to now : WorkerState) → HasSameEnds from now → HaveSentNothing from.outs now.outs → AreSettledAt from to → AllHasCome now to
 come-turned from to now same unsent settled =
     let j_less = settled.places.j_within in
     let now_less : settled.j < length now.outs = rw (outs-length from now same) j_less in

@@ -5,7 +5,8 @@ use Rattle.amber_meaning.specs.Legal.{Query}
 use Rattle.amber_meaning.specs.Position.{Position}
 use Rattle.amber_meaning.specs.State.{State}
 use Rattle.amber_worker.specs.AtPosition.{HasSameEnds, HasTurned, IsNextTurn, Keeps}
-use Rattle.amber_worker.specs.Changes.{AreUnsent, wants_batch}
+use Rattle.amber_worker.specs.Changes.{wants_batch}
+use Rattle.amber_worker.specs.Links.{HaveSentNothing}
 use Rattle.amber_worker.specs.WorkerState.{WorkerState, steps_made}
 use Rattle.amber_worker.specs.declared.turn.Turn.{Turn}
 use Rattle.amber_home.specs.AtWork.{AreAtWork, AreJoinedAt, GoOn, HaveFinished, IsCrew, IsJoinedCrew, IsSameBesides, MovesOnly, SendsTo, StayPut, steps_by, worker_state_at}
@@ -47,7 +48,7 @@ module _ (crew : List WorkerState) (number : ℕ) (now d : WorkerState) (inside 
     pub answer : IsNextTurn (get_or crew number d) done
     pub moved : HasTurned done (get_or crew number d) now
     pub ends : HasSameEnds (get_or crew number d) now
-    pub unsent : AreUnsent (get_or crew number d) now
+    pub unsent : HaveSentNothing (get_or crew number d).outs now.outs
     pub unlooked : wants_batch (get_or crew number d) ≡ false → now.ins ≡ (get_or crew number d).ins
 
   module _ (done : Turn) (turn : IsTurn done) where
@@ -67,7 +68,7 @@ module _ (crew : List WorkerState) (number : ℕ) (now d : WorkerState) (inside 
         let one = sending-out work.0 work.1 turned (placed work.2 number next.0) next.1 number to (rw length-set inside) known in
         let apart : to ≢ number = λ same. let before = one.before in absurd (omega arith) in
         rw (here-now crew number now inside, there-still crew number now inside to apart)
-        (come-turned (worker_state_at crew number) (worker_state_at crew to) now (subst (λ w. HasSameEnds w now) here turn.ends) (subst (λ w. AreUnsent w now) here turn.unsent)
+        (come-turned (worker_state_at crew number) (worker_state_at crew to) now (subst (λ w. HasSameEnds w now) here turn.ends) (subst (λ w. HaveSentNothing w.outs now.outs) here turn.unsent)
         (work.3.settled number to one.does))
 
     -- one step more was made
