@@ -1,6 +1,6 @@
-ghost use Rattle.std.specs.Prelude.{◌≡◌, ◌∷◌, ◌<◌, ◌≤◌, [], IfOk, None, Some, length, map, option_map};
+ghost use Rattle.std.specs.Prelude.{◌≡◌, ◌∷◌, ◌<◌, ◌≤◌, [], IfOk, None, Some, length, map, option_map, unwrap_or};
 ghost use Rattle.amber_rows.specs.Lists.{changed_at, nth};
-ghost use Rattle.amber_meaning.specs.State.{start_of, without_arms};
+ghost use Rattle.amber_meaning.specs.State.{no_arms, start_of, without_arms};
 
 use crate::armed::Armed;
 use amber_rows::{Flow, Value};
@@ -50,6 +50,16 @@ impl InForce {
             return None;
         }
         self.arms.get(op as usize - 1)
+    }
+
+    /// The rows after which an operator pauses, if a pause is armed there.
+    pub fn pause_at(&self, op: u32) -> Option<u64>
+        ensures { result ≡ (unwrap_or (nth self.now op) no_arms).pause }
+    {
+        match self.at(op) {
+            Some(arms) => arms.pause(),
+            None => None,
+        }
     }
 
     /// Arms a pause of an operator after so many rows, in place of an earlier one.

@@ -4,6 +4,7 @@ pub mod Links
 pub mod Numbers
 pub mod OnePlace
 pub mod Passed
+pub mod Paused
 pub mod Sending
 pub mod Split
 pub mod Stepped

@@ -1,4 +1,5 @@
 pub mod AtWork
 pub mod HomeState
 pub mod Kept
+pub mod Leg
 pub mod Passing

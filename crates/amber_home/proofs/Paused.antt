@@ -1,0 +1,63 @@
+-- The rows that an operator's workers have emitted, and whether its pause stands.
+use Rattle.std.proofs.Common.{◌≡◌, ◌≢◌, refl, sym, ap, ◌∙◌, ℕ, zero, suc, ◌+◌, ◌-◌, ◌*◌, ◌^◌, ◌<◌, ◌≤◌, List, [], ◌∷◌, ◌++◌, length, get_or, map, sum_by, true, false, arith, add-one, zero-add}
+use Rattle.std.proofs.lemmas.List.{map-append}
+use Rattle.std.proofs.lemmas.List.Sums.{sum_by-append}
+use Rattle.amber_rows.specs.Crew.{crew_of, first_worker_of, worker_count, workers_of}
+use Rattle.amber_rows.specs.FlowRules.{IsFlow}
+use Rattle.amber_rows.specs.Lists.{numbers_below}
+use Rattle.amber_rows.specs.declared.flow.Operator.{Operator}
+use Rattle.amber_rows.proofs.CrewFacts.{count-there}
+use Rattle.amber_meaning.proofs.Crews.{place-worker, worker-known}
+use Rattle.amber_worker.specs.WorkerState.{WorkerState, steps_made}
+use Rattle.amber_home.specs.AtWork.{MovesOnly, steps_by, worker_state_at}
+use Rattle.amber_home.specs.Leg.{emitted_at}
+use Rattle.amber_home.proofs.Split.{read-at}
+use Rattle.amber_home.proofs.Steps.{sum-member}
+
+pub crew-few : (flow : List Operator) → IsFlow flow → crew_of flow ≤ 128
+unfolding crew_of
+crew-few flow ok = ok.few_workers
+
+pub emitted-few : (crew : List WorkerState) (worker : ℕ) → (worker_state_at crew worker).emitted ≤ steps_by crew
+emitted-few crew worker = let few = sum-member crew worker in omega arith
+
+-- one worker more
+pub emitted-more : (crew : List WorkerState) (first n : ℕ) (rows : ℕ) → rows ≡ emitted_at crew (map (λ place. first + place) (numbers_below n))
+    → rows + (worker_state_at crew (first + n)).emitted ≡ emitted_at crew (map (λ place. first + place) (numbers_below (n + 1)))
+unfolding numbers_below
+emitted-more crew first n rows is =
+    let emitted : ℕ → ℕ = λ worker. (worker_state_at crew worker).emitted in
+    let next : map (λ place. first + place) (numbers_below (n + 1)) ≡ map (λ place. first + place) (numbers_below n) ++ (first + n) ∷ [] =
+    ap (λ m. map (λ place. first + place) (numbers_below m)) (add-one n) ∙ map-append (λ place. first + place) (numbers_below n) (n ∷ []) in
+    ap (λ m. m + emitted (first + n)) is
+    ∙ ap (λ m. emitted_at crew (map (λ place. first + place) (numbers_below n)) + m) (sym (zero-add (emitted (first + n))))
+    ∙ sym (ap (sum_by emitted) next ∙ sum_by-append emitted (map (λ place. first + place) (numbers_below n)) ((first + n) ∷ []))
+
+-- the same as it is counted, and it stays small
+pub next-emitted : (crew : List WorkerState) (first place rows emitted : ℕ) (w : WorkerState) → first + place < length crew → w ≡ get_or crew (first + place) w → emitted ≡ w.emitted
+    → steps_by crew ≤ 2 ^ 40 → rows ≡ emitted_at crew (map (λ place. first + place) (numbers_below place)) → rows ≤ place * 2 ^ 40
+    → (rows + emitted ≡ emitted_at crew (map (λ place. first + place) (numbers_below (place + 1)))) × (rows + emitted ≤ (place + 1) * 2 ^ 40)
+next-emitted crew first place rows emitted w inside is own few rows-are small =
+    let it : emitted ≡ (worker_state_at crew (first + place)).emitted = own ∙ ap (λ (v : WorkerState). v.emitted) (is ∙ read-at crew (first + place) w inside) in
+    let less = emitted-few crew (first + place) in (
+      ap (λ n. rows + n) it ∙ emitted-more crew first place rows rows-are,
+      omega arith,
+    )
+
+module _ (flow operators : List Operator) (crew : List WorkerState) (op place first : ℕ) (o : Operator) (same : operators ≡ flow) (some : 0 < op) (within : op ≤ length flow) where
+  count-is : o ≡ get_or operators (op - 1) o → o.workers ≡ worker_count flow op
+  count-is is = ap (λ (x : Operator). x.workers) (is ∙ ap (λ xs. get_or xs (op - 1) o) same) ∙ count-there flow op o some within
+
+  -- the worker at a place is there
+  pub place-inside : length crew ≡ crew_of flow → o ≡ get_or operators (op - 1) o → first ≡ first_worker_of flow op → place < o.workers → first + place < length crew
+  place-inside all is first-is less =
+      rw (all, first-is) (worker-known flow op (first_worker_of flow op + place) (place-worker flow op place (rw (← count-is is) less)))
+
+  -- all were counted
+  pub all-emitted : (rows : ℕ) → o ≡ get_or operators (op - 1) o → first ≡ first_worker_of flow op → o.workers ≤ place → place ≤ o.workers
+      → rows ≡ emitted_at crew (map (λ place. first + place) (numbers_below place)) → rows ≡ emitted_at crew (workers_of flow op)
+  unfolding workers_of
+  all-emitted rows is first-is least most rows-are =
+      let whole : place ≡ worker_count flow op = sym (let e = count-is is in omega arith) in
+      rows-are ∙ ap (λ n. emitted_at crew (map (λ place. first + place) (numbers_below n))) whole
+      ∙ ap (λ n. emitted_at crew (map (λ place. n + place) (numbers_below (worker_count flow op)))) first-is

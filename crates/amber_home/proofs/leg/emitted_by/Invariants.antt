@@ -1,0 +1,12 @@
+-- The rows of the first workers of the operator are counted.
+use Rattle.std.proofs.Common.{◌≡◌, ℕ, ◌+◌, ◌*◌, ◌^◌, ◌≤◌, map}
+use Rattle.amber_rows.specs.Crew.{first_worker_of}
+use Rattle.amber_rows.specs.Lists.{numbers_below}
+use Rattle.amber_home.specs.Leg.{emitted_at}
+use Rattle.amber_home.proofs.leg.emitted_by.Given as goal
+
+abbrev pub invariant-loop-place : goal.invariant-loop-place
+invariant-loop-place l = record {
+  rows : l.rows ≡ emitted_at l.crew (map (λ place. l.first + place) (numbers_below l.place));
+  few : l.rows ≤ l.place * 2 ^ 40;
+}
