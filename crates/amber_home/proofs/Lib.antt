@@ -1,4 +1,5 @@
 pub mod Crews
+pub mod Going
 pub mod Linked
 pub mod Links
 pub mod Numbers

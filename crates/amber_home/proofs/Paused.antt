@@ -1,16 +1,18 @@
 -- The rows that an operator's workers have emitted, and whether its pause stands.
-use Rattle.std.proofs.Common.{◌≡◌, ◌≢◌, refl, sym, ap, ◌∙◌, ℕ, zero, suc, ◌+◌, ◌-◌, ◌*◌, ◌^◌, ◌<◌, ◌≤◌, List, [], ◌∷◌, ◌++◌, length, get_or, map, sum_by, true, false, arith, add-one, zero-add}
+use Rattle.std.proofs.Common.{◌≡◌, ◌≢◌, refl, sym, ap, ◌∙◌, ℕ, zero, suc, ◌+◌, ◌-◌, ◌*◌, ◌^◌, ◌<◌, ◌≤◌, List, [], ◌∷◌, ◌++◌, length, get_or, map, sum_by, true, false, inl, inr, arith, add-one, zero-add}
 use Rattle.std.proofs.lemmas.List.{map-append}
-use Rattle.std.proofs.lemmas.List.Sums.{sum_by-append}
-use Rattle.amber_rows.specs.Crew.{crew_of, first_worker_of, worker_count, workers_of}
+use Rattle.std.proofs.lemmas.List.Sums.{sum_by-append, sum_by-cons}
+use Rattle.std.proofs.lemmas.Bool.Decides.{eqb_tells}
+use Rattle.amber_rows.specs.Crew.{crew_of, first_worker_of, op_of, worker_count, workers_of}
 use Rattle.amber_rows.specs.FlowRules.{IsFlow}
 use Rattle.amber_rows.specs.Lists.{numbers_below}
 use Rattle.amber_rows.specs.declared.flow.Operator.{Operator}
 use Rattle.amber_rows.proofs.CrewFacts.{count-there}
-use Rattle.amber_meaning.proofs.Crews.{place-worker, worker-known}
+use Rattle.amber_meaning.proofs.Crews.{place-worker, worker-known, worker-op}
+use Rattle.amber_meaning.proofs.Numbers.{among, among-first, among-more}
 use Rattle.amber_worker.specs.WorkerState.{WorkerState, steps_made}
 use Rattle.amber_home.specs.AtWork.{MovesOnly, steps_by, worker_state_at}
-use Rattle.amber_home.specs.Leg.{emitted_at}
+use Rattle.amber_home.specs.Leg.{NonePaused, Run, emitted_at, is_paused, pause_at, stands_after}
 use Rattle.amber_home.proofs.Split.{read-at}
 use Rattle.amber_home.proofs.Steps.{sum-member}
 
@@ -61,3 +63,29 @@ module _ (flow operators : List Operator) (crew : List WorkerState) (op place fi
       let whole : place ≡ worker_count flow op = sym (let e = count-is is in omega arith) in
       rows-are ∙ ap (λ n. emitted_at crew (map (λ place. first + place) (numbers_below n))) whole
       ∙ ap (λ n. emitted_at crew (map (λ place. n + place) (numbers_below (worker_count flow op)))) first-is
+
+-- ---- where one worker moves
+
+emitted-same : (old new : List WorkerState) (workers : List ℕ) → ((worker : ℕ) → among worker workers ≡ true → (worker_state_at new worker).emitted ≡ (worker_state_at old worker).emitted)
+    → emitted_at new workers ≡ emitted_at old workers
+emitted-same old new [] same = refl
+emitted-same old new (worker ∷ more) same =
+    sum_by-cons (λ w. (worker_state_at new w).emitted) worker more
+    ∙ ap (λ n. n + emitted_at new more) (same worker (among-first worker more))
+    ∙ ap (λ n. (worker_state_at old worker).emitted + n) (emitted-same old new more (λ w known. same w (among-more w worker more known)))
+    ∙ sym (sum_by-cons (λ w. (worker_state_at old w).emitted) worker more)
+
+-- another operator's workers have emitted what they had
+pub others-emitted : (flow : List Operator) (old new : List WorkerState) (number op : ℕ) → MovesOnly old new number → op ≢ op_of flow number
+    → emitted_at new (workers_of flow op) ≡ emitted_at old (workers_of flow op)
+others-emitted flow old new number op only apart =
+    emitted-same old new (workers_of flow op) (λ worker known.
+    ap (λ (w : WorkerState). w.emitted) (only worker (λ same. apart (sym (worker-op flow op worker known) ∙ ap (op_of flow) same))))
+
+-- where no pause stood, and none stands at the operator of the one that moved, none stands
+pub none-moved : (run : Run) (old new : List WorkerState) (number : ℕ) → MovesOnly old new number → NonePaused run old → is_paused run new (op_of run.flow number) ≡ false → NonePaused run new
+none-moved run old new number only none here op =
+    elim (eqb_tells op (op_of run.flow number)) [
+      | inl same ↦ ap (is_paused run new) same.1 ∙ here
+      | inr other ↦ ap (stands_after (pause_at run.arms op)) (others-emitted run.flow old new number op only other.1) ∙ none op
+    ]

@@ -1,7 +1,7 @@
 //! A leg: the workers make their steps, one worker after the other.
 
-ghost use Rattle.std.specs.Prelude.{◌≡◌, ◌+◌, ◌^◌, ◌<◌, ◌≤◌, ℕ, IfOk, OnOk, false, length};
-ghost use Rattle.amber_rows.specs.Crew.{crew_of, workers_of};
+ghost use Rattle.std.specs.Prelude.{◌≡◌, ◌+◌, ◌^◌, ◌<◌, ◌≤◌, ◌||◌, ℕ, IfOk, OnOk, false, length};
+ghost use Rattle.amber_rows.specs.Crew.{crew_of, op_of, workers_of};
 ghost use Rattle.amber_rows.specs.FlowRules.{IsFlow};
 ghost use Rattle.amber_worker.specs.WorkerState.{steps_made};
 ghost use Rattle.amber_home.specs.AtWork.{GoOn, HaveFinished, IsCrew, MovesOnly, steps_by, worker_state_at};
@@ -66,4 +66,78 @@ pub(crate) fn is_paused(flow: &Flow, arms: &InForce, crew: &[Worker], op: u32) -
         None => false,
         Some(rows) => rows <= emitted_by(flow, crew, op),
     }
+}
+
+// Whether a worker has nothing to do in a leg: it has finished, or a pause of its operator stands.
+fn is_done(flow: &Flow, arms: &InForce, crew: &[Worker], number: usize) -> bool
+    requires flow { IsFlow flow.now }
+    requires all { length crew.now ≡ crew_of flow.now }
+    requires few { steps_by crew.now ≤ 2 ^ 40 }
+    requires there { number < length crew.now }
+    ensures { result ≡ ((worker_state_at crew.now number).finished
+        || is_paused (record { flow = flow.now; arms = arms.now }) crew.now (op_of flow.now number)) }
+{
+    crew[number].is_finished() || is_paused(flow, arms, crew, flow.op_of(number as u32))
+}
+
+// Steps of a worker whose senders have all finished, until it has nothing to do, or has made so many. The answer is how many
+// more it might have made.
+fn drive(
+    flow: &Flow,
+    arms: &InForce,
+    crew: &mut [Worker],
+    number: usize,
+    budget: u64,
+) -> Result<u64, AllocError>
+    requires flow { IsFlow flow.now }
+    requires all { length crew.old ≡ crew_of flow.now }
+    requires there { number < length crew.old }
+    requires crew { IsCrew crew.old }
+    requires first { HaveFinished number crew.old }
+    requires few { steps_by crew.old + budget ≤ 2 ^ 40 }
+    ensures on { OnOk result (GoOn crew.old crew.new) }
+    ensures left { IfOk result (λ left. steps_by crew.new + left ≡ steps_by crew.old + budget) }
+    ensures only { OnOk result (MovesOnly crew.old crew.new number) }
+    ensures stops { IfOk result (λ left. (worker_state_at crew.new number).finished ≡ false
+        → is_paused (record { flow = flow.now; arms = arms.now }) crew.new (op_of flow.now number) ≡ false
+        → left ≡ 0) }
+{
+    'steps: for made in 0..budget {
+        if is_done(flow, arms, crew, number) {
+            return Ok(budget - made);
+        }
+        step(crew, number)?;
+    }
+    Ok(0)
+}
+
+/// Steps of the unfinished worker with the smallest number, until a pause stands, all have finished, or so many steps were
+/// made. The answer says how the leg may be closed.
+pub(crate) fn run_crew(
+    flow: &Flow,
+    arms: &InForce,
+    crew: &mut [Worker],
+    budget: u64,
+) -> Result<Close, AllocError>
+    requires flow { IsFlow flow.now }
+    requires all { length crew.old ≡ crew_of flow.now }
+    requires crew { IsCrew crew.old }
+    requires few { steps_by crew.old + budget ≤ 2 ^ 40 }
+    requires none { NonePaused (record { flow = flow.now; arms = arms.now }) crew.old }
+    ensures on { OnOk result (GoOn crew.old crew.new) }
+    ensures few { OnOk result (steps_by crew.new ≤ steps_by crew.old + budget) }
+    ensures done { IfOk result (λ close. IsLegDone close
+        (record { flow = flow.now; arms = arms.now }) (steps_by crew.old + budget) crew.new) }
+{
+    let mut left = budget;
+    'workers: for number in 0..crew.len() {
+        left = drive(flow, arms, crew, number, left)?;
+        if is_paused(flow, arms, crew, flow.op_of(number as u32)) {
+            return Ok(Close::Cut);
+        }
+        if !crew[number].is_finished() {
+            return Ok(Close::Long);
+        }
+    }
+    Ok(Close::Cut)
 }

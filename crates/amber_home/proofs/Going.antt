@@ -1,0 +1,42 @@
+-- Workers that go on.
+use Rattle.std.proofs.Common.{◌≡◌, ◌≢◌, refl, sym, ap, ◌∙◌, ℕ, ◌+◌, ◌<◌, List, length, get_or, true, false, inl, inr, arith}
+use Rattle.std.proofs.lemmas.Bool.Decides.{eqb_tells}
+use Rattle.amber_meaning.specs.Legal.{Query}
+use Rattle.amber_meaning.specs.Position.{Position}
+use Rattle.amber_meaning.specs.State.{State}
+use Rattle.amber_worker.specs.WorkerState.{WorkerState}
+use Rattle.amber_home.specs.AtWork.{AreAtWork, GoOn, HaveFinished, IsCrew, IsSameBesides, MovesOnly, worker_state_at}
+use Rattle.amber_home.proofs.Split.{read-at}
+
+pub on-refl : (crew : List WorkerState) → GoOn crew crew
+unfolding GoOn
+on-refl crew query start positions work = (positions, work)
+
+pub on-then : (a b c : List WorkerState) → GoOn a b → GoOn b c → GoOn a c
+unfolding GoOn
+on-then a b c first second query start positions work = let next = first query start positions work in second query start next.0 next.1
+
+pub crew-on : (old new : List WorkerState) → IsCrew old → GoOn old new → IsCrew new
+unfolding GoOn
+crew-on old new work on = let next = on work.0 work.1 work.2 work.3 in (work.0, work.1, next.0, next.1)
+
+pub only-refl : (crew : List WorkerState) (worker : ℕ) → MovesOnly crew crew worker
+only-refl crew worker other not-this = refl
+
+pub only-then : (a b c : List WorkerState) (worker : ℕ) → MovesOnly a b worker → MovesOnly b c worker → MovesOnly a c worker
+only-then a b c worker first second other not-this =
+    second other not-this
+    ∙ ap (λ (w : WorkerState). record w { ins = (worker_state_at c other).ins; outs = (worker_state_at c other).outs }) (first other not-this)
+
+-- the first ones have still finished
+pub finished-on : (old new : List WorkerState) (worker : ℕ) → MovesOnly old new worker → HaveFinished worker old → HaveFinished worker new
+finished-on old new worker only first k below =
+    ap (λ (w : WorkerState). w.finished) (only k (λ same. absurd (omega arith))) ∙ first k below
+
+pub finished-more : (crew : List WorkerState) (worker : ℕ) (d : WorkerState) → worker < length crew → (get_or crew worker d).finished ≡ true
+    → HaveFinished worker crew → HaveFinished (worker + 1) crew
+finished-more crew worker d inside done first k below =
+    elim (eqb_tells k worker) [
+      | inl same ↦ ap (λ n. (worker_state_at crew n).finished) same.1 ∙ ap (λ (w : WorkerState). w.finished) (sym (read-at crew worker d inside)) ∙ done
+      | inr other ↦ first k (let ne = other.1 in omega arith)
+    ]

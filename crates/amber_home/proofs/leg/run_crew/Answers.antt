@@ -1,0 +1,74 @@
+-- One worker after the other finishes.
+use Rattle.std.proofs.Common.{◌≡◌, refl, sym, ap, ◌∙◌, ◌<◌, length, false, inl, arith, rules}
+use Rattle.amber_rows.specs.Crew.{crew_of, op_of}
+use Rattle.amber_meaning.proofs.Crews.{op-within}
+use Rattle.amber_worker.specs.WorkerState.{WorkerState}
+use Rattle.amber_home.specs.AtWork.{steps_by, worker_state_at}
+use Rattle.amber_home.specs.Leg.{Run, is_paused}
+use Rattle.amber_home.proofs.Going.{crew-on, finished-more, finished-on, on-refl, on-then}
+use Rattle.amber_home.proofs.Paused.{crew-few, none-moved}
+use Rattle.amber_home.proofs.Split.{read-at}
+use Rattle.amber_home.proofs.leg.run_crew.Goals as goal
+
+pub workers-init : goal.workers-init
+workers-init c = record {
+  on = on-refl c.args.crew.now;
+  made = refl;
+  first = λ k below. absurd (omega arith);
+  none = c.requires.none;
+}
+
+pub drive-requires-clause-crew : goal.drive-requires-clause-crew
+drive-requires-clause-crew c = crew-on c.args.crew.now c.workers.crew c.requires.crew c.workers.invariant.on
+
+pub overflow_cast-number : goal.overflow_cast-number
+overflow_cast-number c =
+    let few = crew-few c.args.flow.now c.requires.flow in
+    let all = c.requires.all in
+    let there = c.workers-test.true in
+    omega arith
+
+pub is_paused-requires-clause-some : goal.is_paused-requires-clause-some
+is_paused-requires-clause-some c = rw c.op_of.ensures (op-within c.args.flow.now c.workers.number (rw (← c.requires.all) c.workers-test.true)).0
+
+pub is_paused-requires-clause-within : goal.is_paused-requires-clause-within
+is_paused-requires-clause-within c = rw c.op_of.ensures (op-within c.args.flow.now c.workers.number (rw (← c.requires.all) c.workers-test.true)).1
+
+pub returns-then-is_paused-clause-on : goal.returns-then-is_paused-clause-on
+returns-then-is_paused-clause-on c = on-then c.args.crew.now c.workers.crew c.drive.new.crew c.workers.invariant.on c.in_ok-left.ensures.on
+
+pub returns-then-is_paused-clause-done : goal.returns-then-is_paused-clause-done
+returns-then-is_paused-clause-done c = inl (c.op_of.result, sym c.is_paused.ensures ∙ c.if-is_paused.true)
+
+pub returns-then-not-is_finished-clause-on : goal.returns-then-not-is_finished-clause-on
+returns-then-not-is_finished-clause-on c = on-then c.args.crew.now c.workers.crew c.drive.new.crew c.workers.invariant.on c.in_ok-left.ensures.on
+
+pub returns-then-not-is_finished-clause-done : goal.returns-then-not-is_finished-clause-done
+returns-then-not-is_finished-clause-done c =
+    let run : Run = record { flow = c.args.flow.now; arms = c.args.arms.now } in
+    let here : is_paused run c.drive.new.crew (op_of run.flow c.workers.number) ≡ false =
+    ap (is_paused run c.drive.new.crew) (sym c.op_of.ensures) ∙ sym c.is_paused.ensures ∙ c.if-is_paused.false in
+    let none = none-moved run c.workers.crew c.drive.new.crew c.workers.number c.in_ok-left.ensures.only c.workers.invariant.none here in
+    let left = c.in_ok-left.ensures.left in
+    let made = c.workers.invariant.made in
+    let inside : c.workers.number < length c.drive.new.crew = search rules in
+    let not-yet : (worker_state_at c.drive.new.crew c.workers.number).finished ≡ false =
+    ap (λ (w : WorkerState). w.finished) (sym (read-at c.drive.new.crew c.workers.number c.index-crew-number.result inside)) ∙ sym c.is_finished.ensures.over ∙ c.if-not-is_finished.true in
+    let over = c.in_ok-left.ensures.stops not-yet here in
+    (none, omega arith, (c.workers.number, inside, not-yet))
+
+pub workers-preserved : goal.workers-preserved
+workers-preserved c =
+    let run : Run = record { flow = c.args.flow.now; arms = c.args.arms.now } in
+    let here : is_paused run c.drive.new.crew (op_of run.flow c.workers.number) ≡ false =
+    ap (is_paused run c.drive.new.crew) (sym c.op_of.ensures) ∙ sym c.is_paused.ensures ∙ c.if-is_paused.false in
+    let none = none-moved run c.workers.crew c.drive.new.crew c.workers.number c.in_ok-left.ensures.only c.workers.invariant.none here in
+    let left = c.in_ok-left.ensures.left in
+    let made = c.workers.invariant.made in
+    record {
+      on = on-then c.args.crew.now c.workers.crew c.drive.new.crew c.workers.invariant.on c.in_ok-left.ensures.on;
+      made = omega arith;
+      first = finished-more c.drive.new.crew c.workers.number c.index-crew-number.result (search rules) (sym c.is_finished.ensures.over ∙ c.if-not-is_finished.false)
+          (finished-on c.workers.crew c.drive.new.crew c.workers.number c.in_ok-left.ensures.only c.workers.invariant.first);
+      none = none;
+    }
