@@ -4,8 +4,10 @@ pub mod Linked
 pub mod Links
 pub mod Numbers
 pub mod OnePlace
+pub mod PartFacts
 pub mod Passed
 pub mod Paused
+pub mod Reached
 pub mod Sending
 pub mod Split
 pub mod Stepped

@@ -2,4 +2,5 @@ pub mod AtWork
 pub mod HomeState
 pub mod Kept
 pub mod Leg
+pub mod Parts
 pub mod Passing

@@ -3,6 +3,7 @@
 
 pub mod error;
 mod leg;
+mod parts;
 mod settling;
 pub mod phase;
 

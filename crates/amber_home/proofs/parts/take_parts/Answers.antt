@@ -1,0 +1,18 @@
+-- One worker more has handed out its journal.
+use Rattle.std.proofs.Common.{rules, ◌<◌, length}
+use Rattle.amber_arms.proofs.Changed.{write-left}
+use Rattle.amber_home.specs.Parts.{without_journal}
+use Rattle.amber_home.proofs.PartFacts.{parts-end, parts-next}
+use Rattle.amber_home.proofs.parts.take_parts.Goals as goal
+
+pub workers-preserved : goal.workers-preserved
+workers-preserved c =
+    let inside : c.workers.number < length c.args.crew.now = search rules in record {
+      crew = write-left without_journal c.args.crew.now c.workers.crew c.workers.number c.index-crew-number.result c.take_journal-entries.new.self inside c.workers.invariant.crew
+          c.take_journal-entries.ensures.rest;
+      parts = parts-next c.args.crew.now c.workers.crew c.workers.number c.index-crew-number.result c.workers.parts.items c.push_part.new.parts.items _ c.take_journal-entries.result inside
+          c.workers.invariant.crew c.take_journal-entries.ensures.journal c.in_ok-push_part.ensures c.workers.invariant.parts;
+    }
+
+pub returns-clause-parts : goal.returns-clause-parts
+returns-clause-parts c = rw c.new.ensures (parts-end c.args.crew.now c.workers.number c.workers.parts.items _ (search rules) c.workers.invariant.parts)
