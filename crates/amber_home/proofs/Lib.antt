@@ -8,7 +8,9 @@ pub mod PartFacts
 pub mod Passed
 pub mod Paused
 pub mod Reached
+pub mod Renewed
 pub mod Sending
 pub mod Split
 pub mod Stepped
 pub mod Steps
+pub mod Within

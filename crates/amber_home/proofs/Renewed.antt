@@ -1,0 +1,52 @@
+-- Workers with the same ends of their links that stand somewhere under what another state has in force.
+use Rattle.std.proofs.Common.{◌≡◌, ◌≢◌, refl, sym, ap, subst, ◌∙◌, ℕ, ◌<◌, List, [], ◌∷◌, length, map, get_or, None, Some, true, false, is_some}
+use Rattle.amber_rows.specs.Crew.{crew_of, op_of}
+use Rattle.amber_link.specs.Sides.{AreSameReceivers, AreSameSenders}
+use Rattle.amber_link.proofs.SameEnds.{receivers-same, senders-same}
+use Rattle.amber_lines.specs.Moving.{orders_in}
+use Rattle.amber_meaning.specs.Legal.{Query}
+use Rattle.amber_meaning.specs.Position.{Position}
+use Rattle.amber_meaning.specs.Rules.{Orders}
+use Rattle.amber_meaning.specs.State.{Arms, State, arms_at, orders_of, position_at}
+use Rattle.amber_worker.specs.AtPosition.{HasSameEnds, IsAtPosition, no_base}
+use Rattle.amber_worker.specs.WorkerState.{WorkerState}
+use Rattle.amber_worker.proofs.Settling.{IsAtPosition-without_journal}
+use Rattle.amber_home.specs.AtWork.{AreAtWork, IsQuiet, placement_at, worker_state_at}
+use Rattle.amber_home.specs.Parts.{without_journal}
+use Rattle.amber_home.proofs.Crews.{joined-each}
+use Rattle.amber_home.proofs.Linked.{settled-same}
+
+-- the same ends, just as they were
+pub record HasItsEnds (old new : WorkerState) : Type 0 where
+  pub number : new.number ≡ old.number
+  pub ins : new.ins ≡ old.ins
+  pub outs : new.outs ≡ old.outs
+  pub watch : new.watch ≡ old.watch
+  pub route : new.route ≡ old.route
+
+own-ends : (old new : WorkerState) → HasItsEnds old new → HasSameEnds old new
+own-ends old new same = record {
+  ins = subst (λ ins. AreSameSenders old.ins ins) (sym same.ins) (senders-same old.ins);
+  outs = subst (λ outs. AreSameReceivers old.outs outs) (sym same.outs) (receivers-same old.outs);
+  number = same.number;
+  watch = same.watch;
+  route = same.route;
+}
+
+module _ (query : Query) (start now : State) (crew after : List WorkerState) (positions later : ℕ → Position) (work : AreAtWork query start crew positions) where
+  pub renewed : length after ≡ length crew → ((k : ℕ) → HasItsEnds (worker_state_at crew k) (worker_state_at after k)) → ((op : ℕ) → IsQuiet (arms_at now op))
+      → ((worker : ℕ) → worker < crew_of query.flow
+      → IsAtPosition (placement_at query worker) (orders_in query now worker) (worker_state_at after worker) (position_at now.positions worker) (later worker) no_base)
+      → AreAtWork query now after later
+  renewed long same quiet each = record {
+    at = record {
+      flow = work.at.flow;
+      quiet = quiet;
+      at_positions = record { all = long ∙ work.at.at_positions.all; each = each };
+      joined = λ from to from-in to-in.
+          joined-each crew after (λ k. own-ends (worker_state_at crew k) (worker_state_at after k) (same k)) from to (work.at.joined from to from-in to-in);
+    };
+    settled = λ from to does.
+        settled-same (worker_state_at crew from) (worker_state_at after from) (worker_state_at crew to) (worker_state_at after to)
+        (same from).outs (same from).number (same to).ins (same to).number (work.settled from to does);
+  }
