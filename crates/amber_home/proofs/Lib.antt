@@ -4,6 +4,7 @@ pub mod Linked
 pub mod Links
 pub mod Numbers
 pub mod OnePlace
+pub mod Opened
 pub mod PartFacts
 pub mod Passed
 pub mod Paused
