@@ -1,3 +1,4 @@
+pub mod Closed
 pub mod Crews
 pub mod Going
 pub mod Linked
