@@ -15,4 +15,5 @@ pub mod Sending
 pub mod Split
 pub mod Stepped
 pub mod Steps
+pub mod Stopped
 pub mod Within

@@ -69,7 +69,7 @@ module _ (query : Query) (start : State) (crew : List WorkerState) (positions : 
         rw (position-here receiver inside, position-here sender there) all,
       )
 
-  leads-at : (worker : ℕ) → worker < crew_of query.flow
+  pub leads-at : (worker : ℕ) → worker < crew_of query.flow
       → Leads (role_in query worker) (orders_in query start worker) (position_at start.positions worker) (worker_state_at crew worker).journal (positions worker)
   unfolding placement_of
   leads-at worker inside = (work.at.at_positions.each worker inside).leads

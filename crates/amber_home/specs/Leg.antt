@@ -1,11 +1,15 @@
 -- What a leg comes to.
-use Rattle.std.specs.Prelude.{◌≡◌, ℕ, ◌<◌, ◌≤◌, ◌⊎◌, List, length, sum_by, nat_le, unwrap_or, Option, None, Some, Bool, true, false}
+use Rattle.std.specs.Prelude.{◌≡◌, ℕ, ◌<◌, ◌⊎◌, List, [], ◌∷◌, ◌++◌, length, sum_by, nat_le, unwrap_or, Option, None, Some, Bool, true, false, if◌then◌else◌}
+use Rattle.std.specs.List.{flat_map, list_all}
 use Rattle.amber_rows.specs.Crew.{workers_of}
 use Rattle.amber_rows.specs.Lists.{nth}
 use Rattle.amber_rows.specs.declared.flow.Operator.{Operator}
 use Rattle.amber_log.specs.declared.leg.Close.{Close}
 use Rattle.amber_log.specs.declared.leg.Close.TheVariants as close
+use Rattle.amber_meaning.specs.declared.view.Stop.{Stop}
+use Rattle.amber_meaning.specs.declared.view.Stop.TheVariants as stop
 use Rattle.amber_meaning.specs.State.{Arms, no_arms}
+use Rattle.amber_meaning.specs.Stops.{op_numbers}
 use Rattle.amber_worker.specs.WorkerState.{WorkerState}
 use Rattle.amber_home.specs.AtWork.{HaveFinished, steps_by, worker_state_at}
 
@@ -34,6 +38,21 @@ is_paused run crew op = stands_after (pause_at run.arms op) (emitted_at crew (wo
 -- no pause stands
 abbrev pub NonePaused : Run → List WorkerState → Type 0
 NonePaused run crew = (op : ℕ) → is_paused run crew op ≡ false
+
+-- the stop of a pause, where these rows were emitted
+abbrev pub paused_stop : ℕ → Option ℕ → ℕ → List Stop
+paused_stop op None rows = []
+paused_stop op (Some n) rows = if nat_le n rows then stop.Pause op n rows ∷ [] else []
+
+-- the stops that stand: of the pauses, and of the end
+abbrev pub pauses_of : Run → List WorkerState → List Stop
+pauses_of run crew = flat_map (λ op. paused_stop op (pause_at run.arms op) (emitted_at crew (workers_of run.flow op))) (op_numbers run.flow)
+
+abbrev pub end_of : List WorkerState → List Stop
+end_of crew = if list_all (λ w. w.finished) crew then stop.End ∷ [] else []
+
+abbrev pub stops_by : Run → List WorkerState → List Stop
+stops_by run crew = pauses_of run crew ++ end_of crew
 
 -- a stop stands; or the steps are as many as may be, and none does
 abbrev pub IsLegDone : Close → Run → ℕ → List WorkerState → Type 0
