@@ -68,9 +68,12 @@ map-twice : {A : Type 0} (f : ℕ → A) (xs : List ℕ) → map f (map suc xs) 
 map-twice f [] = refl
 map-twice f (x ∷ xs) = ap (λ ys. f (suc x) ∷ ys) (map-twice f xs)
 
-nth-numbers : {A : Type 0} (f : ℕ → A) (flow : List Operator) (op : ℕ) → 0 < op → op ≤ length flow → nth (map f (op_numbers flow)) op ≡ Some (f op)
+pub nth-numbers : {A : Type 0} (f : ℕ → A) (flow : List Operator) (op : ℕ) → 0 < op → op ≤ length flow → nth (map f (op_numbers flow)) op ≡ Some (f op)
 nth-numbers f flow zero some within = absurd (omega arith)
 nth-numbers f flow (suc i) some within = ap (nth (map f (op_numbers flow))) (sym (add-one i)) ∙ nth-next (map f (op_numbers flow)) i ∙ ap (λ xs. slice_get xs i) (map-twice f (numbers_below (length flow))) ∙ get-listed (λ x. f (suc x)) (length flow) i (omega arith)
+
+pub length-ops : (flow : List Operator) → length (op_numbers flow) ≡ length flow
+length-ops flow = length-map (numbers_below (length flow)) suc ∙ length-numbers (length flow)
 
 quiet-map : (f : ℕ → Arms) (xs : List ℕ) → ((x : ℕ) → IsQuiet (f x)) → (i : ℕ) → IsQuiet (unwrap_or (slice_get (map f xs) i) no_arms)
 quiet-map f [] quiet i = record { unwatched = refl; uncounted = refl }

@@ -1,8 +1,10 @@
 pub mod Closed
 pub mod Crews
+pub mod Ended
 pub mod Going
 pub mod Linked
 pub mod Links
+pub mod Listed
 pub mod Numbers
 pub mod OnePlace
 pub mod Opened

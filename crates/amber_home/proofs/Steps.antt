@@ -125,4 +125,3 @@ pub sum-member : (crew : List WorkerState) (i : ℕ) → steps_made (worker_stat
 sum-member [] i = omega arith
 sum-member (x ∷ xs) zero = rw (steps-cons x xs) (omega arith)
 sum-member (x ∷ xs) (suc i) = let rest = sum-member xs i in rw (steps-cons x xs) (omega arith)
-

@@ -63,8 +63,7 @@ module _ (query : Query) (start : State) (crew : List WorkerState) (positions : 
       let all = offers-all (worker_state_at crew sender) (worker_state_at crew receiver) (work.settled sender receiver one.does)
       (placement_at query sender) (placement_at query receiver) (positions sender) (positions receiver)
       (record { one_orders = orders_in query start sender; other_orders = orders_in query start receiver; base = no_base; before = no_base; shows = sends.shows; other_shows = takes.shows; earlier = refl })
-      place d at.1 (at.2 d) in
-      (
+      place d at.1 (at.2 d) in (
         waiting (get_or (worker_state_at crew receiver).ins place d).link,
         rw (position-here receiver inside, position-here sender there) all,
       )

@@ -1,5 +1,5 @@
 -- What a leg comes to.
-use Rattle.std.specs.Prelude.{◌≡◌, ℕ, ◌<◌, ◌⊎◌, List, [], ◌∷◌, ◌++◌, length, sum_by, nat_le, unwrap_or, Option, None, Some, Bool, true, false, if◌then◌else◌}
+use Rattle.std.specs.Prelude.{◌≡◌, ℕ, ◌<◌, ◌⊎◌, List, [], ◌∷◌, ◌++◌, length, map, sum_by, nat_le, unwrap_or, Option, None, Some, Bool, true, false, if◌then◌else◌}
 use Rattle.std.specs.List.{flat_map, list_all}
 use Rattle.amber_rows.specs.Crew.{workers_of}
 use Rattle.amber_rows.specs.Lists.{nth}
@@ -53,6 +53,15 @@ end_of crew = if list_all (λ w. w.finished) crew then stop.End ∷ [] else []
 
 abbrev pub stops_by : Run → List WorkerState → List Stop
 stops_by run crew = pauses_of run crew ++ end_of crew
+
+-- what is in force at an operator once its pause was taken away where it stands
+abbrev pub cut_at : Run → List WorkerState → ℕ → Arms
+cut_at run crew op =
+    record (unwrap_or (nth run.arms op) no_arms) { pause = if is_paused run crew op then None else pause_at run.arms op }
+
+-- and so at each
+abbrev pub cut_arms : Run → List WorkerState → List Arms
+cut_arms run crew = map (cut_at run crew) (op_numbers run.flow)
 
 -- a stop stands; or the steps are as many as may be, and none does
 abbrev pub IsLegDone : Close → Run → ℕ → List WorkerState → Type 0

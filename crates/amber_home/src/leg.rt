@@ -36,7 +36,7 @@ pub(crate) fn step(crew: &mut [Worker], number: usize) -> Result<(), AllocError>
 }
 
 // The rows that an operator's workers have emitted.
-fn emitted_by(flow: &Flow, crew: &[Worker], op: u32) -> u64
+pub(crate) fn emitted_by(flow: &Flow, crew: &[Worker], op: u32) -> u64
     requires some { 0 < op }
     requires within { op ≤ length flow.now }
     requires all { length crew.now ≡ crew_of flow.now }

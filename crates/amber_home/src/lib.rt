@@ -4,8 +4,9 @@
 pub mod error;
 mod leg;
 mod parts;
-mod settling;
 pub mod phase;
+mod settling;
+mod stopping;
 
 pub use error::{HomeErr, LegErr};
 pub use phase::Phase;
