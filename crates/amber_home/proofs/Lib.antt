@@ -2,6 +2,7 @@ pub mod Closed
 pub mod Crews
 pub mod Ended
 pub mod Going
+pub mod Homes
 pub mod Linked
 pub mod Links
 pub mod Listed

@@ -1,7 +1,9 @@
 -- A step of the first unfinished worker: it moves. And the steps of all.
-use Rattle.std.proofs.Common.{◌≡◌, ◌≢◌, refl, sym, ap, ◌∙◌, ℕ, zero, suc, ◌+◌, ◌<◌, ◌≤◌, List, [], ◌∷◌, ◌++◌, length, get_or, set, nat_eq, eqb, Bool, true, false, if◌then◌else◌, inl, inr, subst, arith}
+use Rattle.std.proofs.Common.{◌≡◌, ◌≢◌, refl, sym, ap, ◌∙◌, ℕ, zero, suc, ◌+◌, ◌<◌, ◌≤◌, List, [], ◌∷◌, ◌++◌, length, get_or, set, nat_eq, eqb, Bool, true, false, if◌then◌else◌, inl, inr, subst, arith, take, drop, sum_by, zero-add}
 use Rattle.std.proofs.lemmas.Bool.{eq-eqb, false≢true, or_cases, or_left, or_right}
-use Rattle.std.proofs.lemmas.List.Sums.{sum_by-cons}
+use Rattle.std.proofs.lemmas.Grind.{take_at_read}
+use Rattle.std.proofs.lemmas.List.{take-append-drop}
+use Rattle.std.proofs.lemmas.List.Sums.{sum_by-append, sum_by-cons}
 use Rattle.std.specs.List.{list_any}
 use Rattle.amber_rows.specs.Crew.{crew_of}
 use Rattle.amber_link.specs.Links.{has_some, waiting}
@@ -125,3 +127,23 @@ pub sum-member : (crew : List WorkerState) (i : ℕ) → steps_made (worker_stat
 sum-member [] i = omega arith
 sum-member (x ∷ xs) zero = rw (steps-cons x xs) (omega arith)
 sum-member (x ∷ xs) (suc i) = let rest = sum-member xs i in rw (steps-cons x xs) (omega arith)
+
+-- ---- the steps of the first workers
+
+pub steps-next : (crew : List WorkerState) (i steps more : ℕ) (w : WorkerState) → i < length crew → w ≡ get_or crew i w → more ≡ steps_made w → steps ≡ steps_by (take i crew)
+    → steps + more ≡ steps_by (take (i + 1) crew)
+unfolding steps_by
+steps-next crew i steps more w inside is own so =
+    ap (λ n. n + more) so ∙ ap (λ n. sum_by steps_made (take i crew) + n) (own ∙ ap steps_made is ∙ sym (zero-add (steps_made (get_or crew i w))))
+    ∙ sym (ap (sum_by steps_made) (take_at_read crew i w inside).1 ∙ sum_by-append steps_made (take i crew) (get_or crew i w ∷ []))
+
+pub steps-few : (crew : List WorkerState) (n : ℕ) → steps_by (take n crew) ≤ steps_by crew
+unfolding steps_by
+steps-few crew n =
+    let split : steps_by crew ≡ steps_by (take n crew) + steps_by (drop n crew) =
+    ap (sum_by steps_made) (sym (take-append-drop n crew)) ∙ sum_by-append steps_made (take n crew) (drop n crew) in
+    omega arith
+
+pub steps-none : steps_by [] ≡ 0
+unfolding steps_by
+steps-none = refl

@@ -141,3 +141,15 @@ pub(crate) fn run_crew(
     }
     Ok(Close::Cut)
 }
+
+/// The steps that the workers have made together.
+pub(crate) fn steps_of(crew: &[Worker]) -> u64
+    requires { steps_by crew.now ≤ 2 ^ 40 }
+    ensures { result ≡ steps_by crew.now }
+{
+    let mut steps = 0;
+    for worker in crew {
+        steps += worker.steps();
+    }
+    steps
+}

@@ -1,13 +1,23 @@
 //! The home of a run: all of its workers at rest, with the log of what was done.
+//!
+//! A home keeps its log legal, and while a run can go on its workers stand where the log says, whatever commands were given. It
+//! runs without threads: a step is one step of the unfinished worker with the smallest number.
+//!
+//! For instance, a home of a workflow of a scan of five records, a filter that passes three of them and a sink rests at first with
+//! an empty log. After `apply` of a pause of the filter after two rows, and a leg up to a stop, its log has the command and the leg,
+//! `stops` gives that pause with two rows, and the filter's pause is no longer armed.
 #![tactic(auto)]
 
 pub mod error;
+pub mod home;
 mod leg;
+mod opening;
 mod parts;
 pub mod phase;
 mod settling;
 mod stopping;
 
 pub use error::{HomeErr, LegErr};
+pub use home::Home;
 pub use phase::Phase;
 pub use std::alloc::AllocError as NoMemory;

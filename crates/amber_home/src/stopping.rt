@@ -1,15 +1,16 @@
 //! The stops that stand, and what a close leaves of what is in force.
 
-ghost use Rattle.std.specs.Prelude.{◌≡◌, ◌++◌, ◌^◌, ◌<◌, ◌≤◌, ℕ, IfOk, None, OnOk, false, if◌then◌else◌, length, true};
+ghost use Rattle.std.specs.Prelude.{◌≡◌, ◌+◌, ◌++◌, ◌^◌, ◌<◌, ◌≤◌, ℕ, IfOk, None, OnOk, false, if◌then◌else◌, length, true};
 ghost use Rattle.std.specs.List.{list_all};
 ghost use Rattle.amber_rows.specs.Crew.{crew_of, workers_of};
 ghost use Rattle.amber_rows.specs.FlowRules.{IsFlow};
 ghost use Rattle.amber_rows.specs.Lists.{changed_at};
-ghost use Rattle.amber_home.specs.AtWork.{steps_by};
-ghost use Rattle.amber_home.specs.Leg.{NonePaused, cut_arms, emitted_at, is_paused, pause_at, paused_stop, stops_by};
+ghost use Rattle.amber_home.specs.AtWork.{GoOn, IsCrew, steps_by};
+ghost use Rattle.amber_home.specs.Leg.{IsLegDone, NonePaused, cut_arms, emitted_at, is_paused, pause_at, paused_stop, stops_by};
 
-use crate::leg::{emitted_by, is_paused};
+use crate::leg::{emitted_by, is_paused, run_crew};
 use amber_arms::InForce;
+use amber_log::Close;
 use amber_meaning::{Stop, Stops};
 use amber_rows::Flow;
 use amber_worker::Worker;
@@ -125,4 +126,28 @@ pub(crate) fn end_paused(flow: &Flow, arms: &mut InForce, crew: &[Worker])
     for before in 0..count {
         end_if_paused(flow, arms, crew, before + 1);
     }
+}
+
+/// Runs the workers until a stop stands, or so many steps were made. The answer says how the leg may be closed.
+pub(crate) fn run_leg(
+    flow: &Flow,
+    arms: &InForce,
+    crew: &mut [Worker],
+    budget: u64,
+) -> Result<Close, AllocError>
+    requires flow { IsFlow flow.now }
+    requires arms { length arms.now ≡ length flow.now }
+    requires all { length crew.old ≡ crew_of flow.now }
+    requires crew { IsCrew crew.old }
+    requires few { steps_by crew.old + budget ≤ 2 ^ 40 }
+    ensures on { OnOk result (GoOn crew.old crew.new) }
+    ensures few { OnOk result (steps_by crew.new ≤ steps_by crew.old + budget) }
+    ensures done { IfOk result (λ close. IsLegDone close
+        (record { flow = flow.now; arms = arms.now }) (steps_by crew.old + budget) crew.new) }
+{
+    if any_paused(flow, arms, crew) {
+        return Ok(Close::Cut);
+    }
+    let close = run_crew(flow, arms, crew, budget)?;
+    Ok(close)
 }

