@@ -3,6 +3,7 @@ pub mod Crews
 pub mod Ended
 pub mod Going
 pub mod Homes
+pub mod Legs
 pub mod Linked
 pub mod Links
 pub mod Listed

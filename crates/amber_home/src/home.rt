@@ -9,11 +9,11 @@ ghost use Rattle.amber_meaning.specs.Views.{answer_in, inspected_of};
 ghost use Rattle.amber_home.specs.HomeState.{BeginsOrNames, ClosesIn, Ends, StepsOn, has_crew, is_done_at_rest, is_open, query_of, runs_to_end, state_of, stops_of_home, with_item, with_leg};
 
 use crate::error::{HomeErr, LegErr};
-use crate::leg::run_crew;
+use crate::leg::steps_of;
 use crate::opening::{begin_all, clear_for};
 use crate::parts::take_parts;
 use crate::phase::Phase;
-use crate::stopping::{any_paused, end_paused, stops_of};
+use crate::stopping::{end_paused, run_leg, stops_of};
 use amber_arms::InForce;
 use amber_log::{Close, Command, Item, Items, Leg, Log};
 use amber_meaning::{Answer, Inspected, Stops};
@@ -133,6 +133,22 @@ impl Home {
     {
         self.phase = Phase::Spent;
         Err(AllocError)
+    }
+
+    // Runs the leg that is open, and says how it may be closed.
+    fn run_open(&mut self) -> Result<Close, AllocError>
+        requires within { is_open self.old.phase ≡ true }
+        ensures ok { OnOk result (self.new ≡ record self.old { parts = self.new.parts }) }
+        ensures closes { IfOk result (λ close. ClosesIn (runs_to_end self.old.phase)
+            (query_of self.old) (state_of self.new) close) }
+        ensures err { OnErr result (self.new ≡ record self.old { phase = Phase.Spent; parts = [] }) }
+    {
+        let phase = self.phase;
+        self.phase = Phase::Spent;
+        let budget = self.most - steps_of(self.crew.as_slice());
+        let close = run_leg(&self.flow, &self.arms, self.crew.as_mut_slice(), budget)?;
+        self.phase = phase;
+        Ok(close)
     }
 
     /// Closes the leg that is open. After want of memory the log is as before, and the run cannot go on.

@@ -1,0 +1,86 @@
+-- A home within a leg: what its workers need to go on, and how they may be closed.
+use Rattle.std.proofs.Common.{◌≡◌, refl, sym, ap, subst, ◌∙◌, ℕ, ◌+◌, ◌-◌, ◌<◌, ◌≤◌, ◌^◌, List, [], length, map, Bool, true, false, Option, None, unwrap_or, if◌then◌else◌, arith}
+use Rattle.std.proofs.lemmas.List.{length-map}
+use Rattle.amber_rows.specs.Crew.{crew_of, op_of}
+use Rattle.amber_rows.specs.FlowRules.{IsFlow}
+use Rattle.amber_log.specs.declared.leg.Close.{Close}
+use Rattle.amber_meaning.specs.declared.view.Stop.{Stop}
+use Rattle.amber_meaning.specs.Legal.{IsLegal, leg_start}
+use Rattle.amber_meaning.specs.Position.{Position}
+use Rattle.amber_meaning.specs.State.{Arms, State, arms_at, begin_last_leg, begin_leg, let_go, no_arms, position_at, steps_in, without_arms}
+use Rattle.amber_meaning.proofs.OneState.{legal_logs_have_one_state}
+use Rattle.amber_meaning.proofs.Rest.{legal_logs_rest}
+use Rattle.amber_meaning.proofs.Senders.{flows_send_forward}
+use Rattle.amber_worker.specs.WorkerState.{WorkerState}
+use Rattle.amber_home.specs.AtWork.{GoOn, IsCrew, steps_by}
+use Rattle.amber_home.specs.HomeState.{ClosesIn, HomeState, leg_state, query_of, rest_state}
+use Rattle.amber_home.specs.Kept.{IsWithinLeg}
+use Rattle.amber_home.specs.Leg.{IsLegDone, Run, pause_at}
+use Rattle.amber_home.specs.Parts.{parts_from, state_reached}
+use Rattle.amber_home.proofs.Opened.{arms-map, position-start}
+use Rattle.amber_home.proofs.Stopped.{may-close}
+use Rattle.amber_home.proofs.Within.{after-is}
+
+let_go-loose : (p : Position) → (let_go p).held ≡ false
+let_go-loose p = by p.held refl
+  where
+    by : (b : Bool) → p.held ≡ b → (if b then record p { paused = false; held = false; waved = true } else record p { paused = false }).held ≡ false
+    by true is = refl
+    by false is = is
+
+let_go-hand : (p : Position) → (let_go p).hand ≡ p.hand
+let_go-hand p = by p.held
+  where
+    by : (b : Bool) → (if b then record p { paused = false; held = false; waved = true } else record p { paused = false }).hand ≡ p.hand
+    by true = refl
+    by false = refl
+
+length-start : (to_end : Bool) (state : State) → length (leg_start to_end state).arms ≡ length state.arms
+unfolding begin_leg begin_last_leg
+length-start true state = length-map state.arms without_arms
+length-start false state = refl
+
+unarmed-start : (state : State) (op : ℕ) → pause_at (leg_start true state).arms op ≡ None
+unfolding begin_last_leg
+unarmed-start state op = ap (λ (a : Arms). a.pause) (arms-map without_arms state.arms (map let_go state.positions) op refl)
+
+module _ (to_end : Bool) (e : HomeState) (crew : List WorkerState) (arms : List Arms) (leg : IsWithinLeg to_end e crew arms) (legal : IsLegal (query_of e) e.log) where
+  abbrev start : State
+  start = leg_start to_end (rest_state e)
+
+  first : rest_state e ≡ legal.after
+  first = legal_logs_have_one_state (query_of e) e.log (flows_send_forward (query_of e).flow leg.at.at.flow) legal
+
+  pub arms-long : length arms ≡ length e.flow
+  arms-long = ap length leg.arms_are ∙ length-start to_end (rest_state e) ∙ ap (λ (s : State). length s.arms) first ∙ (legal_logs_rest (query_of e) e.log legal).arms
+
+  pub crew-here : IsCrew crew
+  crew-here = (query_of e, start, leg.positions, leg.at)
+
+  loose : (worker : ℕ) → worker < crew_of e.flow → (position_at start.positions worker).held ≡ false
+  loose worker inside = ap (λ (p : Position). p.held) (position-start to_end (rest_state e) worker) ∙ let_go-loose (position_at (rest_state e).positions worker)
+
+  hands : (worker : ℕ) → worker < crew_of e.flow → (position_at start.positions worker).hand ≡ 0
+  hands worker inside =
+      ap (λ (p : Position). p.hand) (position-start to_end (rest_state e) worker) ∙ let_go-hand (position_at (rest_state e).positions worker)
+      ∙ ap (λ (s : State). (position_at s.positions worker).hand) first ∙ (legal_logs_rest (query_of e) e.log legal).hands worker inside
+
+  -- the state in which the home stands
+  pub state-here : leg_state e to_end (parts_from 0 crew) ≡ state_reached (query_of e) start leg.positions
+  state-here = after-is (query_of e) start crew leg.positions leg.at
+
+  -- as the workers are done, so may the leg be closed
+  pub closes-here : (closed : Close) → IsLegDone closed (record { flow = e.flow; arms = arms }) e.most crew → ClosesIn to_end (query_of e) (leg_state e to_end (parts_from 0 crew)) closed
+  closes-here closed done =
+      subst (λ (s : State). ClosesIn to_end (query_of e) s closed) (sym state-here)
+      (may-close (query_of e) start crew leg.positions leg.at (record { flow = e.flow; arms = arms }) refl leg.arms_are arms-long loose hands to_end closed
+      (λ is op. ap (λ (a : List Arms). pause_at a op) leg.arms_are ∙ subst (λ b. pause_at (leg_start b (rest_state e)).arms op ≡ None) (sym is) (unarmed-start (rest_state e) op))
+      leg.few done)
+
+-- the workers go on
+pub within-on : (to_end : Bool) (e : HomeState) (crew after : List WorkerState) (arms : List Arms) → IsWithinLeg to_end e crew arms → GoOn crew after → steps_by after ≤ e.most
+    → IsWithinLeg to_end e after arms
+unfolding GoOn
+within-on to_end e crew after arms leg on few =
+    let next = on (query_of e) (leg_start to_end (rest_state e)) leg.positions leg.at in
+    record { more = leg.more; positions = next.0; at = next.1; arms_are = leg.arms_are; few = few }
