@@ -45,7 +45,7 @@ unfolding begin_last_leg
 unarmed-start state op = ap (λ (a : Arms). a.pause) (arms-map without_arms state.arms (map let_go state.positions) op refl)
 
 module _ (to_end : Bool) (e : HomeState) (crew : List WorkerState) (arms : List Arms) (leg : IsWithinLeg to_end e crew arms) (legal : IsLegal (query_of e) e.log) where
-  abbrev start : State
+  abbrev pub start : State
   start = leg_start to_end (rest_state e)
 
   first : rest_state e ≡ legal.after
@@ -57,7 +57,7 @@ module _ (to_end : Bool) (e : HomeState) (crew : List WorkerState) (arms : List 
   pub crew-here : IsCrew crew
   crew-here = (query_of e, start, leg.positions, leg.at)
 
-  loose : (worker : ℕ) → worker < crew_of e.flow → (position_at start.positions worker).held ≡ false
+  pub loose : (worker : ℕ) → worker < crew_of e.flow → (position_at start.positions worker).held ≡ false
   loose worker inside = ap (λ (p : Position). p.held) (position-start to_end (rest_state e) worker) ∙ let_go-loose (position_at (rest_state e).positions worker)
 
   hands : (worker : ℕ) → worker < crew_of e.flow → (position_at start.positions worker).hand ≡ 0

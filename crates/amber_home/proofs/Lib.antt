@@ -1,5 +1,7 @@
 pub mod Closed
+pub mod Closings
 pub mod Crews
+pub mod Cut
 pub mod Ended
 pub mod Going
 pub mod Homes

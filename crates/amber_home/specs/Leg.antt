@@ -63,6 +63,12 @@ cut_at run crew op =
 abbrev pub cut_arms : Run → List WorkerState → List Arms
 cut_arms run crew = map (cut_at run crew) (op_numbers run.flow)
 
+-- what a close leaves in force: behind a leg up to a stop the pauses that stand are taken away
+abbrev pub closed_arms : Bool → Close → Run → List WorkerState → List Arms
+closed_arms true closed run crew = run.arms
+closed_arms false close.Cut run crew = cut_arms run crew
+closed_arms false close.Long run crew = run.arms
+
 -- a stop stands; or the steps are as many as may be, and none does
 abbrev pub IsLegDone : Close → Run → ℕ → List WorkerState → Type 0
 IsLegDone close.Cut run most crew = ((op : ℕ) × (is_paused run crew op ≡ true)) ⊎ HaveFinished (length crew) crew

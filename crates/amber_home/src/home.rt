@@ -11,9 +11,9 @@ ghost use Rattle.amber_home.specs.HomeState.{BeginsOrNames, ClosesIn, Ends, Step
 use crate::error::{HomeErr, LegErr};
 use crate::leg::steps_of;
 use crate::opening::{begin_all, clear_for};
-use crate::parts::take_parts;
+use crate::parts::{is_last, leg_item, take_parts};
 use crate::phase::Phase;
-use crate::stopping::{end_paused, run_leg, stops_of};
+use crate::stopping::{close_arms, run_leg, stops_of};
 use amber_arms::InForce;
 use amber_log::{Close, Command, Item, Items, Leg, Log};
 use amber_meaning::{Answer, Inspected, Stops};
@@ -159,8 +159,21 @@ impl Home {
         ensures ok { OnOk result (self.new ≡ with_leg self.old close) }
         ensures err { OnErr result (self.new ≡ record self.old { phase = Phase.Spent; parts = [] }) }
     {
+        let to_end = self.phase.runs_to_end();
         self.phase = Phase::Spent;
-        Err(AllocError)
+        let stops = stops_of(alloc, &self.flow, &self.arms, self.crew.as_slice())?;
+        close_arms(
+            to_end,
+            close,
+            &self.flow,
+            &mut self.arms,
+            self.crew.as_slice(),
+        );
+        let parts = take_parts(alloc, self.crew.as_mut_slice())?;
+        self.log.items.push(leg_item(to_end, parts, close))?;
+        self.stops = stops;
+        self.phase = Phase::Resting;
+        Ok(())
     }
 
     /// Runs a leg, up to a stop or to the end: the unfinished worker with the smallest number makes its steps, until a stop
@@ -175,8 +188,13 @@ impl Home {
         requires open { ends_over false self.old.log.items ≡ false }
         ensures ends { Ends result to_end self.old self.new }
     {
-        self.phase = Phase::Spent;
-        Err(LegErr::NoMemory)
+        self.open_leg(to_end);
+        let close = self.run_open()?;
+        self.close_leg(alloc, close)?;
+        match close {
+            Close::Cut => Ok(()),
+            Close::Long => Err(LegErr::Long),
+        }
     }
 
     /// The stops that stand within a leg. Outside of one those of the last leg, as they stood before its end took any away,
@@ -226,8 +244,7 @@ impl Home {
         requires there { has_crew self.now.phase ≡ true }
         ensures { result ≡ steps_in (state_of self.now) }
     {
-        let mut steps = 0;
-        steps
+        steps_of(self.crew.as_slice())
     }
 
     /// The log of the run so far.
@@ -242,7 +259,10 @@ impl Home {
     pub fn closed(&self) -> bool
         ensures { result ≡ ends_over false self.now.log.items }
     {
-        false
+        match self.log.items.get().last() {
+            Some(item) => is_last(item),
+            None => false,
+        }
     }
 
     /// The workflow that is run.

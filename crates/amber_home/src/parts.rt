@@ -1,8 +1,10 @@
 //! What the workers have done in a leg.
 ghost use Rattle.std.specs.Prelude.{◌≡◌, ◌++◌, ◌<◌, ◌^◌, length, map, IfOk, OnOk};
+ghost use Rattle.amber_log.specs.Grammar.{is_last};
+ghost use Rattle.amber_home.specs.HomeState.{leg_item};
 ghost use Rattle.amber_home.specs.Parts.{part_if_any, parts_from, without_journal};
 
-use amber_log::{Entries, Part, Parts};
+use amber_log::{Close, Entries, Item, Leg, Part, Parts};
 use amber_worker::Worker;
 use std::alloc::{AllocError, Global};
 
@@ -29,4 +31,27 @@ pub(crate) fn take_parts(alloc: Global, crew: &mut [Worker]) -> Result<Parts, Al
         push_part(&mut parts, number as u32, entries)?;
     }
     Ok(Parts::new(parts))
+}
+
+/// A leg as an item, up to a stop or to the end.
+pub(crate) fn leg_item(to_end: bool, parts: Parts, close: Close) -> Item
+    ensures { result ≡ leg_item to_end parts close }
+{
+    let leg = Leg { parts, close };
+    if to_end {
+        Item::End(leg)
+    } else {
+        Item::Run(leg)
+    }
+}
+
+/// Whether nothing may follow an item: a leg to the end, or one that was closed as too long.
+pub(crate) fn is_last(item: &Item) -> bool
+    ensures { result ≡ is_last item.now }
+{
+    match item {
+        Item::Do(_) => false,
+        Item::Run(leg) => matches!(leg.close, Close::Long),
+        Item::End(_) => true,
+    }
 }

@@ -1,3 +1,6 @@
+ghost use Rattle.std.specs.Prelude.{◌≡◌};
+ghost use Rattle.amber_home.specs.HomeState.{runs_to_end};
+
 /// Where a run is.
 #[derive(Clone, Copy, Debug, PartialEq, Eq)]
 pub enum Phase {
@@ -9,4 +12,13 @@ pub enum Phase {
     Over,
     /// Memory ran out inside a leg, and nothing can follow.
     Spent,
+}
+
+impl Phase {
+    // Whether a leg is open that is one to the end.
+    pub(crate) fn runs_to_end(self) -> bool
+        ensures { result ≡ runs_to_end self }
+    {
+        matches!(self, Phase::Open { to_end: true })
+    }
 }

@@ -6,7 +6,7 @@ ghost use Rattle.amber_rows.specs.Crew.{crew_of, workers_of};
 ghost use Rattle.amber_rows.specs.FlowRules.{IsFlow};
 ghost use Rattle.amber_rows.specs.Lists.{changed_at};
 ghost use Rattle.amber_home.specs.AtWork.{GoOn, IsCrew, steps_by};
-ghost use Rattle.amber_home.specs.Leg.{IsLegDone, NonePaused, cut_arms, emitted_at, is_paused, pause_at, paused_stop, stops_by};
+ghost use Rattle.amber_home.specs.Leg.{IsLegDone, NonePaused, closed_arms, cut_arms, emitted_at, is_paused, pause_at, paused_stop, stops_by};
 
 use crate::leg::{emitted_by, is_paused, run_crew};
 use amber_arms::InForce;
@@ -115,7 +115,7 @@ fn end_if_paused(flow: &Flow, arms: &mut InForce, crew: &[Worker], op: u32)
 }
 
 /// Ends the pauses that stand.
-pub(crate) fn end_paused(flow: &Flow, arms: &mut InForce, crew: &[Worker])
+fn end_paused(flow: &Flow, arms: &mut InForce, crew: &[Worker])
     requires all { length crew.now ≡ crew_of flow.now }
     requires few { steps_by crew.now ≤ 2 ^ 40 }
     requires flow { IsFlow flow.now }
@@ -125,6 +125,30 @@ pub(crate) fn end_paused(flow: &Flow, arms: &mut InForce, crew: &[Worker])
     let count = flow.get().len() as u32;
     for before in 0..count {
         end_if_paused(flow, arms, crew, before + 1);
+    }
+}
+
+/// Takes away what a close takes away.
+pub(crate) fn close_arms(
+    to_end: bool,
+    close: Close,
+    flow: &Flow,
+    arms: &mut InForce,
+    crew: &[Worker],
+)
+    requires all { length crew.now ≡ crew_of flow.now }
+    requires few { steps_by crew.now ≤ 2 ^ 40 }
+    requires flow { IsFlow flow.now }
+    requires arms { length arms.old ≡ length flow.now }
+    ensures { arms.new
+        ≡ closed_arms to_end close (record { flow = flow.now; arms = arms.old }) crew.now }
+{
+    if to_end {
+        return;
+    }
+    match close {
+        Close::Cut => end_paused(flow, arms, crew),
+        Close::Long => {}
     }
 }
 

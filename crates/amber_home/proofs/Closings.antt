@@ -1,0 +1,62 @@
+-- A home after its leg was closed.
+use Rattle.std.proofs.Common.{◌≡◌, refl, sym, ap, subst, ◌∙◌, ℕ, ◌+◌, ◌<◌, ◌≤◌, ◌^◌, List, [], ◌∷◌, ◌++◌, length, map, take, drop, Bool, true, false, arith}
+use Rattle.std.proofs.lemmas.Bool.{false≢true}
+use Rattle.std.proofs.lemmas.List.{length-map}
+use Rattle.amber_rows.specs.Crew.{crew_of}
+use Rattle.amber_log.specs.declared.leg.Close.{Close}
+use Rattle.amber_log.specs.declared.leg.Part.{Part}
+use Rattle.amber_log.specs.declared.log.Log.{Log}
+use Rattle.amber_meaning.specs.declared.view.Stop.{Stop}
+use Rattle.amber_meaning.specs.State.{Arms, State}
+use Rattle.amber_worker.specs.WorkerState.{WorkerState}
+use Rattle.amber_home.specs.AtWork.{steps_by}
+use Rattle.amber_home.specs.HomeState.{ClosesIn, HomeState, is_open, leg_item, query_of, rest_state, runs_to_end, state_of, with_item}
+use Rattle.amber_home.specs.Kept.{IsHome}
+use Rattle.amber_home.specs.Leg.{Run, closed_arms, stops_by}
+use Rattle.amber_home.specs.Parts.{open_parts, parts_from, without_journal}
+use Rattle.amber_home.specs.declared.phase.Phase.{Phase}
+use Rattle.amber_home.specs.declared.phase.Phase.TheVariants as phase
+use Rattle.amber_home.proofs.Closed.{legal-closed, rest-closed}
+use Rattle.amber_home.proofs.Cut.{closed-is}
+use Rattle.amber_home.proofs.Homes.{written-back}
+use Rattle.amber_home.proofs.Legs.{arms-long, loose, start, state-here}
+use Rattle.amber_home.proofs.Paused.{crew-few}
+use Rattle.amber_home.proofs.Stopped.{stops-are}
+
+module _ (e : HomeState) (crew : List WorkerState) (arms : List Arms) (stops : List Stop) where
+  pub small-open : (now : Phase) → IsHome (record e { phase = now }) crew arms stops → is_open now ≡ true → length crew < 2 ^ 32
+  small-open phase.Resting home within = absurd (false≢true within)
+  small-open phase.Over home within = absurd (false≢true within)
+  small-open phase.Spent home within = absurd (false≢true within)
+  small-open (phase.Open to_end) home within =
+      let leg = home.stands in
+      let few = crew-few e.flow leg.at.at.flow in
+      let all = leg.at.at.at_positions.all in
+      omega arith
+
+  pub home-closed : (now : Phase) → IsHome (record e { phase = now }) crew arms stops → is_open now ≡ true → (closed : Close) (log : Log) (later : List Arms) (kept : List Stop)
+      → ClosesIn (runs_to_end now) (query_of e) (state_of (record e { phase = now; parts = open_parts now crew })) closed
+      → log ≡ with_item e.log (leg_item (runs_to_end now) (parts_from 0 crew) closed)
+      → later ≡ closed_arms (runs_to_end now) closed (record { flow = e.flow; arms = arms }) crew
+      → kept ≡ stops_by (record { flow = e.flow; arms = arms }) crew
+      → IsHome (record e { log = log; phase = phase.Resting; parts = [] }) (map without_journal crew) later kept
+  unfolding state_of
+  home-closed phase.Resting home within closed log later kept closes log-is later-is kept-is = absurd (false≢true within)
+  home-closed phase.Over home within closed log later kept closes log-is later-is kept-is = absurd (false≢true within)
+  home-closed phase.Spent home within closed log later kept closes log-is later-is kept-is = absurd (false≢true within)
+  home-closed (phase.Open to_end) home within closed log later kept closes log-is later-is kept-is =
+      let here : HomeState = record e { phase = phase.Open to_end } in
+      let leg = home.stands in
+      let may = subst (λ (s : State). ClosesIn to_end (query_of e) s closed) (state-here to_end here crew arms leg home.legal) closes in
+      let begin = start to_end here crew arms leg home.legal in
+      let run : Run = record { flow = e.flow; arms = arms } in
+      let rest = rest-closed to_end here crew arms leg home.legal closed may
+      (record e { log = with_item e.log (leg_item to_end (parts_from 0 crew) closed); phase = phase.Resting; parts = [] }) later kept refl
+      (later-is ∙ ap (λ a. closed_arms to_end closed (record { flow = e.flow; arms = a }) crew) leg.arms_are
+      ∙ sym (closed-is (query_of e) begin crew leg.positions leg.at to_end closed))
+      (kept-is ∙ sym (stops-are (query_of e) begin crew leg.positions leg.at run refl leg.arms_are (loose to_end here crew arms leg home.legal))) in
+      subst (λ (l : Log). IsHome (record e { log = l; phase = phase.Resting; parts = [] }) (map without_journal crew) later kept) (sym log-is) (record {
+        few = home.few;
+        legal = (legal-closed to_end here crew arms leg home.legal closed may).0;
+        stands = rest;
+      })

@@ -1,0 +1,46 @@
+-- What a close leaves in force is what the definitions say.
+use Rattle.std.proofs.Common.{◌≡◌, refl, sym, ap, subst, ◌∙◌, ℕ, ◌<◌, ◌≤◌, nat_le, List, [], ◌∷◌, length, map, Bool, true, false, Option, None, Some, unwrap_or, if◌then◌else◌}
+use Rattle.amber_rows.specs.Crew.{crew_of, workers_of}
+use Rattle.amber_rows.specs.Lists.{nth}
+use Rattle.amber_rows.specs.declared.flow.Operator.{Operator}
+use Rattle.amber_log.specs.declared.leg.Close.{Close}
+use Rattle.amber_log.specs.declared.leg.Close.TheVariants as close
+use Rattle.amber_meaning.specs.Legal.{Query}
+use Rattle.amber_meaning.specs.Position.{Position}
+use Rattle.amber_meaning.specs.State.{Arms, Counting, State, arms_at, emitted_by, no_arms}
+use Rattle.amber_meaning.specs.Stops.{arms_left, count_left, op_numbers, pause_left, without_stops}
+use Rattle.amber_worker.specs.WorkerState.{WorkerState}
+use Rattle.amber_home.specs.AtWork.{AreAtWork, worker_state_at}
+use Rattle.amber_home.specs.Leg.{Run, closed_arms, cut_arms, cut_at, emitted_at, is_paused, pause_at, stands_after}
+use Rattle.amber_home.specs.Parts.{state_reached}
+use Rattle.amber_home.proofs.Closed.{closed_state}
+use Rattle.amber_home.proofs.Stopped.{emitted-is}
+
+map-each : {A : Type 0} (f g : ℕ → A) (xs : List ℕ) → ((x : ℕ) → f x ≡ g x) → map f xs ≡ map g xs
+map-each f g [] same = refl
+map-each f g (x ∷ xs) same = rw (same x, map-each f g xs same) refl
+
+module _ (query : Query) (start : State) (crew : List WorkerState) (positions : ℕ → Position) (work : AreAtWork query start crew positions) where
+  abbrev reached : State
+  reached = state_reached query start positions
+
+  abbrev run : Run
+  run = record { flow = query.flow; arms = start.arms }
+
+  pause-cut : (op : ℕ) (pause : Option ℕ) → pause_left query.flow reached op pause ≡ (if stands_after pause (emitted_at crew (workers_of query.flow op)) then None else pause)
+  pause-cut op None = refl
+  pause-cut op (Some n) = ap (λ rows. if nat_le n rows then None else Some n) (emitted-is query start crew positions work op)
+
+  cut-here : (op : ℕ) → arms_left query.flow reached op ≡ cut_at run crew op
+  cut-here op = λ i. record {
+    pause = pause-cut op (arms_at reached op).pause i;
+    count = (ap (count_left query.flow reached op) (work.at.quiet op).uncounted ∙ sym (work.at.quiet op).uncounted) i;
+    watch = (arms_at reached op).watch;
+    constants = (arms_at reached op).constants;
+  }
+
+  pub closed-is : (to_end : Bool) (closed : Close) → (closed_state to_end query reached closed).arms ≡ closed_arms to_end closed run crew
+  unfolding without_stops
+  closed-is true closed = refl
+  closed-is false close.Cut = map-each (arms_left query.flow reached) (cut_at run crew) (op_numbers query.flow) cut-here
+  closed-is false close.Long = refl
