@@ -23,3 +23,4 @@ pub mod Stepped
 pub mod Steps
 pub mod Stopped
 pub mod Within
+pub mod Whole
