@@ -1,6 +1,7 @@
 pub mod Closed
 pub mod Crews
 pub mod Ended
+pub mod Gathered
 pub mod Going
 pub mod Homes
 pub mod Linked
@@ -15,6 +16,7 @@ pub mod Paused
 pub mod Reached
 pub mod Renewed
 pub mod Sending
+pub mod SortedRefusals
 pub mod Split
 pub mod Stepped
 pub mod Steps
