@@ -1,8 +1,8 @@
 -- What the workers give, one after the other.
-use Rattle.std.proofs.Common.{◌≡◌, refl, sym, ap, subst, ◌∙◌, ℕ, suc, ◌+◌, List, [], ◌∷◌, ◌++◌, length, get_or, append-nil, add-one, arith}
+use Rattle.std.proofs.Common.{◌≡◌, refl, sym, ap, subst, ◌∙◌, ℕ, suc, ◌+◌, ◌<◌, ◌≤◌, List, [], ◌∷◌, ◌++◌, length, get_or, take, append-nil, add-one, arith}
 use Rattle.std.specs.List.{flat_map}
-use Rattle.std.proofs.lemmas.Grind.{flat_map-append}
-use Rattle.std.proofs.lemmas.List.{get_or_append_left, get_or_push, length_push}
+use Rattle.std.proofs.lemmas.Grind.{flat_map-append, take_at_read}
+use Rattle.std.proofs.lemmas.List.{get_or_append_left, get_or_push, length_push, take_all}
 use Rattle.amber_rows.specs.Lists.{numbers_below}
 use Rattle.amber_rows.specs.declared.value.Value.{Value}
 use Rattle.amber_meaning.specs.declared.answer.Refusal.{Refusal}
@@ -45,3 +45,17 @@ pub given-all : (yielded rest crew : List WorkerState) (refused found : List Ref
 given-all yielded rest crew refused found rows all none given found-is =
     let same : yielded ≡ crew = sym (ap (λ xs. yielded ++ xs) none ∙ append-nil yielded) ∙ all in
     subst (λ xs. HaveGiven xs found rows) same (subst (λ xs. HaveGiven yielded xs rows) (sym found-is) given)
+
+-- ---- where they stay
+
+pub given-next : (crew : List WorkerState) (w : WorkerState) (index : ℕ) (given : Given) (refused longer : List Refusal) (rows : List (List Value)) → index < length crew
+    → w ≡ get_or crew index w → HaveGiven (take index crew) refused rows → IsGivenOf w given → longer ≡ refused ++ given.refused
+    → HaveGiven (take (index + 1) crew) longer given.rows
+given-next crew w index given refused longer rows inside is before gives longer-is =
+    let more : take (index + 1) crew ≡ take index crew ++ w ∷ [] = (take_at_read crew index w inside).1 ∙ ap (λ v. take index crew ++ v ∷ []) (sym is) in
+    subst (λ l. HaveGiven l longer given.rows) (sym more) (given-more (take index crew) w given refused longer rows before gives longer-is)
+
+pub given-whole : (crew : List WorkerState) (index : ℕ) (refused found : List Refusal) (rows : List (List Value)) → length crew ≤ index
+    → HaveGiven (take index crew) refused rows → found ≡ refused → HaveGiven crew found rows
+given-whole crew index refused found rows all given found-is =
+    subst (λ l. HaveGiven l found rows) (take_all index crew all) (subst (λ xs. HaveGiven (take index crew) xs rows) (sym found-is) given)

@@ -10,10 +10,13 @@ pub mod Listed
 pub mod Numbers
 pub mod OnePlace
 pub mod Opened
+pub mod OperatorNumbers
+pub mod Orderly
 pub mod PartFacts
 pub mod Passed
 pub mod Paused
 pub mod Reached
+pub mod Refusing
 pub mod Renewed
 pub mod Sending
 pub mod SortedRefusals
