@@ -1,3 +1,4 @@
+pub mod Answered
 pub mod Closed
 pub mod Crews
 pub mod Ended
@@ -24,4 +25,5 @@ pub mod Split
 pub mod Stepped
 pub mod Steps
 pub mod Stopped
+pub mod Viewed
 pub mod Within

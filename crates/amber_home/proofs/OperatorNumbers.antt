@@ -51,3 +51,15 @@ first-workers flow (suc n) within =
 
 pub all-workers : (flow : List Operator) → numbers_below (crew_of flow) ≡ flat_map (workers_of flow) (op_numbers flow)
 all-workers flow = ap (λ l. numbers_below (crew_of l)) (sym (take_all (length flow) flow (omega arith))) ∙ first-workers flow (length flow) (omega arith)
+
+-- where the last operator has one worker, it is the last of all
+pub last-worker : (flow : List Operator) (n m : ℕ) → length flow ≡ n + 1 → worker_count flow (n + 1) ≡ 1 → crew_of flow ≡ suc m → workers_of flow (n + 1) ≡ m ∷ []
+unfolding numbers_below
+last-worker flow n m long one all =
+    let count : workers_in (slice_get flow n) ≡ 1 = sym (ap workers_in (nth-next flow n)) ∙ one in
+    let whole : crew_of flow ≡ crew_of (take n flow) + workers_in (slice_get flow n) =
+    ap crew_of (sym (take_all (suc n) flow (omega arith))) ∙ crew-step flow n (omega arith) in
+    let before : crew_of (take n flow) ≡ m = omega arith in
+    workers-next flow n
+    ∙ ap (λ k. map (λ place. crew_of (take n flow) + place) (numbers_below k)) count
+    ∙ ap (λ k. k ∷ []) (add-zero (crew_of (take n flow)) ∙ before)
