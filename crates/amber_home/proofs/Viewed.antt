@@ -12,6 +12,7 @@ use Rattle.amber_meaning.specs.State.{Arms, State, arms_at, no_arms, position_at
 use Rattle.amber_meaning.specs.Views.{counted_view, inspected_of, view_of}
 use Rattle.amber_meaning.specs.declared.view.Inspected.{Inspected}
 use Rattle.amber_meaning.specs.declared.view.WorkerView.{WorkerView}
+use Rattle.amber_rows.proofs.CrewFacts.{count-there}
 use Rattle.amber_meaning.proofs.Crews.{worker-known}
 use Rattle.amber_meaning.proofs.Numbers.{among, among-first, among-more}
 use Rattle.amber_worker.specs.AtPosition.{IsViewOf, Shows, placement_of}
@@ -20,7 +21,6 @@ use Rattle.amber_home.specs.Answers.{IsShownAt, ShowAll, ShowWorkers}
 use Rattle.amber_home.specs.AtWork.{AreAtWork, placement_at, worker_state_at}
 use Rattle.amber_home.specs.Parts.{state_reached}
 use Rattle.amber_home.proofs.Answered.{at-work-show}
-use Rattle.amber_home.proofs.Paused.{count-is}
 use Rattle.amber_home.proofs.Split.{read-at}
 use Rattle.amber_home.proofs.Within.{position-here}
 
@@ -53,7 +53,8 @@ pub shown-all : (flow operators : List Operator) (crew : List WorkerState) (op p
     → ShowWorkers crew (map (λ place. first + place) (numbers_below place)) views → found ≡ views → ShowWorkers crew (workers_of flow op) found
 unfolding workers_of
 shown-all flow operators crew op place first o views found same some within is first-is least most before found-is =
-    let whole : place ≡ worker_count flow op = let e = count-is flow operators crew op place first o same some within is in omega arith in
+    let count : o.workers ≡ worker_count flow op = ap (λ (x : Operator). x.workers) (is ∙ ap (λ xs. get_or xs (op - 1) o) same) ∙ count-there flow op o some within in
+    let whole : place ≡ worker_count flow op = omega arith in
     let workers : map (λ place. first + place) (numbers_below place) ≡ map (λ place. first_worker_of flow op + place) (numbers_below (worker_count flow op)) =
     ap (λ n. map (λ place. first + place) (numbers_below n)) whole ∙ ap (λ n. map (λ place. n + place) (numbers_below (worker_count flow op))) first-is in
     subst (λ l. ShowWorkers crew l found) workers (subst (λ l. ShowWorkers crew (map (λ place. first + place) (numbers_below place)) l) (sym found-is) before)

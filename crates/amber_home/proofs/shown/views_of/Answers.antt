@@ -18,7 +18,8 @@ loop-place-preserved c =
     let inside : c.first_worker-first.result + c.loop-place.place < length c.args.crew.now =
     place-inside c.args.flow.now c.get.result.now c.args.crew.now c.args.op c.loop-place.place c.first_worker-first.result c.index-get-op.result
     c.get.ensures.operators c.requires.some c.requires.within c.requires.all c.index-get-op.is c.first_worker-first.ensures.first c.loop-place-test.true in
-    ?
+    shown-more c.args.crew.now c.first_worker-first.result c.loop-place.place c.index-crew-first.result c.in_ok-view.field-0 c.loop-place.views.items c.push.new.self.items inside
+    c.index-crew-first.is c.loop-place.invariant c.in_ok-view.ensures c.in_ok-push.ensures.items
 
 pub returns : goal.returns
 returns c =
