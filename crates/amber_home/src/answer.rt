@@ -20,7 +20,8 @@ fn refuser(refused: &Refusal) -> u32
     }
 }
 
-// How two refusals of one operator stand: records by their numbers, before keys in the order of rows.
+// How two refusals of one operator stand: records by their numbers, before keys in the order of
+// rows.
 fn compare_refused(a: &Refusal, b: &Refusal) -> Ordering
     ensures { result ≡ answers.refused_cmp a.now b.now }
 {
@@ -100,7 +101,8 @@ fn last_columns(flow: &Flow) -> Result<Schema, AllocError>
 // The answer, from what all workers have given.
 fn answer_of(flow: &Flow, given: Given) -> Result<Answer, AllocError>
     ensures refused { IfOk result (λ answer. answer.refused ≡ sort_refusals given.refused) }
-    ensures columns { IfOk result (λ answer. answer.columns ≡ columns_at flow.now (length flow.now)) }
+    ensures columns { IfOk result
+        (λ answer. answer.columns ≡ columns_at flow.now (length flow.now)) }
     ensures rows { IfOk result (λ answer. answer.rows ≡ given.rows) }
 {
     let columns = last_columns(flow)?;

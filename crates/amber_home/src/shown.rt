@@ -14,7 +14,8 @@ use std::alloc::{AllocError, Global};
 
 // A copy of the constant that is in force at an operator, if there is one.
 fn constant_at(arms: &InForce, op: u32) -> Result<Option<Value>, AllocError>
-    ensures { IfOk result (λ constant. constant ≡ first_of (unwrap_or (nth arms.now op) no_arms).constants) }
+    ensures { IfOk result (λ constant. constant
+        ≡ first_of (unwrap_or (nth arms.now op) no_arms).constants) }
 {
     let Some(armed) = arms.at(op) else {
         return Ok(None);

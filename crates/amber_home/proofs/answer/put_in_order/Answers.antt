@@ -1,5 +1,5 @@
 -- A stable sort leaves refusals in their order.
-use Rattle.std.proofs.Common.{◌≡◌, ap, refl, rules, Bool}
+use Rattle.std.proofs.Common.{◌≡◌, rules, Bool}
 use Rattle.std.specs.Ordering.{is_lt}
 use Rattle.std.proofs.lemmas.Fn.{always_returns_same}
 use Rattle.std.proofs.lemmas.List.Sorted.{ranks_by}

@@ -1,5 +1,5 @@
 -- One worker more shows its view.
-use Rattle.std.proofs.Common.{◌≡◌, ◌+◌, ◌<◌, ◌++◌, ◌∷◌, [], length, rules}
+use Rattle.std.proofs.Common.{◌+◌, ◌<◌, length}
 use Rattle.amber_home.proofs.Paused.{place-inside}
 use Rattle.amber_home.proofs.Viewed.{shown-all, shown-more, shown-none}
 use Rattle.amber_home.proofs.shown.views_of.Goals as goal
