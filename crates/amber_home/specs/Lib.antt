@@ -1,3 +1,4 @@
+pub mod Answers
 pub mod AtWork
 pub mod HomeState
 pub mod Kept

@@ -8,6 +8,7 @@
 //! `stops` gives that pause with two rows, and the filter's pause is no longer armed.
 #![tactic(auto)]
 
+mod answer;
 pub mod error;
 pub mod home;
 mod leg;
@@ -15,6 +16,7 @@ mod opening;
 mod parts;
 pub mod phase;
 mod settling;
+mod shown;
 mod stopping;
 
 pub use error::{HomeErr, LegErr};
