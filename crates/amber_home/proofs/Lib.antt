@@ -22,6 +22,7 @@ pub mod Paused
 pub mod Reached
 pub mod Refusing
 pub mod Renewed
+pub mod Saying
 pub mod Sending
 pub mod SortedRefusals
 pub mod Split

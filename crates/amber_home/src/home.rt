@@ -8,11 +8,13 @@ ghost use Rattle.amber_meaning.specs.State.{have_finished, steps_in};
 ghost use Rattle.amber_meaning.specs.Views.{answer_in, inspected_of};
 ghost use Rattle.amber_home.specs.HomeState.{BeginsOrNames, ClosesIn, Ends, StepsOn, has_crew, is_done_at_rest, is_open, query_of, runs_to_end, state_of, stops_of_home, with_item, with_leg};
 
+use crate::answer::{gather, gather_all};
 use crate::error::{HomeErr, LegErr};
 use crate::leg::steps_of;
 use crate::opening::{begin_all, clear_for};
 use crate::parts::{is_last, leg_item, take_parts};
 use crate::phase::Phase;
+use crate::shown::inspect;
 use crate::stopping::{close_arms, run_leg, stops_of};
 use amber_arms::InForce;
 use amber_log::{Close, Command, Item, Items, Leg, Log};
@@ -21,6 +23,7 @@ use amber_rows::{Files, Flow};
 use amber_worker::Worker;
 use std::alloc::{AllocError, Global};
 use std::marker::Model;
+use std::mem;
 
 /// The home of a run, seen as a `HomeState`.
 #[derive(Drop)]
@@ -214,7 +217,7 @@ impl Home {
         ensures { IfOk result
             (λ shown. shown ≡ inspected_of (query_of self.now) (state_of self.now) op) }
     {
-        Err(AllocError)
+        inspect(alloc, &self.flow, &self.arms, self.crew.as_slice(), op)
     }
 
     /// The answer, once all have finished.
@@ -224,7 +227,7 @@ impl Home {
         ensures { IfOk result
             (λ answer. answer ≡ answer_in (query_of self.now) (state_of self.now)) }
     {
-        Err(AllocError)
+        gather(alloc, &self.flow, self.crew.as_slice())
     }
 
     /// The same answer, handed out without a copy of its rows. The workers are then no longer there.
@@ -236,7 +239,8 @@ impl Home {
         ensures over { self.new ≡ record self.old { phase = Phase.Over } }
     {
         self.phase = Phase::Over;
-        Err(AllocError)
+        let crew = mem::replace(&mut self.crew, Vec::new(alloc));
+        gather_all(alloc, &self.flow, crew)
     }
 
     /// How many steps the workers have made.

@@ -1,0 +1,91 @@
+-- What is said of the workers is said of the state.
+use Rattle.std.proofs.Common.{◌≡◌, refl, sym, ap, subst, ◌∙◌, ℕ, ◌<◌, List, length, Bool, true, false, Option}
+use Rattle.std.proofs.lemmas.Bool.{false≢true}
+use Rattle.amber_rows.specs.Crew.{crew_of}
+use Rattle.amber_meaning.specs.declared.answer.Answer.{Answer}
+use Rattle.amber_meaning.specs.declared.view.Inspected.{Inspected}
+use Rattle.amber_meaning.specs.declared.view.Stop.{Stop}
+use Rattle.amber_meaning.specs.Legal.{Query}
+use Rattle.amber_meaning.specs.Position.{Position}
+use Rattle.amber_meaning.specs.State.{Arms, State, have_finished, position_at}
+use Rattle.amber_meaning.specs.Views.{answer_in, inspected_of}
+use Rattle.amber_meaning.proofs.OneState.{legal_logs_have_one_state}
+use Rattle.amber_meaning.proofs.Rest.{legal_logs_rest}
+use Rattle.amber_meaning.proofs.Senders.{flows_send_forward}
+use Rattle.amber_worker.specs.WorkerState.{WorkerState}
+use Rattle.amber_home.specs.Answers.{IsAnswerOf, IsShownAt}
+use Rattle.amber_home.specs.AtWork.{AreAtWork, HaveFinished, worker_state_at}
+use Rattle.amber_home.specs.HomeState.{HomeState, has_crew, query_of, rest_state, state_of}
+use Rattle.amber_home.specs.Kept.{IsHome}
+use Rattle.amber_home.specs.Parts.{open_parts, state_reached}
+use Rattle.amber_home.specs.declared.phase.Phase.{Phase}
+use Rattle.amber_home.specs.declared.phase.Phase.TheVariants as phase
+use Rattle.amber_home.proofs.Legs.{start, state-here}
+use Rattle.amber_home.proofs.Opened.{listed-whole}
+use Rattle.amber_home.proofs.Within.{unfinished-reached}
+
+-- the home in a phase, with the parts of its workers
+abbrev pub in_phase : HomeState → List WorkerState → Phase → HomeState
+in_phase e crew now = record e { phase = now; parts = open_parts now crew }
+
+-- the workers are at work, and reach the state in which the home is
+pub record StandsSomewhere (query : Query) (state : State) (crew : List WorkerState) (arms : List Arms) : Type 0 where
+  pub start : State
+  pub positions : ℕ → Position
+  pub at : AreAtWork query start crew positions
+  pub arms_are : arms ≡ start.arms
+  pub reached : state ≡ state_reached query start positions
+
+module _ (e : HomeState) (crew : List WorkerState) (arms : List Arms) (stops : List Stop) where
+  pub stands-somewhere : (now : Phase) → IsHome (record e { phase = now }) crew arms stops → has_crew now ≡ true
+      → StandsSomewhere (query_of e) (state_of (in_phase e crew now)) crew arms
+  unfolding state_of
+  stands-somewhere phase.Over home there = absurd (false≢true there)
+  stands-somewhere phase.Spent home there = absurd (false≢true there)
+  stands-somewhere phase.Resting home there =
+      let rest = home.stands in
+      let query = query_of e in
+      let state = rest_state e in
+      let same : state ≡ home.legal.after = legal_logs_have_one_state query e.log (flows_send_forward query.flow rest.at.at.flow) home.legal in
+      let long : length state.positions ≡ crew_of query.flow = ap (λ (s : State). length s.positions) same ∙ (legal_logs_rest query e.log home.legal).crew in
+      record {
+        start = state;
+        positions = position_at state.positions;
+        at = rest.at;
+        arms_are = rest.arms_are;
+        reached = sym (listed-whole query state long);
+      }
+  stands-somewhere (phase.Open to_end) home there =
+      let here : HomeState = record e { phase = phase.Open to_end } in
+      let leg = home.stands in
+      record {
+        start = start to_end here crew arms leg home.legal;
+        positions = leg.positions;
+        at = leg.at;
+        arms_are = leg.arms_are;
+        reached = state-here to_end here crew arms leg home.legal;
+      }
+
+-- ---- what an operator shows
+
+pub shows-operator : (query : Query) (state : State) (crew : List WorkerState) (arms : List Arms) (op : ℕ) (shown : Inspected)
+    → StandsSomewhere query state crew arms → IsShownAt query.flow arms crew op shown → shown ≡ inspected_of query state op
+unfolding IsShownAt
+shows-operator query state crew arms op shown h is =
+    is query h.start h.positions refl h.arms_are h.at ∙ ap (λ s. inspected_of query s op) (sym h.reached)
+
+-- ---- the answer
+
+all-finished-in : (query : Query) (state : State) (crew : List WorkerState) (arms : List Arms) → StandsSomewhere query state crew arms → have_finished state ≡ true
+    → HaveFinished (length crew) crew
+all-finished-in query state crew arms h done worker inside = by (worker_state_at crew worker).finished refl
+  where
+    by : (b : Bool) → (worker_state_at crew worker).finished ≡ b → (worker_state_at crew worker).finished ≡ true
+    by true e = e
+    by false e = absurd (false≢true (sym (unfinished-reached query h.start crew h.positions h.at worker inside e) ∙ ap have_finished (sym h.reached) ∙ done))
+
+pub answers-state : (query : Query) (state : State) (crew : List WorkerState) (arms : List Arms) (answer : Answer)
+    → StandsSomewhere query state crew arms → have_finished state ≡ true → IsAnswerOf query.flow crew answer → answer ≡ answer_in query state
+unfolding IsAnswerOf
+answers-state query state crew arms answer h done is =
+    is query h.start h.positions refl h.at (all-finished-in query state crew arms h done) ∙ ap (answer_in query) (sym h.reached)

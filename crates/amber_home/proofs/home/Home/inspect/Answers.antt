@@ -1,0 +1,16 @@
+-- What is said of the workers is said of the state.
+use Rattle.std.proofs.Common.{◌≡◌, refl, sym, ap, subst, ◌∙◌, IfOk, Ok, Err, true}
+use Rattle.amber_rows.specs.Crew.{crew_of}
+use Rattle.amber_meaning.specs.Views.{inspected_of}
+use Rattle.amber_home.specs.HomeState.{HomeState, has_crew, query_of, state_of}
+use Rattle.amber_home.specs.Parts.{open_parts}
+use Rattle.amber_home.proofs.Saying.{shows-operator, stands-somewhere}
+use Rattle.amber_home.proofs.home.Home.inspect.Goals as goal
+
+pub returns : goal.returns
+returns c =
+    let i = c.self.inside in
+    let e : HomeState = record { flow = i.flow; files = i.files; most = i.most; log = i.log; phase = i.phase; parts = open_parts i.phase i.crew.items } in
+    let there : has_crew i.phase ≡ true = ap (λ (h : HomeState). has_crew h.phase) c.self.view_is ∙ c.requires.there in
+    let h = stands-somewhere e i.crew.items i.arms i.stops i.phase c.self.invariant there in
+    ?
