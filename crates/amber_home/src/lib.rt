@@ -8,6 +8,7 @@
 //! `stops` gives that pause with two rows, and the filter's pause is no longer armed.
 #![tactic(auto)]
 
+mod crew;
 pub mod error;
 pub mod home;
 mod leg;
