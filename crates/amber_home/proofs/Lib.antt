@@ -1,3 +1,4 @@
+pub mod Begun
 pub mod Closed
 pub mod Crews
 pub mod Ended
@@ -19,4 +20,5 @@ pub mod Split
 pub mod Stepped
 pub mod Steps
 pub mod Stopped
+pub mod Webs
 pub mod Within

@@ -12,10 +12,12 @@ mod crew;
 pub mod error;
 pub mod home;
 mod leg;
+mod linking;
 mod opening;
 mod parts;
 pub mod phase;
 mod settling;
+mod shares;
 mod stopping;
 
 pub use error::{HomeErr, LegErr};
