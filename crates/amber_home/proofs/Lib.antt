@@ -1,6 +1,7 @@
 pub mod Begun
 pub mod Closed
 pub mod Crews
+pub mod Dealing
 pub mod Ended
 pub mod Going
 pub mod Homes

@@ -1,5 +1,5 @@
 -- The workers of a run that has not begun, and the links between them.
-use Rattle.std.specs.Prelude.{◌≡◌, ℕ, ◌+◌, ◌<◌, ◌≤◌, List, [], ◌∷◌, ◌++◌, All, filter, map, length, slice_index_or, is_some, Option, None, Result, Bool, true, false}
+use Rattle.std.specs.Prelude.{◌≡◌, ℕ, ◌+◌, ◌<◌, ◌≤◌, List, [], ◌∷◌, ◌++◌, All, filter, map, length, slice_index_or, is_some, Option, None, Some, Result, Ok, Err, ⊤, if◌then◌else◌, Bool, true, false}
 use Rattle.amber_rows.specs.Crew.{crew_of, op_of, sends_to, what_at}
 use Rattle.amber_rows.specs.Kinds.{is_scan}
 use Rattle.amber_rows.specs.Lists.{numbers_below}
@@ -9,13 +9,18 @@ use Rattle.amber_link.specs.declared.ends.Out.{Out}
 use Rattle.amber_link.specs.declared.ends.In.{In}
 use Rattle.amber_rows.specs.declared.record.RowFault.{RowFault}
 use Rattle.amber_rows.specs.declared.value.Value.{Value}
+use Rattle.amber_rows.specs.Shares.{share_of}
 use Rattle.amber_meaning.specs.Plan.{role_of}
+use Rattle.amber_meaning.specs.ScanFiles.{is_headed}
+use Rattle.amber_scan.specs.Shares.{scanned_number, scanned_records}
 use Rattle.amber_scan.specs.declared.share.Scanned.{Scanned}
 use Rattle.amber_worker.specs.AtPosition.{HasShare}
 use Rattle.amber_worker.specs.Changes.{StandsNew}
 use Rattle.amber_worker.specs.Made.{IsFreshIn, IsFreshOut, end_of, link_of, roomless}
 use Rattle.amber_worker.specs.WorkerState.{WorkerState}
 use Rattle.amber_home.specs.AtWork.{worker_state_at}
+use Rattle.amber_home.specs.declared.error.HomeErr.{HomeErr}
+use Rattle.amber_home.specs.declared.error.HomeErr.TheVariants as home_err
 
 -- the ends of one worker
 abbrev pub ends_at : {A : Type 0} → List (List A) → ℕ → List A
@@ -98,6 +103,21 @@ web_of flow size = record { sends = sends_to flow; size = size; senders = crew_o
 -- what a worker was given; none where it was given nothing
 abbrev pub share_at : List (Option (List Scanned)) → ℕ → Option (List Scanned)
 share_at shares worker = slice_index_or shares worker None
+
+-- what a worker of an operator is given of a file, by its place among the operator's workers
+abbrev pub dealt_share : Operator → List ℕ → ℕ → Option (List Scanned)
+dealt_share operator file place =
+    if is_scan operator.what then Some (share_of scanned_number operator.workers place (scanned_records operator.schema file)) else None
+
+-- an operator is named, a scan whose file does not begin with its columns' names
+abbrev pub NamesOperator : HomeErr → Operator → List ℕ → ℕ → Type 0
+NamesOperator (home_err.Header named) operator file op = (named ≡ op) × (is_headed operator.what operator.schema file ≡ false)
+NamesOperator home_err.NoMemory operator file op = ⊤
+
+-- something is made exactly where the operator is no scan, or its file begins with its columns' names; else the operator is named
+abbrev pub HasHeader : {A : Type 0} → Result A HomeErr → Operator → List ℕ → ℕ → Type 0
+HasHeader (Ok made) operator file op = is_headed operator.what operator.schema file ≡ true
+HasHeader (Err error) operator file op = NamesOperator error operator file op
 
 -- each of a scan's workers was given its share of the scan's records, and nobody else was given one
 pub record AreDealt (flow : List Operator) (records : List (List (Result (List Value) RowFault))) (shares : List (Option (List Scanned))) : Type 0 where
