@@ -1,5 +1,5 @@
 -- New workers with the ends of their links are at work where a run starts.
-use Rattle.std.proofs.Common.{◌≡◌, refl, sym, ap, ◌∙◌, ℕ, zero, suc, ◌+◌, ◌-◌, ◌<◌, ◌≤◌, List, [], ◌∷◌, ◌++◌, All, length, map, get_or, replicate, nat_eq, Bool, true, false, ◌⊎◌, inl, inr, if◌then◌else◌, Option, Some, None, unwrap_or, option_map, subst, arith, set, get_or-set_other}
+use Rattle.std.proofs.Common.{◌≡◌, refl, sym, ap, ◌∙◌, ℕ, zero, suc, ◌+◌, ◌-◌, ◌<◌, ◌≤◌, List, [], ◌∷◌, ◌++◌, length, map, get_or, replicate, nat_eq, Bool, true, false, inl, inr, if◌then◌else◌, Option, Some, None, unwrap_or, option_map, subst, arith, set, get_or-set_other}
 use Rattle.std.proofs.lemmas.Bool.Decides.{eqb_tells}
 use Rattle.std.proofs.lemmas.List.{get_or_append_left, get_or_push}
 use Rattle.std.specs.List.{slice_get}
@@ -12,7 +12,7 @@ use Rattle.amber_rows.specs.Lists.{nth}
 use Rattle.amber_rows.specs.declared.batch.Batch.{Batch}
 use Rattle.amber_rows.specs.declared.flow.Operator.{Operator}
 use Rattle.amber_rows.specs.declared.value.Value.{Value}
-use Rattle.amber_link.specs.Links.{AreLinked, AreSettled, waiting}
+use Rattle.amber_link.specs.Links.{AreLinked, waiting}
 use Rattle.amber_link.specs.declared.ends.Out.{Out}
 use Rattle.amber_link.specs.declared.ends.In.{In}
 use Rattle.amber_link.specs.declared.receivers.Receiver.{Receiver}
@@ -22,8 +22,8 @@ use Rattle.amber_link.proofs.Sides.{get_or-any, map-at, map-length}
 use Rattle.amber_meaning.specs.Legal.{Query, query_over}
 use Rattle.amber_meaning.specs.Plain.{records_of}
 use Rattle.amber_meaning.specs.Plan.{role_of}
-use Rattle.amber_meaning.specs.Position.{Position, Taken, origin}
-use Rattle.amber_meaning.specs.State.{State, arms_at, first_constants, no_arms, orders_of, position_at, start_of}
+use Rattle.amber_meaning.specs.Position.{Taken, origin}
+use Rattle.amber_meaning.specs.State.{arms_at, first_constants, no_arms, orders_of, position_at, start_of}
 use Rattle.amber_meaning.proofs.OneState.{position-get_or}
 use Rattle.amber_worker.specs.AtPosition.{IsAtPosition, Placement, ReceiveAll, SendAll, first_orders, no_base, placement_of}
 use Rattle.amber_worker.specs.Changes.{StandsNew}
@@ -31,8 +31,8 @@ use Rattle.amber_worker.specs.Made.{end_of, link_of, roomless}
 use Rattle.amber_worker.specs.Pairs.{AreJoined, AreSettledAt, IsLinkAt}
 use Rattle.amber_worker.specs.WorkerState.{WorkerState}
 use Rattle.amber_worker.proofs.PairFacts.{joined-made}
-use Rattle.amber_home.specs.AtWork.{AreAtPositions, AreAtWork, AreJoinedAt, IsQuiet, SendsTo, no_worker_state, worker_state_at}
-use Rattle.amber_home.specs.Start.{AreDealt, AreEnds, AreNew, IsNew, Parts, Places, ends_at, from_whom, share_at, to_whom, web_of}
+use Rattle.amber_home.specs.AtWork.{AreAtWork, AreJoinedAt, IsQuiet, SendsTo, no_worker_state, worker_state_at}
+use Rattle.amber_home.specs.Start.{AreDealt, AreEnds, AreNew, IsNew, Parts, ends_at, from_whom, share_at, to_whom, web_of}
 use Rattle.amber_home.proofs.OnePlace.{in-place, no_receiver, no_sender, out-place}
 use Rattle.amber_home.proofs.Sending.{sending}
 

@@ -1,7 +1,7 @@
 -- The records of the scans are dealt, operator by operator.
-use Rattle.std.proofs.Common.{◌≡◌, ◌≢◌, refl, sym, ap, subst, ◌∙◌, ℕ, zero, suc, ◌+◌, ◌-◌, ◌<◌, ◌≤◌, ◌^◌, List, [], ◌∷◌, ◌++◌, length, map, take, drop, get_or, set, Bool, true, false, if◌then◌else◌, ◌⊎◌, inl, inr, Option, Some, None, is_some, Result, sum_by, arith}
+use Rattle.std.proofs.Common.{◌≡◌, refl, sym, ap, subst, ◌∙◌, ℕ, zero, suc, ◌+◌, ◌-◌, ◌<◌, ◌≤◌, ◌^◌, List, [], ◌∷◌, ◌++◌, length, take, drop, get_or, Bool, true, false, if◌then◌else◌, inl, inr, Option, Some, None, is_some, Result, sum_by, arith}
 use Rattle.std.proofs.lemmas.Bool.{cases_lt}
-use Rattle.std.proofs.lemmas.List.{get_or_default, take_more}
+use Rattle.std.proofs.lemmas.List.{take_more}
 use Rattle.std.proofs.lemmas.List.Sums.{sum_by-append}
 use Rattle.amber_rows.specs.Crew.{crew_of, first_worker_of, kind_at, op_of, what_at, worker_count, workers_in}
 use Rattle.amber_rows.specs.FlowRules.{IsFlow}
@@ -16,7 +16,6 @@ use Rattle.amber_rows.proofs.FlowFacts.{AreNext-at}
 use Rattle.amber_meaning.specs.Plain.{records_of, wrong_header}
 use Rattle.amber_meaning.specs.Plan.{numbered_record, record_number, role_of}
 use Rattle.amber_meaning.specs.ScanFiles.{files_left, is_headed, records_at}
-use Rattle.amber_meaning.specs.Task.{Role}
 use Rattle.amber_meaning.proofs.Crews.{within-workers, worker-op}
 use Rattle.amber_meaning.proofs.Lists.{numbered_or}
 use Rattle.amber_meaning.proofs.Operators.{nth-here, records-here, wrong_header-here, wrong_header-more}

@@ -1,11 +1,10 @@
 -- Links are laid one after the other.
-use Rattle.std.proofs.Common.{◌≡◌, ◌≢◌, refl, sym, ap, ◌∙◌, ℕ, zero, suc, ◌+◌, ◌<◌, ◌≤◌, List, [], ◌∷◌, ◌++◌, All, length, get_or, set, if◌then◌else◌, Bool, true, false, ◌⊎◌, inl, inr, subst, arith, length-set, replicate, get_or-set_same, get_or-set_other}
+use Rattle.std.proofs.Common.{◌≡◌, ◌≢◌, refl, sym, ap, ◌∙◌, ℕ, zero, suc, ◌+◌, ◌<◌, List, [], ◌∷◌, ◌++◌, All, length, get_or, set, if◌then◌else◌, Bool, true, false, ◌⊎◌, inl, inr, subst, arith, length-set, replicate, get_or-set_same, get_or-set_other}
 use Rattle.std.proofs.lemmas.Bool.{cases_lt, false≢true}
 use Rattle.std.proofs.lemmas.Bool.Decides.{eqb_tells}
 use Rattle.std.proofs.lemmas.List.{append-nil, get_or_append_left, get_or_push, length-replicate, length_push}
 use Rattle.std.proofs.lemmas.List.Elements.{All-nil}
 use Rattle.amber_rows.proofs.CrewFacts.{below-next, below-none}
-use Rattle.amber_rows.specs.Lists.{numbers_below}
 use Rattle.rtrb.specs.Ring.{sent}
 use Rattle.amber_link.specs.Links.{AreLinked}
 use Rattle.amber_link.specs.Outgoing.{Outgoing}

@@ -1,5 +1,5 @@
 -- The workers of a run that has not begun, and the links between them.
-use Rattle.std.specs.Prelude.{◌≡◌, ℕ, ◌+◌, ◌<◌, ◌≤◌, List, [], ◌∷◌, ◌++◌, All, filter, map, length, slice_index_or, is_some, Option, None, Some, Result, Ok, Err, ⊤, if◌then◌else◌, Bool, true, false}
+use Rattle.std.specs.Prelude.{◌≡◌, ℕ, ◌<◌, ◌≤◌, List, [], ◌∷◌, ◌++◌, All, filter, map, length, slice_index_or, is_some, Option, None, Some, Result, Ok, Err, ⊤, if◌then◌else◌, Bool, true, false}
 use Rattle.amber_rows.specs.Crew.{crew_of, op_of, sends_to, what_at}
 use Rattle.amber_rows.specs.Kinds.{is_scan}
 use Rattle.amber_rows.specs.Lists.{numbers_below}

@@ -30,7 +30,8 @@ fn make_crew(
     requires some { 0 < batch }
     requires few { batch ≤ 65536 }
     requires all { length shares.items ≡ crew_of flow.now }
-    requires dealt { (worker : ℕ) → worker < crew_of flow.now → is_some (share_at shares.items worker)
+    requires dealt { (worker : ℕ) → worker < crew_of flow.now
+        → is_some (share_at shares.items worker)
         ≡ is_scan (what_at flow.now (op_of flow.now worker)) }
     requires ends { AreEnds (web_of flow.now batch) outs.items ins.items }
     ensures { IfOk result (λ crew. AreNew (record {
@@ -53,8 +54,9 @@ fn make_crew(
     Ok(crew)
 }
 
-// The workers of a workflow over the files of its scans, at the start of a run, in the order of their numbers. `Header` comes
-// with the first scan whose file does not begin with the names of its columns.
+// The workers of a workflow over the files of its scans, at the start of a run, in the order of
+// their numbers. `Header` comes with the first scan whose file does not begin with the names of
+// its columns.
 pub(crate) fn start_crew(
     alloc: Global,
     flow: &Flow,

@@ -1,5 +1,5 @@
 //! The links between the workers of a workflow, before anything went through them.
-ghost use Rattle.std.specs.Prelude.{◌≡◌, ◌+◌, ◌∷◌, ◌++◌, ◌<◌, ◌≤◌, [], IfOk, OnOk, length, replicate};
+ghost use Rattle.std.specs.Prelude.{◌≡◌, ◌∷◌, ◌++◌, ◌<◌, ◌≤◌, [], IfOk, OnOk, length, replicate};
 ghost use Rattle.amber_rows.specs.Crew.{crew_of, sends_to};
 ghost use Rattle.amber_home.specs.Start.{AreEnds, GivesEnds, web_of};
 
@@ -101,7 +101,8 @@ fn no_ins(alloc: Global, workers: u32) -> Result<Vec<Ins>, AllocError>
     Ok(ins)
 }
 
-// Links a worker with all of its receivers. Each of these gets its end behind those of earlier senders.
+// Links a worker with all of its receivers. Each of these gets its end behind those of earlier
+// senders.
 fn link_sender(
     alloc: Global,
     flow: &Flow,
@@ -131,7 +132,8 @@ fn link_sender(
     Ok(outs)
 }
 
-/// Links all workers of a workflow: the ends of each to its receivers, and of each with its senders.
+/// Links all workers of a workflow: the ends of each to its receivers, and of each with its
+/// senders.
 pub(crate) fn link_crew(
     alloc: Global,
     flow: &Flow,

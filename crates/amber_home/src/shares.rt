@@ -1,5 +1,6 @@
 //! The records of all scans, dealt to the workers.
-ghost use Rattle.std.specs.Prelude.{◌≡◌, ◌+◌, ◌++◌, ◌<◌, ◌≤◌, ◌^◌, ℕ, [], Some, None, IfOk, OnOk, length, replicate, slice_index_or};
+ghost use Rattle.std.specs.Prelude.{◌≡◌, ◌+◌, ◌++◌, ◌<◌, ◌≤◌, ◌^◌, ℕ, [], Some, None};
+ghost use Rattle.std.specs.Prelude.{IfOk, OnOk, length, replicate, slice_index_or};
 ghost use Rattle.amber_meaning.specs.Plain.{records_of};
 ghost use Rattle.amber_home.specs.HomeState.{BeginsOrNames};
 ghost use Rattle.amber_home.specs.Start.{AreDealt, HasHeader, dealt_share, share_at};
@@ -36,7 +37,8 @@ fn place_shares(mut dealt: Vec<Share>, first: usize, shares: &mut Vec<Option<Sha
     }
 }
 
-// Gives each worker of an operator, which come behind the others, its share of the file, if it is a scan.
+// Gives each worker of an operator, which come behind the others, its share of the file, if it is
+// a scan.
 fn deal_operator(
     alloc: Global,
     operator: &Operator,
@@ -69,8 +71,8 @@ fn deal_operator(
     Ok(())
 }
 
-// What each worker is given of the files: a scan's its share of the records, nobody else a share. `Header` comes with the first
-// scan whose file does not begin with the names of its columns.
+// What each worker is given of the files: a scan's its share of the records, nobody else a share.
+// `Header` comes with the first scan whose file does not begin with the names of its columns.
 pub(crate) fn deal_all(
     alloc: Global,
     flow: &Flow,

@@ -1,5 +1,5 @@
 -- One worker more is made.
-use Rattle.std.proofs.Common.{◌≡◌, ◌∙◌, ◌<◌, ◌++◌, ◌∷◌, [], sym, ap, map, ◌+◌, length, length-set, Option, None, rules, arith}
+use Rattle.std.proofs.Common.{◌≡◌, ◌∙◌, ◌<◌, [], ap, map, ◌+◌, length, length-set, None, rules, arith}
 use Rattle.std.proofs.lemmas.List.{get_or_default, length_push}
 use Rattle.amber_rows.specs.Crew.{crew_of, receivers_of, senders_of}
 use Rattle.amber_worker.specs.Made.{roomless}

@@ -1,5 +1,5 @@
 -- One sender more is linked with its receivers.
-use Rattle.std.proofs.Common.{◌≡◌, ◌∙◌, sym, length, subst, arith, rules}
+use Rattle.std.proofs.Common.{◌≡◌, subst, rules}
 use Rattle.amber_rows.specs.Crew.{crew_of, sends_to}
 use Rattle.amber_worker.proofs.Bounds.{written-back}
 use Rattle.amber_home.specs.Start.{AreEnds, GivesEnds}

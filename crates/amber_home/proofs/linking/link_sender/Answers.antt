@@ -1,10 +1,8 @@
 -- One receiver more is linked, or is none.
-use Rattle.std.proofs.Common.{◌≡◌, ◌++◌, ◌∷◌, [], true, false, length, rules, subst, sym, ap, ◌∙◌, ◌<◌, set, get_or, List, arith}
+use Rattle.std.proofs.Common.{◌≡◌, ◌++◌, ◌∷◌, [], true, false, length, rules, ap, ◌∙◌, ◌<◌, set}
 use Rattle.std.proofs.lemmas.List.{get_or_default}
 use Rattle.amber_rows.specs.Crew.{sends_to}
-use Rattle.amber_link.specs.declared.ends.In.{In}
-use Rattle.amber_link.specs.declared.ends.Out.{Out}
-use Rattle.amber_home.specs.Start.{GivesEnds, ends_at}
+use Rattle.amber_home.specs.Start.{ends_at}
 use Rattle.amber_home.proofs.Webs.{fresh-out, gives-more, gives-none, gives-not}
 use Rattle.amber_home.proofs.linking.link_sender.Goals as goal
 use Rattle.amber_home.proofs.linking.link_sender.Goals.{then-sends_to+in_ok-out+in_ok-push+in_ok-push-2, else-sends_to}

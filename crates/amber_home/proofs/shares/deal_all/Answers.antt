@@ -1,5 +1,5 @@
 -- One operator more is dealt to, or its header is the first that is wrong.
-use Rattle.std.proofs.Common.{◌≡◌, ◌∙◌, ◌<◌, ◌≤◌, ◌+◌, Err, ap, sym, get_or, length, rules, arith}
+use Rattle.std.proofs.Common.{◌≡◌, ◌∙◌, ◌<◌, ◌≤◌, Err, ap, sym, get_or, length, rules, arith}
 use Rattle.amber_meaning.proofs.Operators.{wrong_header-end}
 use Rattle.amber_meaning.specs.Plain.{records_of, wrong_header}
 use Rattle.amber_home.proofs.Dealing.{all-dealt, crew-start, dealt-more, header-more, header-names, header-start, operator-facts}
