@@ -1,8 +1,10 @@
 pub mod Answered
+pub mod Begun
 pub mod Closed
 pub mod Closings
 pub mod Crews
 pub mod Cut
+pub mod Dealing
 pub mod Ended
 pub mod Gathered
 pub mod Going
@@ -30,5 +32,6 @@ pub mod Stepped
 pub mod Steps
 pub mod Stopped
 pub mod Viewed
-pub mod Within
+pub mod Webs
 pub mod Whole
+pub mod Within

@@ -5,3 +5,4 @@ pub mod Kept
 pub mod Leg
 pub mod Parts
 pub mod Passing
+pub mod Start

@@ -9,14 +9,17 @@
 #![tactic(auto)]
 
 mod answer;
+mod crew;
 pub mod error;
 pub mod home;
 mod leg;
+mod linking;
 mod opening;
 mod parts;
 pub mod phase;
 mod settling;
 mod shown;
+mod shares;
 mod stopping;
 
 pub use error::{HomeErr, LegErr};

@@ -127,6 +127,7 @@ impl Worker {
         ensures stands { IfOk result (StandsNew flow.now worker batch share) }
         ensures outs { IfOk result (λ made. map link_of made.outs ≡ map roomless outs.items) }
         ensures ins { IfOk result (λ made. map end_of made.ins ≡ ins.items) }
+        ensures journal { IfOk result (λ made. made.journal ≡ []) }
     {
         Err(AllocError)
     }

@@ -1,0 +1,54 @@
+-- One worker more is made.
+use Rattle.std.proofs.Common.{◌≡◌, ◌∙◌, ◌<◌, [], ap, map, ◌+◌, length, length-set, None, rules, arith}
+use Rattle.std.proofs.lemmas.List.{get_or_default, length_push}
+use Rattle.amber_rows.specs.Crew.{crew_of, receivers_of, senders_of}
+use Rattle.amber_worker.specs.Made.{roomless}
+use Rattle.amber_home.specs.Start.{ends_at, share_at}
+use Rattle.amber_home.proofs.Begun.{left-put, new-more}
+use Rattle.amber_home.proofs.crew.make_crew.Goals as goal
+
+pub new-requires-in-workers-2-clause-all_outs : goal.new-requires-in-workers-2-clause-all_outs
+unfolding receivers_of
+new-requires-in-workers-2-clause-all_outs c =
+    let below : c.workers.worker < crew_of c.args.flow.now = search rules in
+    let own : c.into_inner-own_outs.result.items ≡ ends_at c.workers.outs.items c.workers.worker =
+    c.into_inner-own_outs.ensures ∙ c.replace.ensures.value ∙ c.index_mut-in-workers.ensures.value
+    ∙ get_or_default c.workers.outs.items c.workers.worker _ [] (omega (arith, below, c.workers.invariant.outs_all, c.requires.ends.all_outs)) in
+    ap length (own ∙ c.workers.invariant.outs c.workers.worker (omega arith)) ∙ c.requires.ends.outs c.workers.worker below
+
+pub new-requires-in-workers-2-clause-all_ins : goal.new-requires-in-workers-2-clause-all_ins
+unfolding senders_of
+new-requires-in-workers-2-clause-all_ins c =
+    let below : c.workers.worker < crew_of c.args.flow.now = search rules in
+    let own : c.into_inner-own_ins.result.items ≡ ends_at c.workers.ins.items c.workers.worker =
+    c.into_inner-own_ins.ensures ∙ c.replace-in-workers.ensures.value ∙ c.index_mut-in-workers-2.ensures.value
+    ∙ get_or_default c.workers.ins.items c.workers.worker _ [] (omega (arith, below, c.workers.invariant.ins_all, c.requires.ends.all_ins)) in
+    ap length (own ∙ c.workers.invariant.ins c.workers.worker (omega arith)) ∙ c.requires.ends.ins c.workers.worker below
+
+pub workers-preserved : goal.workers-preserved
+workers-preserved c =
+    let below : c.workers.worker < crew_of c.args.flow.now = search rules in
+    let own_share : c.replace-share.result ≡ share_at c.workers.shares.items c.workers.worker =
+    c.replace-share.ensures.value ∙ c.index_mut.ensures.value
+    ∙ get_or_default c.workers.shares.items c.workers.worker _ None (omega (arith, below, c.workers.invariant.shares_all, c.requires.all)) in
+    let own_outs : c.into_inner-own_outs.result.items ≡ ends_at c.workers.outs.items c.workers.worker =
+    c.into_inner-own_outs.ensures ∙ c.replace.ensures.value ∙ c.index_mut-in-workers.ensures.value
+    ∙ get_or_default c.workers.outs.items c.workers.worker _ [] (omega (arith, below, c.workers.invariant.outs_all, c.requires.ends.all_outs)) in
+    let own_ins : c.into_inner-own_ins.result.items ≡ ends_at c.workers.ins.items c.workers.worker =
+    c.into_inner-own_ins.ensures ∙ c.replace-in-workers.ensures.value ∙ c.index_mut-in-workers-2.ensures.value
+    ∙ get_or_default c.workers.ins.items c.workers.worker _ [] (omega (arith, below, c.workers.invariant.ins_all, c.requires.ends.all_ins)) in
+    record {
+      all = ap length c.in_ok-push.ensures.items ∙ length_push c.workers.crew.items c.in_ok-made.made ∙ ap (λ n. n + 1) c.workers.invariant.all;
+      shares_all = length-set c.workers.shares.items c.workers.worker _ ∙ c.workers.invariant.shares_all;
+      outs_all = length-set c.workers.outs.items c.workers.worker _ ∙ c.workers.invariant.outs_all;
+      ins_all = length-set c.workers.ins.items c.workers.worker _ ∙ c.workers.invariant.ins_all;
+      shares = left-put c.args.shares.items c.workers.shares.items c.workers.worker _ None c.workers.invariant.shares;
+      outs = left-put c.args.outs.items c.workers.outs.items c.workers.worker _ [] c.workers.invariant.outs;
+      ins = left-put c.args.ins.items c.workers.ins.items c.workers.worker _ [] c.workers.invariant.ins;
+      made = new-more _ c.workers.crew.items c.push.new.self.items c.in_ok-made.made c.workers.worker c.in_ok-push.ensures.items c.workers.invariant.all c.workers.invariant.made (record {
+        stands = rw (own_share ∙ c.workers.invariant.shares c.workers.worker (omega arith)) at c.in_ok-made.ensures.stands;
+        outs = c.in_ok-made.ensures.outs ∙ ap (map roomless) (own_outs ∙ c.workers.invariant.outs c.workers.worker (omega arith));
+        ins = c.in_ok-made.ensures.ins ∙ own_ins ∙ c.workers.invariant.ins c.workers.worker (omega arith);
+        journal = c.in_ok-made.ensures.journal;
+      });
+    }
