@@ -6,7 +6,6 @@ pub mod Journals
 pub mod KeptPosition
 pub mod Moves
 pub mod Produced
-pub mod Readers
 pub mod Seen
 pub mod Sent
 pub mod Settling
@@ -18,3 +17,5 @@ pub mod Commands
 pub mod Roomless
 pub mod PairFacts
 pub mod Looks
+pub mod FreshParts
+pub mod FreshStands

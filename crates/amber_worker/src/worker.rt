@@ -126,7 +126,9 @@ impl Worker {
         ensures outs { IfOk result (λ made. map link_of made.outs ≡ map roomless outs.items) }
         ensures ins { IfOk result (λ made. map end_of made.ins ≡ ins.items) }
     {
-        Err(AllocError)
+        let _operators = flow.get();
+        let made = Self::make(alloc, flow, worker, batch, share, outs, ins)?;
+        Ok(made)
     }
 
     // A worker that has done nothing.
@@ -150,7 +152,45 @@ impl Worker {
         ensures outs { IfOk result (λ made. map link_of made.outs ≡ map roomless outs.items) }
         ensures ins { IfOk result (λ made. map end_of made.ins ≡ ins.items) }
     {
-        Err(AllocError)
+        let operators = flow.get();
+        let op = flow.op_of(worker);
+        let what = &operators[op as usize - 1].what;
+        let operator_state = operator_state_of(alloc, what)?;
+        let columns = columns_of(alloc, flow, what, op)?;
+        let build_columns = build_columns_of(alloc, flow, what)?;
+        let building = is_join(what);
+        let route = route_of(flow, worker)?;
+        let ins = senders_of(alloc, flow, worker, what, ins)?;
+        let outs = receivers_of(alloc, flow, worker, outs)?;
+        let rest = Rest {
+            share,
+            from: 0,
+            rows: VecDeque::new(alloc),
+        };
+        let gains = Gains {
+            pending: VecDeque::new(alloc),
+            refused: Vec::new(alloc),
+            kept: Vec::new(alloc),
+        };
+        Ok(Worker {
+            alloc,
+            op,
+            number: worker,
+            operator_state,
+            columns,
+            build_columns,
+            building,
+            rest,
+            taken: 0,
+            emitted: 0,
+            batches: 0,
+            gains,
+            finished: false,
+            ins,
+            outs,
+            route,
+            journal: Vec::new(alloc),
+        })
     }
 
     // Whether the worker has finished.
