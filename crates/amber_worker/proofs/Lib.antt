@@ -19,3 +19,4 @@ pub mod PairFacts
 pub mod Looks
 pub mod FreshParts
 pub mod FreshStands
+pub mod Refusals

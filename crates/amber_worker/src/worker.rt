@@ -13,7 +13,7 @@ ghost use Rattle.amber_worker.specs.Changes.{MaySet, ShowsSet, StandsAtLeg, Stan
 ghost use Rattle.amber_worker.specs.Links.{HaveSentNothing, MayTakeAt, Passes};
 ghost use Rattle.amber_worker.specs.Pairs.{AreJoined, AreSettledAt, Offers, OffersAll, PassesOn, StaysAt};
 
-use crate::given::{Given, add_keys, refused_keys};
+use crate::given::{Given, final_keys, given_of, refusal_copies, row_copies};
 use crate::journal::note_go;
 use crate::links::{emit_first, end_streams, settle_into};
 use crate::making::{
@@ -30,8 +30,8 @@ use amber_link::{
     is_empty_at, ready_place, reserve_ends, take_at, waiting_receiver,
 };
 use amber_log::{Entries, Entry};
-use amber_meaning::{Refusals, WorkerView};
-use amber_rows::{Flow, Rows, Schema, Value, sort};
+use amber_meaning::WorkerView;
+use amber_rows::{Flow, Schema, Value};
 use amber_scan::Share;
 use std::alloc::{AllocError, Global};
 use std::collections::VecDeque;
@@ -497,14 +497,29 @@ impl Worker {
     pub fn given(&self) -> Result<Given, AllocError>
         ensures { IfOk result (IsGivenOf self.now) }
     {
-        Err(AllocError)
+        let keys = final_keys(self.alloc, self.finished, &self.operator_state)?;
+        let refused = refusal_copies(&self.gains.refused)?;
+        let kept = row_copies(&self.gains.kept)?;
+        let given = given_of(self.op, keys, refused, kept)?;
+        Ok(given)
     }
 
     /// The same, where nothing more is asked of the worker: nothing is copied.
     pub fn into_given(self) -> Result<Given, AllocError>
         ensures { IfOk result (IsGivenOf self) }
     {
-        Err(AllocError)
+        let Worker {
+            alloc,
+            op,
+            operator_state,
+            gains,
+            finished,
+            ..
+        } = self;
+        let Gains { refused, kept, .. } = gains;
+        let keys = final_keys(alloc, finished, &operator_state)?;
+        let given = given_of(op, keys, refused, kept)?;
+        Ok(given)
     }
 }
 
