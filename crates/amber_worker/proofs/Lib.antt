@@ -20,3 +20,6 @@ pub mod Looks
 pub mod FreshParts
 pub mod FreshStands
 pub mod Refusals
+pub mod ExampleFlow
+pub mod ExampleWorkers
+pub mod ExampleKeyed
