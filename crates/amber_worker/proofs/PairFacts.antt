@@ -8,12 +8,15 @@ use Rattle.amber_rows.specs.declared.batch.Batch.{Batch}
 use Rattle.amber_rows.specs.Chunks.{chunks_of}
 use Rattle.amber_meaning.specs.Position.{Taken, emitted_rows, taken_from}
 use Rattle.amber_link.specs.Links.{AreLinked, AreSettled, OutCarries, waiting}
-use Rattle.amber_link.specs.Sides.{AreSameReceivers, AreSameSenders, IsSameReceiver, IsSameSender, without_room}
+use Rattle.amber_link.specs.Sides.{AreSameReceivers, AreSameSenders, IsSameReceiver, IsSameSender, Pairwise, without_room}
+use Rattle.amber_link.specs.declared.ends.Out.{Out}
+use Rattle.amber_link.specs.declared.ends.In.{In}
 use Rattle.amber_link.specs.declared.senders.Sender.{Sender}
+use Rattle.amber_worker.specs.Made.{end_of, link_of, roomless}
 use Rattle.amber_link.specs.declared.receivers.Receiver.{Receiver}
-use Rattle.amber_link.proofs.LinkEnds.{same-in, same-out}
+use Rattle.amber_link.proofs.LinkEnds.{linked-still, same-in, same-out}
 use Rattle.amber_link.proofs.SameEnds.{receivers-same, senders-same}
-use Rattle.amber_link.proofs.Sides.{get_or-any, map-at, map-length, pairwise-set}
+use Rattle.amber_link.proofs.Sides.{get_or-any, map-at, map-length, pairwise-length, pairwise-set}
 use Rattle.amber_worker.specs.AtPosition.{HasSameEnds, IsAtPosition, Placement, ReceiveAll, Receives, SendAll, Sends, stream_to}
 use Rattle.amber_worker.specs.Links.{AreEndsOf, Passes}
 use Rattle.amber_worker.specs.Pairs.{AreJoined, AreSettledAt, IsLinkAt, Offers, OffersAll, PassesOn, StaysAt}
@@ -236,3 +239,39 @@ ends-of from to outs is joined j k one other j_less k_less to_is from_is =
       from_is = λ d. ap (λ (r : Sender). r.from) (there d) ∙ from_is;
     } in
     subst (λ (r : Receiver). AreLinked r.link (get_or to.ins k other).link) (here one) (joined j k places one other)
+
+-- ---- they stay joined
+
+pairwise-at : {A : Type 0} (R : A → A → Type 0) (xs ys : List A) (k : ℕ) (d e : A) → k < length ys → Pairwise R xs ys → R (get_or xs k d) (get_or ys k e)
+unfolding Pairwise
+pairwise-at R [] [] k d e less h = absurd (omega arith)
+pairwise-at R [] (y ∷ ys) k d e less h = absurd h
+pairwise-at R (x ∷ xs) [] k d e less h = absurd h
+pairwise-at R (x ∷ xs) (y ∷ ys) zero d e less h = h.0
+pairwise-at R (x ∷ xs) (y ∷ ys) (suc k) d e less h = pairwise-at R xs ys k d e (omega arith) h.1
+
+-- two workers that hold the ends of their link hold them still, where each has the same ends
+pub joined-still : (from to from_now to_now : WorkerState) → AreJoined from to → HasSameEnds from from_now → HasSameEnds to to_now → AreJoined from_now to_now
+unfolding AreJoined
+joined-still from to from_now to_now joined out_ends in_ends j k places one other =
+    let outs : (d e : Receiver) → IsSameReceiver (get_or from.outs j d) (get_or from_now.outs j e) = λ d e. pairwise-at IsSameReceiver from.outs from_now.outs j d e places.j_within out_ends.outs in
+    let ins : (d e : Sender) → IsSameSender (get_or to.ins k d) (get_or to_now.ins k e) = λ d e. pairwise-at IsSameSender to.ins to_now.ins k d e places.k_within in_ends.ins in
+    let before : IsLinkAt from to j k = record {
+      j_within = let same = pairwise-length IsSameReceiver from.outs from_now.outs out_ends.outs in let less = places.j_within in omega arith;
+      k_within = let same = pairwise-length IsSameSender to.ins to_now.ins in_ends.ins in let less = places.k_within in omega arith;
+      to_is = λ d. sym (outs d d).to ∙ places.to_is d ∙ in_ends.number;
+      from_is = λ d. sym (ins d d).from ∙ places.from_is d ∙ out_ends.number;
+    } in
+    linked-still (get_or from.outs j one).link (get_or from_now.outs j one).link (get_or to.ins k other).link (get_or to_now.ins k other).link
+    (joined j k before one other) (outs one one).link (ins other other).link
+
+-- new workers that were given the ends of their links hold them
+pub joined-made : (from to : WorkerState) (outs : List Out) (ins : List In) → map link_of from.outs ≡ map roomless outs → map end_of to.ins ≡ ins
+    → ((j k : ℕ) → IsLinkAt from to j k → (out : Out) (into : In) → AreLinked (get_or outs j out) (get_or ins k into)) → AreJoined from to
+unfolding AreJoined
+joined-made from to outs ins outs_are ins_are linked j k places one other =
+    let within : j < length outs = subst (λ n. j < n) (sym (map-length link_of from.outs) ∙ ap length outs_are ∙ map-length roomless outs) places.j_within in
+    let out_is : roomless (get_or outs j one.link) ≡ roomless (get_or from.outs j one).link =
+    sym (map-at roomless outs j one.link (roomless one.link) within) ∙ ap (λ l. get_or l j (roomless one.link)) (sym outs_are) ∙ map-at link_of from.outs j one (roomless one.link) places.j_within in
+    let in_is : get_or ins k other.link ≡ (get_or to.ins k other).link = ap (λ l. get_or l k other.link) (sym ins_are) ∙ map-at end_of to.ins k other other.link places.k_within in
+    subst (λ (out : Out). AreLinked out (get_or to.ins k other).link) out_is (subst (λ (into : In). AreLinked (get_or outs j one.link) into) in_is (linked j k places one.link other.link))
