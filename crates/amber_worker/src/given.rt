@@ -7,7 +7,8 @@ use amber_meaning::{Refusal, Refusals};
 use amber_rows::{Row, Rows, sort};
 use std::alloc::{AllocError, Global};
 
-/// What a worker gives for the answer: what it has refused, and of a sink the rows that it took, in the order of rows.
+/// What a worker gives for the answer: what it has refused, and of a sink the rows that it took, in
+/// the order of rows.
 #[derive(Debug, Drop)]
 pub struct Given {
     pub refused: Refusals,

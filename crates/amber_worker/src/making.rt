@@ -47,7 +47,8 @@ pub(crate) fn operator_state_of(alloc: Global, what: &What) -> Result<OperatorSt
     }
 }
 
-// The operator whose columns the rows have that are handed to an operator of this kind: a scan's are its own.
+// The operator whose columns the rows have that are handed to an operator of this kind: a scan's
+// are its own.
 fn handing_operator(what: &What, op: u32) -> u32
     ensures { result ≡ handing_operator what.now op }
 {
@@ -78,7 +79,8 @@ pub(crate) fn columns_of(
     what: &What,
     op: u32,
 ) -> Result<Schema, AllocError>
-    ensures { IfOk result (λ columns. columns ≡ columns_at flow.now (handing_operator what.now op)) }
+    ensures { IfOk result (λ columns. columns
+        ≡ columns_at flow.now (handing_operator what.now op)) }
 {
     schema_of(alloc, flow, handing_operator(what, op))
 }
@@ -189,7 +191,8 @@ pub(crate) fn receivers_of(
 // The keys by which the rows of an operator go into this kind of operator, if they go by keys.
 fn keys_into(what: &What, op: u32) -> Option<&Cols>
     ensures none { IfNone result (is_keyed what.now ≡ false) }
-    ensures some { IfSome result (λ keys. (is_keyed what.now ≡ true) × (keys.now ≡ side_keys what.now op)) }
+    ensures some { IfSome result (λ keys. (is_keyed what.now ≡ true) × (keys.now
+        ≡ side_keys what.now op)) }
 {
     match what {
         What::Join {
@@ -206,7 +209,9 @@ fn keys_into(what: &What, op: u32) -> Option<&Cols>
 // To whom the rows of a worker go.
 pub(crate) fn route_of(flow: &Flow, worker: u32) -> Result<Route, AllocError>
     requires { worker < crew_of flow.now }
-    ensures route { IfOk result (λ route. (row : List Cell) → 0 < length (receivers_of flow.now worker) → number_to route row ≡ receiver_of flow.now worker row) }
+    ensures route { IfOk result (λ route. (row : List Cell)
+        → 0 < length (receivers_of flow.now worker) → number_to route row
+        ≡ receiver_of flow.now worker row) }
     ensures sound { IfOk result IsSoundRoute }
 {
     let op = flow.op_of(worker);

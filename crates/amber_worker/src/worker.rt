@@ -92,13 +92,15 @@ impl Model for Worker {
       journal = a.journal.items;
     } };
 
-    ghost invariant = { λ a. AreFew a.operator_state a.building a.rest.share a.taken a.emitted a.batches a.finished a.ins.items a.outs.items a.route a.journal.items };
+    ghost invariant = { λ a. AreFew a.operator_state a.building a.rest.share a.taken a.emitted
+        a.batches a.finished a.ins.items a.outs.items a.route a.journal.items };
 }
 
 impl Worker {
-    /// The worker of a workflow before it has done anything, by its running number. The rows of a batch are 1 to 65,536.
-    /// A scan's worker is given its share of the records. Each worker is given the end of a link for each of its receivers
-    /// and for each of its senders, by rising numbers, through which nothing has gone.
+    /// The worker of a workflow before it has done anything, by its running number. The rows of a
+    /// batch are 1 to 65,536. A scan's worker is given its share of the records. Each worker is
+    /// given the end of a link for each of its receivers and for each of its senders, by rising
+    /// numbers, through which nothing has gone.
     pub fn new(
         alloc: Global,
         flow: &Flow,
@@ -223,8 +225,8 @@ impl Worker {
         has_sender(self.ins.as_slice(), worker)
     }
 
-    /// Whether a turn begins with a look for a batch: the worker has not finished, is not paused, and has neither a row
-    /// that is pending nor one that was handed and not taken.
+    /// Whether a turn begins with a look for a batch: the worker has not finished, is not paused,
+    /// and has neither a row that is pending nor one that was handed and not taken.
     pub fn wants_batch(&self) -> bool
         ensures { result ≡ wants_batch self.now }
     {
@@ -274,7 +276,8 @@ impl Worker {
         set_value(&mut self.operator_state, value);
     }
 
-    /// Begins a leg: pauses end, a row before which the worker is held may go, and the journal is empty.
+    /// Begins a leg: pauses end, a row before which the worker is held may go, and the journal is
+    /// empty.
     pub fn begin(&mut self)
         ensures only { self.new ≡ with_leg self.old }
         ensures stands { StandsAtLeg self.old self.new }

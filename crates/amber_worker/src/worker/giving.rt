@@ -37,8 +37,8 @@ impl Worker {
         })
     }
 
-    /// What the worker gives for the answer: a scan the records with a fault of those that it took, a finished group the
-    /// keys that have no row, a sink the rows that it took.
+    /// What the worker gives for the answer: a scan the records with a fault of those that it took,
+    /// a finished group the keys that have no row, a sink the rows that it took.
     pub fn given(&self) -> Result<Given, AllocError>
         ensures { IfOk result (IsGivenOf self.now) }
     {

@@ -30,8 +30,8 @@ fn pass_batches(from: &mut Worker, to: &mut Worker) -> Result<(), AllocError>
     )
 }
 
-/// Moves the batches that a worker has made for another one into the other's inbox, behind those that wait there. Want of
-/// memory loses none.
+/// Moves the batches that a worker has made for another one into the other's inbox, behind those
+/// that wait there. Want of memory loses none.
 pub fn settle_workers(from: &mut Worker, to: &mut Worker) -> Result<(), AllocError>
     requires sends { list_any (λ one. one.to == to.old.number) from.old.outs ≡ true }
     requires receives { list_any (λ one. one.from == from.old.number) to.old.ins ≡ true }

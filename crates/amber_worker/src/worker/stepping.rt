@@ -152,7 +152,8 @@ impl Worker {
         requires few { steps_made self.old < 2 ^ 40 }
         requires unfinished { self.old.finished ≡ false }
         ensures ended { IfOk result (λ ended. ended ≡ have_all_ended self.old.ins) }
-        ensures done { IfOk result (λ ended. MatchBool ended (Finishes self.old self.new) (self.new ≡ self.old)) }
+        ensures done { IfOk result (λ ended. MatchBool ended (Finishes self.old self.new) (self.new
+            ≡ self.old)) }
         ensures err { OnErr result (self.new ≡ self.old) }
     {
         if !have_ended(self.ins.as_slice()) {
@@ -165,8 +166,8 @@ impl Worker {
         Ok(true)
     }
 
-    /// Makes one step, if there is one to make. The journal says which. Want of memory leaves all as before, but for batches
-    /// that were seen in a ring.
+    /// Makes one step, if there is one to make. The journal says which. Want of memory leaves all
+    /// as before, but for batches that were seen in a ring.
     pub fn turn(&mut self) -> Result<Turn, AllocError>
         requires { steps_made self.old < 2 ^ 40 }
         ensures keeps { Keeps self.old self.new }
