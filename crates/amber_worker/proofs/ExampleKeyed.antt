@@ -84,7 +84,7 @@ abbrev pub worker : Ends → WorkerState
 worker e = record {
   op = 2;
   number = 3;
-  operator_state = operator_state.Group (record { keys = 1 ∷ []; aggs = []; fed = 0; groups = [] });
+  operator_state = operator_state.Group (record { keys = 1 ∷ []; aggs = []; fed = 0; groups = []; ready = false });
   columns = numbers;
   build_columns = [];
   building = false;
