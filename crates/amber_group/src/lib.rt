@@ -12,10 +12,12 @@
 #![tactic(auto)]
 
 mod finish;
+pub mod placing;
 mod running;
 pub mod state;
 mod totals;
 
 pub use finish::Grouped;
+pub use placing::Prepared;
 pub use state::GroupState;
 pub use std::alloc::AllocError as NoMemory;

@@ -1,15 +1,18 @@
-ghost use Rattle.std.specs.Prelude.{◌≡◌, ◌+◌, ◌^◌, ◌<◌, ◌++◌, ◌∷◌, [], List, IfOk, OnErr, OnOk, length};
+ghost use Rattle.std.specs.Prelude.{◌≡◌, ◌+◌, ◌^◌, ◌<◌, ◌++◌, ◌∷◌, [], List, true, false, IfOk, OnErr, OnOk, length};
 ghost use Rattle.amber_rows.specs.Operators.{first_keys, group_result, refused_keys};
 ghost use Rattle.amber_rows.specs.declared.value.Value.{Value as Cell};
 ghost use Rattle.amber_group.specs.Group.{IsFedWith};
+ghost use Rattle.amber_group.specs.Places.{IsReadyFor};
 
 use crate::finish::{Grouped, finish};
-use crate::totals::{Totals, take_in};
+use crate::placing::{Prepared, find_place, take_in, take_to};
+use crate::totals::Totals;
 use amber_keys::Key;
 use amber_rows::{Aggs, Cols, Row, Value};
 use indexmap::IndexMap;
 use std::alloc::{AllocError, Global};
 use std::marker::Model;
+use std::mem;
 
 /// What a group keeps: the columns of its key, its aggregates, how many rows it was fed, and what it needs of
 /// these. `IsFedWith` says which rows a state stands for.
@@ -22,18 +25,23 @@ pub struct GroupState {
     groups: IndexMap<Key, Totals>,
     // Room that each feed uses anew.
     changes: Vec<Option<Value>>,
+    // Whether a row is prepared: then there is room for a group more.
+    ready: bool,
 }
 
 impl Model for GroupState {
     ghost use Rattle.amber_group.specs.Group.{Group};
     ghost use Rattle.amber_group.specs.Steps.{GroupsWithin};
+    ghost use Rattle.indexmap.specs.IndexMap.{spare};
+    ghost use Rattle.std.specs.Prelude.{◌≡◌, ◌<◌, true};
 
     ghost Value = { Group };
 
     ghost view = { λ a.
-        record { keys = a.keys; aggs = a.aggs; fed = a.fed; groups = a.groups.entries } };
+        record { keys = a.keys; aggs = a.aggs; fed = a.fed; groups = a.groups.entries; ready = a.ready } };
 
-    ghost invariant = { λ a. GroupsWithin a.fed a.groups.entries };
+    ghost invariant = { λ a.
+        GroupsWithin a.fed a.groups.entries × (a.ready ≡ true → 0 < spare a.groups) };
 }
 
 impl GroupState {
@@ -51,6 +59,7 @@ impl GroupState {
             fed: 0,
             groups: IndexMap::new(alloc),
             changes: Vec::new(alloc),
+            ready: false,
         }
     }
 
@@ -74,7 +83,55 @@ impl GroupState {
             &mut self.changes,
         )?;
         self.fed += 1;
+        self.ready = false;
         Ok(())
+    }
+
+    /// Prepares a row: finds where it goes, and makes all that it wants memory for. Nothing else that is seen changes.
+    pub fn prepare(&mut self, row: &Row) -> Result<Prepared, AllocError>
+        ensures made { IfOk result (λ prepared. IsReadyFor prepared self.new row.now) }
+        ensures ready { OnOk result (self.new ≡ record self.old { ready = true }) }
+        ensures same_on_err { OnErr result (self.new ≡ self.old) }
+    {
+        let key = Key::of(self.alloc, row, &self.keys)?;
+        let mut changes = mem::replace(&mut self.changes, Vec::new(self.alloc));
+        let found = find_place(
+            self.alloc,
+            &mut self.groups,
+            key,
+            &self.aggs,
+            row,
+            &mut changes,
+        );
+        let place = found?;
+        self.ready = true;
+        Ok(Prepared { place, changes })
+    }
+
+    /// Takes in the row that was prepared. It wants no memory.
+    pub fn commit(&mut self, prepared: Prepared, row: &Row)
+        requires few { self.old.fed < 2 ^ 40 }
+        requires made { IsReadyFor prepared self.old row.now }
+        ensures rows { (rows : List (List Cell)) → IsFedWith self.old rows
+            → IsFedWith self.new (rows ++ row.now ∷ []) }
+        ensures fed { self.new.fed ≡ self.old.fed + 1 }
+        ensures same_keys { self.new.keys ≡ self.old.keys }
+        ensures same_aggs { self.new.aggs ≡ self.old.aggs }
+        ensures ready { self.new.ready ≡ false }
+    {
+        let Prepared { place, mut changes } = prepared;
+        take_to(&mut self.groups, place, row, &mut changes);
+        self.changes = changes;
+        self.fed += 1;
+        self.ready = false;
+    }
+
+    /// Gives up a row that was prepared.
+    pub fn cancel(&mut self, prepared: Prepared)
+        ensures { self.new ≡ record self.old { ready = false } }
+    {
+        self.changes = prepared.changes;
+        self.ready = false;
     }
 
     /// A row for each key of the rows that it was fed: the key, and then its aggregates. A key with a sum that 64
@@ -111,13 +168,16 @@ impl Clone for GroupState {
     ghost is_clone = { λ a copy. copy ≡ a };
 
     fn clone(&self) -> Result<Self, AllocError> {
+        let mut groups = self.groups.clone()?;
+        groups.reserve(1)?;
         Ok(GroupState {
             alloc: self.alloc,
             keys: self.keys.clone()?,
             aggs: self.aggs.clone()?,
             fed: self.fed,
-            groups: self.groups.clone()?,
+            groups,
             changes: Vec::new(self.alloc),
+            ready: self.ready,
         })
     }
 }

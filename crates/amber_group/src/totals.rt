@@ -40,7 +40,7 @@ impl Totals {
     }
 
     // What is kept of one row alone.
-    fn of_row(
+    pub(crate) fn of_row(
         alloc: Global,
         aggs: &[Agg],
         row: &Row,
@@ -66,6 +66,24 @@ impl Totals {
         find_changes(self.inner.as_slice(), row, changes)?;
         settle_all(&mut self.inner, row, changes);
         Ok(())
+    }
+
+    // The new best cells of a row.
+    pub(crate) fn find(&self, row: &Row, changes: &mut Vec<Option<Value>>) -> Result<(), AllocError>
+        ensures { OnOk result (changes.new.items ≡ map (change_of row.now) self.now) }
+    {
+        find_changes(self.inner.as_slice(), row, changes)?;
+        Ok(())
+    }
+
+    // Takes in a row more, whose new best cells these are.
+    pub(crate) fn settle(&mut self, row: &Row, changes: &mut Vec<Option<Value>>)
+        requires changes { changes.old.items ≡ map (change_of row.now) self.old }
+        requires within { (rows : ℕ) × (rows < 2 ^ 40) × AreWithin rows self.old }
+        ensures value { self.new ≡ map (running_after row.now) self.old }
+        ensures within { (rows : ℕ) → AreWithin rows self.old → AreWithin (rows + 1) self.new }
+    {
+        settle_all(&mut self.inner, row, changes);
     }
 
     /// For each aggregate what is kept.
@@ -112,32 +130,5 @@ fn settle_all(runnings: &mut Vec<Running>, row: &Row, changes: &mut Vec<Option<V
     for i in 0..runnings.len() {
         let change = changes[i].take();
         runnings[i].settle(row, change);
-    }
-}
-
-/// Takes a row with this key into the groups. So the groups of some rows become those of these rows and this one.
-pub fn take_in(
-    alloc: Global,
-    groups: &mut IndexMap<Key, Totals>,
-    key: Key,
-    aggs: &Aggs,
-    row: &Row,
-    changes: &mut Vec<Option<Value>>,
-) -> Result<(), AllocError>
-    requires { (fed : ℕ) × (fed < 2 ^ 40) × GroupsWithin fed groups.old.entries }
-    ensures ok { OnOk result ((keys : List ℕ) (rows : List (List Cell)) → groups.old.entries
-        ≡ groups_of keys aggs.now rows → key ≡ pick_cells keys row.now → groups.new.entries
-        ≡ groups_of keys aggs.now (rows ++ row.now ∷ [])) }
-    ensures within { OnOk result ((fed : ℕ) → GroupsWithin fed groups.old.entries
-        → GroupsWithin (fed + 1) groups.new.entries) }
-    ensures same { OnErr result (groups.new.entries ≡ groups.old.entries) }
-{
-    match groups.get_index_of(&key) {
-        Some(i) => groups[i].add(row, changes),
-        None => {
-            let totals = Totals::of_row(alloc, aggs.get(), row, changes)?;
-            groups.insert(key, totals)?;
-            Ok(())
-        }
     }
 }

@@ -10,8 +10,9 @@
 #![tactic(auto)]
 
 mod matches;
-mod places;
+pub mod places;
 pub mod state;
 
+pub use places::Came;
 pub use state::JoinState;
 pub use std::alloc::AllocError as NoMemory;

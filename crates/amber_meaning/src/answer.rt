@@ -23,6 +23,24 @@ pub enum Refusal {
     },
 }
 
+impl Clone for Refusal {
+    ghost is_clone = { λ a copy. copy ≡ a };
+
+    fn clone(&self) -> Result<Self, AllocError> {
+        match self {
+            Refusal::Record { op, number, fault } => Ok(Refusal::Record {
+                op: *op,
+                number: *number,
+                fault: *fault,
+            }),
+            Refusal::Group { op, key } => Ok(Refusal::Group {
+                op: *op,
+                key: key.clone()?,
+            }),
+        }
+    }
+}
+
 /// What a query refused, in the order of the operators and their records, seen as a list.
 #[derive(Debug, Drop)]
 pub struct Refusals {

@@ -69,8 +69,8 @@ impl Flow {
         &self.get()[self.op_of(worker) as usize - 1].what
     }
 
-    // The number of the operator that reads from this one, if there is one.
-    fn reader(&self, op: u32) -> Option<u32>
+    /// The number of the operator that reads from this one, if there is one.
+    pub fn reader(&self, op: u32) -> Option<u32>
         ensures none { IfNone result (reader_of self.now op ≡ 0) }
         ensures some { IfSome result (λ reader. reader ≡ reader_of self.now op) }
         ensures there { IfSome result (λ reader. (0 < reader) × (reader ≤ length self.now)) }
@@ -84,8 +84,8 @@ impl Flow {
         None
     }
 
-    // How many workers an operator has.
-    fn worker_count(&self, op: u32) -> u32
+    /// How many workers an operator has: 1 to 16.
+    pub fn worker_count(&self, op: u32) -> u32
         requires some { 0 < op }
         requires there { op ≤ length self.now }
         ensures count { result ≡ worker_count self.now op }
@@ -95,8 +95,8 @@ impl Flow {
         self.get()[op as usize - 1].workers
     }
 
-    // The worker that follows a sender from whose operator another one reads.
-    fn follower(&self, sender: u32) -> u32
+    /// The worker that follows a sender from whose operator another one reads, where that one has no keys.
+    pub fn follower(&self, sender: u32) -> u32
         requires there { sender < crew_of self.now }
         requires read { 0 < reader_of self.now (op_of self.now sender) }
         ensures { result ≡ follower_of self.now sender }

@@ -1,5 +1,5 @@
 -- What commands leave of where a worker stands.
-use Rattle.std.proofs.Common.{◌≡◌, ◌||◌, List, [], ◌∷◌, Bool, true, false, refl, sym, ap, ◌∙◌, subst}
+use Rattle.std.proofs.Common.{◌≡◌, ◌||◌, Option, List, [], ◌∷◌, Bool, true, false, refl, sym, ap, ◌∙◌, subst}
 use Rattle.amber_rows.specs.declared.value.Value.{Value}
 use Rattle.amber_rows.specs.declared.cond.Cond.{Cond}
 use Rattle.amber_rows.specs.declared.flow.What.{What}
@@ -11,7 +11,7 @@ use Rattle.amber_meaning.specs.Position.{Position}
 use Rattle.amber_meaning.specs.Rules.{Leads, Orders}
 use Rattle.amber_meaning.specs.State.{let_go}
 use Rattle.amber_meaning.specs.Task.{Arrival, Role, Task}
-use Rattle.amber_worker.specs.AtPosition.{Base, DoesKind, KeepsRows, Placement, Shows}
+use Rattle.amber_worker.specs.AtPosition.{Base, DoesKind, IsAtPosition, KeepsRows, Placement, Shows}
 use Rattle.amber_worker.specs.Changes.{MaySet, ShowsSet, StandsAtLeg, with_leg, with_value}
 use Rattle.amber_worker.specs.WorkerState.{WorkerState}
 use Rattle.amber_worker.specs.declared.operator_state.OperatorState.{OperatorState}
@@ -128,3 +128,48 @@ stands-at_leg w placement orders p base shows = record {
 
 pub stands-begun : (w : WorkerState) (journal : List Entry) → journal ≡ [] → StandsAtLeg w (record (with_leg w) { journal = journal })
 stands-begun w journal none = subst (λ l. StandsAtLeg w (record (with_leg w) { journal = l })) (sym none) (stands-at_leg w)
+
+-- ---- a condition is put in force, or a count is armed
+
+shows-watched : (placement : Placement) (orders : Orders) (w : WorkerState) (p : Position) (base : Base) (watch : Option Cond) (counted : Bool) → Shows placement orders w p base
+    → Shows placement (record orders { watch = watch; counted = counted }) (record w { watch = watch }) p base
+shows-watched placement orders w p base watch counted shows = record {
+  op = shows.op;
+  number = shows.number;
+  operator_state = shows.operator_state;
+  state = shows.state;
+  columns = shows.columns;
+  build_columns = shows.build_columns;
+  sides = shows.sides;
+  builders = shows.builders;
+  building = shows.building;
+  watch = refl;
+  rest = shows.rest;
+  pending = shows.pending;
+  taken = shows.taken;
+  emitted = shows.emitted;
+  batches = shows.batches;
+  within = shows.within;
+  produced = shows.produced;
+  refused = shows.refused;
+  kept = shows.kept;
+  hand = shows.hand;
+  held = shows.held;
+  waved = shows.waved;
+  paused = shows.paused;
+  finished = shows.finished;
+  ins = shows.ins;
+  outs = shows.outs;
+  route = shows.route;
+}
+
+-- between legs, where nothing was done since
+pub stands-watched : (placement : Placement) (orders : Orders) (w : WorkerState) (p : Position) (base : Base) (watch : Option Cond) (counted : Bool)
+    → IsAtPosition placement orders w p p base → w.journal ≡ []
+    → IsAtPosition placement (record orders { watch = watch; counted = counted }) (record w { watch = watch }) p p base
+unfolding Leads AreEntries
+stands-watched placement orders w p base watch counted stands none = record {
+  leads = rw none refl;
+  text = rw none tt;
+  shows = shows-watched placement orders w p base watch counted stands.shows;
+}

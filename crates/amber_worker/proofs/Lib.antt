@@ -17,3 +17,9 @@ pub mod Commands
 pub mod Roomless
 pub mod PairFacts
 pub mod Looks
+pub mod FreshParts
+pub mod FreshStands
+pub mod Refusals
+pub mod ExampleFlow
+pub mod ExampleWorkers
+pub mod ExampleKeyed

@@ -1,5 +1,5 @@
 -- Where a worker stands: the position that it shows, and that its journal leads there.
-use Rattle.std.specs.Prelude.{◌≡◌, ℕ, ◌+◌, ◌==◌, ◌<◌, ◌≤◌, List, [], ◌∷◌, length, map, filter, All, Option, Some, None, Result, Bool, true, false}
+use Rattle.std.specs.Prelude.{◌≡◌, ℕ, ◌+◌, ◌==◌, ◌<◌, ◌≤◌, List, [], ◌∷◌, length, map, filter, take, All, Option, Some, None, Result, Bool, true, false}
 use Rattle.std.specs.List.{list_any}
 use Rattle.amber_meaning.specs.Kinds.{kept_rows}
 use Rattle.amber_rows.specs.Crew.{op_of, receiver_of, receivers_of, what_at}
@@ -20,7 +20,7 @@ use Rattle.amber_meaning.specs.Task.{Arrival, Role, Task, built_of, is_builder, 
 use Rattle.amber_meaning.specs.Kinds.Filter.{with_constant}
 use Rattle.amber_meaning.specs.Refused.{refused_in}
 use Rattle.amber_meaning.specs.Given.{worker_refusals}
-use Rattle.amber_meaning.specs.Views.{taken_of, view_of}
+use Rattle.amber_meaning.specs.Views.{by_number, taken_of, view_of}
 use Rattle.amber_meaning.specs.declared.view.WorkerView.{WorkerView}
 use Rattle.amber_scan.specs.declared.share.Scanned.{Scanned}
 use Rattle.amber_link.specs.Links.{HasGiven, OutCarries}
@@ -217,9 +217,13 @@ HasTurned turn.Ended old new = new ≡ old
 unfoldable pub IsViewOf : WorkerState → WorkerView → Type 0
 IsViewOf w view = (placement : Placement) (orders : Orders) (p : Position) (base : Base) → Shows placement orders w p base → view ≡ view_of placement.role p
 
+-- the records of a worker's share stand by their numbers
+abbrev pub IsNumbered : Role → Type 0
+IsNumbered role = (n : ℕ) → by_number (take n role.share) ≡ take n role.share
+
 -- what it gives for the answer in a position: what it has refused, by the definition for several workers, and of a sink the rows that
 -- it took, in their order
 unfoldable pub IsGivenOf : WorkerState → Given → Type 0
-IsGivenOf w given = (placement : Placement) (orders : Orders) (p : Position) (base : Base) → Shows placement orders w p base
+IsGivenOf w given = (placement : Placement) (orders : Orders) (p : Position) (base : Base) → IsNumbered placement.role → Shows placement orders w p base
     → (given.refused ≡ worker_refusals placement.op placement.role p)
     × (given.rows ≡ sort_rows (kept_rows placement.role.task.kind placement.role.task (taken_of placement.role p)))

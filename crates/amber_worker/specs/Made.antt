@@ -86,13 +86,12 @@ builds_for flow (what.Join build probe build_keys probe_keys) sender = op_of flo
 builds_for flow (what.Group input keys aggs) sender = false
 builds_for flow (what.Sink input) sender = false
 
--- senders of whom nothing was taken
-abbrev pub AreFreshSenders : List Operator → What → List Sender → Type 0
-AreFreshSenders flow kind ins = All (λ one. (one.taken ≡ 0) × (one.ended ≡ false) × (one.builds ≡ builds_for flow kind one.from) × IsFreshIn one.link) ins
+-- a sender of whom nothing was taken
+abbrev pub IsFreshSender : List Operator → What → Sender → Type 0
+IsFreshSender flow kind one = (one.taken ≡ 0) × (one.ended ≡ false) × (one.builds ≡ builds_for flow kind one.from)
 
--- receivers for which nothing was made
-abbrev pub AreFreshReceivers : ℕ → List Receiver → Type 0
-AreFreshReceivers size outs = All (λ one. IsFreshOut size one.link) outs
+abbrev pub AreFreshSenders : List Operator → What → List Sender → Type 0
+AreFreshSenders flow kind ins = All (IsFreshSender flow kind) ins
 
 -- a worker that has done nothing
 pub record IsFresh (flow : List Operator) (worker size : ℕ) (share : Option (List Scanned)) (w : WorkerState) : Type 0 where
@@ -117,7 +116,8 @@ pub record IsFresh (flow : List Operator) (worker size : ℕ) (share : Option (L
   pub finished : w.finished ≡ false
   pub senders : map from_of w.ins ≡ senders_of flow worker
   pub ins : AreFreshSenders flow (what_at flow (op_of flow worker)) w.ins
+  pub in_ends : All (λ one. IsFreshIn one.link) w.ins
   pub receivers : map to_of w.outs ≡ receivers_of flow worker
-  pub outs : AreFreshReceivers size w.outs
+  pub out_ends : All (λ one. IsFreshOut size one.link) w.outs
   pub route : (row : List Value) → 0 < length (receivers_of flow worker) → number_to w.route row ≡ receiver_of flow worker row
   pub journal : w.journal ≡ []

@@ -358,3 +358,8 @@ IsRefused (operator_state.Project from) keys = keys ≡ []
 IsRefused (operator_state.Join state) keys = keys ≡ []
 IsRefused (operator_state.Group state) keys = (rows : List (List Value)) → IsFedWith state rows → keys ≡ refused_keys state.keys state.aggs rows
 IsRefused operator_state.Sink keys = keys ≡ []
+
+-- the keys that a worker gives: those that it has refused once it has finished, none before
+abbrev pub AreKeysOf : Bool → OperatorState → List (List Value) → Type 0
+AreKeysOf true d keys = IsRefused d keys
+AreKeysOf false d keys = keys ≡ []

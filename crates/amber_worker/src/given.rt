@@ -1,12 +1,14 @@
 ghost use Rattle.std.specs.Prelude.{◌≡◌, ◌++◌, map, IfOk, OnOk};
-ghost use Rattle.amber_worker.specs.Steps.{IsRefused};
+ghost use Rattle.amber_rows.specs.Order.{sort_rows};
+ghost use Rattle.amber_worker.specs.Steps.{AreKeysOf, IsRefused};
 
 use crate::operator_state::OperatorState;
 use amber_meaning::{Refusal, Refusals};
-use amber_rows::{Row, Rows};
+use amber_rows::{Row, Rows, sort};
 use std::alloc::{AllocError, Global};
 
-/// What a worker gives for the answer: what it has refused, and of a sink the rows that it took, in the order of rows.
+/// What a worker gives for the answer: what it has refused, and of a sink the rows that it took, in
+/// the order of rows.
 #[derive(Debug, Drop)]
 pub struct Given {
     pub refused: Refusals,
@@ -14,10 +16,7 @@ pub struct Given {
 }
 
 // The keys that a worker has refused: of a group those that have no row.
-pub(crate) fn refused_keys(
-    alloc: Global,
-    operator_state: &OperatorState,
-) -> Result<Vec<Row>, AllocError>
+fn refused_keys(alloc: Global, operator_state: &OperatorState) -> Result<Vec<Row>, AllocError>
     ensures { IfOk result (λ keys. IsRefused operator_state.now keys.items) }
 {
     match operator_state {
@@ -34,15 +33,63 @@ pub(crate) fn refused_keys(
 }
 
 // Puts the refused keys of a group behind what was refused before.
-pub(crate) fn add_keys(
-    op: u32,
-    keys: Vec<Row>,
-    refused: &mut Vec<Refusal>,
-) -> Result<(), AllocError>
-    ensures { OnOk result (refused.new.items ≡ refused.old.items ++ map (Refusal.Group op) keys.items) }
+fn add_keys(op: u32, keys: Vec<Row>, refused: &mut Vec<Refusal>) -> Result<(), AllocError>
+    ensures { OnOk result (refused.new.items
+        ≡ refused.old.items ++ map (Refusal.Group op) keys.items) }
 {
     for key in keys {
         refused.push(Refusal::Group { op, key })?;
     }
     Ok(())
+}
+
+// Rows equal to these, in their order.
+pub(crate) fn row_copies(rows: &Vec<Row>) -> Result<Vec<Row>, AllocError>
+    ensures { IfOk result (λ copies. copies.items ≡ rows.now.items) }
+{
+    let copies = rows.clone()?;
+    Ok(copies)
+}
+
+// Refusals equal to these, in their order.
+pub(crate) fn refusal_copies(refused: &Vec<Refusal>) -> Result<Vec<Refusal>, AllocError>
+    ensures { IfOk result (λ copies. copies.items ≡ refused.now.items) }
+{
+    let copies = refused.clone()?;
+    Ok(copies)
+}
+
+// The keys that a worker gives: those that it has refused once it has finished, none before.
+pub(crate) fn final_keys(
+    alloc: Global,
+    finished: bool,
+    operator_state: &OperatorState,
+) -> Result<Vec<Row>, AllocError>
+    ensures { IfOk result (λ keys. AreKeysOf finished operator_state.now keys.items) }
+{
+    if !finished {
+        return Ok(Vec::new(alloc));
+    }
+    let keys = refused_keys(alloc, operator_state)?;
+    Ok(keys)
+}
+
+// What was refused, the keys behind the records, and the rows, both in the order of rows.
+pub(crate) fn given_of(
+    op: u32,
+    mut keys: Vec<Row>,
+    mut refused: Vec<Refusal>,
+    mut kept: Vec<Row>,
+) -> Result<Given, AllocError>
+    ensures refused { IfOk result (λ given. given.refused
+        ≡ refused.items ++ map (Refusal.Group op) (sort_rows keys.items)) }
+    ensures rows { IfOk result (λ given. given.rows ≡ sort_rows kept.items) }
+{
+    sort(&mut keys);
+    add_keys(op, keys, &mut refused)?;
+    sort(&mut kept);
+    Ok(Given {
+        refused: Refusals::new(refused),
+        rows: Rows::new(kept),
+    })
 }

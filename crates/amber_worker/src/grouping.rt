@@ -31,7 +31,8 @@ pub(crate) fn rows_of_groups(alloc: Global, state: &GroupState) -> Result<VecDeq
     Ok(VecDeque::from_vec(group_result.rows.into_inner()))
 }
 
-// Feeds the last row: the rows of the groups are pending. What is fed is a copy, so that want of memory changes nothing.
+// Feeds the last row: the rows of the groups are pending. What is fed is a copy, so that want of
+// memory changes nothing.
 fn feed_last(
     state: &mut GroupState,
     columns: &Schema,
@@ -39,7 +40,8 @@ fn feed_last(
     pending: &mut VecDeque<Row>,
 ) -> Result<(), AllocError>
     requires few { state.old.fed < 2 ^ 40 }
-    ensures ok { OnOk result (FeedsNext (row_in columns.now (Ok row.now)) true state.old pending.old.items state.new pending.new.items) }
+    ensures ok { OnOk result (FeedsNext (row_in columns.now (Ok row.now)) true state.old
+        pending.old.items state.new pending.new.items) }
     ensures state_on_err { OnErr result (state.new ≡ state.old) }
     ensures pending_on_err { OnErr result (pending.new.items ≡ pending.old.items) }
 {
@@ -60,7 +62,8 @@ fn feed_next(
     pending: &mut VecDeque<Row>,
 ) -> Result<(), AllocError>
     requires few { state.old.fed < 2 ^ 40 }
-    ensures ok { OnOk result (FeedsNext (row_in columns.now (Ok row.now)) over state.old pending.old.items state.new pending.new.items) }
+    ensures ok { OnOk result (FeedsNext (row_in columns.now (Ok row.now)) over state.old
+        pending.old.items state.new pending.new.items) }
     ensures state_on_err { OnErr result (state.new ≡ state.old) }
     ensures pending_on_err { OnErr result (pending.new.items ≡ pending.old.items) }
 {
@@ -82,7 +85,8 @@ pub(crate) fn take_grouped(
 ) -> Result<(), AllocError>
     requires some { has_some rows.old.items ≡ true }
     requires few { state.old.fed < 2 ^ 40 }
-    ensures ok { OnOk result (GroupsRow rows.old.items columns.now over state.old pending.old.items rows.new.items state.new pending.new.items) }
+    ensures ok { OnOk result (GroupsRow rows.old.items columns.now over state.old pending.old.items
+        rows.new.items state.new pending.new.items) }
     ensures rows_on_err { OnErr result (rows.new.items ≡ rows.old.items) }
     ensures state_on_err { OnErr result (state.new ≡ state.old) }
     ensures pending_on_err { OnErr result (pending.new.items ≡ pending.old.items) }

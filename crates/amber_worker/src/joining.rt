@@ -36,7 +36,8 @@ fn probe_first(
 ) -> Result<(), AllocError>
     requires some { has_some rows.old.items ≡ true }
     requires sealed { state.now.sealed ≡ true }
-    ensures ok { OnOk result (Probes rows.old.items state.now pending.old.items rows.new.items pending.new.items) }
+    ensures ok { OnOk result (Probes rows.old.items state.now pending.old.items rows.new.items
+        pending.new.items) }
     ensures rows_on_err { OnErr result (rows.new.items ≡ rows.old.items) }
     ensures pending_on_err { OnErr result (pending.new.items ≡ pending.old.items) }
 {
@@ -62,7 +63,8 @@ pub(crate) fn take_joined(
 ) -> Result<(), AllocError>
     requires some { has_some rows.old.items ≡ true }
     requires side { state.old.sealed ≡ not builds }
-    ensures ok { OnOk result (JoinsRow rows.old.items columns.now builds state.old pending.old.items rows.new.items state.new pending.new.items) }
+    ensures ok { OnOk result (JoinsRow rows.old.items columns.now builds state.old pending.old.items
+        rows.new.items state.new pending.new.items) }
     ensures rows_on_err { OnErr result (rows.new.items ≡ rows.old.items) }
     ensures state_on_err { OnErr result (state.new ≡ state.old) }
     ensures pending_on_err { OnErr result (pending.new.items ≡ pending.old.items) }

@@ -4,7 +4,8 @@ ghost use Rattle.amber_worker.specs.Steps.{gone_on, with_go};
 
 use amber_log::Entry;
 
-// Puts an entry behind the others, and then rows that were taken and emitted, in that entry where it speaks of rows.
+// Puts an entry behind the others, and then rows that were taken and emitted, in that entry where
+// it speaks of rows.
 fn go_on(journal: &mut Vec<Entry>, last: Entry, rows: u64, outs: u64)
     requires room { vec_len journal.old + 2 ≤ vec_capacity journal.old }
     requires few { rows_moved last + rows + outs < 2 ^ 64 }

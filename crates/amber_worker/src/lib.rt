@@ -1,14 +1,17 @@
 //! A worker: one of those that run an operator of a workflow.
 //!
-//! A worker takes the batches that its senders have made for it, or the records of its share, and the rows of these one
-//! after the other; what a row yields is pending, and goes row by row into the link of the receiver to which it is routed.
-//! It writes down what it does in a journal. In each step what may want memory comes first and changes nothing that is seen.
+//! A worker takes the batches that its senders have made for it, or the records of its share, and
+//! the rows of these one after the other; what a row yields is pending, and goes row by row into
+//! the link of the receiver to which it is routed. It writes down what it does in a journal. In
+//! each step what may want memory comes first and changes nothing that is seen.
 //!
-//! A worker of a join takes all batches of its build side before the first of its probe side. One of a group makes the
-//! rows of its groups pending in the very step that takes the last row, or an empty last batch.
+//! A worker of a join takes all batches of its build side before the first of its probe side. One
+//! of a group makes the rows of its groups pending in the very step that takes the last row, or an
+//! empty last batch.
 //!
-//! What a worker keeps is seen as a `WorkerState`, lists, numbers and flags. Wherever it stands after a call, its journal
-//! leads there by the rules of a run: `specs/AtPosition.antt` says what it is for a worker to stand at a position.
+//! What a worker keeps is seen as a `WorkerState`, lists, numbers and flags. Wherever it stands
+//! after a call, its journal leads there by the rules of a run: `specs/AtPosition.antt` says what
+//! it is for a worker to stand at a position.
 #![tactic(auto)]
 
 pub mod given;

@@ -25,9 +25,11 @@ pub(crate) fn emit_first(
     requires routed { IsSoundRoute route.now }
     requires few { All (λ one. one.link.kept.made < 2 ^ 40) outs.old }
     requires open { All (λ one. one.link.kept.ended ≡ false) outs.old }
-    ensures ok { OnOk result (EmitsFirst route.now pending.old.items (map without_room outs.old) pending.new.items (map without_room outs.new)) }
+    ensures ok { OnOk result (EmitsFirst route.now pending.old.items (map without_room outs.old)
+        pending.new.items (map without_room outs.new)) }
     ensures open { All (λ one. one.link.kept.ended ≡ false) outs.new }
-    ensures few { (n : ℕ) → All (λ one. one.link.kept.made ≤ n) outs.old → All (λ one. one.link.kept.made ≤ n + 1) outs.new }
+    ensures few { (n : ℕ) → All (λ one. one.link.kept.made ≤ n) outs.old → All
+        (λ one. one.link.kept.made ≤ n + 1) outs.new }
     ensures pending_on_err { OnErr result (pending.new.items ≡ pending.old.items) }
     ensures outs_on_err { OnErr result (map without_room outs.new ≡ map without_room outs.old) }
 {
@@ -73,11 +75,15 @@ pub(crate) fn settle_into(
     requires sends { list_any (λ one. one.to == to) outs.old ≡ true }
     requires receives { list_any (λ one. one.from == from) ins.old ≡ true }
     requires joined { AreEndsOf from to outs.old ins.old }
-    ensures passes { Passes (is_ok result) from to (map without_room outs.old) ins.old (map without_room outs.new) ins.new }
-    ensures taken { (n : ℕ) → All (λ one. one.taken ≤ n) ins.old → All (λ one. one.taken ≤ n) ins.new }
+    ensures passes { Passes (is_ok result) from to (map without_room outs.old) ins.old (map
+        without_room outs.new) ins.new }
+    ensures taken { (n : ℕ) → All (λ one. one.taken ≤ n) ins.old → All
+        (λ one. one.taken ≤ n) ins.new }
     ensures built { have_builders_ended ins.new ≡ have_builders_ended ins.old }
-    ensures made { (n : ℕ) → All (λ one. one.link.kept.made ≤ n) outs.old → All (λ one. one.link.kept.made ≤ n) outs.new }
-    ensures ended { (b : Bool) → All (λ one. one.link.kept.ended ≡ b) outs.old → All (λ one. one.link.kept.ended ≡ b) outs.new }
+    ensures made { (n : ℕ) → All (λ one. one.link.kept.made ≤ n) outs.old → All
+        (λ one. one.link.kept.made ≤ n) outs.new }
+    ensures ended { (b : Bool) → All (λ one. one.link.kept.ended ≡ b) outs.old → All
+        (λ one. one.link.kept.ended ≡ b) outs.new }
 {
     let Some(j) = place_to(outs, to) else {
         unreachable!()

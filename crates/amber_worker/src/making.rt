@@ -1,13 +1,13 @@
 //! What a new worker is given of its workflow.
 
-ghost use Rattle.std.specs.Prelude.{◌≡◌, ◌<◌, ◌≤◌, List, All, true, false, length, map, IfOk, IfNone, IfSome};
+ghost use Rattle.std.specs.Prelude.{◌≡◌, ◌<◌, ◌≤◌, List, All, true, false, length, map, slice_index_or, IfOk, IfNone, IfSome};
 ghost use Rattle.amber_rows.specs.Crew.{crew_of, receiver_of, receivers_of, senders_of};
 ghost use Rattle.amber_rows.specs.Kinds.{is_keyed, side_keys};
 ghost use Rattle.amber_rows.specs.Columns.{columns_at};
 ghost use Rattle.amber_rows.specs.declared.value.Value.{Value as Cell};
 ghost use Rattle.amber_meaning.specs.Plan.{built_columns};
 ghost use Rattle.amber_worker.specs.Links.{IsSoundRoute, number_to};
-ghost use Rattle.amber_worker.specs.Made.{AreFreshSenders, IsFreshIn, IsOperatorStateOf, builds_for, from_of, handing_operator, end_of, is_join, out_of, to_of};
+ghost use Rattle.amber_worker.specs.Made.{AreFreshSenders, IsFreshIn, IsFreshSender, IsOperatorStateOf, builds_for, from_of, handing_operator, end_of, is_join, out_of, to_of};
 
 use crate::operator_state::OperatorState;
 use crate::route::Route;
@@ -47,7 +47,8 @@ pub(crate) fn operator_state_of(alloc: Global, what: &What) -> Result<OperatorSt
     }
 }
 
-// The operator whose columns the rows have that are handed to an operator of this kind: a scan's are its own.
+// The operator whose columns the rows have that are handed to an operator of this kind: a scan's
+// are its own.
 fn handing_operator(what: &What, op: u32) -> u32
     ensures { result ≡ handing_operator what.now op }
 {
@@ -78,7 +79,8 @@ pub(crate) fn columns_of(
     what: &What,
     op: u32,
 ) -> Result<Schema, AllocError>
-    ensures { IfOk result (λ columns. columns ≡ columns_at flow.now (handing_operator what.now op)) }
+    ensures { IfOk result (λ columns. columns
+        ≡ columns_at flow.now (handing_operator what.now op)) }
 {
     schema_of(alloc, flow, handing_operator(what, op))
 }
@@ -123,6 +125,20 @@ fn builds_for(flow: &Flow, what: &What, sender: u32) -> bool
     }
 }
 
+// The sender with the number at this place.
+fn sender_at(flow: &Flow, what: &What, numbers: &[u32], place: usize, link: In) -> Sender
+    requires there { place < length numbers.now }
+    requires known { All (λ number. number < crew_of flow.now) numbers.now }
+    ensures there { place < length numbers.now }
+    ensures from { result.from ≡ slice_index_or numbers.now place 0 }
+    ensures fresh { IsFreshSender flow.now what.now result }
+    ensures link { result.link ≡ link }
+{
+    let from = numbers[place];
+    let builds = builds_for(flow, what, from);
+    Sender::new(from, builds, link)
+}
+
 // The senders of a worker, each with its end, by rising numbers.
 pub(crate) fn senders_of(
     alloc: Global,
@@ -138,7 +154,15 @@ pub(crate) fn senders_of(
     ensures fresh { IfOk result (λ made. AreFreshSenders flow.now what.now made.items) }
     ensures ends { IfOk result (λ made. map end_of made.items ≡ ins.items) }
 {
-    Err(AllocError)
+    let found = flow.senders(alloc, worker)?;
+    let numbers = found.get();
+    let mut senders = Vec::new(alloc);
+    let mut place: usize = 0;
+    for link in ins {
+        senders.push(sender_at(flow, what, numbers, place, link))?;
+        place += 1;
+    }
+    Ok(senders)
 }
 
 // The receivers of a worker, each with its end, by rising numbers.
@@ -167,7 +191,8 @@ pub(crate) fn receivers_of(
 // The keys by which the rows of an operator go into this kind of operator, if they go by keys.
 fn keys_into(what: &What, op: u32) -> Option<&Cols>
     ensures none { IfNone result (is_keyed what.now ≡ false) }
-    ensures some { IfSome result (λ keys. (is_keyed what.now ≡ true) × (keys.now ≡ side_keys what.now op)) }
+    ensures some { IfSome result (λ keys. (is_keyed what.now ≡ true) × (keys.now
+        ≡ side_keys what.now op)) }
 {
     match what {
         What::Join {
@@ -182,10 +207,23 @@ fn keys_into(what: &What, op: u32) -> Option<&Cols>
 }
 
 // To whom the rows of a worker go.
-pub(crate) fn route_of(alloc: Global, flow: &Flow, worker: u32) -> Result<Route, AllocError>
+pub(crate) fn route_of(flow: &Flow, worker: u32) -> Result<Route, AllocError>
     requires { worker < crew_of flow.now }
-    ensures route { IfOk result (λ route. (row : List Cell) → 0 < length (receivers_of flow.now worker) → number_to route row ≡ receiver_of flow.now worker row) }
+    ensures route { IfOk result (λ route. (row : List Cell)
+        → 0 < length (receivers_of flow.now worker) → number_to route row
+        ≡ receiver_of flow.now worker row) }
     ensures sound { IfOk result IsSoundRoute }
 {
-    Err(AllocError)
+    let op = flow.op_of(worker);
+    let Some(reader) = flow.reader(op) else {
+        return Ok(Route::One(0));
+    };
+    match keys_into(&flow.get()[reader as usize - 1].what, op) {
+        None => Ok(Route::One(flow.follower(worker))),
+        Some(keys) => Ok(Route::ByKeys {
+            keys: keys.clone()?,
+            first: flow.first_worker(reader),
+            workers: flow.worker_count(reader),
+        }),
+    }
 }

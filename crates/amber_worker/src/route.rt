@@ -6,7 +6,8 @@ ghost use Rattle.amber_worker.specs.Links.{IsSoundRoute, number_to};
 use amber_rows::{Cols, Row, key_bytes, route};
 use std::alloc::{AllocError, Global};
 
-/// To whom the rows of a worker go: all to one worker, or by their keys to so many from the first one on.
+/// To whom the rows of a worker go: all to one worker, or by their keys to so many from the first
+/// one on.
 #[derive(Debug, Drop)]
 pub enum Route {
     One(u32),

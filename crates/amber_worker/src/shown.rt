@@ -34,7 +34,8 @@ pub(crate) fn stand_of(finished: bool) -> Stand
 
 // What a worker shows by what it does.
 pub(crate) fn extra_of(operator_state: &OperatorState, gains: &Gains) -> Extra
-    ensures { IsExtra operator_state.now (length gains.now.refused.items) (length gains.now.kept.items) result }
+    ensures { IsExtra operator_state.now (length gains.now.refused.items) (length
+        gains.now.kept.items) result }
 {
     match operator_state {
         OperatorState::Scan => Extra::Scan {

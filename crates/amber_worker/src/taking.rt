@@ -49,7 +49,8 @@ impl Rest {
     }
 }
 
-// What rows give: those that go on, records that were refused, and rows that are kept for the answer.
+// What rows give: those that go on, records that were refused, and rows that are kept for the
+// answer.
 #[derive(Debug, Drop)]
 pub(crate) struct Gains {
     pub pending: VecDeque<Row>,
@@ -69,8 +70,10 @@ pub(crate) enum Fate {
 // What becomes of a row that suits.
 fn suited_fate(operator_state: &OperatorState, row: &Row) -> Result<Fate, AllocError>
     requires plain { has_state operator_state.now ≡ false }
-    ensures goes_on { IfOk result (λ fate. passed_of fate row.now ≡ gives_if operator_state.now false (Some row.now)) }
-    ensures stays { IfOk result (λ fate. held_back_of fate row.now ≡ keeps_if operator_state.now (Some row.now)) }
+    ensures goes_on { IfOk result (λ fate. passed_of fate row.now
+        ≡ gives_if operator_state.now false (Some row.now)) }
+    ensures stays { IfOk result (λ fate. held_back_of fate row.now
+        ≡ keeps_if operator_state.now (Some row.now)) }
 {
     match operator_state {
         OperatorState::Scan => Ok(Fate::Passed),
@@ -94,8 +97,10 @@ pub(crate) fn fate_of(
     row: &Row,
 ) -> Result<Fate, AllocError>
     requires plain { has_state operator_state.now ≡ false }
-    ensures goes_on { IfOk result (λ fate. passed_of fate row.now ≡ gives_if operator_state.now false (row_in columns.now (Ok row.now))) }
-    ensures stays { IfOk result (λ fate. held_back_of fate row.now ≡ keeps_if operator_state.now (row_in columns.now (Ok row.now))) }
+    ensures goes_on { IfOk result (λ fate. passed_of fate row.now
+        ≡ gives_if operator_state.now false (row_in columns.now (Ok row.now))) }
+    ensures stays { IfOk result (λ fate. held_back_of fate row.now
+        ≡ keeps_if operator_state.now (row_in columns.now (Ok row.now))) }
 {
     if suits(row, columns) {
         suited_fate(operator_state, row)
@@ -119,7 +124,8 @@ pub(crate) fn put(fate: Fate, row: Row, pending: &mut VecDeque<Row>, kept: &mut 
     }
 }
 
-// Puts a scan's record where it goes: a row that suits is passed on, a fault is kept for the answer.
+// Puts a scan's record where it goes: a row that suits is passed on, a fault is kept for the
+// answer.
 pub(crate) fn put_record(
     one: Scanned,
     op: u32,
@@ -129,7 +135,8 @@ pub(crate) fn put_record(
 )
     requires room { deque_len pending.old < deque_capacity pending.old }
     requires room_for_refused { vec_len refused.old < vec_capacity refused.old }
-    ensures goes_on { pending.new.items ≡ pending.old.items ++ gives_if OperatorState.Scan false (row_in columns.now one.what) }
+    ensures goes_on { pending.new.items ≡ pending.old.items
+        ++ gives_if OperatorState.Scan false (row_in columns.now one.what) }
     ensures refused { refused.new.items ≡ refused.old.items ++ refusal_in op one.number one.what }
 {
     match one.what {
@@ -176,7 +183,8 @@ fn take_arrival(
 ) -> Result<(), AllocError>
     requires some { has_some rows.old.items ≡ true }
     requires plain { has_state operator_state.now ≡ false }
-    ensures ok { OnOk result (GainsRow rows.old.items operator_state.now columns.now gains.old rows.new.items gains.new) }
+    ensures ok { OnOk result (GainsRow rows.old.items operator_state.now columns.now gains.old
+        rows.new.items gains.new) }
     ensures rows_on_err { OnErr result (rows.new.items ≡ rows.old.items) }
     ensures gains_on_err { OnErr result (AreSame gains.old gains.new) }
 {
@@ -193,7 +201,8 @@ fn take_arrival(
     Ok(())
 }
 
-// Takes the next row of a batch, of the build side or not, the last one where nothing more can come.
+// Takes the next row of a batch, of the build side or not, the last one where nothing more can
+// come.
 fn take_any(
     rows: &mut VecDeque<Row>,
     columns: &Schema,
@@ -204,7 +213,8 @@ fn take_any(
 ) -> Result<(), AllocError>
     requires some { has_some rows.old.items ≡ true }
     requires may { MayTakeRow operator_state.old builds }
-    ensures ok { OnOk result (GainsAny rows.old.items columns.now builds over operator_state.old gains.old rows.new.items operator_state.new gains.new) }
+    ensures ok { OnOk result (GainsAny rows.old.items columns.now builds over operator_state.old
+        gains.old rows.new.items operator_state.new gains.new) }
     ensures rows_on_err { OnErr result (rows.new.items ≡ rows.old.items) }
     ensures operator_state_on_err { OnErr result (operator_state.new ≡ operator_state.old) }
     ensures gains_on_err { OnErr result (AreSame gains.old gains.new) }
@@ -241,7 +251,8 @@ pub(crate) fn take_next(
     requires some { has_some (arrivals_in rest.old) ≡ true }
     requires scans { IfSome rest.old.share (λ _. operator_state.old ≡ OperatorState.Scan) }
     requires may { MayTakeRow operator_state.old builds }
-    ensures ok { OnOk result (GainsNext (arrivals_in rest.old) op columns.now builds over operator_state.old gains.old (arrivals_in rest.new) operator_state.new gains.new) }
+    ensures ok { OnOk result (GainsNext (arrivals_in rest.old) op columns.now builds over
+        operator_state.old gains.old (arrivals_in rest.new) operator_state.new gains.new) }
     ensures shares { is_some rest.new.share ≡ is_some rest.old.share }
     ensures rest_on_err { OnErr result (arrivals_in rest.new ≡ arrivals_in rest.old) }
     ensures operator_state_on_err { OnErr result (operator_state.new ≡ operator_state.old) }

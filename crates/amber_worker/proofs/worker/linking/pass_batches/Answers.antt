@@ -8,7 +8,7 @@ use Rattle.amber_worker.specs.Links.{AreEndsOf}
 use Rattle.amber_worker.proofs.Bounds.{few-sent, few-settled, written-back}
 use Rattle.amber_worker.proofs.PairFacts.{ends-of}
 use Rattle.amber_worker.proofs.Roomless.{same-receivers}
-use Rattle.amber_worker.proofs.worker.pass_batches.Goals as goal
+use Rattle.amber_worker.proofs.worker.linking.pass_batches.Goals as goal
 
 pub settle_into-requires-clause-sends : goal.settle_into-requires-clause-sends
 settle_into-requires-clause-sends c =

@@ -3,7 +3,7 @@ use Rattle.std.proofs.Common.{◌≡◌, Result, Ok, Err, Bool, true, refl, subs
 use Rattle.std.specs.Result.{OnOk, is_ok}
 use Rattle.amber_worker.specs.WorkerState.{WorkerState}
 use Rattle.amber_worker.proofs.PairFacts.{Passed, from-ends, from-stays, offers, offers-all, passes-on, settled-at, to-ends, to-stays}
-use Rattle.amber_worker.proofs.worker.settle_workers.Goals as goal
+use Rattle.amber_worker.proofs.worker.linking.settle_workers.Goals as goal
 
 where_ok : {T E : Type 0} (r : Result T E) (P : Type 0) → (is_ok r ≡ true → P) → OnOk r P
 where_ok (Ok x) P h = h refl

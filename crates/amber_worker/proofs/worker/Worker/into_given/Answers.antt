@@ -1,0 +1,15 @@
+-- What the worker keeps is given.
+use Rattle.std.proofs.Common.{◌++◌, map, ap, ◌∙◌, subst}
+use Rattle.amber_rows.specs.Order.{sort_rows}
+use Rattle.amber_meaning.specs.declared.answer.Refusal.TheVariants as refusal
+use Rattle.amber_worker.specs.WorkerState.{WorkerState}
+use Rattle.amber_worker.specs.Steps.{AreKeysOf}
+use Rattle.amber_worker.proofs.KeptPosition.{given-is}
+use Rattle.amber_worker.proofs.worker.Worker.into_given.Goals as goal
+
+pub returns : goal.returns
+returns c =
+    let keys = c.in_ok-keys.keys.items in
+    given-is c.args.self _ keys (subst (λ (w : WorkerState). AreKeysOf w.finished w.operator_state keys) c.self.view_is c.in_ok-keys.ensures)
+    (c.in_ok-given.ensures.refused ∙ ap (λ (w : WorkerState). w.refused ++ map (refusal.Group w.op) (sort_rows keys)) c.self.view_is)
+    (c.in_ok-given.ensures.rows ∙ ap (λ (w : WorkerState). sort_rows w.kept) c.self.view_is)

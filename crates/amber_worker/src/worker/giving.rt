@@ -1,0 +1,69 @@
+//! What a worker shows, and what it gives for the answer.
+
+ghost use Rattle.std.specs.Prelude.{false, IfOk, ◌≡◌};
+ghost use Rattle.amber_worker.specs.Steps.{IsShown};
+ghost use Rattle.amber_worker.specs.AtPosition.{IsGivenOf, IsViewOf};
+
+use super::Worker;
+use crate::given::{Given, final_keys, given_of, refusal_copies, row_copies};
+use crate::shown::{extra_of, first_copy, stand_of};
+use crate::taking::Gains;
+use amber_meaning::WorkerView;
+use std::alloc::AllocError;
+
+impl Worker {
+    /// What the worker shows.
+    pub fn view(&self) -> Result<WorkerView, AllocError>
+        ensures { IfOk result (λ view. IsViewOf self.now view) }
+    {
+        let view = self.shown()?;
+        Ok(view)
+    }
+
+    // What the worker keeps, as it is shown.
+    fn shown(&self) -> Result<WorkerView, AllocError>
+        ensures shown { IfOk result (λ view. IsShown self.now view) }
+        ensures loose { self.now.held ≡ false }
+    {
+        let next = first_copy(&self.gains.pending)?;
+        Ok(WorkerView {
+            taken: self.taken,
+            rest: self.rest.left(),
+            out: self.emitted,
+            pending: self.gains.pending.len() as u64,
+            stand: stand_of(self.finished),
+            next,
+            extra: extra_of(&self.operator_state, &self.gains),
+        })
+    }
+
+    /// What the worker gives for the answer: a scan the records with a fault of those that it took,
+    /// a finished group the keys that have no row, a sink the rows that it took.
+    pub fn given(&self) -> Result<Given, AllocError>
+        ensures { IfOk result (IsGivenOf self.now) }
+    {
+        let keys = final_keys(self.alloc, self.finished, &self.operator_state)?;
+        let refused = refusal_copies(&self.gains.refused)?;
+        let kept = row_copies(&self.gains.kept)?;
+        let given = given_of(self.op, keys, refused, kept)?;
+        Ok(given)
+    }
+
+    /// The same, where nothing more is asked of the worker: nothing is copied.
+    pub fn into_given(self) -> Result<Given, AllocError>
+        ensures { IfOk result (IsGivenOf self) }
+    {
+        let Worker {
+            alloc,
+            op,
+            operator_state,
+            gains,
+            finished,
+            ..
+        } = self;
+        let Gains { refused, kept, .. } = gains;
+        let keys = final_keys(alloc, finished, &operator_state)?;
+        let given = given_of(op, keys, refused, kept)?;
+        Ok(given)
+    }
+}
