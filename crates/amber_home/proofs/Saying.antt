@@ -1,5 +1,5 @@
 -- What is said of the workers is said of the state.
-use Rattle.std.proofs.Common.{◌≡◌, refl, sym, ap, subst, ◌∙◌, ℕ, ◌<◌, List, length, Bool, true, false, Option}
+use Rattle.std.proofs.Common.{◌≡◌, refl, sym, ap, subst, ◌∙◌, ℕ, ◌<◌, List, length, Bool, true, false, Result, Ok, Err, IfOk}
 use Rattle.std.proofs.lemmas.Bool.{false≢true}
 use Rattle.amber_rows.specs.Crew.{crew_of}
 use Rattle.amber_meaning.specs.declared.answer.Answer.{Answer}
@@ -65,6 +65,10 @@ module _ (e : HomeState) (crew : List WorkerState) (arms : List Arms) (stops : L
         arms_are = leg.arms_are;
         reached = state-here to_end here crew arms leg home.legal;
       }
+
+pub ok-map : {A E : Type 0} {P Q : A → Type 0} (result : Result A E) → ((x : A) → P x → Q x) → IfOk result P → IfOk result Q
+ok-map (Ok x) change h = change x h
+ok-map (Err error) change h = tt
 
 -- ---- what an operator shows
 
