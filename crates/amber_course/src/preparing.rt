@@ -7,7 +7,7 @@ ghost use Rattle.amber_course.specs.Words.{AreSizes, AreSound};
 
 use crate::failure::Failure;
 use crate::inputs::load_flow;
-use crate::job::Job;
+use crate::job::{Job, RunJob};
 use crate::log_name::load_run_flow;
 use crate::scans::load_scans;
 use crate::script::load_script;
@@ -51,15 +51,16 @@ fn prepare_run<F: Folder>(alloc: Global, words: RunWords, folder: &mut F) -> Res
         batch,
     } = words;
     let flow = load_run_flow(alloc, workflow.get(), log.get(), folder)?;
-    load_script(alloc, script.get(), folder)?;
+    let commands = load_script(alloc, script.get(), &flow, folder)?;
     let files = load_scans(alloc, &flow, folder)?;
-    Ok(Job::Run {
+    Ok(Job::Run(RunJob {
         flow,
         files,
+        commands,
         log,
         threads,
         batch,
-    })
+    }))
 }
 
 /// The job that words ask for, with all that is to be loaded and read for it.
