@@ -1,8 +1,9 @@
 use amber_log::Commands;
 use amber_rows::{Files, Flow, Text};
 
-/// What a run is to do: the workflow over the files of its scans, by the commands of a script, with what was done
-/// written into the log of this name; on so many threads, from 1 to 64, with so many rows in a batch, from 1 to 65,536.
+/// What a run is to do: the workflow over the files of its scans, by the commands of a script, with
+/// what was done written into the log of this name; on so many threads, from 1 to 64, with so many
+/// rows in a batch, from 1 to 65,536.
 #[derive(Debug, Drop)]
 pub struct RunJob {
     pub flow: Flow,

@@ -1,7 +1,7 @@
 ghost use Rattle.std.specs.Prelude.{◌≡◌, IfErr, IfOk};
 ghost use Rattle.amber_course.specs.Course.{script_in, script_read};
 ghost use Rattle.amber_course.specs.Ready.{AreOfScript};
-ghost use Rattle.amber_course.specs.Steps.{Follows, Judges, Names};
+ghost use Rattle.amber_course.specs.Steps.{Follows, Judges, Names, loading};
 ghost use Rattle.amber_script.specs.Script.{script_of};
 
 use crate::failure::Failure;
@@ -31,8 +31,8 @@ pub(crate) fn load_script<F: Folder>(
     flow: &Flow,
     folder: &mut F,
 ) -> Result<Commands, Failure>
-    ensures course { Follows result (F.files folder.old) (script_in name.now flow.now)
-        (F.load_faults folder.old) (F.load_faults folder.new) }
+    ensures course { Follows result (script_in name.now flow.now)
+        (loading (F.files folder.old) (F.load_faults folder.old) (F.load_faults folder.new)) }
     ensures fit { IfOk result (AreOfScript flow.now) }
     ensures named { IfErr result (λ failure. Names failure (λ file. file ≡ name.now)) }
     ensures same { F.files folder.new ≡ F.files folder.old }

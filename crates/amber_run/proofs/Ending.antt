@@ -14,7 +14,7 @@ use Rattle.amber_course.specs.Course.{IsLoaded, IsReached, course_of, job_of, re
 use Rattle.amber_run.specs.Outcome.{AsksNoRun, Breaks, Counts, Ended, IsCause, Runs, Stops, Worded}
 use Rattle.amber_course.specs.Told.{Refuses}
 use Rattle.amber_run.specs.UnderWay.{IsBare, IsLeft, Leaves}
-use Rattle.amber_course.specs.Steps.{AreRead, Follows, Names, Tells}
+use Rattle.amber_course.specs.Steps.{AreRead, Follows, Names, Tells, loading, putting}
 use Rattle.amber_course.specs.Failure.{IsToldAs, error_line_of, status_of}
 use Rattle.amber_run.specs.RunTask.{RunTask, query_at}
 use Rattle.amber_course.specs.Words.{call_words_of}
@@ -59,10 +59,10 @@ run-words failure.NoMemory words shown loads e = inl (refl, appends-same shown.g
 run-words other words shown loads e = absurd e
 
 cause-of : (words : List (List ℕ)) (read : Words) (c : Change) (s : Failure) → call_words_of words ≡ Some read
-    → Follows {A = Job} (Err s) c.before.files (job_of read) c.loads c.loads_now → IsCause words s c
+    → Follows {A = Job} (Err s) (job_of read) (loading c.before.files c.loads c.loads_now) → IsCause words s c
 cause-of words read c s e h =
     let told = c.before.files in
-    stopped-map s c.loads c.loads_now (Told told (λ files. job_of read files ≡ Err s)) (Told told (λ files. course_of words files ≡ Err s))
+    stopped-map s (loading told c.loads c.loads_now) (Told told (λ files. job_of read files ≡ Err s)) (Told told (λ files. course_of words files ≡ Err s))
     (Tells told (λ files. job_of read files ≡ Err s)) (Tells told (λ files. course_of words files ≡ Err s))
     (told-map told (λ files. job_of read files ≡ Err s) (λ files. course_of words files ≡ Err s) (λ files j. course-failure words read files s e j))
     (tells-map told (λ files. job_of read files ≡ Err s) (λ files. course_of words files ≡ Err s) (λ files j. course-failure words read files s e j))
@@ -70,7 +70,7 @@ cause-of words read c s e h =
 
 -- there was no job
 pub run-failure : (words : List (List ℕ)) (read : Words) (shown : Shown) (s : Failure) (a b : ℕ) → call_words_of words ≡ Some read
-    → Follows {A = Job} (Err s) shown.files (job_of read) a b → Runs {A = Unit {0}} (Err s) words (still shown a b)
+    → Follows {A = Job} (Err s) (job_of read) (loading shown.files a b) → Runs {A = Unit {0}} (Err s) words (still shown a b)
 run-failure words read shown failure.Usage a b e h = absurd h
 run-failure words read shown failure.LogFault a b e h = absurd h
 run-failure words read shown failure.OutFault a b e h = absurd h
@@ -81,14 +81,14 @@ run-failure words read shown failure.NoMemory a b e h = inl (refl, appends-same 
 run-failure words read shown other a b e h = (cause-of words read (still shown a b) other e h, (refl, appends-same shown.got))
 
 broken : (words : List (List ℕ)) (read : Words) (c : Change) (job : Job) (s : Failure) → call_words_of words ≡ Some read
-    → Follows (Ok job) c.before.files (job_of read) c.loads c.loads_now → require_limit job ≡ Ok job → BreaksOff job s [] c → Breaks words s [] c
+    → Follows (Ok job) (job_of read) (loading c.before.files c.loads c.loads_now) → require_limit job ≡ Ok job → BreaksOff job s [] c → Breaks words s [] c
 broken words read c job s e h l breaks =
     told-map c.before.files (λ files. job_of read files ≡ Ok job) (λ files. (one : Job) × (course_of words files ≡ Ok one) × BreaksOff one s [] c)
     (λ files j. (job, course-job words read files job (Ok job) e j l, breaks)) h.1
 
 -- the job was done, or not
 pub run-works : (r : Result (Unit {0}) Failure) (words : List (List ℕ)) (read : Words) (job : Job) (c : Change) → call_words_of words ≡ Some read
-    → Follows (Ok job) c.before.files (job_of read) c.loads c.loads_now → Works r job c → Runs r words c
+    → Follows (Ok job) (job_of read) (loading c.before.files c.loads c.loads_now) → Works r job c → Runs r words c
 run-works (Ok u) words read job c e h done = (
   h.0,
   told-map c.before.files (λ files. job_of read files ≡ Ok job) (λ files. (job : Job) × (course_of words files ≡ Ok job) × Fulfils job c)
@@ -139,11 +139,11 @@ pub words-writes : (s : Failure) (words : List (List ℕ)) (n : ℕ) → AreRead
 words-writes failure.LogFault words n h = absurd h
 words-writes other words n h = refl
 
-pub failure-counts : (s : Failure) (told : Option Named) (meant : Named → Result Job Failure) (a b n : ℕ) → Follows {A = Job} (Err s) told meant a b → Counts {A = Unit {0}} (Err s) n n
+pub failure-counts : (s : Failure) (told : Option Named) (meant : Named → Result Job Failure) (a b n : ℕ) → Follows {A = Job} (Err s) meant (loading told a b) → Counts {A = Unit {0}} (Err s) n n
 failure-counts failure.OutFault told meant a b n h = absurd h
 failure-counts other told meant a b n h = refl
 
-pub failure-writes : (s : Failure) (told : Option Named) (meant : Named → Result Job Failure) (a b n m : ℕ) → Follows {A = Job} (Err s) told meant a b → m ≡ n → CountsWrites {A = Unit {0}} (Err s) n m
+pub failure-writes : (s : Failure) (told : Option Named) (meant : Named → Result Job Failure) (a b n m : ℕ) → Follows {A = Job} (Err s) meant (loading told a b) → m ≡ n → CountsWrites {A = Unit {0}} (Err s) n m
 failure-writes failure.LogFault told meant a b n m h e = absurd h
 failure-writes other told meant a b n m h e = e
 
@@ -172,7 +172,7 @@ words-unlogged failure.Usage words h e = cc
 words-unlogged failure.NoMemory words h e = cc
 words-unlogged other words h e = h
 
-pub failure-unlogged : (s : Failure) (told : Option Named) (meant : Named → Result Job Failure) (a b : ℕ) → Follows {A = Job} (Err s) told meant a b → s ≢ failure.LogFault
+pub failure-unlogged : (s : Failure) (told : Option Named) (meant : Named → Result Job Failure) (a b : ℕ) → Follows {A = Job} (Err s) meant (loading told a b) → s ≢ failure.LogFault
 failure-unlogged failure.LogFault told meant a b h e = h
 failure-unlogged other told meant a b h e = cc
 
@@ -182,7 +182,7 @@ worded-words failure.NoMemory words h = h
 worded-words other words h = absurd h
 
 pub worded-failure : (s : Failure) (words : List (List ℕ)) (read : Words) (told : Option Named) (meant : Named → Result Job Failure) (a b : ℕ) → call_words_of words ≡ Some read
-    → Follows (Err s) told meant a b → Worded {A = Unit {0}} (Err s) words
+    → Follows (Err s) meant (loading told a b) → Worded {A = Unit {0}} (Err s) words
 worded-failure failure.Usage words read told meant a b e h = absurd h
 worded-failure other words read told meant a b e h = rw e refl
 
@@ -278,7 +278,7 @@ stops-on failure.NoMemory words line rest c got e p (inr h) = inr (h.0, breaks-o
 stops-on other words line rest c got e p h = (h.0, untouched-on line c got p h.1)
 
 -- the status of a call that was refused
-pub refused-as : (result : Status) (s : Failure) (mid got : Option (List ℕ)) (d e : ℕ) → Refuses result s mid got d e → (result ≡ status_of s) ⊎ (result ≡ status.NoMemory)
+pub refused-as : (result : Status) (s : Failure) (mid got : Option (List ℕ)) (d e : ℕ) → Refuses result s (putting mid got d e) → (result ≡ status_of s) ⊎ (result ≡ status.NoMemory)
 refused-as result s mid got d e f = elim f.2 [ inl whole ↦ inl whole.2 | inr rest ↦ elim rest [ inl none ↦ inr none.1 | inr rose ↦ inl rose.1 ] ]
 
 pub not-ok : (result : Status) (s : Failure) → (result ≡ status_of s) ⊎ (result ≡ status.NoMemory) → result ≢ status.Ok
@@ -295,7 +295,7 @@ line-whole failure.OutFault line rest c d e n split rose quiet small = no-front 
 line-whole other line rest c d e n split rose quiet small = absurd (unrisen c d e n quiet small rose)
 
 pub ended : (s : Failure) (words : List (List ℕ)) (c : Change) (got : Option (List ℕ)) (counts : Counted) (result : Status)
-    → Runs {A = Unit {0}} (Err s) words c → Counts {A = Unit {0}} (Err s) counts.puts counts.mid → Refuses result s c.now.got got counts.mid counts.puts_now → IsToldAs s result
+    → Runs {A = Unit {0}} (Err s) words c → Counts {A = Unit {0}} (Err s) counts.puts counts.mid → Refuses result s (putting c.now.got got counts.mid counts.puts_now) → IsToldAs s result
     → Told c.before.files (λ files. Names s (IsReached words files)) → Ended words result (old_world c counts) (new_world c got counts)
 ended s words c got counts result r n (le, begun, inl (same, all, is)) tells named = record {
   cause = s;

@@ -9,7 +9,7 @@ use Rattle.amber_run.specs.Answering.{IsAnswer, Works, text_of}
 use Rattle.amber_course.specs.Course.{most_rows}
 use Rattle.amber_run.specs.Outcome.{Counts}
 use Rattle.amber_run.specs.UnderWay.{Worked}
-use Rattle.amber_course.specs.Steps.{Judges, Sent}
+use Rattle.amber_course.specs.Steps.{Judges, Sent, putting}
 use Rattle.amber_run.specs.RunTask.{run_task_of}
 use Rattle.amber_run.specs.World.{Change, Shown}
 use Rattle.amber_run.specs.Writing.{CountsWrites}
@@ -75,7 +75,7 @@ judged-writes other meant n h = refl
 
 -- the text was put
 pub works-sent : (r : Result (Unit {0}) Failure) (flow : List Operator) (files : List (List ℕ)) (text : List ℕ) (shown : Shown) (got : Option (List ℕ)) (loads a b : ℕ) → text_of flow files ≡ Ok text
-    → Sent r shown.got got a b text → Works r (job.Plain flow files) (with_got (still shown loads loads) got)
+    → Sent r (putting shown.got got a b) text → Works r (job.Plain flow files) (with_got (still shown loads loads) got)
 works-sent (Ok u) flow files text shown got loads a b e h =
     let few = cut-ok (nat_le (row_total flow files) most_rows) (answer_text flow (answer_of flow files)) text e in
     (rw few.0 refl, (refl, rw few.1 at h.1))
@@ -85,13 +85,13 @@ works-sent (Err failure.OutFault) flow files text shown got loads a b e h =
 works-sent (Err failure.NoMemory) flow files text shown got loads a b e h = inl (refl, keeps-nil shown.got got h.1)
 works-sent (Err other) flow files text shown got loads a b e h = absurd h
 
-pub sent-counts : (r : Result (Unit {0}) Failure) (text : List ℕ) (before got : Option (List ℕ)) (a b : ℕ) → Sent r before got a b text → Counts r a b
+pub sent-counts : (r : Result (Unit {0}) Failure) (text : List ℕ) (before got : Option (List ℕ)) (a b : ℕ) → Sent r (putting before got a b) text → Counts r a b
 sent-counts (Ok u) text before got a b h = h.0
 sent-counts (Err failure.OutFault) text before got a b h = (h.0, h.1)
 sent-counts (Err failure.NoMemory) text before got a b h = h.0
 sent-counts (Err other) text before got a b h = absurd h
 
-pub sent-writes : (r : Result (Unit {0}) Failure) (text : List ℕ) (before got : Option (List ℕ)) (a b n : ℕ) → Sent r before got a b text → CountsWrites r n n
+pub sent-writes : (r : Result (Unit {0}) Failure) (text : List ℕ) (before got : Option (List ℕ)) (a b n : ℕ) → Sent r (putting before got a b) text → CountsWrites r n n
 sent-writes (Ok u) text before got a b n h = refl
 sent-writes (Err failure.LogFault) text before got a b n h = absurd h
 sent-writes (Err other) text before got a b n h = refl

@@ -22,7 +22,7 @@ use Rattle.amber_debug.specs.Session.{Does, Grew, Session, command_of, is_long_i
 use Rattle.amber_debug.specs.declared.done.DebugErr.TheVariants as debug_err
 use Rattle.amber_debug.specs.declared.done.Done.{Done}
 use Rattle.amber_run.specs.UnderWay.{ClosesAs, Halts, IsBare, IsLeft, Opens, IsUnderWay}
-use Rattle.amber_course.specs.Steps.{Sent}
+use Rattle.amber_course.specs.Steps.{Sent, putting}
 use Rattle.amber_run.specs.RunTask.{IsSession, RunTask, ends_long, query_at}
 use Rattle.amber_run.specs.World.{showing}
 use Rattle.amber_run.specs.Writing.{Made, Wrote}
@@ -220,7 +220,7 @@ exit-write other t left command log one piece mid files written h is legal text 
 pub exit-send : (s : Failure) (t : RunTask) (left : List Command) (command : Command) (log : Log) (one : Item) (piece reply : List ℕ) (mid files : Option Named) (written got : Option (List ℕ)) (a b : ℕ)
     → IsUnderWay t (command ∷ left) log (showing mid written) → command_of one ≡ command → IsLegal (query_at t log.batch) (one_more log one) → piece ≡ item_text one
     → is_long_item one ≡ false → files ≡ with_more mid t.name piece → reply ≡ reply_of (query_at t log.batch) (state_after (query_at t log.batch) log.items) one
-    → Sent {A = Unit {0}} (Err s) written got a b reply → Halts t (showing files got) s
+    → Sent {A = Unit {0}} (Err s) (putting written got a b) reply → Halts t (showing files got) s
 exit-send failure.OutFault t left command log one piece reply mid files written got a b h is legal text short new answer sent =
     left-item t failure.OutFault left command log one sent.2.0 sent.2.1 mid files written got h is legal (item-place t log one mid files piece h.place text new) (sent.2.2 ∙ answer)
     (λ n. absurd (n refl)) sent.2.3 short
@@ -282,7 +282,7 @@ reply-is t old new command told reply session does is =
 -- its reply was not put
 pub done-send : (s : Failure) (t : RunTask) (left : List Command) (old new : Session) (command : Command) (told : Done) (piece reply : List ℕ) (mid files : Option Named) (written got : Option (List ℕ)) (a b : ℕ)
     → IsSession t old → IsUnderWay t (command ∷ left) old.log (showing mid written) → Does (Ok told) old new command → IsLegal (query_in new) new.log → piece ≡ told.item → reply ≡ told.reply
-    → files ≡ with_more mid t.name piece → Sent {A = Unit {0}} (Err s) written got a b reply → Halts t (showing files got) s
+    → files ≡ with_more mid t.name piece → Sent {A = Unit {0}} (Err s) (putting written got a b) reply → Halts t (showing files got) s
 done-send s t left old new command told piece reply mid files written got a b session h does legal is answer wrote sent =
     exit-send s t left command old.log does.0 piece reply mid files written got a b h does.1.command (session-grown t old new command does.0 session does.1 legal) (is ∙ does.3) does.2 wrote
     (reply-is t old new command told reply session does answer) sent

@@ -14,7 +14,7 @@ use Rattle.amber_run.specs.World.{Change, World, change_of}
 use Rattle.amber_course.specs.Words.{call_words_of}
 use Rattle.amber_course.specs.declared.job.Job.{Job}
 use Rattle.amber_course.specs.declared.job.Job.TheVariants as job
-use Rattle.amber_course.specs.Steps.{Names, Stopped, Tells}
+use Rattle.amber_course.specs.Steps.{Names, Stopped, Tells, loading}
 use Rattle.amber_course.specs.Failure.{IsToldAs, error_line_of, status_of}
 use Rattle.amber_course.specs.declared.status.Status.{Status}
 use Rattle.amber_course.specs.declared.status.Status.TheVariants as status
@@ -106,7 +106,7 @@ Breaks words s line change = Told change.before.files (λ files. (job : Job) × 
 -- a failure behind the words is that of the course, but for want of memory and for reads that failed
 abbrev pub IsCause : List (List ℕ) → Failure → Change → Type 0
 IsCause words s change =
-    Stopped s change.loads change.loads_now (Told change.before.files (λ files. course_of words files ≡ Err s)) (Tells change.before.files (λ files. course_of words files ≡ Err s))
+    Stopped s (loading change.before.files change.loads change.loads_now) (Told change.before.files (λ files. course_of words files ≡ Err s)) (Tells change.before.files (λ files. course_of words files ≡ Err s))
 
 -- the query gives too many rows, and nothing was done; or a run was too long
 abbrev pub StopsLong : List (List ℕ) → List ℕ → Change → Type 0

@@ -113,7 +113,8 @@ fn do_command<F: Folder, O: Sink>(
     requires open { ends_over false debugger.old.log.items ≡ false }
     requires there { IsThere (F.files folder.old) name.now }
     ensures did { (t : RunTask) (left : List Command) → t.name ≡ name.now
-        → IsAt t (command.now ∷ left) debugger.old (showing (F.files folder.old) (O.written out.old))
+        → IsAt t (command.now ∷ left) debugger.old
+        (showing (F.files folder.old) (O.written out.old))
         → MatchResult result
         (λ done. IsAt t left debugger.new (showing (F.files folder.new) (O.written out.new)))
         (Halts t (showing (F.files folder.new) (O.written out.new))) }
@@ -200,8 +201,8 @@ fn do_script<F: Folder, O: Sink>(
     do_command(alloc, debugger, &Command::End, name, folder, out, printed)
 }
 
-/// Does a run: the log is made with its head, and then come the commands of the script, and behind them the one to
-/// the end.
+/// Does a run: the log is made with its head, and then come the commands of the script, and behind
+/// them the one to the end.
 pub(crate) fn work<F: Folder, O: Sink>(
     alloc: Global,
     run: RunJob,
