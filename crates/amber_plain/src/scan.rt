@@ -8,7 +8,7 @@ ghost use Rattle.amber_plain.specs.Stages.{count_through};
 
 use crate::chain::Chain;
 use amber_meaning::{PlainErr, Refusal};
-use amber_rows::{RecordReader, Row, RowFault, Schema, type_record};
+use amber_rows::{RecordReader, Row, RowFault, Schema, Value, type_over};
 use csv::ByteRecord;
 use std::alloc::{AllocError, Global};
 
@@ -20,7 +20,8 @@ fn refuse(refusal: Refusal, refused: &mut Vec<Refusal>) -> Result<(), AllocError
     Ok(())
 }
 
-/// Sends a record with this number through a chain, or puts it behind what was refused.
+/// Sends a record with this number through a chain, or puts it behind what was refused. It gives the room back that
+/// the next record may be typed in.
 #[tactic(auto, unfolding(amber_meaning::specs::Refused::refused_records))]
 fn add_record(
     alloc: Global,
@@ -29,7 +30,7 @@ fn add_record(
     typed: Result<Row, RowFault>,
     chain: &mut Chain,
     refused: &mut Vec<Refusal>,
-) -> Result<(), PlainErr>
+) -> Result<Vec<Value>, PlainErr>
     ensures moved { OnOk result (Moves chain.old chain.new (filter_map ok_of (typed ∷ []))) }
     ensures left { Spends result chain.old.left chain.new.left
         (count_through chain.old.stages.items (filter_map ok_of (typed ∷ []))) }
@@ -37,10 +38,13 @@ fn add_record(
         ≡ refused.old.items ++ refused_records op number (typed ∷ [])) }
 {
     match typed {
-        Ok(mut row) => chain.send(alloc, &mut row),
+        Ok(mut row) => {
+            chain.send(alloc, &mut row)?;
+            Ok(row.into_inner())
+        }
         Err(fault) => {
             refuse(Refusal::Record { op, number, fault }, refused)?;
-            Ok(())
+            Ok(Vec::new(alloc))
         }
     }
 }
@@ -69,13 +73,14 @@ pub fn scan(
     if !headed {
         return Ok(refused);
     }
+    let mut room = Vec::new(alloc);
     'records: for number in 1..u64::MAX {
         let found = reader.next(&mut fields)?;
         if !found {
             return Ok(refused);
         }
-        let typed = type_record(alloc, &fields, schema)?;
-        add_record(alloc, op, number, typed, chain, &mut refused)?;
+        let typed = type_over(alloc, room, &fields, schema)?;
+        room = add_record(alloc, op, number, typed, chain, &mut refused)?;
     }
     Err(PlainErr::NoMemory)
 }

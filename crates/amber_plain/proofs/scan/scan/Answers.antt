@@ -41,13 +41,13 @@ returns-then-not-found-clause-refused c =
     let inv = c.records.invariant in
     (gathers-all c.args.op c.args.schema.now c.args.file.now inv.header inv.done _ _ _ inv.gathers (c.in_ok-found.ensures.all c.args.file.now (inv.header ∷ inv.done) inv.read (search rules))).2
 
-pub returns-in_err-add_record-clause-left : goal.returns-in_err-add_record-clause-left
-returns-in_err-add_record-clause-left c =
+pub returns-in_err-room-clause-left : goal.returns-in_err-room-clause-left
+returns-in_err-room-clause-left c =
     let inv = c.records.invariant in
-    let e : c.from_residual-in_err-add_record.result ≡ Err c.in_err-add_record.field-0.0 = search rules in
+    let e : c.from_residual-in_err-room.result ≡ Err c.in_err-room.field-0.0 = search rules in
     let place = c.in_ok-found.ensures.place c.args.file.now (inv.header ∷ inv.done) inv.read (search rules) in
     rw e (gathers-short c.args.op c.args.schema.now c.args.file.now inv.header inv.done (fields_of c.next-in-records.new.fields) place.0 c.args.chain.now c.records.chain c.records.refused.items c.in_ok-typed.typed
-    c.in_err-add_record.field-0.0 inv.gathers place.1 c.in_ok-typed.ensures c.in_err-add_record.ensures.left)
+    c.in_err-room.field-0.0 inv.gathers place.1 c.in_ok-typed.ensures c.in_err-room.ensures.left)
 
 pub records-preserved : goal.records-preserved
 records-preserved c =
@@ -60,5 +60,5 @@ records-preserved c =
       counted = omega (arith, inv.counted, length_push inv.done fields);
       gathers = Gathers-more c.args.op c.args.schema.now inv.done c.args.chain.now c.records.chain c.add_record.new.chain
           c.records.refused.items c.add_record.new.refused.items fields c.in_ok-typed.typed c.records.number
-          inv.gathers inv.counted c.in_ok-typed.ensures c.in_ok-add_record.ensures.moved c.in_ok-add_record.ensures.left c.in_ok-add_record.ensures.refused;
+          inv.gathers inv.counted c.in_ok-typed.ensures c.in_ok-room.ensures.moved c.in_ok-room.ensures.left c.in_ok-room.ensures.refused;
     }
