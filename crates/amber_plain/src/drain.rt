@@ -20,7 +20,7 @@ use crate::stage::Source;
 use crate::unread::Unread;
 use amber_group::Grouped;
 use amber_meaning::{PlainErr, Refusal, Refusals, file_behind};
-use amber_rows::{Aggs, Cols, Files, Flow, Operator, Row};
+use amber_rows::{Aggs, Cols, Files, Flow, Operator, Row, Rows};
 use std::alloc::Global;
 
 /// What was refused, a list for each operator so far, and how many rows may still come.
@@ -153,8 +153,21 @@ pub fn drain(
     Ok(holder)
 }
 
-/// The rows that are unread, in a list.
-pub fn gathered(
+// Rows that stand in a list, counted.
+fn counted(rows: Rows, left: &mut u64) -> Result<Vec<Row>, PlainErr>
+    ensures rows { IfOk result (λ all. all.items ≡ rows) }
+    ensures left { Spends result left.old left.new (length rows) }
+{
+    let count = rows.len() as u64;
+    if count > *left {
+        return Err(PlainErr::Long);
+    }
+    *left -= count;
+    Ok(rows.into_inner())
+}
+
+// The rows that are unread, one after the other into a list.
+fn listed(
     alloc: Global,
     flow: &Flow,
     files: &Files,
@@ -173,6 +186,27 @@ pub fn gathered(
     match holder {
         Holder::Rows(rows) => Ok(rows),
         Holder::Group(_) => unreachable!(),
+    }
+}
+
+/// The rows that are unread, in a list.
+pub fn gathered(
+    alloc: Global,
+    flow: &Flow,
+    files: &Files,
+    unread: Unread,
+    tally: &mut Tally,
+) -> Result<Vec<Row>, PlainErr>
+    ensures rows { IfOk result (λ rows. rows.items
+        ≡ unread_rows (records_of files.now flow.now) unread) }
+    ensures left { Spends result tally.old.left tally.new.left
+        (unread_count (records_of files.now flow.now) unread) }
+    ensures told { OnOk result (tally.new.told.items
+        ≡ told_by (records_of files.now flow.now) tally.old.told.items unread.source) }
+{
+    match unread.into_rows() {
+        Ok(rows) => counted(rows, &mut tally.left),
+        Err(unread) => listed(alloc, flow, files, unread, tally),
     }
 }
 

@@ -1,5 +1,5 @@
 // The rows of an operator that nobody has read yet.
-ghost use Rattle.std.specs.Prelude.{◌≡◌, ◌++◌, ◌∷◌, [], IfOk};
+ghost use Rattle.std.specs.Prelude.{◌≡◌, ◌++◌, ◌∷◌, [], IfErr, IfOk};
 ghost use Rattle.amber_plain.specs.Unread.{HasOne, nothing, unread_at, without};
 ghost use Rattle.amber_plain.specs.declared.stage.Source.TheVariants as source;
 
@@ -42,6 +42,22 @@ impl Unread {
     {
         let Unread { source, stages } = self;
         (source, stages)
+    }
+
+    /// The rows as they are, where they stand in a list and no stage is left; else it gives itself back.
+    pub fn into_rows(self) -> Result<Rows, Self>
+        ensures rows { IfOk result
+            (λ rows. self ≡ record { source = source.Rows rows; stages = [] }) }
+        ensures other { IfErr result (λ other. other ≡ self) }
+    {
+        let Unread { source, stages } = self;
+        if !stages.is_empty() {
+            return Err(Unread { source, stages });
+        }
+        match source {
+            Source::Rows(rows) => Ok(rows),
+            source => Err(Unread { source, stages }),
+        }
     }
 
     /// What one stage more makes of the rows.
