@@ -6,7 +6,7 @@ ghost use Rattle.amber_meaning.specs.Plain.{records_of};
 ghost use Rattle.amber_meaning.specs.Refused.{refused_groups};
 ghost use Rattle.amber_meaning.specs.declared.answer.Refusal.TheVariants as refusal;
 ghost use Rattle.amber_plain.specs.Holding.{Spends};
-ghost use Rattle.amber_plain.specs.Unread.{HasInputs, unread_count, unread_rows};
+ghost use Rattle.amber_plain.specs.Unread.{HasInputs, HasOne, unread_at, unread_count, unread_rows, without};
 ghost use Rattle.amber_plain.specs.Steps.{others_of, unread_of, read_for, refused_now, through, told_by};
 ghost use Rattle.amber_plain.specs.declared.stage.Source.TheVariants as source;
 ghost use Rattle.amber_plain.specs.declared.stage.Stage.TheVariants as stage;
@@ -35,6 +35,22 @@ fn unrefused(alloc: Global, unread: Unread) -> Evaluated
         unread,
         refused: Refusals::new(Vec::new(alloc)),
     }
+}
+
+// What is unread of an input, with one stage more. Nothing is refused at once.
+fn behind(
+    alloc: Global,
+    waiting: &mut Vec<Unread>,
+    input: u32,
+    stage: Stage,
+) -> Result<Evaluated, AllocError>
+    requires { HasOne waiting.old.items input }
+    ensures new { IfOk result (λ new. new
+        ≡ record { unread = through (unread_at waiting.old.items input) stage; refused = [] }) }
+    ensures others { OnOk result (waiting.new.items ≡ without waiting.old.items input) }
+{
+    let unread = take(alloc, waiting, input).through(stage)?;
+    Ok(unrefused(alloc, unread))
 }
 
 // Refuses the groups with these keys.
@@ -138,13 +154,11 @@ pub fn evaluate(
         What::Scan { .. } => Ok(unrefused(alloc, Unread::new(alloc, Source::Scan(op)))),
         What::Filter { input, cond } => {
             let stage = Stage::Filter(cond.clone()?);
-            let unread = take(alloc, waiting, *input).through(stage)?;
-            Ok(unrefused(alloc, unread))
+            Ok(behind(alloc, waiting, *input, stage)?)
         }
         What::Project { input, from } => {
             let stage = Stage::Project(from.clone()?);
-            let unread = take(alloc, waiting, *input).through(stage)?;
-            Ok(unrefused(alloc, unread))
+            Ok(behind(alloc, waiting, *input, stage)?)
         }
         What::Join {
             build,
@@ -153,11 +167,9 @@ pub fn evaluate(
             probe_keys,
         } => {
             let build_side = take(alloc, waiting, *build);
-            let probe_side = take(alloc, waiting, *probe);
             let keys = (build_keys, probe_keys);
             let built = built(alloc, flow, files, keys, build_side, tally)?;
-            let unread = probe_side.through(Stage::Probe(built))?;
-            Ok(unrefused(alloc, unread))
+            Ok(behind(alloc, waiting, *probe, Stage::Probe(built))?)
         }
         What::Group { input, keys, aggs } => {
             let unread = take(alloc, waiting, *input);
