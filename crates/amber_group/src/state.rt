@@ -10,6 +10,7 @@ use amber_rows::{Aggs, Cols, Row, Value};
 use indexmap::IndexMap;
 use std::alloc::{AllocError, Global};
 use std::marker::Model;
+use std::mem;
 
 /// What a group keeps: the columns of its key, its aggregates, how many rows it was fed, and what it needs of
 /// these. `IsFedWith` says which rows a state stands for.
@@ -22,6 +23,7 @@ pub struct GroupState {
     groups: IndexMap<Key, Totals>,
     // Room that each feed uses anew.
     changes: Vec<Option<Value>>,
+    room: Vec<Value>,
 }
 
 impl Model for GroupState {
@@ -51,6 +53,7 @@ impl GroupState {
             fed: 0,
             groups: IndexMap::new(alloc),
             changes: Vec::new(alloc),
+            room: Vec::new(alloc),
         }
     }
 
@@ -64,8 +67,9 @@ impl GroupState {
         ensures same_aggs { self.new.aggs ≡ self.old.aggs }
         ensures same_on_err { OnErr result (self.new ≡ self.old) }
     {
-        let key = Key::of(self.alloc, row, &self.keys)?;
-        take_in(
+        let room = mem::replace(&mut self.room, Vec::new(self.alloc));
+        let key = Key::over(self.alloc, room, row, &self.keys)?;
+        self.room = take_in(
             self.alloc,
             &mut self.groups,
             key,
@@ -118,6 +122,7 @@ impl Clone for GroupState {
             fed: self.fed,
             groups: self.groups.clone()?,
             changes: Vec::new(self.alloc),
+            room: Vec::new(self.alloc),
         })
     }
 }

@@ -115,7 +115,8 @@ fn settle_all(runnings: &mut Vec<Running>, row: &Row, changes: &mut Vec<Option<V
     }
 }
 
-/// Takes a row with this key into the groups. So the groups of some rows become those of these rows and this one.
+/// Takes a row with this key into the groups. So the groups of some rows become those of these rows and this one. It
+/// gives room back that the next key may be made in.
 pub fn take_in(
     alloc: Global,
     groups: &mut IndexMap<Key, Totals>,
@@ -123,7 +124,7 @@ pub fn take_in(
     aggs: &Aggs,
     row: &Row,
     changes: &mut Vec<Option<Value>>,
-) -> Result<(), AllocError>
+) -> Result<Vec<Value>, AllocError>
     requires { (fed : ℕ) × (fed < 2 ^ 40) × GroupsWithin fed groups.old.entries }
     ensures ok { OnOk result ((keys : List ℕ) (rows : List (List Cell)) → groups.old.entries
         ≡ groups_of keys aggs.now rows → key ≡ pick_cells keys row.now → groups.new.entries
@@ -133,11 +134,14 @@ pub fn take_in(
     ensures same { OnErr result (groups.new.entries ≡ groups.old.entries) }
 {
     match groups.get_index_of(&key) {
-        Some(i) => groups[i].add(row, changes),
+        Some(i) => {
+            groups[i].add(row, changes)?;
+            Ok(key.into_cells())
+        }
         None => {
             let totals = Totals::of_row(alloc, aggs.get(), row, changes)?;
             groups.insert(key, totals)?;
-            Ok(())
+            Ok(Vec::new(alloc))
         }
     }
 }

@@ -1,4 +1,4 @@
-ghost use Rattle.std.specs.Prelude.{◌≡◌, ◌++◌, ◌∷◌, [], ℕ, List, IfOk, OnErr, OnOk, length};
+ghost use Rattle.std.specs.Prelude.{◌≡◌, ◌^◌, ◌-◌, ◌++◌, ◌∷◌, [], ℕ, List, OnErr, OnOk, length, min};
 ghost use Rattle.amber_rows.specs.Operators.{pick_cells};
 ghost use Rattle.amber_rows.specs.declared.value.Value.{Value as Cell};
 ghost use Rattle.amber_join.specs.Places.{table_of};
@@ -8,28 +8,31 @@ use indexmap::IndexMap;
 use std::alloc::{AllocError, Global};
 use std::marker::Model;
 
-/// Places of build rows in the order in which they came, seen as a list.
+/// Places of build rows in the order in which they came, seen as a list. There is one at least. Most keys have one row,
+/// so the first place stands beside the key and not elsewhere in memory.
 #[derive(Debug, Drop)]
 pub struct Places {
-    inner: Vec<usize>,
+    first: usize,
+    more: Vec<usize>,
 }
 
 impl Model for Places {
-    ghost use Rattle.std.specs.Prelude.{List, ℕ};
+    ghost use Rattle.std.specs.Prelude.{◌∷◌, List, ℕ};
 
     ghost Value = { List ℕ };
 
-    ghost view = { λ a. a.inner.items };
+    ghost view = { λ a. a.first ∷ a.more.items };
 }
 
 impl Places {
     /// One place alone.
-    fn one(alloc: Global, place: usize) -> Result<Self, AllocError>
-        ensures { IfOk result (λ places. places ≡ place ∷ []) }
+    fn one(alloc: Global, place: usize) -> Self
+        ensures { result ≡ place ∷ [] }
     {
-        let mut inner = Vec::new(alloc);
-        inner.push(place)?;
-        Ok(Places { inner })
+        Places {
+            first: place,
+            more: Vec::new(alloc),
+        }
     }
 
     /// Puts a place behind the others.
@@ -37,15 +40,22 @@ impl Places {
         ensures ok { OnOk result (self.new ≡ self.old ++ place ∷ []) }
         ensures same { OnErr result (self.new ≡ self.old) }
     {
-        self.inner.push(place)?;
+        self.more.push(place)?;
         Ok(())
     }
 
-    /// The places as a slice.
-    pub fn get(&self) -> &[usize]
-        ensures { result.now ≡ self.now }
+    /// How many places there are.
+    pub fn len(&self) -> usize
+        ensures { result ≡ min (length self.now) (2 ^ 64 - 1) }
     {
-        self.inner.as_slice()
+        self.more.len().saturating_add(1)
+    }
+
+    /// The first place, and the others.
+    pub fn get(&self) -> (usize, &[usize])
+        ensures { self.now ≡ result.0 ∷ result.1.now }
+    {
+        (self.first, self.more.as_slice())
     }
 }
 
@@ -54,7 +64,8 @@ impl Clone for Places {
 
     fn clone(&self) -> Result<Self, AllocError> {
         Ok(Places {
-            inner: self.inner.clone()?,
+            first: self.first,
+            more: self.more.clone()?,
         })
     }
 }
@@ -75,8 +86,7 @@ pub fn note(
     match table.get_index_of(&key) {
         Some(i) => table[i].add(place),
         None => {
-            let places = Places::one(alloc, place)?;
-            table.insert(key, places)?;
+            table.insert(key, Places::one(alloc, place))?;
             Ok(())
         }
     }

@@ -29,6 +29,8 @@ mod plain;
 #[cfg(test)]
 mod query;
 #[cfg(test)]
+mod rooms;
+#[cfg(test)]
 mod real;
 #[cfg(test)]
 mod records;

@@ -9,4 +9,4 @@ take_in-requires c =
     (c.self.inside.fed, omega (arith, c.requires), c.self.invariant)
 
 pub invariant_of-self-2 : goal.invariant_of-self-2
-invariant_of-self-2 c = c.in_ok-take_in.ensures.within c.self.inside.fed c.self.invariant
+invariant_of-self-2 c = c.in_ok-self-inside.ensures.within c.self.inside.fed c.self.invariant
