@@ -1,6 +1,7 @@
 pub mod Course
 pub mod Failure
 pub mod Ready
+pub mod Script
 pub mod Status
 pub mod Steps
 pub mod Told
