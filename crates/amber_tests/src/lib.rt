@@ -29,13 +29,13 @@ mod plain;
 #[cfg(test)]
 mod query;
 #[cfg(test)]
-mod rooms;
-#[cfg(test)]
 mod real;
 #[cfg(test)]
 mod records;
 #[cfg(test)]
 mod report;
+#[cfg(test)]
+mod rooms;
 #[cfg(test)]
 mod routing;
 #[cfg(test)]

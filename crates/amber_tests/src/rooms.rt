@@ -43,7 +43,11 @@ fn columns_are_picked_in_any_room(rt: HostRuntime) -> Result<(), Fail> {
     let want = row(alloc, "'washer 5")?;
     for written in DONE {
         let room = row(alloc, written)?.into_inner();
-        assert_eq!(rt; pick_over(alloc, room, &whole, &columns)?, want, "{written}");
+        assert_eq!(rt;
+            pick_over(alloc, room, &whole, &columns)?,
+            want,
+            "{written}"
+        );
         let room = row(alloc, written)?.into_inner();
         let key = Key::over(alloc, room, &whole, &columns)?;
         assert_eq!(rt; *key.row(), want, "{written}");

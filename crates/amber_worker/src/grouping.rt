@@ -24,10 +24,7 @@ fn feed(state: &mut GroupState, columns: &Schema, row: &Row) -> Result<(), Alloc
 }
 
 // The rows of the groups.
-pub(crate) fn rows_of_groups(
-    alloc: Global,
-    state: &GroupState,
-) -> Result<VecDeque<Row>, AllocError>
+pub(crate) fn rows_of_groups(alloc: Global, state: &GroupState) -> Result<VecDeque<Row>, AllocError>
     ensures { IfOk result (λ rows. GivesGroups state.now true rows.items) }
 {
     let group_result = state.finish(alloc)?;
