@@ -102,6 +102,11 @@ def main():
     names = ", ".join(column for column, _ in WIDE)
     write(top, "columns_30", [("data", WIDE, wide(155_000))], [kept("c0", ">=", 0)],
           f"SELECT {names} FROM data WHERE c0 >= 0 ORDER BY {names}")
+    five = ["c0", "c2", "c9", "c14", "c29"]
+    names = ", ".join(five)
+    brief = {"id": "brief", "kind": "project", "input": "kept", "columns": [[name, name] for name in five]}
+    write(top, "columns_5", [("data", WIDE, wide(155_000))], [kept("c0", ">=", 500_000), brief],
+          f"SELECT {names} FROM data WHERE c0 >= 500000 ORDER BY {names}")
     join = {"id": "sold", "kind": "join", "build": "parts", "probe": "sales", "build_keys": ["code"], "probe_keys": ["part"]}
     write(top, "join", [("parts", PART, parts(100_000)), ("sales", SALE, sales(1_000_000, 100_000))], [join],
           "SELECT sale, part, qty, code, name FROM sales JOIN parts ON part = code ORDER BY sale, part, qty, code, name")

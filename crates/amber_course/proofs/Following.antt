@@ -7,7 +7,7 @@ use Rattle.amber_io.specs.Counts.{Rose}
 use Rattle.amber_io.specs.Folder.{Gives, Lacks, Named, Told}
 use Rattle.amber_rows.specs.declared.flow.Operator.{Operator}
 use Rattle.amber_course.specs.Course.{IsScanFile, IsScanned, load_of, require_size, then_on, workflow_in}
-use Rattle.amber_course.specs.Steps.{Follows, IsBounded, IsMissing, Judges, Names, Stopped, Tells}
+use Rattle.amber_course.specs.Steps.{Follows, IsBounded, IsMissing, Judges, Names, Stopped, Tells, Loads, loading}
 use Rattle.amber_course.specs.declared.failure.Failure.{Failure}
 use Rattle.amber_course.specs.declared.failure.Failure.TheVariants as failure
 
@@ -40,22 +40,22 @@ tells-both (Some files) P Q R h p q = h files p q
 
 -- ---- stops
 
-pub stopped-map : (s : Failure) (a b : ℕ) (M N T U : Type 0) → (M → N) → (T → U) → Stopped s a b M T → Stopped s a b N U
-stopped-map failure.Usage a b M N T U m t h = h
-stopped-map failure.LogFault a b M N T U m t h = h
-stopped-map failure.OutFault a b M N T U m t h = h
-stopped-map (failure.ReadFault name) a b M N T U m t h = elim h [ inl p ↦ inl (p.0, t p.1) | inr r ↦ inr r ]
-stopped-map failure.NoMemory a b M N T U m t h = tt
-stopped-map other a b M N T U m t h = (h.0, m h.1)
+pub stopped-map : (s : Failure) (loads : Loads) (M N T U : Type 0) → (M → N) → (T → U) → Stopped s loads M T → Stopped s loads N U
+stopped-map failure.Usage loads M N T U m t h = h
+stopped-map failure.LogFault loads M N T U m t h = h
+stopped-map failure.OutFault loads M N T U m t h = h
+stopped-map (failure.ReadFault name) loads M N T U m t h = elim h [ inl p ↦ inl (p.0, t p.1) | inr r ↦ inr r ]
+stopped-map failure.NoMemory loads M N T U m t h = tt
+stopped-map other loads M N T U m t h = (h.0, m h.1)
 
 -- ---- steps
 
 -- two ways to say what is meant
 pub follows-same : {A : Type 0} (r : Result A Failure) (told : Option Named) (f g : Named → Result A Failure) (a b : ℕ)
-    → ((files : Named) → f files ≡ g files) → Follows r told f a b → Follows r told g a b
+    → ((files : Named) → f files ≡ g files) → Follows r f (loading told a b) → Follows r g (loading told a b)
 follows-same (Ok x) told f g a b same h = (h.0, told-map told (λ files. f files ≡ Ok x) (λ files. g files ≡ Ok x) (λ files e. sym (same files) ∙ e) h.1)
 follows-same (Err s) told f g a b same h =
-    stopped-map s a b (Told told (λ files. f files ≡ Err s)) (Told told (λ files. g files ≡ Err s)) (Tells told (λ files. f files ≡ Err s)) (Tells told (λ files. g files ≡ Err s))
+    stopped-map s (loading told a b) (Told told (λ files. f files ≡ Err s)) (Told told (λ files. g files ≡ Err s)) (Tells told (λ files. f files ≡ Err s)) (Tells told (λ files. g files ≡ Err s))
     (told-map told (λ files. f files ≡ Err s) (λ files. g files ≡ Err s) (λ files e. sym (same files) ∙ e))
     (tells-map told (λ files. f files ≡ Err s) (λ files. g files ≡ Err s) (λ files e. sym (same files) ∙ e))
     h
@@ -68,9 +68,9 @@ then-ok r x next y e h = rw e h
 
 -- a step stopped, so the whole did
 pub follows-failure : {A B : Type 0} (s : Failure) (told : Option Named) (f : Named → Result A Failure) (g : Named → A → Result B Failure) (a b : ℕ)
-    → Follows {A = A} (Err s) told f a b → Follows {A = B} (Err s) told (λ files. then_on (f files) (g files)) a b
+    → Follows {A = A} (Err s) f (loading told a b) → Follows {A = B} (Err s) (λ files. then_on (f files) (g files)) (loading told a b)
 follows-failure s told f g a b h =
-    stopped-map s a b (Told told (λ files. f files ≡ Err s)) (Told told (λ files. then_on (f files) (g files) ≡ Err s)) (Tells told (λ files. f files ≡ Err s))
+    stopped-map s (loading told a b) (Told told (λ files. f files ≡ Err s)) (Told told (λ files. then_on (f files) (g files) ≡ Err s)) (Tells told (λ files. f files ≡ Err s))
     (Tells told (λ files. then_on (f files) (g files) ≡ Err s))
     (told-map told (λ files. f files ≡ Err s) (λ files. then_on (f files) (g files) ≡ Err s) (λ files e. then-err (f files) s (g files) e))
     (tells-map told (λ files. f files ≡ Err s) (λ files. then_on (f files) (g files) ≡ Err s) (λ files e. then-err (f files) s (g files) e))
@@ -78,23 +78,23 @@ follows-failure s told f g a b h =
 
 -- a step went on
 pub follows-on : {A B : Type 0} (r : Result B Failure) (x : A) (told : Option Named) (f : Named → Result A Failure) (g : Named → A → Result B Failure) (a b c : ℕ)
-    → Follows (Ok x) told f a b → Follows r told (λ files. g files x) b c → Follows r told (λ files. then_on (f files) (g files)) a c
+    → Follows (Ok x) f (loading told a b) → Follows r (λ files. g files x) (loading told b c) → Follows r (λ files. then_on (f files) (g files)) (loading told a c)
 follows-on (Ok y) x told f g a b c p q = (
   q.0 ∙ p.0,
   told-both told (λ files. f files ≡ Ok x) (λ files. g files x ≡ Ok y) (λ files. then_on (f files) (g files) ≡ Ok y)
       (λ files e h. then-ok (f files) x (g files) (Ok y) e h) p.1 q.1,
 )
 follows-on (Err s) x told f g a b c p q =
-    stopped-map s a c (Told told (λ files. g files x ≡ Err s)) (Told told (λ files. then_on (f files) (g files) ≡ Err s)) (Tells told (λ files. g files x ≡ Err s))
+    stopped-map s (loading told a c) (Told told (λ files. g files x ≡ Err s)) (Told told (λ files. then_on (f files) (g files) ≡ Err s)) (Tells told (λ files. g files x ≡ Err s))
     (Tells told (λ files. then_on (f files) (g files) ≡ Err s))
     (told-both told (λ files. f files ≡ Ok x) (λ files. g files x ≡ Err s) (λ files. then_on (f files) (g files) ≡ Err s)
     (λ files e h. then-ok (f files) x (g files) (Err s) e h) p.1)
     (tells-both told (λ files. f files ≡ Ok x) (λ files. g files x ≡ Err s) (λ files. then_on (f files) (g files) ≡ Err s)
     (λ files e h. then-ok (f files) x (g files) (Err s) e h) p.1)
-    (subst (λ n. Stopped s n c (Told told (λ files. g files x ≡ Err s)) (Tells told (λ files. g files x ≡ Err s))) p.0 q)
+    (subst (λ n. Stopped s (loading told n c) (Told told (λ files. g files x ≡ Err s)) (Tells told (λ files. g files x ≡ Err s))) p.0 q)
 
 -- a step that reads nothing
-pub follows-judged : {A : Type 0} (r meant : Result A Failure) (told : Option Named) (a : ℕ) → Judges r meant → Follows r told (λ files. meant) a a
+pub follows-judged : {A : Type 0} (r meant : Result A Failure) (told : Option Named) (a : ℕ) → Judges r meant → Follows r (λ files. meant) (loading told a a)
 follows-judged (Ok x) meant told a h = (refl, told-all told (λ files. meant ≡ Ok x) (λ files. h))
 follows-judged (Err failure.Usage) meant told a h = h
 follows-judged (Err (failure.ReadFault name)) meant told a h = absurd h
@@ -143,7 +143,7 @@ load-large (Some files) most name bytes file e h large = rw (h.1, e) (require_si
 
 -- the first bytes of a file came
 pub load-bounded : (r : Result (List ℕ) Failure) (told : Option Named) (most : ℕ) (name bytes : List ℕ) (a b : ℕ) → b ≡ a → Gives told name (most + 1) bytes
-    → IsBounded r name most bytes → Follows r told (load_of most name) a b
+    → IsBounded r name most bytes → Follows r (load_of most name) (loading told a b)
 load-bounded (Ok whole) told most name bytes a b same h r =
     (same, load-ok told most name whole (rw (← r.0) at h) (rw (← r.0) at r.1))
 load-bounded (Err (failure.TooLarge file)) told most name bytes a b same h r = (same, load-large told most name bytes file r.0 h r.1)
@@ -166,7 +166,7 @@ lacks-tells (Some files) most name h = rw h refl
 
 -- a load failed
 pub load-err : (s : Failure) (told : Option Named) (most : ℕ) (name : List ℕ) (a b : ℕ) → IsMissing s name → Lacks told name ⊎ Rose a b → (Lacks told name → b ≡ a)
-    → Follows {A = List ℕ} (Err s) told (load_of most name) a b
+    → Follows {A = List ℕ} (Err s) (load_of most name) (loading told a b)
 load-err (failure.ReadFault file) told most name a b m h same =
     elim h [
       | inl lacks ↦ inl (same lacks, rw m (lacks-tells told most name lacks))

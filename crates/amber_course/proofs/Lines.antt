@@ -5,7 +5,7 @@ use Rattle.std.specs.Io.KnownBytes.{Appends, Keeps}
 use Rattle.amber_io.specs.Sink.{Begins}
 use Rattle.amber_io.specs.declared.error.IoErr.{IoErr}
 use Rattle.amber_io.specs.declared.error.IoErr.TheVariants as io_err
-use Rattle.amber_course.specs.Steps.{Lined}
+use Rattle.amber_course.specs.Steps.{Lined, putting}
 
 pub appends-on : (old mid new : Option (List ℕ)) (x y : List ℕ) → Appends old mid x → Appends mid new y → Appends old new (x ++ y)
 appends-on None mid new x y p q = tt
@@ -38,13 +38,13 @@ begins-all old new x p = (x, [], append-nil x, p)
 
 -- a put was refused, so the line stops
 pub lined-failure : (e : IoErr) (old new : Option (List ℕ)) (a b : ℕ) (x y : List ℕ)
-    → Lined {A = Unit {0}} (Err e) old new a b x → Lined {A = Unit {0}} (Err e) old new a b (x ++ y)
+    → Lined {A = Unit {0}} (Err e) (putting old new a b) x → Lined {A = Unit {0}} (Err e) (putting old new a b) (x ++ y)
 lined-failure io_err.NoMemory old new a b x y h = (h.0, begins-more old new x y h.1)
 lined-failure io_err.Failed old new a b x y h = (h.0, h.1, begins-more old new x y h.2)
 
 -- a piece was put, so the line goes on
 pub lined-on : (r : Result (Unit {0}) IoErr) (u : Unit {0}) (old mid new : Option (List ℕ)) (a b c : ℕ) (x y : List ℕ)
-    → Lined {A = Unit {0}} (Ok u) old mid a b x → Lined {A = Unit {0}} r mid new b c y → Lined {A = Unit {0}} r old new a c (x ++ y)
+    → Lined {A = Unit {0}} (Ok u) (putting old mid a b) x → Lined {A = Unit {0}} r (putting mid new b c) y → Lined {A = Unit {0}} r (putting old new a c) (x ++ y)
 lined-on (Ok v) u old mid new a b c x y p q = (q.0 ∙ p.0, appends-on old mid new x y p.1 q.1)
 lined-on (Err io_err.NoMemory) u old mid new a b c x y p q = (q.0 ∙ p.0, begins-on old mid new x y p.1 q.1)
 lined-on (Err io_err.Failed) u old mid new a b c x y p q = (rw p.0 at q.0, rw p.0 at q.1, begins-on old mid new x y p.1 q.2)

@@ -13,7 +13,7 @@ use Rattle.amber_meaning.specs.Plain.{scan_count, wrong_header}
 use Rattle.amber_rows.specs.Kinds.{is_scan}
 use Rattle.amber_course.specs.Ready.{AreInputs}
 use Rattle.amber_course.specs.Course.{IsScanFile, file_before, require_header, most_scanned, scan_before, scan_file, scans_from, scans_of, then_on}
-use Rattle.amber_course.specs.Steps.{Follows, Judges, Names, Tells}
+use Rattle.amber_course.specs.Steps.{Follows, Judges, Names, Tells, loading}
 use Rattle.amber_course.specs.declared.failure.Reason.TheVariants as reason
 use Rattle.amber_course.specs.declared.failure.Failure.{Failure}
 use Rattle.amber_course.specs.declared.failure.Failure.TheVariants as failure
@@ -121,9 +121,9 @@ scan-stops ops i left o name done whole s files h is w load sofar =
 -- a scan whose file was not loaded
 pub scan-failure : (ops : List Operator) (i left : ℕ) (o : Operator) (name : List ℕ) (done : List (List ℕ)) (whole : Named → Result (List (List ℕ)) Failure) (s : Failure) (told : Option Named) (a b : ℕ)
     → i < length ops → o ≡ get_or ops i o → o.what ≡ what.Scan name → Told told (λ files. whole files ≡ after_files done (scans_at ops i left files))
-    → Follows {A = List ℕ} (Err s) told (scan_file (i + 1) left name o.schema) a b → Follows {A = List (List ℕ)} (Err s) told whole a b
+    → Follows {A = List ℕ} (Err s) (scan_file (i + 1) left name o.schema) (loading told a b) → Follows {A = List (List ℕ)} (Err s) whole (loading told a b)
 scan-failure ops i left o name done whole s told a b h is w sofar =
-    stopped-map s a b (Told told (λ files. scan_file (i + 1) left name o.schema files ≡ Err s)) (Told told (λ files. whole files ≡ Err s))
+    stopped-map s (loading told a b) (Told told (λ files. scan_file (i + 1) left name o.schema files ≡ Err s)) (Told told (λ files. whole files ≡ Err s))
     (Tells told (λ files. scan_file (i + 1) left name o.schema files ≡ Err s)) (Tells told (λ files. whole files ≡ Err s))
     (told-both told (λ files. whole files ≡ after_files done (scans_at ops i left files)) (λ files. scan_file (i + 1) left name o.schema files ≡ Err s)
     (λ files. whole files ≡ Err s) (λ files sofar load. scan-stops ops i left o name done (whole files) s files h is w load sofar) sofar)

@@ -9,11 +9,13 @@ use Rattle.amber_rows.specs.declared.flow.What.TheVariants as what
 use Rattle.amber_rows.specs.declared.flow.Operator.{Operator}
 use Rattle.amber_flow.specs.Workflow.{workflow_of}
 use Rattle.amber_flow.specs.declared.error.Fault.{Fault}
+use Rattle.amber_log.specs.declared.command.Command.{Command}
 use Rattle.amber_meaning.specs.Plain.{row_total}
 use Rattle.amber_course.specs.Script.{first_said, script_read}
 use Rattle.amber_course.specs.Words.{call_words_of}
 use Rattle.amber_course.specs.declared.job.Job.{Job}
 use Rattle.amber_course.specs.declared.job.Job.TheVariants as job
+use Rattle.amber_course.specs.declared.job.RunJob.{RunJob}
 use Rattle.amber_course.specs.declared.words.RunWords.{RunWords}
 use Rattle.amber_course.specs.declared.words.Words.{Words}
 use Rattle.amber_course.specs.declared.words.Words.TheVariants as form
@@ -60,8 +62,8 @@ flow_read (Err fault) = Err (failure.BadFlow fault.op (reason.Flow fault.why))
 unfoldable pub workflow_in : List ℕ → Named → Result (List Operator) Failure
 workflow_in name files = then_on (load_of most_text name files) (λ bytes. flow_read (workflow_of bytes))
 
--- the script in the file of this name
-unfoldable pub script_in : List ℕ → Named → Result (Unit {0}) Failure
+-- the commands of the script in the file of this name
+unfoldable pub script_in : List ℕ → Named → Result (List Command) Failure
 script_in name files = then_on (load_of most_text name files) (λ bytes. script_read (first_said bytes))
 
 -- ---- the log
@@ -120,6 +122,11 @@ abbrev pub words_read : Option Words → Result Words Failure
 words_read None = Err failure.Usage
 words_read (Some words) = Ok words
 
+-- what a run is to do
+abbrev pub run_of : RunWords → List Operator → List Command → List (List ℕ) → RunJob
+run_of words flow commands inputs =
+    record { flow = flow; files = inputs; commands = commands; log = words.log; threads = words.threads; batch = words.batch }
+
 -- the job that words ask for: the workflow is loaded and read; for a run its scans' files are compared with the log, and the script is
 -- loaded and read; each scan's file is loaded and its header compared
 unfoldable pub job_of : Words → Named → Result Job Failure
@@ -127,12 +134,12 @@ job_of (form.Plain workflow) files =
     then_on (workflow_in workflow files) (λ flow. then_on (scans_of flow files) (λ inputs. Ok (job.Plain flow inputs)))
 job_of (form.Run words) files =
     then_on (run_flow words.workflow words.log files)
-    (λ flow. then_on (script_in words.script files) (λ read. then_on (scans_of flow files) (λ inputs. Ok (job.Run flow inputs words.log words.threads words.batch))))
+    (λ flow. then_on (script_in words.script files) (λ commands. then_on (scans_of flow files) (λ inputs. Ok (job.Run (run_of words flow commands inputs)))))
 
 -- the operators of a query that is printed at once give no more rows than they may
 abbrev pub require_limit : Job → Result Job Failure
 require_limit (job.Plain flow inputs) = if nat_le (row_total flow inputs) most_rows then Ok (job.Plain flow inputs) else Err failure.Long
-require_limit (job.Run flow inputs log threads batch) = Ok (job.Run flow inputs log threads batch)
+require_limit (job.Run run) = Ok (job.Run run)
 
 -- the words are read; the files are loaded and read; for `plain` the rows of all operators are counted
 unfoldable pub course_of : List (List ℕ) → Named → Result Job Failure
@@ -156,7 +163,7 @@ IsScanned workflow files file = (flow : List Operator) × (workflow_in workflow 
 -- the script of a run, where its workflow stands, and the file of a scan of it, where the script stands too
 abbrev pub IsBehind : RunWords → Named → List ℕ → Type 0
 IsBehind words files file = (flow : List Operator) × (run_flow words.workflow words.log files ≡ Ok flow)
-    × ((file ≡ words.script) ⊎ ((script_in words.script files ≡ Ok tt) × IsScanFile flow files file))
+    × ((file ≡ words.script) ⊎ (IsOk (script_in words.script files) × IsScanFile flow files file))
 
 abbrev pub IsLoaded : Words → Named → List ℕ → Type 0
 IsLoaded (form.Plain workflow) files file = (file ≡ workflow) ⊎ IsScanned workflow files file

@@ -1,12 +1,17 @@
 -- What a job is made of, and which words ask for it.
-use Rattle.std.specs.Prelude.{◌≡◌, ⊤, List, None, length, ℕ}
+use Rattle.std.specs.Prelude.{◌≡◌, ⊤, List, None, length, ℕ, true}
+use Rattle.std.specs.List.{list_all}
 use Rattle.amber_rows.specs.Crew.{AreAlone}
 use Rattle.amber_rows.specs.FlowRules.{IsFlow}
 use Rattle.amber_rows.specs.declared.flow.Operator.{Operator}
+use Rattle.amber_log.specs.Fits.{fits_of}
+use Rattle.amber_log.specs.declared.command.Command.{Command}
 use Rattle.amber_meaning.specs.Plain.{scan_count, wrong_header}
 use Rattle.amber_course.specs.Words.{AreSizes}
+use Rattle.amber_script.specs.Commands.{is_scripted}
 use Rattle.amber_course.specs.declared.job.Job.{Job}
 use Rattle.amber_course.specs.declared.job.Job.TheVariants as job
+use Rattle.amber_course.specs.declared.job.RunJob.{RunJob}
 use Rattle.amber_course.specs.declared.words.Words.{Words}
 use Rattle.amber_course.specs.declared.words.Words.TheVariants as form
 
@@ -15,14 +20,26 @@ pub record AreInputs (flow : List Operator) (files : List (List ℕ)) : Type 0 w
   pub count : length files ≡ scan_count flow
   pub headed : wrong_header 1 files flow ≡ None
 
+-- commands as a script may have them, which fit the workflow
+pub record AreOfScript (flow : List Operator) (commands : List Command) : Type 0 where
+  pub fit : list_all (fits_of flow) commands ≡ true
+  pub scripted : list_all is_scripted commands ≡ true
+
+pub record IsRunReady (run : RunJob) : Type 0 where
+  pub inputs : AreInputs run.flow run.files
+  pub sizes : AreSizes run.threads run.batch
+  pub alone : AreAlone run.flow
+  pub flow : IsFlow run.flow
+  pub commands : AreOfScript run.flow run.commands
+
 abbrev pub IsReady : Job → Type 0
 IsReady (job.Plain flow files) = AreInputs flow files
-IsReady (job.Run flow files log threads batch) = AreInputs flow files × AreSizes threads batch × AreAlone flow × IsFlow flow
+IsReady (job.Run run) = IsRunReady run
 
 -- a job that writes no file
 abbrev pub WritesNothing : Job → Type 0
 WritesNothing (job.Plain flow files) = ⊤
-WritesNothing (job.Run flow files log threads batch) = ⊥
+WritesNothing (job.Run run) = ⊥
 
 -- words that ask for no run have a job that writes no file
 abbrev pub IsAskedBy : Words → Job → Type 0

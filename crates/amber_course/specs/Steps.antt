@@ -15,20 +15,29 @@ abbrev pub Tells : Option Named → (Named → Type 0) → Type 0
 Tells None P = ⊥
 Tells (Some files) P = P files
 
--- a failure behind the words and before the output, from a count of failed loads to another: `meant` says that over told files it
--- is to come, and `told` also that the files are told. A file could not be read only where that is meant, or the count rose
-abbrev pub Stopped : Failure → ℕ → ℕ → Type 0 → Type 0 → Type 0
-Stopped failure.Usage old new meant told = ⊥
-Stopped failure.LogFault old new meant told = ⊥
-Stopped failure.OutFault old new meant told = ⊥
-Stopped (failure.ReadFault name) old new meant told = ((new ≡ old) × told) ⊎ Rose old new
-Stopped failure.NoMemory old new meant told = ⊤
-Stopped other old new meant told = (new ≡ old) × meant
+-- what loads have found: the folder's files, and how many loads had failed before and have failed
+pub record Loads : Type 0 where
+  pub told : Option Named
+  pub old : ℕ
+  pub new : ℕ
+
+abbrev pub loading : Option Named → ℕ → ℕ → Loads
+loading told old new = record { told = told; old = old; new = new }
+
+-- a failure behind the words and before the output: `meant` says that over told files it is to come, and `told` also that the files
+-- are told. A file could not be read only where that is meant, or the count rose
+abbrev pub Stopped : Failure → Loads → Type 0 → Type 0 → Type 0
+Stopped failure.Usage loads meant told = ⊥
+Stopped failure.LogFault loads meant told = ⊥
+Stopped failure.OutFault loads meant told = ⊥
+Stopped (failure.ReadFault name) loads meant told = ((loads.new ≡ loads.old) × told) ⊎ Rose loads.old loads.new
+Stopped failure.NoMemory loads meant told = ⊤
+Stopped other loads meant told = (loads.new ≡ loads.old) × meant
 
 -- a step that reads answers as `meant` says over told files
-abbrev pub Follows : {A : Type 0} → Result A Failure → Option Named → (Named → Result A Failure) → ℕ → ℕ → Type 0
-Follows (Ok x) told meant old new = (new ≡ old) × Told told (λ files. meant files ≡ Ok x)
-Follows (Err s) told meant old new = Stopped s old new (Told told (λ files. meant files ≡ Err s)) (Tells told (λ files. meant files ≡ Err s))
+abbrev pub Follows : {A : Type 0} → Result A Failure → (Named → Result A Failure) → Loads → Type 0
+Follows (Ok x) meant loads = (loads.new ≡ loads.old) × Told loads.told (λ files. meant files ≡ Ok x)
+Follows (Err s) meant loads = Stopped s loads (Told loads.told (λ files. meant files ≡ Err s)) (Tells loads.told (λ files. meant files ≡ Err s))
 
 -- a step that reads nothing answers what is meant, but for want of memory
 abbrev pub Judges : {A : Type 0} → Result A Failure → Result A Failure → Type 0
@@ -47,18 +56,28 @@ AreRead (Err failure.Usage) meant = meant ≡ None
 AreRead (Err failure.NoMemory) meant = IsSome meant
 AreRead (Err other) meant = ⊥
 
+-- what puts have changed: what the sink had got and has got, and how many puts had failed before and have failed
+pub record Puts : Type 0 where
+  pub before : Option (List ℕ)
+  pub got : Option (List ℕ)
+  pub old : ℕ
+  pub new : ℕ
+
+abbrev pub putting : Option (List ℕ) → Option (List ℕ) → ℕ → ℕ → Puts
+putting before got old new = record { before = before; got = got; old = old; new = new }
+
 -- the output was put: the whole of it, or a front part where the count of failed puts rose
-abbrev pub Sent : {A : Type 0} → Result A Failure → Option (List ℕ) → Option (List ℕ) → ℕ → ℕ → List ℕ → Type 0
-Sent (Ok x) before got old new text = (new ≡ old) × Appends before got text
-Sent (Err failure.OutFault) before got old new text = (old ≤ new) × Rose old new × Begins before got text
-Sent (Err failure.NoMemory) before got old new text = (new ≡ old) × Keeps before got
-Sent (Err other) before got old new text = ⊥
+abbrev pub Sent : {A : Type 0} → Result A Failure → Puts → List ℕ → Type 0
+Sent (Ok x) puts text = (puts.new ≡ puts.old) × Appends puts.before puts.got text
+Sent (Err failure.OutFault) puts text = (puts.old ≤ puts.new) × Rose puts.old puts.new × Begins puts.before puts.got text
+Sent (Err failure.NoMemory) puts text = (puts.new ≡ puts.old) × Keeps puts.before puts.got
+Sent (Err other) puts text = ⊥
 
 -- a line was put piece by piece: the whole of it, or a front part where a put was refused
-abbrev pub Lined : {A : Type 0} → Result A IoErr → Option (List ℕ) → Option (List ℕ) → ℕ → ℕ → List ℕ → Type 0
-Lined (Ok x) before got old new line = (new ≡ old) × Appends before got line
-Lined (Err io_err.NoMemory) before got old new line = (new ≡ old) × Begins before got line
-Lined (Err io_err.Failed) before got old new line = (old ≤ new) × Rose old new × Begins before got line
+abbrev pub Lined : {A : Type 0} → Result A IoErr → Puts → List ℕ → Type 0
+Lined (Ok x) puts line = (puts.new ≡ puts.old) × Appends puts.before puts.got line
+Lined (Err io_err.NoMemory) puts line = (puts.new ≡ puts.old) × Begins puts.before puts.got line
+Lined (Err io_err.Failed) puts line = (puts.old ≤ puts.new) × Rose puts.old puts.new × Begins puts.before puts.got line
 
 -- where a failure tells that a file could not be read, its name is one of these
 abbrev pub Names : Failure → (List ℕ → Type 0) → Type 0

@@ -1,7 +1,5 @@
 -- What the words of a call ask for.
-use Rattle.std.specs.Prelude.{ℕ, ◌<◌, ◌≤◌, ◌&&◌, ◌||◌, nat_le, List, [], ◌∷◌, codes, bytes_eq, Option, Some, None, if◌then◌else◌, ⊤}
-use Rattle.std.specs.Fmt.{decimal}
-use Rattle.std.specs.Str.Parse.{digits_value}
+use Rattle.std.specs.Prelude.{ℕ, ◌<◌, ◌≤◌, ◌||◌, List, [], ◌∷◌, codes, bytes_eq, Option, Some, None, if◌then◌else◌, ⊤}
 use Rattle.amber_script.specs.Numbers.{number_up_to}
 use Rattle.amber_course.specs.declared.words.Words.{Words}
 use Rattle.amber_course.specs.declared.words.Words.TheVariants as form

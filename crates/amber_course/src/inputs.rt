@@ -2,7 +2,7 @@ ghost use Rattle.std.specs.Prelude.{◌≡◌, ◌<◌, ◌≤◌, ◌^◌, leng
 ghost use Rattle.amber_rows.specs.Crew.{AreAlone};
 ghost use Rattle.amber_flow.specs.Workflow.{workflow_of};
 ghost use Rattle.amber_course.specs.Course.{flow_read, load_of, workflow_in};
-ghost use Rattle.amber_course.specs.Steps.{Follows, IsBounded, IsMissing, IsOversized, Judges, Names};
+ghost use Rattle.amber_course.specs.Steps.{Follows, IsBounded, IsMissing, IsOversized, Judges, Names, loading};
 
 use crate::failure::{Failure, Reason};
 use amber_flow::{FlowErr, read_flow};
@@ -55,8 +55,8 @@ pub(crate) fn load<F: Folder>(
     folder: &mut F,
 ) -> Result<Bytes, Failure>
     requires { most < 2 ^ 63 }
-    ensures course { Follows result (F.files folder.old) (load_of most name.now)
-        (F.load_faults folder.old) (F.load_faults folder.new) }
+    ensures course { Follows result (load_of most name.now)
+        (loading (F.files folder.old) (F.load_faults folder.old) (F.load_faults folder.new)) }
     ensures few { IfOk result (λ bytes. length bytes ≤ most) }
     ensures named { IfErr result (λ failure. Names failure (λ file. file ≡ name.now)) }
     ensures same { F.files folder.new ≡ F.files folder.old }
@@ -90,8 +90,8 @@ pub(crate) fn load_flow<F: Folder>(
     name: &str,
     folder: &mut F,
 ) -> Result<Flow, Failure>
-    ensures course { Follows result (F.files folder.old) (workflow_in name.now)
-        (F.load_faults folder.old) (F.load_faults folder.new) }
+    ensures course { Follows result (workflow_in name.now)
+        (loading (F.files folder.old) (F.load_faults folder.old) (F.load_faults folder.new)) }
     ensures alone { IfOk result (λ flow. AreAlone flow) }
     ensures named { IfErr result (λ failure. Names failure (λ file. file ≡ name.now)) }
     ensures same { F.files folder.new ≡ F.files folder.old }

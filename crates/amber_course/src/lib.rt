@@ -18,7 +18,7 @@ pub mod words;
 
 pub use amber_script::ScriptWhy;
 pub use failure::{Failure, Reason};
-pub use job::Job;
+pub use job::{Job, RunJob};
 pub use preparing::prepare;
 pub use refusal::{put_output, refuse};
 pub use status::Status;

@@ -1,7 +1,7 @@
 ghost use Rattle.std.specs.Prelude.{◌≡◌, IfErr, IfOk};
 ghost use Rattle.amber_rows.specs.Crew.{AreAlone};
 ghost use Rattle.amber_course.specs.Course.{apart_from, log_scan, is_scan_of, run_flow};
-ghost use Rattle.amber_course.specs.Steps.{Follows, Judges, Names};
+ghost use Rattle.amber_course.specs.Steps.{Follows, Judges, Names, loading};
 
 use crate::failure::{Failure, Reason};
 use crate::inputs::load_flow;
@@ -53,8 +53,8 @@ pub(crate) fn load_run_flow<F: Folder>(
     log: &str,
     folder: &mut F,
 ) -> Result<Flow, Failure>
-    ensures course { Follows result (F.files folder.old) (run_flow workflow.now log.now)
-        (F.load_faults folder.old) (F.load_faults folder.new) }
+    ensures course { Follows result (run_flow workflow.now log.now)
+        (loading (F.files folder.old) (F.load_faults folder.old) (F.load_faults folder.new)) }
     ensures alone { IfOk result (λ flow. AreAlone flow) }
     ensures named { IfErr result (λ failure. Names failure (λ file. file ≡ workflow.now)) }
     ensures same { F.files folder.new ≡ F.files folder.old }

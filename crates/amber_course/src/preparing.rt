@@ -2,12 +2,12 @@ ghost use Rattle.std.specs.Prelude.{◌≡◌, IfErr, IfOk};
 ghost use Rattle.amber_io.specs.Folder.{Told};
 ghost use Rattle.amber_course.specs.Ready.{IsAskedBy, WritesNothing, IsReady};
 ghost use Rattle.amber_course.specs.Course.{IsLoaded, job_of};
-ghost use Rattle.amber_course.specs.Steps.{Follows, Names};
+ghost use Rattle.amber_course.specs.Steps.{Follows, Names, loading};
 ghost use Rattle.amber_course.specs.Words.{AreSizes, AreSound};
 
 use crate::failure::Failure;
 use crate::inputs::load_flow;
-use crate::job::Job;
+use crate::job::{Job, RunJob};
 use crate::log_name::load_run_flow;
 use crate::scans::load_scans;
 use crate::script::load_script;
@@ -17,8 +17,8 @@ use std::alloc::Global;
 
 // To print the answer of the workflow in a file.
 fn prepare_plain<F: Folder>(alloc: Global, workflow: &str, folder: &mut F) -> Result<Job, Failure>
-    ensures course { Follows result (F.files folder.old) (job_of (Words.Plain workflow.now))
-        (F.load_faults folder.old) (F.load_faults folder.new) }
+    ensures course { Follows result (job_of (Words.Plain workflow.now))
+        (loading (F.files folder.old) (F.load_faults folder.old) (F.load_faults folder.new)) }
     ensures ready { IfOk result IsReady }
     ensures form { IfOk result WritesNothing }
     ensures named { Told (F.files folder.old)
@@ -35,8 +35,8 @@ fn prepare_plain<F: Folder>(alloc: Global, workflow: &str, folder: &mut F) -> Re
 // To do a run.
 fn prepare_run<F: Folder>(alloc: Global, words: RunWords, folder: &mut F) -> Result<Job, Failure>
     requires { AreSizes words.threads words.batch }
-    ensures course { Follows result (F.files folder.old) (job_of (Words.Run words))
-        (F.load_faults folder.old) (F.load_faults folder.new) }
+    ensures course { Follows result (job_of (Words.Run words))
+        (loading (F.files folder.old) (F.load_faults folder.old) (F.load_faults folder.new)) }
     ensures ready { IfOk result IsReady }
     ensures named { Told (F.files folder.old)
         (λ files. IfErr result (λ failure. Names failure (IsLoaded (Words.Run words) files))) }
@@ -51,22 +51,23 @@ fn prepare_run<F: Folder>(alloc: Global, words: RunWords, folder: &mut F) -> Res
         batch,
     } = words;
     let flow = load_run_flow(alloc, workflow.get(), log.get(), folder)?;
-    load_script(alloc, script.get(), folder)?;
+    let commands = load_script(alloc, script.get(), &flow, folder)?;
     let files = load_scans(alloc, &flow, folder)?;
-    Ok(Job::Run {
+    Ok(Job::Run(RunJob {
         flow,
         files,
+        commands,
         log,
         threads,
         batch,
-    })
+    }))
 }
 
 /// The job that words ask for, with all that is to be loaded and read for it.
 pub fn prepare<F: Folder>(alloc: Global, words: Words, folder: &mut F) -> Result<Job, Failure>
     requires { AreSound words }
-    ensures course { Follows result (F.files folder.old) (job_of words) (F.load_faults folder.old)
-        (F.load_faults folder.new) }
+    ensures course { Follows result (job_of words)
+        (loading (F.files folder.old) (F.load_faults folder.old) (F.load_faults folder.new)) }
     ensures ready { IfOk result IsReady }
     ensures form { IfOk result (IsAskedBy words) }
     ensures named { Told (F.files folder.old)

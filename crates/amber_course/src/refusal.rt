@@ -1,7 +1,7 @@
 ghost use Rattle.std.specs.Prelude.{◌≡◌, ◌++◌, IsOk, codes};
 ghost use Rattle.std.specs.Fmt.{decimal};
 ghost use Rattle.amber_course.specs.Told.{Refuses};
-ghost use Rattle.amber_course.specs.Steps.{Lined, Sent};
+ghost use Rattle.amber_course.specs.Steps.{Lined, Sent, putting};
 ghost use Rattle.amber_course.specs.Failure.{IsToldAs, error_line_of};
 
 use crate::failure::Failure;
@@ -11,16 +11,17 @@ use itoa::Buffer;
 
 // One piece of a line.
 fn put_piece<O: Sink>(out: &mut O, piece: &[u8]) -> Result<(), IoErr>
-    ensures { Lined result (O.written out.old) (O.written out.new)
-        (O.faults out.old) (O.faults out.new) piece.now }
+    ensures { Lined result
+        (putting (O.written out.old) (O.written out.new) (O.faults out.old) (O.faults out.new))
+        piece.now }
 {
     out.put(piece)
 }
 
 // The line for a workflow or a script: these words, a number and the reason. It takes no memory.
 fn put_reason_line<O: Sink>(out: &mut O, words: &[u8], number: u64, why: &str) -> Result<(), IoErr>
-    ensures { Lined result (O.written out.old) (O.written out.new)
-        (O.faults out.old) (O.faults out.new)
+    ensures { Lined result
+        (putting (O.written out.old) (O.written out.new) (O.faults out.old) (O.faults out.new))
         (words.now ++ (decimal number ++ (codes " " ++ (why.now ++ codes "\n")))) }
 {
     let mut buffer = Buffer::new();
@@ -34,8 +35,8 @@ fn put_reason_line<O: Sink>(out: &mut O, words: &[u8], number: u64, why: &str) -
 
 // The line for a file: these words, and its name.
 fn put_file_line<O: Sink>(out: &mut O, words: &[u8], name: &str) -> Result<(), IoErr>
-    ensures { Lined result (O.written out.old) (O.written out.new)
-        (O.faults out.old) (O.faults out.new)
+    ensures { Lined result
+        (putting (O.written out.old) (O.written out.new) (O.faults out.old) (O.faults out.new))
         (words.now ++ (name.now ++ codes "\n")) }
 {
     put_piece(out, words)?;
@@ -46,8 +47,9 @@ fn put_file_line<O: Sink>(out: &mut O, words: &[u8], name: &str) -> Result<(), I
 
 // The line of a failure; a sink that failed gets none.
 fn put_line<O: Sink>(out: &mut O, failure: &Failure) -> Result<(), IoErr>
-    ensures lined { Lined result (O.written out.old) (O.written out.new)
-        (O.faults out.old) (O.faults out.new) (error_line_of failure.now) }
+    ensures lined { Lined result
+        (putting (O.written out.old) (O.written out.new) (O.faults out.old) (O.faults out.new))
+        (error_line_of failure.now) }
     ensures none { failure.now ≡ Failure.OutFault → IsOk result }
 {
     match failure {
@@ -72,8 +74,8 @@ fn put_line<O: Sink>(out: &mut O, failure: &Failure) -> Result<(), IoErr>
 
 /// Prints the line of a failure and answers the status. A put that fails leaves the status as it is.
 pub fn refuse<O: Sink>(out: &mut O, failure: &Failure) -> Status
-    ensures refuses { Refuses result failure.now (O.written out.old) (O.written out.new)
-        (O.faults out.old) (O.faults out.new) }
+    ensures refuses { Refuses result failure.now
+        (putting (O.written out.old) (O.written out.new) (O.faults out.old) (O.faults out.new)) }
     ensures told { IsToldAs failure.now result }
 {
     match put_line(out, failure) {
@@ -84,8 +86,9 @@ pub fn refuse<O: Sink>(out: &mut O, failure: &Failure) -> Status
 
 /// Puts the whole output in one call.
 pub fn put_output<O: Sink>(out: &mut O, text: &[u8]) -> Result<(), Failure>
-    ensures { Sent result (O.written out.old) (O.written out.new)
-        (O.faults out.old) (O.faults out.new) text.now }
+    ensures { Sent result
+        (putting (O.written out.old) (O.written out.new) (O.faults out.old) (O.faults out.new))
+        text.now }
 {
     match out.put(text) {
         Ok(()) => Ok(()),

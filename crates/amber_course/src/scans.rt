@@ -4,7 +4,7 @@ ghost use Rattle.amber_rows.specs.FlowRules.{IsFlow};
 ghost use Rattle.amber_rows.specs.Record.{has_header};
 ghost use Rattle.amber_course.specs.Ready.{AreInputs};
 ghost use Rattle.amber_course.specs.Course.{IsScanFile, require_header, scan_file, scans_of};
-ghost use Rattle.amber_course.specs.Steps.{Follows, Judges, Names};
+ghost use Rattle.amber_course.specs.Steps.{Follows, Judges, Names, loading};
 
 use crate::failure::{Failure, Reason};
 use crate::inputs::load;
@@ -39,8 +39,8 @@ fn load_scan<F: Folder>(
     folder: &mut F,
 ) -> Result<Bytes, Failure>
     requires { most < 2 ^ 63 }
-    ensures course { Follows result (F.files folder.old) (scan_file op most name.now columns.now)
-        (F.load_faults folder.old) (F.load_faults folder.new) }
+    ensures course { Follows result (scan_file op most name.now columns.now)
+        (loading (F.files folder.old) (F.load_faults folder.old) (F.load_faults folder.new)) }
     ensures few { IfOk result (λ bytes. length bytes ≤ most) }
     ensures headed { IfOk result (λ bytes. has_header columns.now bytes ≡ true) }
     ensures named { IfErr result (λ failure. Names failure (λ file. file ≡ name.now)) }
@@ -57,8 +57,8 @@ pub(crate) fn load_scans<F: Folder>(
     flow: &Flow,
     folder: &mut F,
 ) -> Result<Files, Failure>
-    ensures course { Follows result (F.files folder.old) (scans_of flow.now)
-        (F.load_faults folder.old) (F.load_faults folder.new) }
+    ensures course { Follows result (scans_of flow.now)
+        (loading (F.files folder.old) (F.load_faults folder.old) (F.load_faults folder.new)) }
     ensures inputs { IfOk result (λ files. AreInputs flow.now files) }
     ensures flow { IsFlow flow.now }
     ensures named { Told (F.files folder.old)

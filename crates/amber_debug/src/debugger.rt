@@ -1,10 +1,11 @@
-ghost use Rattle.std.specs.Prelude.{◌≡◌, ◌<◌, ◌≤◌, ◌^◌, ◌↔◌, [], Err, IfOk, false, true, length};
+ghost use Rattle.std.specs.Prelude.{◌≡◌, ◌≢◌, ◌<◌, ◌≤◌, ◌⊎◌, ◌^◌, ◌↔◌, [], Err, IfOk, false, true, length};
 ghost use Rattle.amber_log.specs.Fits.{fits_of};
 ghost use Rattle.amber_log.specs.Grammar.{IsLog, ends_over};
 ghost use Rattle.amber_meaning.specs.Legal.{IsLegal};
 ghost use Rattle.amber_meaning.specs.Plain.{scan_count};
 ghost use Rattle.amber_rows.specs.Crew.{AreAlone};
 ghost use Rattle.amber_home.specs.HomeState.{BeginsOrNames, is_spent, query_of};
+ghost use Rattle.amber_script.specs.Commands.{is_scripted};
 ghost use Rattle.amber_debug.specs.Ending.{EndsAs, IsLastText};
 ghost use Rattle.amber_debug.specs.Session.{Does, query_in};
 
@@ -81,6 +82,15 @@ fn do_end(alloc: Global, home: &mut Home) -> Result<Done, EndErr>
     }
 }
 
+// Memory ran out at a command to run, and no command follows.
+fn cut_off(spent: &mut bool) -> DebugErr
+    ensures why { result ≡ DebugErr.NoMemory }
+    ensures spent { spent.new ≡ true }
+{
+    *spent = true;
+    DebugErr::NoMemory
+}
+
 impl Debugger {
     /// A run that has not begun: of a workflow over the files of its scans, with so many rows in a batch, 1 to 65,536, on
     /// so many threads, 1 to 64, and with at most so many steps, 2^40 or fewer. For now a run takes no thread of its own.
@@ -133,10 +143,10 @@ impl Debugger {
     /// all is as before.
     pub fn command(&mut self, alloc: Global, command: &Command) -> Result<Done, DebugErr>
         requires fits { fits_of self.old.flow command.now ≡ true }
-        requires open { ends_over false self.old.log.items ≡ false }
 
-        // For now the one command is that to run to the end.
-        requires to_end { command.now ≡ Command.End }
+        // Counts, conditions, drops and losses of workers are not built yet, and no script has them.
+        requires scripted { (is_scripted command.now ≡ true) ⊎ (command.now ≡ Command.End) }
+        requires open { ends_over false self.old.log.items ≡ false }
         ensures does { Does result self.old self.new command.now }
         ensures spent { (result ≡ Err DebugErr.Spent) ↔ (self.old.spent ≡ true) }
         ensures was_legal { IsLegal (query_in self.old) self.old.log }
@@ -145,13 +155,26 @@ impl Debugger {
         if self.spent {
             return Err(DebugErr::Spent);
         }
+        match command {
+            Command::End => self.end(alloc),
+            // For now there is a way to the end alone.
+            Command::Run => Err(cut_off(&mut self.spent)),
+            _ => Err(DebugErr::NoMemory),
+        }
+    }
+
+    // Runs to the end.
+    fn end(&mut self, alloc: Global) -> Result<Done, DebugErr>
+        requires unspent { self.old.spent ≡ false }
+        requires open { ends_over false self.old.log.items ≡ false }
+        ensures does { Does result self.old self.new Command.End }
+        ensures unspent { result ≢ Err DebugErr.Spent }
+        ensures legal { IsLegal (query_in self.new) self.new.log }
+    {
         match do_end(alloc, &mut self.home) {
             Ok(done) => Ok(done),
             Err(EndErr::Long { item }) => Err(DebugErr::Long { item }),
-            Err(EndErr::NoMemory) => {
-                self.spent = true;
-                Err(DebugErr::NoMemory)
-            }
+            Err(EndErr::NoMemory) => Err(cut_off(&mut self.spent)),
         }
     }
 

@@ -30,7 +30,7 @@ pub struct Prepared {
 }
 
 // The place of a row with this key, and room for a new group. What is changed there is made in `changes`, whose content
-// before does not matter.
+// before does not matter; `room` gets the cells of a key that is known.
 pub(crate) fn find_place(
     alloc: Global,
     groups: &mut IndexMap<Key, Totals>,
@@ -38,6 +38,7 @@ pub(crate) fn find_place(
     aggs: &Aggs,
     row: &Row,
     changes: &mut Vec<Option<Value>>,
+    room: &mut Vec<Value>,
 ) -> Result<Place, AllocError>
     ensures place { IfOk result (λ place. IsPlaceFor place changes.new.items
         (record { entries = groups.old.entries; aggs = aggs.now; key = key; row = row.now })) }
@@ -49,6 +50,7 @@ pub(crate) fn find_place(
     match groups.get_index_of(&key) {
         Some(i) => {
             groups[i].find(row, changes)?;
+            *room = key.into_cells();
             Ok(Place::Known(i))
         }
         None => {
@@ -87,7 +89,8 @@ pub(crate) fn take_to(
     }
 }
 
-/// Takes a row with this key into the groups. So the groups of some rows become those of these rows and this one.
+/// Takes a row with this key into the groups. So the groups of some rows become those of these rows and this one. `room`
+/// gets cells that the next key may be made in.
 pub fn take_in(
     alloc: Global,
     groups: &mut IndexMap<Key, Totals>,
@@ -95,6 +98,7 @@ pub fn take_in(
     aggs: &Aggs,
     row: &Row,
     changes: &mut Vec<Option<Value>>,
+    room: &mut Vec<Value>,
 ) -> Result<(), AllocError>
     requires { (fed : ℕ) × (fed < 2 ^ 40) × GroupsWithin fed groups.old.entries }
     ensures ok { OnOk result ((keys : List ℕ) (rows : List (List Cell)) → groups.old.entries
@@ -105,7 +109,7 @@ pub fn take_in(
     ensures same { OnErr result (groups.new.entries ≡ groups.old.entries) }
     ensures still { OnErr result (0 < spare groups.old → 0 < spare groups.new) }
 {
-    let place = find_place(alloc, groups, key, aggs, row, changes)?;
+    let place = find_place(alloc, groups, key, aggs, row, changes, room)?;
     take_to(groups, place, row, changes);
     Ok(())
 }

@@ -27,6 +27,8 @@ pub struct GroupState {
     changes: Vec<Option<Value>>,
     // Whether a row is prepared: then there is room for a group more.
     ready: bool,
+    // Cells of a key that is done with, in whose room the next one is made.
+    room: Vec<Value>,
 }
 
 impl Model for GroupState {
@@ -60,6 +62,7 @@ impl GroupState {
             groups: IndexMap::new(alloc),
             changes: Vec::new(alloc),
             ready: false,
+            room: Vec::new(alloc),
         }
     }
 
@@ -73,7 +76,8 @@ impl GroupState {
         ensures same_aggs { self.new.aggs ≡ self.old.aggs }
         ensures same_on_err { OnErr result (self.new ≡ self.old) }
     {
-        let key = Key::of(self.alloc, row, &self.keys)?;
+        let room = mem::replace(&mut self.room, Vec::new(self.alloc));
+        let key = Key::over(self.alloc, room, row, &self.keys)?;
         take_in(
             self.alloc,
             &mut self.groups,
@@ -81,6 +85,7 @@ impl GroupState {
             &self.aggs,
             row,
             &mut self.changes,
+            &mut self.room,
         )?;
         self.fed += 1;
         self.ready = false;
@@ -93,7 +98,8 @@ impl GroupState {
         ensures ready { OnOk result (self.new ≡ record self.old { ready = true }) }
         ensures same_on_err { OnErr result (self.new ≡ self.old) }
     {
-        let key = Key::of(self.alloc, row, &self.keys)?;
+        let room = mem::replace(&mut self.room, Vec::new(self.alloc));
+        let key = Key::over(self.alloc, room, row, &self.keys)?;
         let mut changes = mem::replace(&mut self.changes, Vec::new(self.alloc));
         let found = find_place(
             self.alloc,
@@ -102,6 +108,7 @@ impl GroupState {
             &self.aggs,
             row,
             &mut changes,
+            &mut self.room,
         );
         let place = found?;
         self.ready = true;
@@ -178,6 +185,7 @@ impl Clone for GroupState {
             groups,
             changes: Vec::new(self.alloc),
             ready: self.ready,
+            room: Vec::new(self.alloc),
         })
     }
 }

@@ -1,6 +1,7 @@
 ghost use Rattle.std.specs.Prelude.{◌≡◌, ◌++◌, ◌∷◌, [], IfOk, OnOk, map, option_map, slice_get};
 ghost use Rattle.std.specs.List.{filter_map};
 
+use crate::places::Places;
 use amber_rows::{Row, Value};
 use std::alloc::{AllocError, Global};
 
@@ -56,14 +57,16 @@ pub fn matches(
     alloc: Global,
     probe: &Row,
     build: &[Row],
-    places: &[usize],
+    places: &Places,
 ) -> Result<Vec<Row>, AllocError>
     ensures { IfOk result
         (λ made. made.items ≡ map
         (λ other. probe.now ++ other) (filter_map (slice_get build.now) places.now)) }
 {
     let mut made = Vec::with_capacity(alloc, places.len())?;
-    for place in places {
+    let (first, more) = places.get();
+    add_match(alloc, probe, build, first, &mut made)?;
+    for place in more {
         add_match(alloc, probe, build, *place, &mut made)?;
     }
     Ok(made)

@@ -1,4 +1,4 @@
-ghost use Rattle.std.specs.Prelude.{◌≡◌, ◌++◌, ◌∷◌, [], ℕ, List, IfOk, OnErr, OnOk, length};
+ghost use Rattle.std.specs.Prelude.{◌≡◌, ◌^◌, ◌-◌, ◌++◌, ◌∷◌, [], ℕ, List, OnErr, OnOk, length, min};
 ghost use Rattle.amber_rows.specs.Operators.{pick_cells};
 ghost use Rattle.amber_rows.specs.declared.value.Value.{Value as Cell};
 ghost use Rattle.amber_join.specs.Came.{HasCome};
@@ -9,28 +9,31 @@ use indexmap::IndexMap;
 use std::alloc::{AllocError, Global};
 use std::marker::Model;
 
-/// Places of build rows in the order in which they came, seen as a list.
+/// Places of build rows in the order in which they came, seen as a list. There is one at least. Most keys have one row,
+/// so the first place stands beside the key and not elsewhere in memory.
 #[derive(Debug, Drop)]
 pub struct Places {
-    inner: Vec<usize>,
+    first: usize,
+    more: Vec<usize>,
 }
 
 impl Model for Places {
-    ghost use Rattle.std.specs.Prelude.{List, ℕ};
+    ghost use Rattle.std.specs.Prelude.{◌∷◌, List, ℕ};
 
     ghost Value = { List ℕ };
 
-    ghost view = { λ a. a.inner.items };
+    ghost view = { λ a. a.first ∷ a.more.items };
 }
 
 impl Places {
     /// One place alone.
-    fn one(alloc: Global, place: usize) -> Result<Self, AllocError>
-        ensures { IfOk result (λ places. places ≡ place ∷ []) }
+    fn one(alloc: Global, place: usize) -> Self
+        ensures { result ≡ place ∷ [] }
     {
-        let mut inner = Vec::new(alloc);
-        inner.push(place)?;
-        Ok(Places { inner })
+        Places {
+            first: place,
+            more: Vec::new(alloc),
+        }
     }
 
     /// Puts a place behind the others.
@@ -38,23 +41,30 @@ impl Places {
         ensures ok { OnOk result (self.new ≡ self.old ++ place ∷ []) }
         ensures same { OnErr result (self.new ≡ self.old) }
     {
-        self.inner.push(place)?;
+        self.more.push(place)?;
         Ok(())
     }
 
-    /// Takes the last place away.
+    /// Takes the last place away, where it is not the only one.
     fn remove_last(&mut self)
-        ensures { (places : List ℕ) (last : ℕ) → self.old ≡ places ++ last ∷ []
-            → self.new ≡ places }
+        ensures { (first : ℕ) (places : List ℕ) (last : ℕ)
+            → self.old ≡ first ∷ (places ++ last ∷ []) → self.new ≡ first ∷ places }
     {
-        let _last = self.inner.pop();
+        let _last = self.more.pop();
     }
 
-    /// The places as a slice.
-    pub fn get(&self) -> &[usize]
-        ensures { result.now ≡ self.now }
+    /// How many places there are.
+    pub fn len(&self) -> usize
+        ensures { result ≡ min (length self.now) (2 ^ 64 - 1) }
     {
-        self.inner.as_slice()
+        self.more.len().saturating_add(1)
+    }
+
+    /// The first place, and the others.
+    pub fn get(&self) -> (usize, &[usize])
+        ensures { self.now ≡ result.0 ∷ result.1.now }
+    {
+        (self.first, self.more.as_slice())
     }
 }
 
@@ -63,7 +73,8 @@ impl Clone for Places {
 
     fn clone(&self) -> Result<Self, AllocError> {
         Ok(Places {
-            inner: self.inner.clone()?,
+            first: self.first,
+            more: self.more.clone()?,
         })
     }
 }
@@ -98,25 +109,17 @@ pub fn note(
             Ok(Came::Known(i))
         }
         None => {
-            let places = Places::one(alloc, place)?;
-            table.insert(key, places)?;
-            Ok(Came::New)
-        }
+    /// Takes the last place away, where it is not the only one.
+    fn remove_last(&mut self)
+        ensures { (first : ℕ) (places : List ℕ) (last : ℕ)
+            → self.old ≡ first ∷ (places ++ last ∷ []) → self.new ≡ first ∷ places }
+    {
+        let _last = self.more.pop();
     }
-}
 
-/// Forgets where the row stands that came last. So a table of some rows and one more becomes that of these rows.
-pub fn forget(table: &mut IndexMap<Key, Places>, came: Came)
-    requires { (keys : List ℕ) × (rows : List (List Cell)) × (row : List Cell)
-        × (table.old.entries ≡ table_of keys (rows ++ row ∷ [])) × HasCome came keys rows row }
-    ensures { (keys : List ℕ) (rows : List (List Cell)) (row : List Cell)
-        → table.old.entries ≡ table_of keys (rows ++ row ∷ []) → HasCome came keys rows row
-        → table.new.entries ≡ table_of keys rows }
-{
-    match came {
-        Came::Known(i) => table[i].remove_last(),
-        Came::New => {
-            let _last = table.pop();
+    /// How many places there are.
+    pub fn len(&self) -> usize
+        ensures { result ≡ min (length self.now) (2 ^ 64 - 1) }
         }
     }
 }

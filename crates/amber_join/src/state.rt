@@ -128,7 +128,7 @@ impl JoinState {
     {
         let key = Key::of(alloc, row, &self.probe_keys)?;
         match self.table.get(&key) {
-            Some(places) => Ok(Rows::new(matches(alloc, row, self.rows.as_slice(), places.get())?)),
+            Some(places) => Ok(Rows::new(matches(alloc, row, self.rows.as_slice(), places)?)),
             None => Ok(Rows::new(Vec::new(alloc))),
         }
     }

@@ -23,4 +23,4 @@ pub use laws::commands_have_text;
 pub use read::{LogErr, read_log};
 pub use std::alloc::AllocError as NoMemory;
 pub use whole::whole_items;
-pub use write::{write_head, write_item};
+pub use write::{write_command, write_head, write_item};

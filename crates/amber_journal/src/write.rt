@@ -1,13 +1,13 @@
 //! The head of a log, and its items.
 ghost use Rattle.std.specs.Prelude.{◌≡◌, [], ◌∷◌, ◌++◌, IfOk, OnOk};
-ghost use Rattle.amber_log.specs.Grammar.{IsBatch, IsItem};
+ghost use Rattle.amber_log.specs.Grammar.{IsBatch, IsCommand, IsItem};
 ghost use Rattle.amber_log.specs.LogText.{head_text, item_text};
 ghost use Rattle.amber_journal.specs.Written.{leg_text};
 
 use crate::commands::push_command;
 use crate::legs::push_leg;
 use crate::lines::{push_line, push_one};
-use amber_log::{Item, Leg};
+use amber_log::{Command, Item, Leg};
 use std::alloc::{AllocError, Global};
 
 /// The first line of a log: the format's version and how many rows a batch has, from 1 to 65,536.
@@ -50,5 +50,16 @@ pub fn write_item(alloc: Global, item: &Item) -> Result<Vec<u8>, AllocError>
 {
     let mut out = Vec::new(alloc);
     push_item(alloc, &mut out, item)?;
+    Ok(out)
+}
+
+/// The text of the item that a command makes which runs no leg: the same as of the item, without one.
+#[tactic(auto, using(crate::proofs::ItemText::text_of_command))]
+pub fn write_command(alloc: Global, command: &Command) -> Result<Vec<u8>, AllocError>
+    requires { IsCommand command.now }
+    ensures { IfOk result (λ text. text.items ≡ item_text (Item.Do command.now)) }
+{
+    let mut out = Vec::new(alloc);
+    push_command(alloc, &mut out, command)?;
     Ok(out)
 }

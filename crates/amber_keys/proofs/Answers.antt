@@ -16,3 +16,7 @@ if_ok (Err e) P Q h f = tt
 pub none_is : {A : Type 0} (r : Option A) → false ≡ is_some r → r ≡ None
 none_is None e = refl
 none_is (Some x) e = absurd (cc)
+
+pub err_so : {T E : Type 0} (r : Result T E) (P : Type 0) → P → OnErr r P
+err_so (Ok x) P p = tt
+err_so (Err e) P p = p

@@ -6,7 +6,7 @@ ghost use Rattle.amber_rows.specs.Order.{row_cmp};
 ghost use Rattle.amber_rows.specs.OrderLaws.{row-total};
 ghost use Rattle.amber_keys.specs.Hashing.{cell_writes, key_writes, key_writes_alike};
 
-use amber_rows::{Cols, Row, Value};
+use amber_rows::{Cols, Row, Value, pick_over};
 use std::alloc::{AllocError, Global};
 use std::hash::{Hash, Hasher};
 use std::marker::Model;
@@ -35,6 +35,28 @@ impl Key {
         Ok(Key {
             row: row.pick(alloc, columns)?,
         })
+    }
+
+    /// The same, in the room of cells that are done with. What they are does not matter.
+    pub fn over(
+        alloc: Global,
+        room: Vec<Value>,
+        row: &Row,
+        columns: &Cols,
+    ) -> Result<Self, AllocError>
+        ensures { IfOk result (λ key. key ≡ pick_cells columns.now row.now) }
+    {
+        Ok(Key {
+            row: pick_over(alloc, room, row, columns)?,
+        })
+    }
+
+    /// The cells, as room for others.
+    pub fn into_cells(self) -> Vec<Value>
+        ensures { result.items ≡ self }
+    {
+        let Key { row } = self;
+        row.into_inner()
     }
 
     /// The cells as a row.

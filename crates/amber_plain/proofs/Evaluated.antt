@@ -1,151 +1,47 @@
--- The lists that stand while the operators of a workflow are evaluated: each holds the rows of its operator until they are read.
-use Rattle.std.proofs.Common.{◌≡◌, ◌≢◌, ℕ, ◌+◌, ◌-◌, ◌<◌, ◌≤◌, Bool, true, false, cond, eqb, List, [], ◌∷◌, ◌++◌, length, get_or, set, take, drop, count_by, sum_by, filter, Result, inl, inr, refl, sym, ap, ◌∙◌, arith, eq-eqb}
-use Rattle.std.proofs.lemmas.Bool.{cases_eq, cases_lt, eqb-true, ne_eqb}
-use Rattle.std.proofs.lemmas.List.{append-nil, get_or_append_left, get_or_push, get_or-set_other, length-set, length-take, length_push, take-append-drop, take_all, take_more}
+-- The operators of a workflow, evaluated one after the other: what is unread for each until it is read.
+use Rattle.std.proofs.Common.{◌≡◌, ℕ, ◌+◌, ◌-◌, ◌<◌, ◌≤◌, List, [], ◌∷◌, ◌++◌, length, get_or, take, drop, count_by, sum_by, Option, Some, None, Err, inl, inr, refl, sym, ap, ◌∙◌, arith, eqb}
+use Rattle.std.specs.List.{flat_map}
+use Rattle.std.proofs.lemmas.Bool.{cases_eq, cases_lt}
+use Rattle.std.proofs.lemmas.List.{append-nil, length-map, length-set, length-take, length_push, take-append-drop, take_all, take_more}
 use Rattle.std.proofs.lemmas.List.Sums.{sum_by-append}
-use Rattle.amber_rows.specs.Cond.{holds_of}
-use Rattle.amber_rows.specs.Operators.{group_result, join_result, project_result, refused_keys}
-use Rattle.amber_rows.specs.Order.{sort_rows}
 use Rattle.amber_rows.specs.FlowRules.{IsFlow, reader_count}
 use Rattle.amber_rows.specs.Columns.{columns_at}
-use Rattle.amber_rows.specs.Kinds.{inputs_of, IsKind}
+use Rattle.amber_rows.specs.Kinds.{inputs_of}
 use Rattle.amber_rows.proofs.FlowFacts.{reader_count-append}
-use Rattle.amber_rows.specs.declared.value.Value.{Value}
-use Rattle.amber_rows.specs.declared.column.Column.{Column}
-use Rattle.amber_rows.specs.declared.record.RowFault.{RowFault}
-use Rattle.amber_rows.specs.declared.flow.What.{What}
-use Rattle.amber_rows.specs.declared.flow.What.TheVariants as what
+use Rattle.amber_rows.specs.Lists.{list_at, nth}
 use Rattle.amber_rows.specs.declared.flow.Operator.{Operator}
-use Rattle.amber_meaning.specs.Plain.{answer_from, answer_of, records_of, outputs, refusals}
+use Rattle.amber_meaning.specs.Plain.{IsPlain, answer_from, answer_of, outputs, records_of, refusals, row_total, wrong_header}
 use Rattle.amber_meaning.specs.Kinds.{refused_by, rows_of}
-use Rattle.amber_meaning.specs.Refused.{refused_groups}
-use Rattle.amber_rows.specs.Lists.{list_at, first_list}
-use Rattle.amber_meaning.specs.ScanFiles.{files_left, records_at}
-use Rattle.amber_plain.specs.Evaluator.{HasInputs, lists_after}
 use Rattle.amber_meaning.specs.declared.answer.Answer.{Answer}
+use Rattle.amber_meaning.specs.declared.answer.PlainErr.{PlainErr}
+use Rattle.amber_meaning.specs.declared.answer.PlainErr.TheVariants as plain_err
 use Rattle.amber_meaning.specs.declared.answer.Refusal.{Refusal}
-use Rattle.amber_meaning.proofs.Operators.{Lists, Records, list_at-is, next-here, nth-within, refusals-more, records-here, rows-before, rows-here, length-outputs}
+use Rattle.amber_meaning.proofs.Operators.{Lists, length-outputs, list_at-is, next-here, nth-here, rows-before, rows-here}
+use Rattle.amber_plain.specs.Holding.{FallsShort}
+use Rattle.amber_plain.specs.Unread.{HasInputs, HasOne, Records, Waiting, nothing, unread_at, unread_count, unread_rows, without}
+use Rattle.amber_plain.specs.Steps.{others_of, unread_of, read_for, refused_now, told_by}
+use Rattle.amber_plain.proofs.Inputs.{AreWhole, HasInputs-same, earlier, inputs-there, read_count, refused-same, rows-same}
+use Rattle.amber_plain.proofs.Told.{IsTold, IsTold-next, IsTold-read, Refused, all-told, unread-last, unread-left, told-refusals}
+use Rattle.amber_plain.proofs.Waits.{list_at-lists, lists_of, next-owed, next-unread, others-length, others-none, others-other, others-read, owed, owed-none, unread_at-is, read-owed, taken-none, taken-owed, taken-same}
 
--- how often an operator reads the list with this number
-abbrev pub read_count : What → ℕ → ℕ
-read_count kind op = count_by (λ input. eqb input op) (inputs_of kind)
+-- what the operator with a number refuses, where these are the rows of all operators
+abbrev pub refused_of : ℕ → Records → Lists → Option Operator → List Refusal
+refused_of op records all None = []
+refused_of op records all (Some o) = refused_by op o.what (list_at records op) all
 
-abbrev ones : Bool → ℕ
-ones b = cond b 1 0
-
-one_by : (input op : ℕ) (b : Bool) → eqb input op ≡ b → 0 < ones b → input ≡ op
-one_by input op true e h = eqb-true input op e
-one_by input op false e h = absurd (omega arith)
-
-one_read : (input op : ℕ) → 0 < ones (eqb input op) → input ≡ op
-one_read input op h = one_by input op (eqb input op) refl h
-
-reads_own : (input : ℕ) → ones (eqb input input) ≡ 1
-reads_own input = rw (eq-eqb input input refl) refl
-
-reads_none : (input op : ℕ) → input ≢ op → ones (eqb input op) ≡ 0
-reads_none input op ne = rw (ne_eqb input op ne) refl
-
-reads_same : (input op : ℕ) → op ≡ input → ones (eqb input op) ≡ 1
-reads_same input op e = rw (eq-eqb input op (sym e)) refl
-
-reads_other : (input op : ℕ) → ones (eqb input op) ≡ 0 → op ≢ input
-reads_other input op h e = let own = reads_same input op e in absurd (omega (arith, own))
-
--- ---- the inputs of an operator that stands behind others
-
-earlier : (before : List Operator) (kind : What) (columns : List Column) → IsKind before kind columns → (op : ℕ) → 0 < read_count kind op → (0 < op) × (op ≤ length before)
-earlier before (what.Scan file) columns k op h = absurd (omega arith)
-earlier before (what.Filter input test) columns k op h =
-    let e = one_read input op (omega arith) in let w = nth-within before input (λ earlier. earlier.schema ≡ columns) k.0 in (omega (arith, w.0), omega (arith, w.1))
-earlier before (what.Project input from) columns k op h = let e = one_read input op (omega arith) in (omega (arith, k.0.0), omega (arith, k.0.1))
-earlier before (what.Join build probe build_keys probe_keys) columns k op h =
-    elim (cases_eq build op) [
-      | inl e ↦ (omega (arith, k.0.0), omega (arith, k.0.1))
-      | inr ne ↦
-          let none = reads_none build op ne in
-          let e = one_read probe op (omega (arith, none)) in (omega (arith, k.1.0), omega (arith, k.1.1))
-    ]
-earlier before (what.Group input keys aggs) columns k op h = let e = one_read input op (omega arith) in (omega (arith, k.0.0), omega (arith, k.0.1))
-earlier before (what.Sink input) columns k op h =
-    let e = one_read input op (omega arith) in let w = nth-within before input (λ earlier. earlier.schema ≡ columns) k in (omega (arith, w.0), omega (arith, w.1))
-
--- the list with this number is whole, and read once
-record IsWhole (kind : What) (lists all : Lists) (op : ℕ) : Type 0 where
-  pub some : 0 < op
-  pub within : op ≤ length lists
-  pub once : read_count kind op ≡ 1
-  pub same : list_at lists op ≡ list_at all op
-
-abbrev AreWhole : What → Lists → Lists → Type 0
-AreWhole kind lists all = (op : ℕ) → 0 < read_count kind op → IsWhole kind lists all op
-
-inputs-there : (kind : What) (lists all : Lists) → AreWhole kind lists all → HasInputs lists kind
-inputs-there (what.Scan file) lists all w = (tt, tt, tt)
-inputs-there (what.Filter input test) lists all w = let h = w input (omega (arith, reads_own input)) in (tt, (h.some, h.within), tt)
-inputs-there (what.Project input from) lists all w = let h = w input (omega (arith, reads_own input)) in (tt, (h.some, h.within), tt)
-inputs-there (what.Join build probe build_keys probe_keys) lists all w =
-    let a = w build (omega (arith, reads_own build)) in
-    let b = w probe (omega (arith, reads_own probe)) in (
-      (a.some, a.within),
-      (b.some, b.within),
-      λ e. absurd (omega (arith, a.once, reads_same probe build e, reads_own build)),
-    )
-inputs-there (what.Group input keys aggs) lists all w = let h = w input (omega (arith, reads_own input)) in (tt, (h.some, h.within), tt)
-inputs-there (what.Sink input) lists all w = let h = w input (omega (arith, reads_own input)) in (tt, (h.some, h.within), tt)
-
--- an operator gives the same rows from lists that are the same at its inputs, and refuses the same
-pub rows-same : (kind : What) (records : List (Result (List Value) RowFault)) (lists all : Lists) → ((op : ℕ) → 0 < read_count kind op → list_at lists op ≡ list_at all op)
-    → rows_of kind records lists ≡ rows_of kind records all
-rows-same (what.Scan file) records lists all w = refl
-rows-same (what.Filter input test) records lists all w = ap (λ rows. filter (holds_of test) rows) (w input (omega (arith, reads_own input)))
-rows-same (what.Project input from) records lists all w = ap (λ rows. project_result from rows) (w input (omega (arith, reads_own input)))
-rows-same (what.Join build probe build_keys probe_keys) records lists all w =
-    ap (λ rows. join_result build_keys probe_keys rows (list_at lists probe)) (w build (omega (arith, reads_own build)))
-    ∙ ap (λ rows. join_result build_keys probe_keys (list_at all build) rows) (w probe (omega (arith, reads_own probe)))
-rows-same (what.Group input keys aggs) records lists all w = ap (λ rows. group_result keys aggs rows) (w input (omega (arith, reads_own input)))
-rows-same (what.Sink input) records lists all w = ap (λ rows. sort_rows rows) (w input (omega (arith, reads_own input)))
-
-pub refused-same : (op : ℕ) (kind : What) (records : List (Result (List Value) RowFault)) (lists all : Lists) → ((op : ℕ) → 0 < read_count kind op → list_at lists op ≡ list_at all op)
-    → refused_by op kind records lists ≡ refused_by op kind records all
-refused-same op (what.Scan file) records lists all w = refl
-refused-same op (what.Filter input test) records lists all w = refl
-refused-same op (what.Project input from) records lists all w = refl
-refused-same op (what.Join build probe build_keys probe_keys) records lists all w = refl
-refused-same op (what.Group input keys aggs) records lists all w = ap (λ rows. refused_groups op (refused_keys keys aggs rows)) (w input (omega (arith, reads_own input)))
-refused-same op (what.Sink input) records lists all w = refl
-
--- ---- what is left when the inputs are taken
-
-set-other : (lists : Lists) (input op : ℕ) → 0 < op → 0 < input → op ≢ input → get_or (set lists (input - 1) []) (op - 1) [] ≡ get_or lists (op - 1) []
-set-other lists input op a b ne = get_or-set_other lists (input - 1) (op - 1) [] [] (λ e. ne (omega arith))
-
-after-length : (kind : What) (lists : Lists) → length (lists_after kind lists) ≡ length lists
-after-length (what.Scan file) lists = refl
-after-length (what.Filter input test) lists = length-set lists (input - 1) []
-after-length (what.Project input from) lists = length-set lists (input - 1) []
-after-length (what.Join build probe build_keys probe_keys) lists = length-set (set lists (build - 1) []) (probe - 1) [] ∙ length-set lists (build - 1) []
-after-length (what.Group input keys aggs) lists = length-set lists (input - 1) []
-after-length (what.Sink input) lists = length-set lists (input - 1) []
-
-after-other : (kind : What) (lists : Lists) (op : ℕ) → 0 < op → HasInputs lists kind → read_count kind op ≡ 0 → get_or (lists_after kind lists) (op - 1) [] ≡ get_or lists (op - 1) []
-after-other (what.Scan file) lists op some h none = refl
-after-other (what.Filter input test) lists op some h none = set-other lists input op some h.1.0 (reads_other input op (omega arith))
-after-other (what.Project input from) lists op some h none = set-other lists input op some h.1.0 (reads_other input op (omega arith))
-after-other (what.Join build probe build_keys probe_keys) lists op some h none =
-    set-other (set lists (build - 1) []) probe op some h.1.0 (reads_other probe op (omega arith)) ∙ set-other lists build op some h.0.0 (reads_other build op (omega arith))
-after-other (what.Group input keys aggs) lists op some h none = set-other lists input op some h.1.0 (reads_other input op (omega arith))
-after-other (what.Sink input) lists op some h none = set-other lists input op some h.1.0 (reads_other input op (omega arith))
+abbrev pub refused_at : List Operator → Records → Refused
+refused_at flow records op = refused_of op records (outputs records [] flow) (nth flow op)
 
 -- ---- the first operators were evaluated
 
--- each of their lists is that of all operators unless it was read, and so are what was refused and the total
-pub record Evaluated (flow : List Operator) (records : Records) (i : ℕ) (lists : Lists) (refused : List Refusal) (total : ℕ) : Type 0 where
-  pub count : length lists ≡ i
-  pub whole : (op : ℕ) → 0 < op → op ≤ i → reader_count (take i flow) op ≡ 0 → list_at lists op ≡ list_at (outputs records [] flow) op
+-- what is unread for each gives its rows unless it was read, and so are what was refused and the rows that were counted
+pub record Evaluated (flow : List Operator) (records : Records) (i : ℕ) (waiting : List Waiting) (told : List (List Refusal)) (left most : ℕ) : Type 0 where
+  pub count : length waiting ≡ i
+  pub whole : (op : ℕ) → 0 < op → op ≤ i → reader_count (take i flow) op ≡ 0 → list_at (lists_of records waiting) op ≡ list_at (outputs records [] flow) op
   pub unread : (op : ℕ) → i ≤ op → 0 < op → reader_count (take i flow) op ≡ 0
-  pub refusals_so_far : refusals 1 records (outputs records [] flow) flow ≡ refused ++ refusals (i + 1) (drop i records) (outputs records [] flow) (drop i flow)
-  pub total_so_far : total ≡ sum_by length (take i (outputs records [] flow))
+  pub gone : (op : ℕ) → 0 < op → op ≤ i → 0 < reader_count (take i flow) op → unread_at waiting op ≡ nothing
+  pub told_so_far : IsTold records (refused_at flow records) waiting told
+  pub counted : most + owed records waiting ≡ left + sum_by length (take i (outputs records [] flow))
 
 reads-here : (flow : List Operator) (i : ℕ) (o : Operator) (op : ℕ) → i < length flow → o ≡ get_or flow i o → reader_count (take (i + 1) flow) op ≡ reader_count (take i flow) op + read_count o.what op
 unfolding reader_count
@@ -161,137 +57,227 @@ reads-within flow i op =
     omega arith
 
 -- the inputs of the next operator are whole
-next-whole : (flow : List Operator) → IsFlow flow → (records : Records) (i : ℕ) (o : Operator) (lists : Lists) (refused : List Refusal) (total : ℕ) → i < length flow → o ≡ get_or flow i o
-    → Evaluated flow records i lists refused total → AreWhole o.what lists (outputs records [] flow)
-next-whole flow ok records i o lists refused total h e v op reads =
+next-whole : (flow : List Operator) → IsFlow flow → (records : Records) (i : ℕ) (o : Operator) (waiting : List Waiting) (told : List (List Refusal)) (left most : ℕ) → i < length flow → o ≡ get_or flow i o
+    → Evaluated flow records i waiting told left most → AreWhole o.what (lists_of records waiting) (outputs records [] flow)
+next-whole flow ok records i o waiting told left most h e v op reads =
     let front = earlier (take i flow) o.what o.schema (next-here flow ok i o h e).kind op reads in
     let long : length (take i flow) ≡ i = omega (arith, length-take i flow) in
     let all : reader_count flow op ≡ 1 = ok.read_once op front.0 (omega (arith, front.1)) in
     let sum = reads-here flow i o op h e in
-    let most = reads-within flow (i + 1) op in
+    let within = reads-within flow (i + 1) op in
     record {
       some = front.0;
-      within = omega (arith, front.1, v.count);
+      within = omega (arith, front.1, v.count, length-map waiting (unread_rows records));
       once = omega arith;
       same = v.whole op front.0 (omega (arith, front.1)) (omega arith);
     }
 
-pub has-inputs : (flow : List Operator) → IsFlow flow → (records : Records) (i : ℕ) (o : Operator) (lists : Lists) (refused : List Refusal) (total : ℕ) → i < length flow → o ≡ get_or flow i o
-    → Evaluated flow records i lists refused total → HasInputs lists o.what
-has-inputs flow ok records i o lists refused total h e v = inputs-there o.what lists (outputs records [] flow) (next-whole flow ok records i o lists refused total h e v)
+pub has-inputs : (flow : List Operator) → IsFlow flow → (records : Records) (i : ℕ) (o : Operator) (waiting : List Waiting) (told : List (List Refusal)) (left most : ℕ) → i < length flow → o ≡ get_or flow i o
+    → Evaluated flow records i waiting told left most → HasInputs waiting o.what
+has-inputs flow ok records i o waiting told left most h e v =
+    HasInputs-same (lists_of records waiting) waiting o.what (length-map waiting (unread_rows records))
+    (inputs-there o.what (lists_of records waiting) (outputs records [] flow) (next-whole flow ok records i o waiting told left most h e v))
+
+record-at : (records : Records) (i : ℕ) → list_at records (i + 1) ≡ get_or records i []
+record-at records i = let same : i + 1 - 1 ≡ i = omega arith in list_at-is records (i + 1) (omega arith) ∙ ap (λ k. get_or records k []) same
 
 -- the rows of the next operator
-pub next-rows : (flow : List Operator) → IsFlow flow → (records : Records) (i : ℕ) (o : Operator) (lists : Lists) (refused : List Refusal) (total : ℕ) → i < length flow → o ≡ get_or flow i o
-    → Evaluated flow records i lists refused total → rows_of o.what (get_or records i []) lists ≡ get_or (outputs records [] flow) i []
-next-rows flow ok records i o lists refused total h e v =
-    let w = next-whole flow ok records i o lists refused total h e v in
+next-rows : (flow : List Operator) → IsFlow flow → (records : Records) (i : ℕ) (o : Operator) (waiting : List Waiting) (told : List (List Refusal)) (left most : ℕ) → i < length flow → o ≡ get_or flow i o
+    → Evaluated flow records i waiting told left most → unread_rows records (unread_of records (i + 1) o.what waiting) ≡ get_or (outputs records [] flow) i []
+next-rows flow ok records i o waiting told left most h e v =
+    let w = next-whole flow ok records i o waiting told left most h e v in
     let all = outputs records [] flow in
     let one = get_or records i [] in
-    rows-same o.what one lists all (λ op reads. (w op reads).same)
+    let lists = lists_of records waiting in
+    next-unread records (i + 1) o.what waiting ∙ ap (λ typed. rows_of o.what typed lists) (record-at records i)
+    ∙ rows-same o.what one lists all (λ op reads. (w op reads).same)
     ∙ sym (
     rows-here records flow i o h e
-    ∙ rows-same o.what one (outputs records [] (take i flow)) all (λ op reads. rows-before records flow i op h (w op reads).some (omega (arith, (w op reads).within, v.count)))
+    ∙ rows-same o.what one (outputs records [] (take i flow)) all (λ op reads. rows-before records flow i op h (w op reads).some (omega (arith, (w op reads).within, v.count, length-map waiting (unread_rows records))))
     )
+
+-- what it refuses
+next-refused_at : (flow : List Operator) → IsFlow flow → (records : Records) (i : ℕ) (o : Operator) (waiting : List Waiting) (told : List (List Refusal)) (left most : ℕ) → i < length flow → o ≡ get_or flow i o
+    → Evaluated flow records i waiting told left most → refused_at flow records (i + 1) ≡ refused_by (i + 1) o.what (list_at records (i + 1)) (lists_of records waiting)
+next-refused_at flow ok records i o waiting told left most h e v =
+    let w = next-whole flow ok records i o waiting told left most h e v in
+    let all = outputs records [] flow in
+    ap (λ found. refused_of (i + 1) records all found) (nth-here flow i o h e)
+    ∙ sym (refused-same (i + 1) o.what (list_at records (i + 1)) (lists_of records waiting) all (λ op reads. (w op reads).same))
 
 total-more : (all : Lists) (i : ℕ) → i < length all → sum_by length (take (i + 1) all) ≡ sum_by length (take i all) + length (get_or all i [])
 total-more all i h =
     let one : 0 + length (get_or all i []) ≡ length (get_or all i []) = omega arith in
     ap (λ lists. sum_by length lists) (take_more all i [] h) ∙ sum_by-append length (take i all) (get_or all i [] ∷ []) ∙ ap (λ n. sum_by length (take i all) + n) one
 
-pub Evaluated-none : (flow : List Operator) (records : Records) (lists : Lists) (refused : List Refusal) → lists ≡ [] → refused ≡ [] → Evaluated flow records 0 lists refused 0
+pub Evaluated-none : (flow : List Operator) (records : Records) (waiting : List Waiting) (told : List (List Refusal)) (most : ℕ) → waiting ≡ [] → told ≡ [] → Evaluated flow records 0 waiting told most most
 unfolding reader_count
-Evaluated-none flow records lists refused a b = record {
+Evaluated-none flow records waiting told most a b = record {
   count = ap length a;
   whole = λ op some few. absurd (omega arith);
   unread = λ op from some. refl;
-  refusals_so_far = rw b refl;
-  total_so_far = refl;
+  gone = λ op some few. absurd (omega arith);
+  told_so_far = record {
+    count = ap length b ∙ sym (ap length a);
+    told_so_far = λ op some few. absurd (omega (arith, few, ap length a));
+    scans = λ place op there. absurd (omega (arith, there.0, there.1, ap length a));
+  };
+  counted = rw a refl;
 }
 
-pub Evaluated-more : (flow : List Operator) → IsFlow flow → (records : Records) (i : ℕ) (o : Operator) (lists : Lists) (refused : List Refusal) (total : ℕ) → i < length flow → o ≡ get_or flow i o
-    → Evaluated flow records i lists refused total → (rows : List (List Value)) (new : Lists) (newly : List Refusal) (count : ℕ)
-    → rows ≡ rows_of o.what (get_or records i []) lists → new ≡ lists_after o.what lists ++ rows ∷ [] → newly ≡ refused ++ refused_by (i + 1) o.what (get_or records i []) lists
-    → count ≡ length rows → Evaluated flow records (i + 1) new newly (total + count)
-Evaluated-more flow ok records i o lists refused total h e v rows new newly count r n l k =
-    let w = next-whole flow ok records i o lists refused total h e v in
+-- one operator more
+pub Evaluated-more : (flow : List Operator) → IsFlow flow → (records : Records) (i : ℕ) (o : Operator) (waiting new : List Waiting) (told newly : List (List Refusal)) (left rest most : ℕ)
+    → i < length flow → o ≡ get_or flow i o → Evaluated flow records i waiting told left most
+    → new ≡ others_of o.what waiting ++ unread_of records (i + 1) o.what waiting ∷ []
+    → newly ≡ told_by records told (read_for o.what waiting).source ++ refused_now records (i + 1) o.what waiting ∷ []
+    → left ≡ rest + unread_count records (read_for o.what waiting) → Evaluated flow records (i + 1) new newly rest most
+Evaluated-more flow ok records i o waiting new told newly left rest most h e v n l k =
     let all = outputs records [] flow in
-    let here : rows ≡ get_or all i [] = r ∙ next-rows flow ok records i o lists refused total h e v in
-    let after = lists_after o.what lists in
-    let long : length after ≡ i = after-length o.what lists ∙ v.count in
+    let unread = unread_of records (i + 1) o.what waiting in
+    let others = others_of o.what waiting in
+    let has = has-inputs flow ok records i o waiting told left most h e v in
+    let here = next-rows flow ok records i o waiting told left most h e v in
+    let long : length others ≡ i = others-length o.what waiting ∙ v.count in
     let within : i < length all = omega (arith, length-outputs records [] flow) in
-    let not_read : (op : ℕ) → i + 1 ≤ op → 0 < op → reader_count (take (i + 1) flow) op ≡ 0 = λ op from some.
-    reads-here flow i o op h e ∙ ap (λ m. m + read_count o.what op) (v.unread op (omega arith) some) ∙ none_later flow ok i o h e op from in
-    let same = λ (op : ℕ) (some : 0 < op) (few : op ≤ i + 1) (unread : reader_count (take (i + 1) flow) op ≡ 0).
-    one_more flow ok records i o lists refused total h e v rows op some few unread in
+    let told_now = IsTold-next records (refused_at flow records) waiting told (i + 1) o.what v.told_so_far has (omega (arith, v.count)) (next-refused_at flow ok records i o waiting told left most h e v) in
+    let made : length (unread_rows records unread) ≡ length (get_or all i []) = ap length here in
+    let sum = next-owed records (i + 1) o.what waiting has in
+    let counted : most + owed records (others ++ unread ∷ []) ≡ rest + sum_by length (take (i + 1) all) = omega (arith, v.counted, k, sum, made, total-more all i within) in
     record {
-      count = ap length n ∙ length_push after rows ∙ ap (λ m. m + 1) long;
-      whole = λ op some few unread. ap (λ ls. list_at ls op) n ∙ same op some few unread here;
-      unread = λ op from some. not_read op from some;
-      refusals_so_far = refusals-more records all flow i o (refusals 1 records all flow) refused newly h e v.refusals_so_far
-          (l ∙ ap (λ xs. refused ++ xs) (refused-same (i + 1) o.what (get_or records i []) lists all (λ op reads. (w op reads).same)));
-      total_so_far = sym (total-more all i within ∙ ap (λ m. m + length (get_or all i [])) (sym v.total_so_far) ∙ ap (λ m. total + m) (sym (k ∙ ap length here)));
+      count = ap length n ∙ length_push others unread ∙ ap (λ m. m + 1) long;
+      whole = λ op some few none. ap (λ ws. list_at (lists_of records ws) op) n ∙ same op some few none;
+      unread = λ op from some. reads-here flow i o op h e ∙ ap (λ m. m + read_count o.what op) (v.unread op (omega arith) some) ∙ none_later op from;
+      gone = λ op some few read. ap (λ ws. unread_at ws op) n ∙ gone op some few read;
+      told_so_far = rw (n, l) told_now;
+      counted = ap (λ ws. most + owed records ws) n ∙ counted;
     }
   where
-    none_later : (flow : List Operator) → IsFlow flow → (i : ℕ) (o : Operator) → i < length flow → o ≡ get_or flow i o → (op : ℕ) → i + 1 ≤ op → 0 + read_count o.what op ≡ 0
-    none_later flow ok i o h e op from =
+    none_later : (op : ℕ) → i + 1 ≤ op → 0 + read_count o.what op ≡ 0
+    none_later op from =
         elim (cases_lt 0 (read_count o.what op)) [
           | inl reads ↦
               let front = earlier (take i flow) o.what o.schema (next-here flow ok i o h e).kind op reads in absurd (omega (arith, front.1, length-take i flow))
           | inr none ↦ omega arith
         ]
 
-    one_more : (flow : List Operator) → IsFlow flow → (records : Records) (i : ℕ) (o : Operator) (lists : Lists) (refused : List Refusal) (total : ℕ) → i < length flow → o ≡ get_or flow i o
-        → Evaluated flow records i lists refused total → (rows : List (List Value)) (op : ℕ) → 0 < op → op ≤ i + 1 → reader_count (take (i + 1) flow) op ≡ 0
-        → rows ≡ get_or (outputs records [] flow) i [] → list_at (lists_after o.what lists ++ rows ∷ []) op ≡ list_at (outputs records [] flow) op
-    one_more flow ok records i o lists refused total h e v rows op some few unread here =
+    same : (op : ℕ) → 0 < op → op ≤ i + 1 → reader_count (take (i + 1) flow) op ≡ 0
+        → list_at (lists_of records (others_of o.what waiting ++ unread_of records (i + 1) o.what waiting ∷ [])) op ≡ list_at (outputs records [] flow) op
+    same op some few none =
         let all = outputs records [] flow in
-        let after = lists_after o.what lists in
-        let long : length after ≡ i = after-length o.what lists ∙ v.count in
+        let others = others_of o.what waiting in
+        let unread = unread_of records (i + 1) o.what waiting in
+        let has = has-inputs flow ok records i o waiting told left most h e v in
+        let long : length others ≡ i = others-length o.what waiting ∙ v.count in
         let sum = reads-here flow i o op h e in
-        let has = has-inputs flow ok records i o lists refused total h e v in
-        list_at-is (after ++ rows ∷ []) op some
+        list_at-lists records (others ++ unread ∷ []) op
         ∙ elim (cases_eq op (i + 1)) [
-          | inl last ↦ get_or_push after rows [] (op - 1) (omega arith) ∙ here ∙ ap (λ k. get_or all k []) (omega arith)
+          | inl last ↦
+              let place : i ≡ op - 1 = omega arith in
+              ap (unread_rows records) (unread-last others unread op (omega (arith, last, long))) ∙ next-rows flow ok records i o waiting told left most h e v
+              ∙ ap (λ m. get_or all m []) place ∙ sym (list_at-is all op some)
           | inr other ↦
-              get_or_append_left after (rows ∷ []) [] (op - 1) (omega arith) ∙ after-other o.what lists op some has (omega arith)
-              ∙ sym (list_at-is lists op some) ∙ v.whole op some (omega arith) (omega arith) ∙ list_at-is all op some
+              ap (unread_rows records) (unread-left others unread op some (omega (arith, few, other, long)) ∙ others-other o.what waiting op some has (omega (arith, sum, none)))
+              ∙ sym (list_at-lists records waiting op) ∙ v.whole op some (omega (arith, few, other)) (omega (arith, sum, none))
         ]
-        ∙ sym (list_at-is all op some)
 
--- the same, where the records are those of the operator's file
-pub Evaluated-step : (flow : List Operator) → IsFlow flow → (files : List (List ℕ)) (i : ℕ) (o : Operator) (lists : Lists) (refused : List Refusal) (total : ℕ) → i < length flow → o ≡ get_or flow i o
-    → Evaluated flow (records_of files flow) i lists refused total → (file : List ℕ) (new : Lists) (newly : List Refusal) (count : ℕ) → file ≡ first_list (files_left files (take i flow))
-    → new ≡ lists_after o.what lists ++ rows_of o.what (records_at o.what o.schema file) lists ∷ [] → newly ≡ refused ++ refused_by (i + 1) o.what (records_at o.what o.schema file) lists
-    → count ≡ length (rows_of o.what (records_at o.what o.schema file) lists) → Evaluated flow (records_of files flow) (i + 1) new newly (total + count)
-Evaluated-step flow ok files i o lists refused total h e v file new newly count f n l k =
-    let same : records_at o.what o.schema file ≡ get_or (records_of files flow) i [] =
-    ap (λ one. records_at o.what o.schema one) f ∙ sym (records-here files flow i o h e) in
-    Evaluated-more flow ok (records_of files flow) i o lists refused total h e v (rows_of o.what (records_at o.what o.schema file) lists) new newly count
-    (ap (λ one. rows_of o.what one lists) same) n (l ∙ ap (λ one. refused ++ refused_by (i + 1) o.what one lists) same) k
+    gone : (op : ℕ) → 0 < op → op ≤ i + 1 → 0 < reader_count (take (i + 1) flow) op → unread_at (others_of o.what waiting ++ unread_of records (i + 1) o.what waiting ∷ []) op ≡ nothing
+    gone op some few read =
+        let others = others_of o.what waiting in
+        let unread = unread_of records (i + 1) o.what waiting in
+        let has = has-inputs flow ok records i o waiting told left most h e v in
+        let long : length others ≡ i = others-length o.what waiting ∙ v.count in
+        let sum = reads-here flow i o op h e in
+        elim (cases_eq op (i + 1)) [
+          | inl last ↦ absurd (omega (arith, sum, read, last, v.unread op (omega (arith, last)) some, none_later op (omega (arith, last))))
+          | inr other ↦
+              unread-left others unread op some (omega (arith, few, other, long))
+              ∙ elim (cases_lt 0 (read_count o.what op)) [
+                | inl reads ↦ others-read o.what waiting op has reads
+                | inr none ↦ others-none o.what waiting op some has (v.gone op some (omega (arith, few, other)) (omega (arith, sum, read, none)))
+              ]
+        ]
 
--- more rows than may be
-pub over : (flow : List Operator) (records : Records) (i : ℕ) (lists : Lists) (refused : List Refusal) (total most : ℕ) → Evaluated flow records i lists refused total → most < total
-    → most < sum_by length (outputs records [] flow)
-over flow records i lists refused total most v h =
-    let all = outputs records [] flow in
+-- ---- more rows than may be
+
+total-within : (all : Lists) (i : ℕ) → sum_by length (take i all) ≤ sum_by length all
+total-within all i =
     let sum : sum_by length all ≡ sum_by length (take i all) + sum_by length (drop i all) =
     ap (λ ls. sum_by length ls) (sym (take-append-drop i all)) ∙ sum_by-append length (take i all) (drop i all) in
-    omega (arith, v.total_so_far)
+    omega (arith, sum)
 
--- all operators were evaluated
-pub all-total : (flow : List Operator) (records : Records) (i : ℕ) (lists : Lists) (refused : List Refusal) (total : ℕ) → length flow ≤ i → Evaluated flow records i lists refused total
-    → sum_by length (outputs records [] flow) ≡ total
-all-total flow records i lists refused total h v =
-    let all = outputs records [] flow in
-    let long : length all ≤ i = omega (arith, length-outputs records [] flow) in
-    sym (v.total_so_far ∙ ap (λ ls. sum_by length ls) (take_all i all long))
+-- the next operator has to read more than may come
+pub too-many : (flow : List Operator) → IsFlow flow → (records : Records) (i : ℕ) (o : Operator) (waiting : List Waiting) (told : List (List Refusal)) (left most : ℕ) → i < length flow → o ≡ get_or flow i o
+    → Evaluated flow records i waiting told left most → left < unread_count records (read_for o.what waiting) → most < sum_by length (outputs records [] flow)
+too-many flow ok records i o waiting told left most h e v more =
+    omega (arith, v.counted, more, total-within (outputs records [] flow) i, read-owed records o.what waiting (has-inputs flow ok records i o waiting told left most h e v))
 
-pub all-rows : (flow : List Operator) → IsFlow flow → (records : Records) (i : ℕ) (lists : Lists) (refused : List Refusal) (total : ℕ) → i ≡ length flow → Evaluated flow records i lists refused total
-    → list_at lists (length flow) ≡ list_at (outputs records [] flow) (length flow)
-all-rows flow ok records i lists refused total e v =
-    let some : 0 < length flow = omega (arith, ok.some) in v.whole (length flow) some (omega arith) (v.unread (length flow) (omega arith) some)
+-- ---- all operators were evaluated
+
+all-here : (flow : List Operator) → IsFlow flow → (i : ℕ) → length flow ≤ i → i ≤ length flow → i ≡ length flow
+all-here flow ok i a b = omega (arith, a, b)
+
+-- there is something unread for the last one
+pub last-there : (flow : List Operator) → IsFlow flow → (records : Records) (i : ℕ) (waiting : List Waiting) (told : List (List Refusal)) (left most : ℕ) → i ≡ length flow
+    → Evaluated flow records i waiting told left most → HasOne waiting (length flow)
+last-there flow ok records i waiting told left most e v = (omega (arith, ok.some), omega (arith, e, v.count))
+
+pub last-rows : (flow : List Operator) → IsFlow flow → (records : Records) (i : ℕ) (waiting : List Waiting) (told : List (List Refusal)) (left most : ℕ) → i ≡ length flow
+    → Evaluated flow records i waiting told left most → unread_rows records (unread_at waiting (length flow)) ≡ list_at (outputs records [] flow) (length flow)
+last-rows flow ok records i waiting told left most e v =
+    let some : 0 < length flow = omega (arith, ok.some) in
+    sym (list_at-lists records waiting (length flow)) ∙ v.whole (length flow) some (omega (arith, e)) (v.unread (length flow) (omega (arith, e)) some)
+
+-- nothing is left behind the last one
+last-gone : (flow : List Operator) → IsFlow flow → (records : Records) (i : ℕ) (waiting : List Waiting) (told : List (List Refusal)) (left most : ℕ) → i ≡ length flow
+    → Evaluated flow records i waiting told left most → (op : ℕ) → HasOne (without waiting (length flow)) op → unread_at (without waiting (length flow)) op ≡ nothing
+last-gone flow ok records i waiting told left most e v op there =
+    let has = last-there flow ok records i waiting told left most e v in
+    let long : length (without waiting (length flow)) ≡ length waiting = length-set waiting (length flow - 1) nothing in
+    elim (cases_eq op (length flow)) [
+      | inl last ↦ ap (λ k. unread_at (without waiting (length flow)) k) last ∙ taken-same waiting (length flow) has
+      | inr other ↦
+          let once : reader_count flow op ≡ 1 = ok.read_once op there.0 (omega (arith, there.1, other, long, v.count, e)) in
+          let all : take i flow ≡ flow = take_all i flow (omega (arith, e)) in
+          let read : 0 < reader_count (take i flow) op = rw all (omega (arith, once)) in
+          taken-none waiting (length flow) op there.0 has (v.gone op there.0 (omega (arith, there.1, long, v.count)) read)
+    ]
+
+pub last-owed : (flow : List Operator) → IsFlow flow → (records : Records) (i : ℕ) (waiting : List Waiting) (told : List (List Refusal)) (left most : ℕ) → i ≡ length flow
+    → Evaluated flow records i waiting told left most → most + unread_count records (unread_at waiting (length flow)) ≡ left + sum_by length (outputs records [] flow)
+last-owed flow ok records i waiting told left most e v =
+    let has = last-there flow ok records i waiting told left most e v in
+    let gone = last-gone flow ok records i waiting told left most e v in
+    let others = without waiting (length flow) in
+    let none : owed records others ≡ 0 = owed-none records others (λ k lt.
+    let same : k + 1 - 1 ≡ k = omega arith in
+    ap (λ m. get_or others m nothing) (sym same) ∙ sym (unread_at-is others (k + 1) (omega arith)) ∙ gone (k + 1) (omega arith, omega (arith, lt))) in
+    let all : take i (outputs records [] flow) ≡ outputs records [] flow = take_all i (outputs records [] flow) (omega (arith, e, length-outputs records [] flow)) in
+    let sum : sum_by length (take i (outputs records [] flow)) ≡ sum_by length (outputs records [] flow) = ap (λ ls. sum_by length ls) all in
+    omega (arith, v.counted, taken-owed records waiting (length flow) has, none, sum)
+
+pub last-told : (flow : List Operator) → IsFlow flow → (records : Records) (i : ℕ) (waiting : List Waiting) (told : List (List Refusal)) (left most : ℕ) → i ≡ length flow
+    → Evaluated flow records i waiting told left most
+    → flat_map (λ one. one) (told_by records told (unread_at waiting (length flow)).source) ≡ refusals 1 records (outputs records [] flow) flow
+last-told flow ok records i waiting told left most e v =
+    let has = last-there flow ok records i waiting told left most e v in
+    let t = IsTold-read records (refused_at flow records) waiting told (length flow) has v.told_so_far in
+    let long : length (without waiting (length flow)) ≡ length waiting = length-set waiting (length flow - 1) nothing in
+    let same : length (told_by records told (unread_at waiting (length flow)).source) ≡ length flow = omega (arith, t.count, long, v.count, e) in
+    told-refusals records (outputs records [] flow) flow (told_by records told (unread_at waiting (length flow)).source) 1 same (λ k o lt is.
+    let next : k + 1 ≡ 1 + k = omega arith in
+    all-told records (refused_at flow records) (without waiting (length flow)) (told_by records told (unread_at waiting (length flow)).source) t (last-gone flow ok records i waiting told left most e v) k (omega (arith, lt, same))
+    ∙ ap (λ found. refused_of (k + 1) records (outputs records [] flow) found) (nth-here flow k o lt is)
+    ∙ ap (λ typed. refused_by (k + 1) o.what typed (outputs records [] flow)) (record-at records k)
+    ∙ ap (λ n. refused_by n o.what (get_or records k []) (outputs records [] flow)) next)
 
 pub answer-is : (flow : List Operator) (files : List (List ℕ)) (answer : Answer) → answer.refused ≡ refusals 1 (records_of files flow) (outputs (records_of files flow) [] flow) flow
     → answer.columns ≡ columns_at flow (length flow) → answer.rows ≡ list_at (outputs (records_of files flow) [] flow) (length flow) → answer ≡ answer_of flow files
 unfolding answer_of answer_from
 answer-is flow files answer a b c = let same : ◌≡◌ {A = Answer} (record { refused = answer.refused; columns = answer.columns; rows = answer.rows }) (answer_of flow files) = rw (a, b, c) refl in same
+
+-- why there is no answer, where rows fell short
+pub short-plain : (why : PlainErr) (flow : List Operator) (files : List (List ℕ)) (most left count : ℕ) → wrong_header 1 files flow ≡ None → FallsShort why left count
+    → (left < count → most < row_total flow files) → IsPlain (Err why) flow files most
+short-plain (plain_err.Header op) flow files most left count w h more = absurd h
+short-plain plain_err.Long flow files most left count w h more = (w, more h)
+short-plain plain_err.NoMemory flow files most left count w h more = tt

@@ -1,2 +1,7 @@
 pub mod Evaluated
+pub mod Inputs
+pub mod Passing
 pub mod Records
+pub mod Scans
+pub mod Told
+pub mod Waits

@@ -1,1 +1,4 @@
-pub mod Evaluator
+pub mod Holding
+pub mod Unread
+pub mod Stages
+pub mod Steps

@@ -1,110 +1,164 @@
-// The operators of a workflow, evaluated one after the other.
-ghost use Rattle.std.specs.Prelude.{◌≡◌, ◌<◌, ◌^◌, ◌++◌, ◌∷◌, [], length, filter, map, IfOk, OnOk};
-ghost use Rattle.amber_rows.specs.Cond.{holds_of};
-ghost use Rattle.amber_rows.specs.Columns.{columns_at};
+// An operator of a workflow, evaluated.
+ghost use Rattle.std.specs.Prelude.{◌≡◌, ◌++◌, ◌∷◌, [], map, true, IfOk, OnOk};
 ghost use Rattle.amber_rows.specs.Operators.{group_result, refused_keys};
 ghost use Rattle.amber_rows.specs.Order.{sort_rows};
-ghost use Rattle.amber_meaning.specs.Plain.{IsPlain, scan_count};
+ghost use Rattle.amber_meaning.specs.Plain.{records_of};
 ghost use Rattle.amber_meaning.specs.Refused.{refused_groups};
-ghost use Rattle.amber_rows.specs.Lists.{list_at};
-ghost use Rattle.amber_plain.specs.Evaluator.{HasInputs, HasList, lists_after, refused_from, rows_from, without};
 ghost use Rattle.amber_meaning.specs.declared.answer.Refusal.TheVariants as refusal;
+ghost use Rattle.amber_plain.specs.Holding.{Spends};
+ghost use Rattle.amber_plain.specs.Unread.{HasInputs, HasOne, unread_at, unread_count, unread_rows, without};
+ghost use Rattle.amber_plain.specs.Steps.{others_of, unread_of, read_for, refused_now, through, told_by};
+ghost use Rattle.amber_plain.specs.declared.stage.Source.TheVariants as source;
+ghost use Rattle.amber_plain.specs.declared.stage.Stage.TheVariants as stage;
 
-use crate::grouping::group_rows;
-use crate::header::wrong_header;
-use crate::joining::join_rows;
-use crate::project::project;
-use crate::scan::scan;
+use crate::drain::{Tally, gathered, grouped};
+use crate::joining::Built;
+use crate::stage::{Source, Stage};
+use crate::unread::{Unread, take};
 use amber_group::Grouped;
-use amber_meaning::{Answer, PlainErr, Refusal, Refusals, file_behind};
-use amber_rows::{Aggs, Cols, Cond, Files, Flow, Operator, Row, Rows, What, holds, sort};
+use amber_meaning::{PlainErr, Refusal, Refusals};
+use amber_rows::{Cols, Files, Flow, Row, Rows, What, sort};
 use std::alloc::{AllocError, Global};
-use std::mem;
 
-/// Takes the rows of the list with this number, for its one reader.
-fn take_rows(alloc: Global, lists: &mut Vec<Rows>, op: u32) -> Vec<Row>
-    requires { HasList lists.old.items op }
-    ensures rows { result.items ≡ list_at lists.old.items op }
-    ensures others { lists.new.items ≡ without lists.old.items op }
-{
-    let place = &mut lists[op as usize - 1];
-    mem::replace(place, Rows::new(Vec::new(alloc))).into_inner()
+/// What is unread for an operator, and what it refused at once.
+#[derive(Debug, Drop)]
+pub struct Evaluated {
+    pub unread: Unread,
+    pub refused: Refusals,
 }
 
-/// The rows for which the condition holds.
-fn keep(cond: &Cond, mut rows: Vec<Row>) -> Vec<Row>
-    ensures { result.items ≡ filter (holds_of cond.now) rows.items }
+// Nothing is refused at once.
+fn unrefused(alloc: Global, unread: Unread) -> Evaluated
+    ensures { result ≡ record { unread = unread; refused = [] } }
 {
-    rows.retain(|row| holds(cond, row));
-    rows
+    Evaluated {
+        unread,
+        refused: Refusals::new(Vec::new(alloc)),
+    }
 }
 
-/// The rows in their order. Equal rows all stay.
-fn sorted(mut rows: Vec<Row>) -> Vec<Row>
-    ensures { result.items ≡ sort_rows rows.items }
+// What is unread of an input, with one stage more. Nothing is refused at once.
+fn behind(
+    alloc: Global,
+    waiting: &mut Vec<Unread>,
+    input: u32,
+    stage: Stage,
+) -> Result<Evaluated, AllocError>
+    requires { HasOne waiting.old.items input }
+    ensures new { IfOk result (λ new. new
+        ≡ record { unread = through (unread_at waiting.old.items input) stage; refused = [] }) }
+    ensures others { OnOk result (waiting.new.items ≡ without waiting.old.items input) }
 {
-    sort(&mut rows);
-    rows
+    let unread = take(alloc, waiting, input).through(stage)?;
+    Ok(unrefused(alloc, unread))
 }
 
-/// Refuses the groups with these keys.
-fn refuse_groups(op: u32, keys: &[Row], refused: &mut Vec<Refusal>) -> Result<(), AllocError>
-    ensures { OnOk result (refused.new.items
-        ≡ refused.old.items ++ map (refusal.Group op) keys.now) }
+// Refuses the groups with these keys.
+fn refuse_groups(alloc: Global, op: u32, keys: Vec<Row>) -> Result<Refusals, AllocError>
+    ensures { IfOk result (λ refused. refused ≡ map (refusal.Group op) keys.items) }
 {
+    let mut refused = Vec::with_capacity(alloc, keys.len())?;
     for key in keys {
-        let key = key.clone()?;
         refused.push(Refusal::Group { op, key })?;
     }
-    Ok(())
+    Ok(Refusals::new(refused))
 }
 
-/// The rows of a group. Its keys that have none are refused, in the order of rows.
-fn group_refused(
-    alloc: Global,
-    op: u32,
-    keys: &Cols,
-    aggs: &Aggs,
-    rows: Vec<Row>,
-    refused: &mut Vec<Refusal>,
-) -> Result<Vec<Row>, AllocError>
-    ensures rows { IfOk result (λ made. made.items ≡ group_result keys.now aggs.now rows.items) }
-    ensures refused { OnOk result (refused.new.items
-        ≡ refused.old.items ++ refused_groups op (refused_keys keys.now aggs.now rows.items)) }
+// The rows of groups as a source. The keys that have none are refused, in the order of rows.
+fn from_groups(alloc: Global, op: u32, groups: Grouped) -> Result<Evaluated, AllocError>
+    ensures { IfOk result (λ new. new ≡ record {
+      unread = record { source = source.Rows groups.rows; stages = [] };
+      refused = refused_groups op groups.refused;
+    }) }
 {
     let Grouped {
-        rows: made,
-        refused: none,
-    } = group_rows(alloc, keys, aggs, rows)?;
-    let mut none = none.into_inner();
-    sort(&mut none);
-    refuse_groups(op, none.as_slice(), refused)?;
-    Ok(made.into_inner())
+        rows,
+        refused: keys,
+    } = groups;
+    let mut keys = keys.into_inner();
+    sort(&mut keys);
+    let refused = refuse_groups(alloc, op, keys)?;
+    Ok(Evaluated {
+        unread: Unread::new(alloc, Source::Rows(rows)),
+        refused,
+    })
 }
 
-/// The rows of an operator, from its file or the lists of its inputs, which it takes. What it refuses comes behind
-/// what was refused.
-fn rows_of(
+// The rows that are unread in their order. Equal rows all stay.
+fn sorted(
     alloc: Global,
-    op: u32,
-    operator: &Operator,
-    file: &[u8],
-    lists: &mut Vec<Rows>,
-    refused: &mut Vec<Refusal>,
-) -> Result<Vec<Row>, AllocError>
-    requires inputs { HasInputs lists.old.items operator.now.what }
-    requires few { length operator.now.schema < 2 ^ 32 }
-    ensures rows { IfOk result
-        (λ rows. rows.items ≡ rows_from operator.now file.now lists.old.items) }
-    ensures refused { OnOk result (refused.new.items
-        ≡ refused.old.items ++ refused_from op operator.now file.now lists.old.items) }
-    ensures lists { OnOk result (lists.new.items ≡ lists_after operator.now.what lists.old.items) }
+    flow: &Flow,
+    files: &Files,
+    unread: Unread,
+    tally: &mut Tally,
+) -> Result<Rows, PlainErr>
+    ensures rows { IfOk result (λ rows. rows
+        ≡ sort_rows (unread_rows (records_of files.now flow.now) unread)) }
+    ensures left { Spends result tally.old.left tally.new.left
+        (unread_count (records_of files.now flow.now) unread) }
+    ensures told { OnOk result (tally.new.told.items
+        ≡ told_by (records_of files.now flow.now) tally.old.told.items unread.source) }
 {
-    match &operator.what {
-        What::Scan { .. } => scan(alloc, op, &operator.schema, file, refused),
-        What::Filter { input, cond } => Ok(keep(cond, take_rows(alloc, lists, *input))),
+    let mut rows = gathered(alloc, flow, files, unread, tally)?;
+    sort(&mut rows);
+    Ok(Rows::new(rows))
+}
+
+// A join of the rows that are unread on its build side.
+fn built(
+    alloc: Global,
+    flow: &Flow,
+    files: &Files,
+    keys: (&Cols, &Cols),
+    unread: Unread,
+    tally: &mut Tally,
+) -> Result<Built, PlainErr>
+    ensures built { IfOk result (λ built. built ≡ record {
+      build_keys = keys.entry.0.now;
+      probe_keys = keys.entry.1.now;
+      rows = unread_rows (records_of files.now flow.now) unread;
+      sealed = true;
+    }) }
+    ensures left { Spends result tally.old.left tally.new.left
+        (unread_count (records_of files.now flow.now) unread) }
+    ensures told { OnOk result (tally.new.told.items
+        ≡ told_by (records_of files.now flow.now) tally.old.told.items unread.source) }
+{
+    let rows = gathered(alloc, flow, files, unread, tally)?;
+    let built = Built::new(alloc, keys.0, keys.1, rows)?;
+    Ok(built)
+}
+
+/// Evaluates an operator. Its inputs are taken; what it has to read to its end is read.
+pub fn evaluate(
+    alloc: Global,
+    flow: &Flow,
+    files: &Files,
+    op: u32,
+    kind: &What,
+    waiting: &mut Vec<Unread>,
+    tally: &mut Tally,
+) -> Result<Evaluated, PlainErr>
+    requires { HasInputs waiting.old.items kind.now }
+    ensures unread { IfOk result (λ new. new.unread
+        ≡ unread_of (records_of files.now flow.now) op kind.now waiting.old.items) }
+    ensures refused { IfOk result (λ new. new.refused
+        ≡ refused_now (records_of files.now flow.now) op kind.now waiting.old.items) }
+    ensures others { OnOk result (waiting.new.items ≡ others_of kind.now waiting.old.items) }
+    ensures told { OnOk result (tally.new.told.items ≡ told_by (records_of files.now flow.now)
+        tally.old.told.items (read_for kind.now waiting.old.items).source) }
+    ensures left { Spends result tally.old.left tally.new.left
+        (unread_count (records_of files.now flow.now) (read_for kind.now waiting.old.items)) }
+{
+    match kind {
+        What::Scan { .. } => Ok(unrefused(alloc, Unread::new(alloc, Source::Scan(op)))),
+        What::Filter { input, cond } => {
+            let stage = Stage::Filter(cond.clone()?);
+            Ok(behind(alloc, waiting, *input, stage)?)
+        }
         What::Project { input, from } => {
-            project(alloc, from, take_rows(alloc, lists, *input).as_slice())
+            let stage = Stage::Project(from.clone()?);
+            Ok(behind(alloc, waiting, *input, stage)?)
         }
         What::Join {
             build,
@@ -112,93 +166,20 @@ fn rows_of(
             build_keys,
             probe_keys,
         } => {
-            let build_rows = take_rows(alloc, lists, *build);
-            let probe_rows = take_rows(alloc, lists, *probe);
-            join_rows(alloc, build_keys, probe_keys, build_rows, probe_rows)
+            let build_side = take(alloc, waiting, *build);
+            let keys = (build_keys, probe_keys);
+            let built = built(alloc, flow, files, keys, build_side, tally)?;
+            Ok(behind(alloc, waiting, *probe, Stage::Probe(built))?)
         }
         What::Group { input, keys, aggs } => {
-            let rows = take_rows(alloc, lists, *input);
-            group_refused(alloc, op, keys, aggs, rows, refused)
+            let unread = take(alloc, waiting, *input);
+            let groups = grouped(alloc, flow, files, unread, keys, aggs, tally)?;
+            Ok(from_groups(alloc, op, groups)?)
         }
-        What::Sink { input } => Ok(sorted(take_rows(alloc, lists, *input))),
-    }
-}
-
-/// Evaluates an operator, whose rows stand as a list behind the others, and answers how many rows it gives.
-fn evaluate(
-    alloc: Global,
-    op: u32,
-    operator: &Operator,
-    file: &[u8],
-    lists: &mut Vec<Rows>,
-    refused: &mut Vec<Refusal>,
-) -> Result<u64, AllocError>
-    requires inputs { HasInputs lists.old.items operator.now.what }
-    requires few { length operator.now.schema < 2 ^ 32 }
-    ensures count { IfOk result
-        (λ count. count ≡ length (rows_from operator.now file.now lists.old.items)) }
-    ensures refused { OnOk result (refused.new.items
-        ≡ refused.old.items ++ refused_from op operator.now file.now lists.old.items) }
-    ensures lists { OnOk result (lists.new.items
-        ≡ lists_after operator.now.what lists.old.items
-        ++ rows_from operator.now file.now lists.old.items ∷ []) }
-{
-    let rows = rows_of(alloc, op, operator, file, lists, refused)?;
-    let count = rows.len() as u64;
-    lists.push(Rows::new(rows))?;
-    Ok(count)
-}
-
-/// The answer, from the lists of all operators and what was refused.
-fn answer(
-    alloc: Global,
-    flow: &Flow,
-    mut lists: Vec<Rows>,
-    refused: Vec<Refusal>,
-) -> Result<Answer, AllocError>
-    requires { length lists.items ≡ length flow.now }
-    ensures refused { IfOk result (λ answer. answer.refused ≡ refused.items) }
-    ensures columns { IfOk result
-        (λ answer. answer.columns ≡ columns_at flow.now (length flow.now)) }
-    ensures rows { IfOk result (λ answer. answer.rows ≡ list_at lists.items (length flow.now)) }
-{
-    let operators = flow.get();
-    let sink = &operators[operators.len() - 1];
-    let columns = sink.schema.clone()?;
-    let rows = take_rows(alloc, &mut lists, operators.len() as u32);
-    Ok(Answer {
-        refused: Refusals::new(refused),
-        columns,
-        rows: Rows::new(rows),
-    })
-}
-
-/// The sequential answer of a workflow over the files of its scans, where its operators give no more than `most`
-/// rows together.
-///
-/// The operators are evaluated one after the other, each on all rows of its inputs. A row is kept until the one
-/// operator that reads it is evaluated.
-pub fn plain(alloc: Global, flow: &Flow, files: &Files, most: u64) -> Result<Answer, PlainErr>
-    requires { length files.now ≡ scan_count flow.now }
-    ensures { IsPlain result flow.now files.now most }
-{
-    let wrong = wrong_header(alloc, flow, files)?;
-    if let Some(op) = wrong {
-        return Err(PlainErr::Header(op));
-    }
-    let mut lists = Vec::new(alloc);
-    let mut refused = Vec::new(alloc);
-    let mut total: u64 = 0;
-    let operators = flow.get();
-    for (i, operator) in operators.iter().enumerate() {
-        let file = file_behind(flow, files, i);
-        let op = i as u32 + 1;
-        let count = evaluate(alloc, op, operator, file, &mut lists, &mut refused)?;
-        if count > most - total {
-            return Err(PlainErr::Long);
+        What::Sink { input } => {
+            let unread = take(alloc, waiting, *input);
+            let rows = sorted(alloc, flow, files, unread, tally)?;
+            Ok(unrefused(alloc, Unread::new(alloc, Source::Rows(rows))))
         }
-        total += count;
     }
-    let answer = answer(alloc, flow, lists, refused)?;
-    Ok(answer)
 }

@@ -1,10 +1,61 @@
-// The rows of a join, by its state.
+// A join whose build rows are all there.
 ghost use Rattle.std.specs.Prelude.{◌≡◌, ◌++◌, ◌∷◌, [], IfOk, OnOk, false, true};
-ghost use Rattle.amber_rows.specs.Operators.{join_result};
+ghost use Rattle.amber_rows.specs.Operators.{matches_of};
 
 use amber_join::JoinState;
-use amber_rows::{Cols, Row};
+use amber_rows::{Cols, Row, Rows};
 use std::alloc::{AllocError, Global};
+use std::marker::Model;
+
+/// The state of a join that has all build rows. It is seen as the join's state.
+#[derive(Debug, Drop)]
+pub struct Built {
+    state: JoinState,
+}
+
+impl Model for Built {
+    ghost use Rattle.std.specs.Prelude.{◌≡◌, true};
+    ghost use Rattle.amber_join.specs.Join.{Join};
+
+    ghost Value = { Join };
+
+    ghost view = { λ a. a.state };
+
+    ghost invariant = { λ a. a.state.sealed ≡ true };
+}
+
+impl Built {
+    /// A join of these build rows, by a table of their keys.
+    pub fn new(
+        alloc: Global,
+        build_keys: &Cols,
+        probe_keys: &Cols,
+        build: Vec<Row>,
+    ) -> Result<Self, AllocError>
+        ensures { IfOk result
+            (λ built. built ≡ record {
+              build_keys = build_keys.now;
+              probe_keys = probe_keys.now;
+              rows = build.items;
+              sealed = true;
+            }) }
+    {
+        let build_columns = build_keys.clone()?;
+        let probe_columns = probe_keys.clone()?;
+        let mut state = JoinState::new(alloc, build_columns, probe_columns);
+        add_all(&mut state, build)?;
+        state.seal();
+        Ok(Built { state })
+    }
+
+    /// The row before each build row whose keys equal its own, in the order of the build rows.
+    pub fn probe(&self, alloc: Global, row: &Row) -> Result<Rows, AllocError>
+        ensures { IfOk result (λ rows. rows
+            ≡ matches_of self.now.build_keys self.now.probe_keys self.now.rows row.now) }
+    {
+        self.state.probe(alloc, row)
+    }
+}
 
 // Keeps a build row.
 fn add_build(state: &mut JoinState, row: Row) -> Result<(), AllocError>
@@ -17,57 +68,14 @@ fn add_build(state: &mut JoinState, row: Row) -> Result<(), AllocError>
     }
 }
 
-// The state of a join that has all build rows.
-fn built(
-    alloc: Global,
-    build_keys: &Cols,
-    probe_keys: &Cols,
-    build: Vec<Row>,
-) -> Result<JoinState, AllocError>
-    ensures { IfOk result
-        (λ state. state ≡ record {
-          build_keys = build_keys.now;
-          probe_keys = probe_keys.now;
-          rows = build.items;
-          sealed = true;
-        }) }
+// Keeps all build rows.
+fn add_all(state: &mut JoinState, build: Vec<Row>) -> Result<(), AllocError>
+    requires open { state.old.sealed ≡ false }
+    requires empty { state.old.rows ≡ [] }
+    ensures { OnOk result (state.new ≡ record state.old { rows = build.items }) }
 {
-    let build_columns = build_keys.clone()?;
-    let probe_columns = probe_keys.clone()?;
-    let mut state = JoinState::new(alloc, build_columns, probe_columns);
     for row in build {
-        add_build(&mut state, row)?;
+        add_build(state, row)?;
     }
-    state.seal();
-    Ok(state)
-}
-
-// The matches of the probe rows in the build rows of a state.
-fn probed(alloc: Global, state: &JoinState, probe: Vec<Row>) -> Result<Vec<Row>, AllocError>
-    requires { state.now.sealed ≡ true }
-    ensures { IfOk result
-        (λ made. made.items ≡ join_result state.now.build_keys state.now.probe_keys
-        state.now.rows probe.items) }
-{
-    let mut made = Vec::new(alloc);
-    for row in probe {
-        let mut matches = state.probe(alloc, &row)?.into_inner();
-        made.append(&mut matches)?;
-    }
-    Ok(made)
-}
-
-/// The matches of the probe rows in the build rows, by a table of the build rows' keys.
-pub fn join_rows(
-    alloc: Global,
-    build_keys: &Cols,
-    probe_keys: &Cols,
-    build: Vec<Row>,
-    probe: Vec<Row>,
-) -> Result<Vec<Row>, AllocError>
-    ensures { IfOk result
-        (λ made. made.items ≡ join_result build_keys.now probe_keys.now build.items probe.items) }
-{
-    let state = built(alloc, build_keys, probe_keys, build)?;
-    probed(alloc, &state, probe)
+    Ok(())
 }

@@ -1,65 +1,86 @@
-// The rows of a scan, and its records that are none.
+// The records of a scan's file, sent through a chain one by one.
 ghost use Rattle.std.specs.Prelude.{◌≡◌, ◌<◌, ◌^◌, ◌++◌, ◌∷◌, [], length, IfOk, OnOk};
 ghost use Rattle.std.specs.List.{filter_map};
 ghost use Rattle.amber_rows.specs.Record.{ok_of, typed_records};
 ghost use Rattle.amber_meaning.specs.Refused.{refused_records};
+ghost use Rattle.amber_plain.specs.Holding.{Moves, Spends};
+ghost use Rattle.amber_plain.specs.Stages.{count_through};
 
-use amber_meaning::Refusal;
-use amber_rows::{RecordReader, Row, RowFault, Schema, type_record};
+use crate::chain::Chain;
+use amber_meaning::{PlainErr, Refusal};
+use amber_rows::{RecordReader, Row, RowFault, Schema, Value, type_over};
 use csv::ByteRecord;
 use std::alloc::{AllocError, Global};
 
-/// Puts a record with this number behind the rows, or behind what was refused.
+// Puts a refusal behind the others.
+fn refuse(refusal: Refusal, refused: &mut Vec<Refusal>) -> Result<(), AllocError>
+    ensures { OnOk result (refused.new.items ≡ refused.old.items ++ refusal ∷ []) }
+{
+    refused.push(refusal)?;
+    Ok(())
+}
+
+/// Sends a record with this number through a chain, or puts it behind what was refused. It gives the room back that
+/// the next record may be typed in.
 #[tactic(auto, unfolding(amber_meaning::specs::Refused::refused_records))]
 fn add_record(
+    alloc: Global,
     op: u32,
     number: u64,
     typed: Result<Row, RowFault>,
-    rows: &mut Vec<Row>,
+    chain: &mut Chain,
     refused: &mut Vec<Refusal>,
-) -> Result<(), AllocError>
-    ensures rows { OnOk result (rows.new.items ≡ rows.old.items ++ filter_map ok_of (typed ∷ [])) }
+) -> Result<Vec<Value>, PlainErr>
+    ensures moved { OnOk result (Moves chain.old chain.new (filter_map ok_of (typed ∷ []))) }
+    ensures left { Spends result chain.old.left chain.new.left
+        (count_through chain.old.stages.items (filter_map ok_of (typed ∷ []))) }
     ensures refused { OnOk result (refused.new.items
         ≡ refused.old.items ++ refused_records op number (typed ∷ [])) }
 {
     match typed {
-        Ok(row) => rows.push(row)?,
+        Ok(mut row) => {
+            chain.send(alloc, &mut row)?;
+            Ok(row.into_inner())
+        }
         Err(fault) => {
-            let refusal = Refusal::Record { op, number, fault };
-            refused.push(refusal)?;
+            refuse(Refusal::Record { op, number, fault }, refused)?;
+            Ok(Vec::new(alloc))
         }
     }
-    Ok(())
 }
 
-/// The rows of a scan's file. The records that are no rows are refused, in order.
+/// Sends the rows of a scan's file through a chain. The records that are no rows are refused, in order.
 pub fn scan(
     alloc: Global,
     op: u32,
     schema: &Schema,
     file: &[u8],
-    refused: &mut Vec<Refusal>,
-) -> Result<Vec<Row>, AllocError>
+    chain: &mut Chain,
+) -> Result<Vec<Refusal>, PlainErr>
     requires { length schema.now < 2 ^ 32 }
-    ensures rows { IfOk result
-        (λ rows. rows.items ≡ filter_map ok_of (typed_records schema.now file.now)) }
-    ensures refused { OnOk result (refused.new.items
-        ≡ refused.old.items ++ refused_records op 1 (typed_records schema.now file.now)) }
+    ensures moved { OnOk result (Moves chain.old chain.new
+        (filter_map ok_of (typed_records schema.now file.now))) }
+    ensures left { Spends result chain.old.left chain.new.left
+        (count_through chain.old.stages.items
+        (filter_map ok_of (typed_records schema.now file.now))) }
+    ensures refused { IfOk result
+        (λ refused. refused.items ≡ refused_records op 1 (typed_records schema.now file.now)) }
 {
-    let mut rows = Vec::new(alloc);
+    let mut refused = Vec::new(alloc);
     let mut reader = RecordReader::open(alloc, file);
     let mut fields = ByteRecord::new(alloc);
     let headed = reader.next(&mut fields)?;
     if !headed {
-        return Ok(rows);
+        return Ok(refused);
     }
+    let mut room = Vec::new(alloc);
     'records: for number in 1..u64::MAX {
         let found = reader.next(&mut fields)?;
         if !found {
-            return Ok(rows);
+            return Ok(refused);
         }
-        let typed = type_record(alloc, &fields, schema)?;
-        add_record(op, number, typed, &mut rows, refused)?;
+        let typed = type_over(alloc, room, &fields, schema)?;
+        room = add_record(alloc, op, number, typed, chain, &mut refused)?;
     }
-    Err(AllocError)
+    Err(PlainErr::NoMemory)
 }

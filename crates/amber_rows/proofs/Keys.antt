@@ -1,5 +1,5 @@
 -- Rows whose keys differ stand as their keys do.
-use Rattle.std.proofs.Common.{◌≡◌, ℕ, zero, suc, ◌+◌, ◌-◌, ◌*◌, ◌^◌, ◌<◌, ◌≤◌, ℤ, pos, negsuc, Bool, true, false, cond, ltb, List, [], ◌∷◌, drop, get_or, refl, sym, ◌∙◌, ap, inl, inr, arith}
+use Rattle.std.proofs.Common.{◌≡◌, ℕ, zero, suc, ◌+◌, ◌-◌, ◌*◌, ◌^◌, ◌<◌, ◌≤◌, ℤ, pos, negsuc, Bool, true, false, cond, ltb, List, [], ◌∷◌, ◌&&◌, length, drop, get_or, refl, sym, ◌∙◌, ap, inl, inr, arith}
 use Rattle.std.proofs.Math.Nat.{mul-le-mul_right, one-le-pow, pow-suc}
 use Rattle.std.proofs.lemmas.Bool.{cases_order, lt-ltb, ltb-true, ltb-false}
 use Rattle.std.proofs.lemmas.Cmp.{nat_cmp_total, tied_itself}
@@ -9,8 +9,8 @@ use Rattle.std.specs.Cmp.Lexicographic.{slice_cmp}
 use Rattle.std.specs.Prelude.{◌<ℤ◌}
 use Rattle.std.specs.Ordering.{nat_cmp, ordering_then, ordering_reverse}
 use Rattle.std.specs.declared.cmp.Ordering.{Ordering}
-use Rattle.std.specs.declared.cmp.Ordering.TheVariants.{Less, Greater}
-use Rattle.amber_rows.specs.Key.{cell_key, front, int_key, key_of}
+use Rattle.std.specs.declared.cmp.Ordering.TheVariants.{Equal, Less, Greater}
+use Rattle.amber_rows.specs.Key.{cell_key, front, int_key, key_of, key_tells_number}
 use Rattle.amber_rows.specs.Order.{row_cmp, value_cmp}
 use Rattle.amber_rows.specs.OrderLaws.{row-total}
 use Rattle.amber_rows.specs.declared.value.Value.{Value}
@@ -136,3 +136,38 @@ row_by_key xs ys a b p q ne =
             | inr gt ↦ more a b gt ∙ sym (row-total.antisymm xs ys ∙ ap ordering_reverse (row_less ys xs (omega arith)))
           ]
     ]
+
+-- ---- rows of one number
+
+int_same : (m n : ℤ) → int_key m ≡ int_key n → 0 < int_key m → int_key m < 2 ^ 63 - 1 → m ≡ n
+int_same (pos m) (pos n) e a b = ap pos (omega arith)
+int_same (pos m) (negsuc n) e a b = absurd (omega arith)
+int_same (negsuc m) (pos n) e a b = absurd (omega arith)
+int_same (negsuc m) (negsuc n) e a b = ap negsuc (omega arith)
+
+both_true : (a b : Bool) → a && b ≡ true → (a ≡ true) × (b ≡ true)
+both_true true true e = (refl, refl)
+both_true true false e = absurd (cc)
+both_true false b e = absurd (cc)
+
+value_same : (x y : Value) → cell_key x ≡ cell_key y → 0 < cell_key x → cell_key x < 2 ^ 63 - 1 → x ≡ y
+value_same (Int m) (Int n) e a b = ap Int (int_same m n e a b)
+value_same (Int m) (Text t) e a b = absurd (omega (arith, e, b))
+value_same (Text s) y e a b = absurd (omega (arith, b))
+
+one_same : (xs ys : List Value) → key_of xs ≡ key_of ys → 0 < key_of xs → key_of xs < 2 ^ 63 - 1 → length xs ≡ 1 → length ys ≡ 1 → xs ≡ ys
+unfolding key_of
+one_same [] ys e a b p q = absurd (omega arith)
+one_same (x ∷ y ∷ xs) ys e a b p q = absurd (omega arith)
+one_same (x ∷ []) [] e a b p q = absurd (omega arith)
+one_same (x ∷ []) (y ∷ z ∷ ys) e a b p q = absurd (omega arith)
+one_same (x ∷ []) (y ∷ []) e a b p q = ap (λ v. v ∷ []) (value_same x y e a b)
+
+-- rows of one cell with a key that one number alone has are that number
+pub one_number : (xs ys : List Value) (a b : ℕ) → a ≡ key_of xs → b ≡ key_of ys → a ≡ b → key_tells_number a ≡ true → length xs ≡ 1 → length ys ≡ 1 → row_cmp xs ys ≡ Equal
+one_number xs ys a b p q same tells m n =
+    let both = both_true (ltb 0 a) (ltb a (2 ^ 63 - 1)) tells in
+    let some : 0 < key_of xs = omega (arith, p, ltb-true 0 a both.0) in
+    let few : key_of xs < 2 ^ 63 - 1 = omega (arith, p, ltb-true a (2 ^ 63 - 1) both.1) in
+    let e = one_same xs ys (sym p ∙ same ∙ q) some few m n in
+    rw e (tied_itself row-total ys)

@@ -1,14 +1,17 @@
 -- What std's reading of a number of 64 bits gives.
-use Rattle.std.proofs.Common.{◌≡◌, ◌<◌, ◌^◌, ◌==◌, ℕ, List, [], ◌∷◌, length, zero, suc, None, Result, Ok, Err, true, refl, inl, inr, arith, w64}
+use Rattle.std.proofs.Common.{◌≡◌, ◌<◌, ◌≤◌, ◌+◌, ◌-◌, ◌*◌, ◌^◌, ◌==◌, ◌∙◌, ◌++◌, ap, take, get_or, false, Some, ℕ, List, [], ◌∷◌, length, zero, suc, None, Result, Ok, Err, true, refl, inl, inr, arith, w64}
 use Rattle.std.specs.Prelude.{ℤ, pos, negsuc, ◌&&◌, IsUtf8}
 use Rattle.std.specs.Result.{result_ok}
+use Rattle.std.specs.Char.{digit_value}
 use Rattle.std.specs.Str.{IsAscii}
-use Rattle.std.specs.Str.Parse.{IsNumeral, ParsesSigned, signed_digits_value, without_leading_sign}
+use Rattle.std.specs.Str.Parse.{AllDigits, IsNumeral, ParsesSigned, digits_value, signed_digits_value, without_leading_sign}
 use Rattle.std.specs.Int.RustNames.{FitsSigned}
-use Rattle.std.proofs.lemmas.Bool.{and_from, and_parts, cases_Bool, eqb-true, false_from_ne_true, lt-ltb, ltb-true}
+use Rattle.std.proofs.lemmas.Int.Digits.{digits_push, digits_value_push}
+use Rattle.std.proofs.lemmas.List.{take_more}
+use Rattle.std.proofs.lemmas.Bool.{and_from, and_parts, cases_Bool, eqb-true, false_from_ne_true, lt-ltb, ltb-true, ne_eqb}
 use Rattle.std.proofs.lemmas.Fmt.{IsAscii-from_digits}
-use Rattle.std.proofs.lemmas.Str.{IsUtf8-from_ascii}
-use Rattle.std.proofs.lemmas.Str.Parse.{numerals_by_value, tells_all_ascii_digits}
+use Rattle.std.proofs.lemmas.Str.{IsUtf8-from_ascii, digit_value_digit}
+use Rattle.std.proofs.lemmas.Str.Parse.{digit_from_value, numerals_by_value, tells_all_ascii_digits}
 use Rattle.amber_rows.specs.Number.{fits_i64, is_digits, read_int_of}
 
 -- the words of the definition and std's words, both ways
@@ -64,3 +67,41 @@ read_int-none bytes other =
     let none = false_from_ne_true (is_digits (without_leading_sign bytes) && fits_i64 (signed_digits_value 10 bytes))
     (λ t. other (IsUtf8-from_ascii bytes (ascii-numeral bytes (and_parts _ _ t).0))) in
     rw none refl
+
+-- ---- digits one by one
+
+-- these are digits, and this is their number
+pub record IsRead (bytes : List ℕ) (number : ℕ) : Type 0 where
+  pub digits : AllDigits 10 bytes
+  pub value : number ≡ digits_value 10 bytes
+  pub few : number ≤ 10 ^ 18 + 9
+
+pub read-none : IsRead [] 0
+read-none = record { digits = tt; value = refl; few = omega arith }
+
+-- one digit more
+pub read-more : (bytes : List ℕ) (i old new : ℕ) → i < length bytes → IsRead (take i bytes) old → old ≤ 10 ^ 17 → 48 ≤ get_or bytes i 0 → get_or bytes i 0 ≤ 57
+    → new ≡ old * 10 + (get_or bytes i 0 - 48) → IsRead (take (i + 1) bytes) new
+read-more bytes i old new h r most low high n =
+    let byte = get_or bytes i 0 in
+    let next : take (i + 1) bytes ≡ take i bytes ++ byte ∷ [] = take_more bytes i 0 h in
+    let is : digit_value byte + 48 ≡ byte = digit_value_digit byte (low, high) in
+    let value : digits_value 10 (take (i + 1) bytes) ≡ digits_value 10 (take i bytes) * 10 + digit_value byte = ap (digits_value 10) next ∙ digits_value_push 10 (take i bytes) byte in
+    record {
+      digits = rw next (digits_push 10 (take i bytes) byte r.digits (omega (arith, is, high)));
+      value = omega (arith, n, r.value, value, is);
+      few = omega (arith, n, most, high);
+    }
+
+other-signs : (byte : ℕ) → digit_value byte < 10 → ((byte == 45) ≡ false) × ((byte == 43) ≡ false)
+other-signs byte h = let in_range = digit_from_value byte h in (ne_eqb byte 45 (omega (arith, in_range.0)), ne_eqb byte 43 (omega (arith, in_range.0)))
+
+-- digits alone are what is read
+pub read-all : (bytes : List ℕ) (number : ℕ) → (length bytes ≡ 0 → ⊥) → IsRead bytes number → Some (pos number) ≡ read_int_of bytes
+unfolding read_int_of
+read-all [] number some r = absurd (some refl)
+read-all (b ∷ rest) number some r =
+    let signs = other-signs b r.digits.0 in
+    let digits = digits-from (b ∷ rest) (omega arith, r.digits) in
+    let fits : fits_i64 (pos number) ≡ true = lt-ltb number (2 ^ 63) (omega (arith, r.few)) in
+    rw (signs.0, signs.1, digits, ← r.value, fits) refl

@@ -1,5 +1,5 @@
 -- A number of 64 bits that rises with rows: where two rows' keys differ, the rows stand as the keys do.
-use Rattle.std.specs.Prelude.{ℕ, zero, suc, ◌+◌, ◌-◌, ◌*◌, ◌^◌, ℤ, pos, negsuc, nat_lt, min, List, [], ◌∷◌, if◌then◌else◌}
+use Rattle.std.specs.Prelude.{ℕ, zero, suc, ◌+◌, ◌-◌, ◌*◌, ◌^◌, ℤ, pos, negsuc, nat_lt, min, Bool, ◌&&◌, List, [], ◌∷◌, if◌then◌else◌}
 use Rattle.amber_rows.specs.declared.value.Value.{Value}
 use Rattle.amber_rows.specs.declared.value.Value.TheVariants.{Int, Text}
 
@@ -23,3 +23,7 @@ cell_key (Text t) = 2 ^ 63 + front 7 t
 unfoldable pub key_of : List Value → ℕ
 key_of [] = 0
 key_of (cell ∷ cells) = cell_key cell
+
+-- whether one number alone has this key
+abbrev pub key_tells_number : ℕ → Bool
+key_tells_number key = nat_lt 0 key && nat_lt key (2 ^ 63 - 1)

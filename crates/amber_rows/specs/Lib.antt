@@ -13,6 +13,7 @@ pub mod Order
 pub mod OrderLaws
 pub mod Reading
 pub mod Record
+pub mod Retyping
 pub mod Routing
 pub mod RowText
 pub mod Shares

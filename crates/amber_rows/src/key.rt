@@ -1,5 +1,6 @@
 ghost use Rattle.std.specs.Prelude.{◌≡◌, ◌^◌, ◌<◌, slice_index};
 ghost use Rattle.amber_rows.specs.Key as key;
+ghost use Rattle.amber_rows.specs.Key.{key_tells_number};
 
 use crate::value::Value;
 
@@ -20,6 +21,13 @@ pub fn key_of(cells: &[Value]) -> u64
         [Value::Int(number), ..] => int_key(*number),
         [Value::Text(text), ..] => TEXTS + front(text.get().as_bytes()),
     }
+}
+
+/// Whether a key is that of one number alone: all but the first and the last of numbers.
+pub fn tells_number(key: u64) -> bool
+    ensures { result ≡ key_tells_number key }
+{
+    0 < key && key < TEXTS - 1
 }
 
 /// The key of a number.

@@ -1,4 +1,4 @@
-ghost use Rattle.std.specs.Prelude.{◌≡◌, ◌^◌, ◌<◌, length, IfOk};
+ghost use Rattle.std.specs.Prelude.{◌≡◌, ◌^◌, ◌<◌, length, IfOk, IfSome, Some};
 ghost use Rattle.csv.specs.Records.{fields_of};
 ghost use Rattle.amber_rows.specs.Number.{read_int_of};
 ghost use Rattle.amber_rows.specs.Record.{cell_of, row_of};
@@ -22,10 +22,34 @@ pub enum RowFault {
     Utf8(u32),
 }
 
+// The largest number that is read digit by digit, before the last digit.
+const MOST_READ: u64 = 100_000_000_000_000_000;
+
+// The number that digits alone are, of which there are few. Nothing is said where it finds none.
+fn few_digits(bytes: &[u8]) -> Option<i64>
+    ensures { IfSome result (λ number. Some number ≡ read_int_of bytes.now) }
+{
+    if bytes.is_empty() {
+        return None;
+    }
+    let mut number: u64 = 0;
+    for byte in bytes {
+        let digit = *byte;
+        if digit < b'0' || b'9' < digit || number > MOST_READ {
+            return None;
+        }
+        number = number * 10 + u64::from(digit - b'0');
+    }
+    Some(number as i64)
+}
+
 /// The whole number that a field is: an optional `+` or `-` and one or more digits, in the range of `i64`.
 pub fn read_int(bytes: &[u8]) -> Option<i64>
     ensures { result ≡ read_int_of bytes.now }
 {
+    if let Some(number) = few_digits(bytes) {
+        return Some(number);
+    }
     let Ok(text) = str::from_utf8(bytes) else {
         return None;
     };

@@ -5,6 +5,7 @@ ghost use Rattle.amber_rows.specs.RowText.{HasWritten, fields_text_of, row_text_
 
 use crate::column::{Column, Schema};
 use crate::row::Row;
+use crate::text::Text;
 use crate::value::Value;
 use csv::{ByteRecord, Writer, WriterBuilder};
 use itoa::Buffer;
@@ -81,29 +82,37 @@ fn fill_names(fields: &mut ByteRecord, columns: &[Column]) -> Result<(), AllocEr
     Ok(())
 }
 
-// How many bytes the texts of a row have.
-fn texts_len(row: &Row) -> usize {
+// The first byte of a text, as a number.
+fn first_byte(text: &Text) -> usize {
+    match text.get().as_bytes().first() {
+        Some(byte) => usize::from(*byte),
+        None => 0,
+    }
+}
+
+// The first bytes of a row's texts, added up.
+fn first_bytes(row: &Row) -> usize {
     let mut total: usize = 0;
     let cells = row.get();
     for cell in cells {
         if let Value::Text(text) = cell {
-            total = total.saturating_add(text.len());
+            total = total.saturating_add(first_byte(text));
         }
     }
     total
 }
 
-// How many bytes the texts of rows have, if a `usize` counts them.
-fn near_len(rows: &[Row]) -> Option<usize> {
+// The first bytes of the texts of rows, added up, if a `usize` holds the sum.
+fn near_bytes(rows: &[Row]) -> Option<usize> {
     let mut total: usize = 0;
     for row in rows {
-        total = total.checked_add(texts_len(row))?;
+        total = total.checked_add(first_bytes(row))?;
     }
     Some(total)
 }
 
-// Makes the record that of the row at this place. In their order the rows' cells lie anywhere in memory, so
-// each row would wait for them. Looking at the cells of the next rows together lets these waits overlap.
+// Makes the record that of the row at this place. In their order the rows' cells and texts lie anywhere in
+// memory, so each row would wait for them. Looking at those of the next rows together lets these waits overlap.
 fn fill_near(
     fields: &mut ByteRecord,
     rows: &[Row],
@@ -116,7 +125,7 @@ fn fill_near(
         let (_, later) = rows.split_at(place.min(rows.len()));
         let (near, _) = later.split_at(AHEAD.min(later.len()));
         // Their texts are in memory, so the sum is never refused.
-        if near_len(near).is_none() {
+        if near_bytes(near).is_none() {
             return Err(AllocError);
         }
     }

@@ -1,4 +1,4 @@
-ghost use Rattle.std.specs.Prelude.{◌≡◌, ◌==◌, IfOk, Some, length, string_bytes};
+ghost use Rattle.std.specs.Prelude.{◌≡◌, ◌==◌, IfOk, OnOk, Some, length, string_bytes};
 ghost use Rattle.std.specs.Ordering.{as_partial_cmp, nat_cmp};
 ghost use Rattle.std.specs.Cmp.{partial_equiv_from_equiv, partial_order_from_own_ties};
 ghost use Rattle.std.specs.Cmp.Lexicographic.{nat_list_cmp_total, nat_list_eq_equiv, pointwise, slice_cmp};
@@ -37,6 +37,15 @@ impl Text {
         ensures { result.now ≡ self.now }
     {
         self.inner.as_str()
+    }
+
+    /// Makes it this text, in the room that it has where that is enough.
+    pub fn set(&mut self, text: &str) -> Result<(), AllocError>
+        ensures { OnOk result (self.new ≡ text.now) }
+    {
+        self.inner.clear();
+        self.inner.push_str(text)?;
+        Ok(())
     }
 
     /// How many bytes the text has.

@@ -1,8 +1,9 @@
-ghost use Rattle.std.specs.Prelude.{◌≡◌, IfOk, Some};
+ghost use Rattle.std.specs.Prelude.{◌≡◌, OnOk, Some};
 ghost use Rattle.amber_rows.specs.RowText.{value_text};
+ghost use Rattle.amber_rows.specs.declared.value.Value.TheVariants as value;
 
 use crate::text::Text;
-use std::alloc::AllocError;
+use std::alloc::{AllocError, Global};
 use std::fmt;
 
 /// One cell of a row: a whole number or a text. Numbers come before texts, numbers by size, texts by bytes.
@@ -10,6 +11,30 @@ use std::fmt;
 pub enum Value {
     Int(i64),
     Text(Text),
+}
+
+impl Value {
+    /// Makes it a cell of this text, in the room of the text that it was.
+    pub fn set_text(&mut self, alloc: Global, text: &str) -> Result<(), AllocError>
+        ensures { OnOk result (self.new ≡ value.Text text.now) }
+    {
+        match self {
+            Value::Text(room) => room.set(text)?,
+            Value::Int(_) => *self = Value::Text(Text::new(String::from_str(alloc, text)?)),
+        }
+        Ok(())
+    }
+
+    /// Makes it a cell equal to another one, in the room of the text that it was.
+    pub fn set(&mut self, alloc: Global, cell: &Value) -> Result<(), AllocError>
+        ensures { OnOk result (self.new ≡ cell.now) }
+    {
+        match cell {
+            Value::Int(number) => *self = Value::Int(*number),
+            Value::Text(text) => self.set_text(alloc, text.get())?,
+        }
+        Ok(())
+    }
 }
 
 impl Clone for Value {

@@ -14,10 +14,11 @@ use Rattle.amber_course.specs.Course.{IsLoaded, IsReached, course_of, job_of, re
 use Rattle.amber_run.specs.Outcome.{AsksNoRun, Breaks, Counts, Ended, IsCause, Runs, Stops, Worded}
 use Rattle.amber_course.specs.Told.{Refuses}
 use Rattle.amber_run.specs.UnderWay.{IsBare, IsLeft, Leaves}
-use Rattle.amber_course.specs.Steps.{AreRead, Follows, Names, Tells}
+use Rattle.amber_course.specs.Steps.{AreRead, Follows, Names, Tells, loading, putting}
 use Rattle.amber_course.specs.Failure.{IsToldAs, error_line_of, status_of}
 use Rattle.amber_run.specs.RunTask.{RunTask, query_at}
 use Rattle.amber_course.specs.Words.{call_words_of}
+use Rattle.amber_run.specs.World.{Change, Shown, showing}
 use Rattle.amber_run.specs.Writing.{CountsWrites}
 use Rattle.amber_course.specs.declared.job.Job.{Job}
 use Rattle.amber_course.specs.declared.job.Job.TheVariants as job
@@ -28,6 +29,7 @@ use Rattle.amber_course.specs.declared.status.Status.TheVariants as status
 use Rattle.amber_course.specs.declared.failure.Failure.{Failure}
 use Rattle.amber_course.specs.declared.failure.Failure.TheVariants as failure
 use Rattle.amber_course.proofs.Lines.{appends-on, appends-same}
+use Rattle.amber_run.proofs.Changes.{Counted, new_world, old_world, still, with_got}
 use Rattle.amber_course.proofs.Following.{names-map, stopped-map, tells-map, then-err, then-ok, told-all, told-map}
 
 -- ---- the run
@@ -50,59 +52,84 @@ course-failure : (words : List (List ℕ)) (read : Words) (files : Named) (s : F
 course-failure words read files s e j = course-read words read files e ∙ then-err (job_of read files) s require_limit j
 
 -- the words were refused
-pub run-words : (s : Failure) (words : List (List ℕ)) (told : Option Named) (got : Option (List ℕ)) (loads : ℕ) → AreRead (Err s) (call_words_of words)
-    → Runs {A = Unit {0}} (Err s) words told told got got loads loads
-run-words failure.Usage words told got loads e = (refl, e, (refl, appends-same got))
-run-words failure.NoMemory words told got loads e = inl (refl, appends-same got)
-run-words other words told got loads e = absurd e
+pub run-words : (s : Failure) (words : List (List ℕ)) (shown : Shown) (loads : ℕ) → AreRead (Err s) (call_words_of words)
+    → Runs {A = Unit {0}} (Err s) words (still shown loads loads)
+run-words failure.Usage words shown loads e = (refl, e, (refl, appends-same shown.got))
+run-words failure.NoMemory words shown loads e = inl (refl, appends-same shown.got)
+run-words other words shown loads e = absurd e
 
-cause-of : (words : List (List ℕ)) (read : Words) (told : Option Named) (s : Failure) (a b : ℕ) → call_words_of words ≡ Some read
-    → Follows {A = Job} (Err s) told (job_of read) a b → IsCause words told s a b
-cause-of words read told s a b e h =
-    stopped-map s a b (Told told (λ files. job_of read files ≡ Err s)) (Told told (λ files. course_of words files ≡ Err s))
+cause-of : (words : List (List ℕ)) (read : Words) (c : Change) (s : Failure) → call_words_of words ≡ Some read
+    → Follows {A = Job} (Err s) (job_of read) (loading c.before.files c.loads c.loads_now) → IsCause words s c
+cause-of words read c s e h =
+    let told = c.before.files in
+    stopped-map s (loading told c.loads c.loads_now) (Told told (λ files. job_of read files ≡ Err s)) (Told told (λ files. course_of words files ≡ Err s))
     (Tells told (λ files. job_of read files ≡ Err s)) (Tells told (λ files. course_of words files ≡ Err s))
     (told-map told (λ files. job_of read files ≡ Err s) (λ files. course_of words files ≡ Err s) (λ files j. course-failure words read files s e j))
     (tells-map told (λ files. job_of read files ≡ Err s) (λ files. course_of words files ≡ Err s) (λ files j. course-failure words read files s e j))
     h
 
 -- there was no job
-pub run-failure : (words : List (List ℕ)) (read : Words) (told : Option Named) (got : Option (List ℕ)) (s : Failure) (a b : ℕ) → call_words_of words ≡ Some read
-    → Follows {A = Job} (Err s) told (job_of read) a b → Runs {A = Unit {0}} (Err s) words told told got got a b
-run-failure words read told got failure.Usage a b e h = absurd h
-run-failure words read told got failure.LogFault a b e h = absurd h
-run-failure words read told got failure.OutFault a b e h = absurd h
-run-failure words read told got failure.Long a b e h =
-    let cause = cause-of words read told failure.Long a b e h in
-    (cause.0, inl (cause.1, (refl, appends-same got)))
-run-failure words read told got failure.NoMemory a b e h = inl (refl, appends-same got)
-run-failure words read told got other a b e h = (cause-of words read told other a b e h, (refl, appends-same got))
+pub run-failure : (words : List (List ℕ)) (read : Words) (shown : Shown) (s : Failure) (a b : ℕ) → call_words_of words ≡ Some read
+    → Follows {A = Job} (Err s) (job_of read) (loading shown.files a b) → Runs {A = Unit {0}} (Err s) words (still shown a b)
+run-failure words read shown failure.Usage a b e h = absurd h
+run-failure words read shown failure.LogFault a b e h = absurd h
+run-failure words read shown failure.OutFault a b e h = absurd h
+run-failure words read shown failure.Long a b e h =
+    let cause = cause-of words read (still shown a b) failure.Long e h in
+    (cause.0, inl (cause.1, (refl, appends-same shown.got)))
+run-failure words read shown failure.NoMemory a b e h = inl (refl, appends-same shown.got)
+run-failure words read shown other a b e h = (cause-of words read (still shown a b) other e h, (refl, appends-same shown.got))
 
-broken : (words : List (List ℕ)) (read : Words) (told now : Option Named) (job : Job) (s : Failure) (before got : Option (List ℕ)) (a b : ℕ) → call_words_of words ≡ Some read
-    → Follows (Ok job) told (job_of read) a b → require_limit job ≡ Ok job → BreaksOff job s [] told now before got → Breaks words s [] told now before got
-broken words read told now job s before got a b e h l breaks =
-    told-map told (λ files. job_of read files ≡ Ok job) (λ files. (one : Job) × (course_of words files ≡ Ok one) × BreaksOff one s [] told now before got)
+broken : (words : List (List ℕ)) (read : Words) (c : Change) (job : Job) (s : Failure) → call_words_of words ≡ Some read
+    → Follows (Ok job) (job_of read) (loading c.before.files c.loads c.loads_now) → require_limit job ≡ Ok job → BreaksOff job s [] c → Breaks words s [] c
+broken words read c job s e h l breaks =
+    told-map c.before.files (λ files. job_of read files ≡ Ok job) (λ files. (one : Job) × (course_of words files ≡ Ok one) × BreaksOff one s [] c)
     (λ files j. (job, course-job words read files job (Ok job) e j l, breaks)) h.1
 
 -- the job was done, or not
-pub run-works : (r : Result (Unit {0}) Failure) (words : List (List ℕ)) (read : Words) (told now : Option Named) (job : Job) (before got : Option (List ℕ)) (a b : ℕ) → call_words_of words ≡ Some read
-    → Follows (Ok job) told (job_of read) a b → Works r job told now before got → Runs r words told now before got a b
-run-works (Ok u) words read told now job before got a b e h done = (
+pub run-works : (r : Result (Unit {0}) Failure) (words : List (List ℕ)) (read : Words) (job : Job) (c : Change) → call_words_of words ≡ Some read
+    → Follows (Ok job) (job_of read) (loading c.before.files c.loads c.loads_now) → Works r job c → Runs r words c
+run-works (Ok u) words read job c e h done = (
   h.0,
-  told-map told (λ files. job_of read files ≡ Ok job) (λ files. (job : Job) × (course_of words files ≡ Ok job) × Fulfils job told now before got) (λ files j. (job, course-job words read files job (Ok job) e j done.0, done.1)) h.1,
+  told-map c.before.files (λ files. job_of read files ≡ Ok job) (λ files. (job : Job) × (course_of words files ≡ Ok job) × Fulfils job c)
+      (λ files j. (job, course-job words read files job (Ok job) e j done.0, done.1)) h.1,
 )
-run-works (Err failure.LogFault) words read told now job before got a b e h done = (h.0, broken words read told now job failure.LogFault before got a b e h done.0 done.1)
-run-works (Err failure.OutFault) words read told now job before got a b e h done = (h.0, broken words read told now job failure.OutFault before got a b e h done.0 done.1)
-run-works (Err failure.Long) words read told now job before got a b e h (inl done) = (
+run-works (Err failure.LogFault) words read job c e h done = (h.0, broken words read c job failure.LogFault e h done.0 done.1)
+run-works (Err failure.OutFault) words read job c e h done = (h.0, broken words read c job failure.OutFault e h done.0 done.1)
+run-works (Err failure.Long) words read job c e h (inl done) = (
   h.0,
   inl (
-    told-map told (λ files. job_of read files ≡ Ok job) (λ files. course_of words files ≡ Err failure.Long) (λ files j. course-job words read files job (Err failure.Long) e j done.0) h.1,
+    told-map c.before.files (λ files. job_of read files ≡ Ok job) (λ files. course_of words files ≡ Err failure.Long) (λ files j. course-job words read files job (Err failure.Long) e j done.0) h.1,
     done.1,
   ),
 )
-run-works (Err failure.Long) words read told now job before got a b e h (inr done) = (h.0, inr (broken words read told now job failure.Long before got a b e h done.0 done.1))
-run-works (Err failure.NoMemory) words read told now job before got a b e h (inl done) = inl done
-run-works (Err failure.NoMemory) words read told now job before got a b e h (inr done) = inr (h.0, broken words read told now job failure.NoMemory before got a b e h done.0 done.1)
-run-works (Err other) words read told now job before got a b e h done = absurd done
+run-works (Err failure.Long) words read job c e h (inr done) = (h.0, inr (broken words read c job failure.Long e h done.0 done.1))
+run-works (Err failure.NoMemory) words read job c e h (inl done) = inl done
+run-works (Err failure.NoMemory) words read job c e h (inr done) = inr (h.0, broken words read c job failure.NoMemory e h done.0 done.1)
+run-works (Err other) words read job c e h done = absurd done
+
+-- what a job did has nothing to do with the loads before it
+works-loads : (j : Job) (s : Failure) (line : List ℕ) (before now : Shown) (a b c d : ℕ) → BreaksOff j s line (record { before = before; now = now; loads = a; loads_now = b })
+    → BreaksOff j s line (record { before = before; now = now; loads = c; loads_now = d })
+works-loads (job.Plain flow files) failure.OutFault line before now a b c d h = h
+works-loads (job.Plain flow files) other line before now a b c d h = absurd h
+works-loads (job.Run run) s line before now a b c d h = h
+
+fulfils-loads : (j : Job) (before now : Shown) (a b c d : ℕ) → Fulfils j (record { before = before; now = now; loads = a; loads_now = b })
+    → Fulfils j (record { before = before; now = now; loads = c; loads_now = d })
+fulfils-loads (job.Plain flow files) before now a b c d h = h
+fulfils-loads (job.Run run) before now a b c d h = h
+
+pub works-from : (r : Result (Unit {0}) Failure) (j : Job) (before now : Shown) (a b c d : ℕ) → Works r j (record { before = before; now = now; loads = a; loads_now = b })
+    → Works r j (record { before = before; now = now; loads = c; loads_now = d })
+works-from (Ok u) j before now a b c d h = (h.0, fulfils-loads j before now a b c d h.1)
+works-from (Err failure.LogFault) j before now a b c d h = (h.0, works-loads j failure.LogFault [] before now a b c d h.1)
+works-from (Err failure.OutFault) j before now a b c d h = (h.0, works-loads j failure.OutFault [] before now a b c d h.1)
+works-from (Err failure.Long) j before now a b c d (inl h) = inl h
+works-from (Err failure.Long) j before now a b c d (inr h) = inr (h.0, works-loads j failure.Long [] before now a b c d h.1)
+works-from (Err failure.NoMemory) j before now a b c d (inl h) = inl h
+works-from (Err failure.NoMemory) j before now a b c d (inr h) = inr (h.0, works-loads j failure.NoMemory [] before now a b c d h.1)
+works-from (Err other) j before now a b c d h = absurd h
 
 pub words-counts : (s : Failure) (words : List (List ℕ)) (n : ℕ) → AreRead (Err s) (call_words_of words) → Counts {A = Unit {0}} (Err s) n n
 words-counts failure.OutFault words n h = absurd h
@@ -112,11 +139,11 @@ pub words-writes : (s : Failure) (words : List (List ℕ)) (n : ℕ) → AreRead
 words-writes failure.LogFault words n h = absurd h
 words-writes other words n h = refl
 
-pub failure-counts : (s : Failure) (told : Option Named) (meant : Named → Result Job Failure) (a b n : ℕ) → Follows {A = Job} (Err s) told meant a b → Counts {A = Unit {0}} (Err s) n n
+pub failure-counts : (s : Failure) (told : Option Named) (meant : Named → Result Job Failure) (a b n : ℕ) → Follows {A = Job} (Err s) meant (loading told a b) → Counts {A = Unit {0}} (Err s) n n
 failure-counts failure.OutFault told meant a b n h = absurd h
 failure-counts other told meant a b n h = refl
 
-pub failure-writes : (s : Failure) (told : Option Named) (meant : Named → Result Job Failure) (a b n m : ℕ) → Follows {A = Job} (Err s) told meant a b → m ≡ n → CountsWrites {A = Unit {0}} (Err s) n m
+pub failure-writes : (s : Failure) (told : Option Named) (meant : Named → Result Job Failure) (a b n m : ℕ) → Follows {A = Job} (Err s) meant (loading told a b) → m ≡ n → CountsWrites {A = Unit {0}} (Err s) n m
 failure-writes failure.LogFault told meant a b n m h e = absurd h
 failure-writes other told meant a b n m h e = e
 
@@ -132,11 +159,11 @@ reached-words (failure.ReadFault file) words told h = absurd h
 reached-words other words told h = told-all told (λ files. ⊤) (λ files. tt)
 
 -- a job that is done names no file
-pub reached-works : (r : Result (Unit {0}) Failure) (words : List (List ℕ)) (told now : Option Named) (job : Job) (before got : Option (List ℕ))
-    → Works r job told now before got → Told told (λ files. IfErr r (λ s. Names s (IsReached words files)))
-reached-works (Ok u) words told now job before got h = told-all told (λ files. ⊤) (λ files. tt)
-reached-works (Err (failure.ReadFault file)) words told now job before got h = absurd h
-reached-works (Err other) words told now job before got h = told-all told (λ files. ⊤) (λ files. tt)
+pub reached-works : (r : Result (Unit {0}) Failure) (words : List (List ℕ)) (told : Option Named) (job : Job) (c : Change)
+    → Works r job c → Told told (λ files. IfErr r (λ s. Names s (IsReached words files)))
+reached-works (Ok u) words told job c h = told-all told (λ files. ⊤) (λ files. tt)
+reached-works (Err (failure.ReadFault file)) words told job c h = absurd h
+reached-works (Err other) words told job c h = told-all told (λ files. ⊤) (λ files. tt)
 
 -- words that were refused, and no job, have nothing to do with the log
 pub words-unlogged : (s : Failure) (words : List (List ℕ)) → AreRead (Err s) (call_words_of words) → s ≢ failure.LogFault
@@ -145,7 +172,7 @@ words-unlogged failure.Usage words h e = cc
 words-unlogged failure.NoMemory words h e = cc
 words-unlogged other words h e = h
 
-pub failure-unlogged : (s : Failure) (told : Option Named) (meant : Named → Result Job Failure) (a b : ℕ) → Follows {A = Job} (Err s) told meant a b → s ≢ failure.LogFault
+pub failure-unlogged : (s : Failure) (told : Option Named) (meant : Named → Result Job Failure) (a b : ℕ) → Follows {A = Job} (Err s) meant (loading told a b) → s ≢ failure.LogFault
 failure-unlogged failure.LogFault told meant a b h e = h
 failure-unlogged other told meant a b h e = cc
 
@@ -155,15 +182,15 @@ worded-words failure.NoMemory words h = h
 worded-words other words h = absurd h
 
 pub worded-failure : (s : Failure) (words : List (List ℕ)) (read : Words) (told : Option Named) (meant : Named → Result Job Failure) (a b : ℕ) → call_words_of words ≡ Some read
-    → Follows (Err s) told meant a b → Worded {A = Unit {0}} (Err s) words
+    → Follows (Err s) meant (loading told a b) → Worded {A = Unit {0}} (Err s) words
 worded-failure failure.Usage words read told meant a b e h = absurd h
 worded-failure other words read told meant a b e h = rw e refl
 
-pub worded-works : (r : Result (Unit {0}) Failure) (words : List (List ℕ)) (read : Words) (told now : Option Named) (job : Job) (before got : Option (List ℕ)) → call_words_of words ≡ Some read
-    → Works r job told now before got → Worded r words
-worded-works (Ok u) words read told now job before got e h = rw e refl
-worded-works (Err failure.Usage) words read told now job before got e h = absurd h
-worded-works (Err other) words read told now job before got e h = rw e refl
+pub worded-works : (r : Result (Unit {0}) Failure) (words : List (List ℕ)) (read : Words) (job : Job) (c : Change) → call_words_of words ≡ Some read
+    → Works r job c → Worded r words
+worded-works (Ok u) words read job c e h = rw e refl
+worded-works (Err failure.Usage) words read job c e h = absurd h
+worded-works (Err other) words read job c e h = rw e refl
 
 -- words that ask for no run have a job that writes no file
 pub plain-job : (meant : Option Words) (read : Words) (j : Job) → meant ≡ Some read → AsksNoRun meant → IsAskedBy read j → WritesNothing j
@@ -180,14 +207,14 @@ pub told-tells : (told : Option Named) (P : Named → Type 0) → Tells told P �
 told-tells None P h = tt
 told-tells (Some files) P h = h
 
-untouched-on : (line : List ℕ) (told now : Option Named) (before mid got : Option (List ℕ)) → Appends mid got line → IsUntouched [] told now before mid → IsUntouched line told now before got
-untouched-on line told now before mid got p h = (h.0, appends-on before mid got [] line h.1 p)
+untouched-on : (line : List ℕ) (c : Change) (got : Option (List ℕ)) → Appends c.now.got got line → IsUntouched [] c → IsUntouched line (with_got c got)
+untouched-on line c got p h = (h.0, appends-on c.before.got c.now.got got [] line h.1 p)
 
 behind : (xs part line : List ℕ) → (xs ++ (part ++ [])) ++ line ≡ xs ++ (part ++ line)
 behind xs part line = append_assoc xs (part ++ []) line ∙ ap (λ p. xs ++ (p ++ line)) (append-nil part)
 
-left-on : (t : RunTask) (s : Failure) (line : List ℕ) (files : Option Named) (mid got : Option (List ℕ)) → Appends mid got line → IsLeft t s [] files mid → IsLeft t s line files got
-left-on t s line files mid got p h = record {
+left-on : (t : RunTask) (s : Failure) (line : List ℕ) (shown : Shown) (got : Option (List ℕ)) → Appends shown.got got line → IsLeft t s [] shown → IsLeft t s line (showing shown.files got)
+left-on t s line shown got p h = record {
   bytes = h.bytes;
   batch = h.batch;
   done = h.done;
@@ -204,54 +231,54 @@ left-on t s line files mid got p h = record {
   split = h.split;
   whole = h.whole;
   sent = rw (← behind (transcript_of (query_at t h.batch) h.done) h.part line)
-      (appends-on t.before mid got (transcript_of (query_at t h.batch) h.done ++ (h.part ++ [])) line h.sent p);
+      (appends-on t.before shown.got got (transcript_of (query_at t h.batch) h.done ++ (h.part ++ [])) line h.sent p);
   closed = h.closed;
 }
 
-bare-on : (t : RunTask) (line : List ℕ) (files : Option Named) (mid got : Option (List ℕ)) → Appends mid got line → IsBare t [] files mid → IsBare t line files got
-bare-on t line files mid got p h = (h.0, appends-on t.before mid got [] line h.1 p)
+bare-on : (t : RunTask) (line : List ℕ) (shown : Shown) (got : Option (List ℕ)) → Appends shown.got got line → IsBare t [] shown → IsBare t line (showing shown.files got)
+bare-on t line shown got p h = (h.0, appends-on t.before shown.got got [] line h.1 p)
 
-leaves-on : (t : RunTask) (s : Failure) (line : List ℕ) (files : Option Named) (mid got : Option (List ℕ)) → Appends mid got line → Leaves t s [] files mid → Leaves t s line files got
-leaves-on t failure.LogFault line files mid got p (inl h) = inl (bare-on t line files mid got p h)
-leaves-on t failure.LogFault line files mid got p (inr h) = inr (left-on t failure.LogFault line files mid got p h)
-leaves-on t failure.OutFault line files mid got p h = left-on t failure.OutFault line files mid got p h
-leaves-on t failure.Long line files mid got p h = (left-on t failure.Long line files mid got p h.0, h.1)
-leaves-on t failure.NoMemory line files mid got p (inl h) = inl (bare-on t line files mid got p h)
-leaves-on t failure.NoMemory line files mid got p (inr h) = inr (left-on t failure.NoMemory line files mid got p h)
-leaves-on t other line files mid got p h = absurd h
+leaves-on : (t : RunTask) (s : Failure) (line : List ℕ) (shown : Shown) (got : Option (List ℕ)) → Appends shown.got got line → Leaves t s [] shown
+    → Leaves t s line (showing shown.files got)
+leaves-on t failure.LogFault line shown got p (inl h) = inl (bare-on t line shown got p h)
+leaves-on t failure.LogFault line shown got p (inr h) = inr (left-on t failure.LogFault line shown got p h)
+leaves-on t failure.OutFault line shown got p h = left-on t failure.OutFault line shown got p h
+leaves-on t failure.Long line shown got p h = (left-on t failure.Long line shown got p h.0, h.1)
+leaves-on t failure.NoMemory line shown got p (inl h) = inl (bare-on t line shown got p h)
+leaves-on t failure.NoMemory line shown got p (inr h) = inr (left-on t failure.NoMemory line shown got p h)
+leaves-on t other line shown got p h = absurd h
 
 begins-nil : (before mid got : Option (List ℕ)) (x line rest : List ℕ) → line ++ rest ≡ [] → Appends mid got line → Begins before mid x → Begins before got x
 begins-nil before mid got x line rest e p h =
     let whole = appends-on before mid got h.0 line h.3 p in
     (h.0, h.1, h.2, rw (no-front line rest e, append-nil h.0) at whole)
 
-job-on : (j : Job) (s : Failure) (line rest : List ℕ) (told now : Option Named) (before mid got : Option (List ℕ)) → line ++ rest ≡ error_line_of s → Appends mid got line
-    → BreaksOff j s [] told now before mid → BreaksOff j s line told now before got
-job-on (job.Plain flow files) failure.OutFault line rest told now before mid got e p h = (h.0, begins-nil before mid got _ line rest e p h.1)
-job-on (job.Plain flow files) other line rest told now before mid got e p h = absurd h
-job-on (job.Run flow files log threads batch) s line rest told now before mid got e p h = leaves-on _ s line now mid got p h
+job-on : (j : Job) (s : Failure) (line rest : List ℕ) (c : Change) (got : Option (List ℕ)) → line ++ rest ≡ error_line_of s → Appends c.now.got got line
+    → BreaksOff j s [] c → BreaksOff j s line (with_got c got)
+job-on (job.Plain flow files) failure.OutFault line rest c got e p h = (h.0, begins-nil c.before.got c.now.got got _ line rest e p h.1)
+job-on (job.Plain flow files) other line rest c got e p h = absurd h
+job-on (job.Run run) s line rest c got e p h = leaves-on _ s line c.now got p h
 
-breaks-on : (words : List (List ℕ)) (s : Failure) (line rest : List ℕ) (told now : Option Named) (before mid got : Option (List ℕ)) → line ++ rest ≡ error_line_of s → Appends mid got line
-    → Breaks words s [] told now before mid → Breaks words s line told now before got
-breaks-on words s line rest told now before mid got e p h =
-    told-map told (λ files. (one : Job) × (course_of words files ≡ Ok one) × BreaksOff one s [] told now before mid)
-    (λ files. (one : Job) × (course_of words files ≡ Ok one) × BreaksOff one s line told now before got)
-    (λ files one. (one.0, one.1, job-on one.0 s line rest told now before mid got e p one.2)) h
+breaks-on : (words : List (List ℕ)) (s : Failure) (line rest : List ℕ) (c : Change) (got : Option (List ℕ)) → line ++ rest ≡ error_line_of s → Appends c.now.got got line
+    → Breaks words s [] c → Breaks words s line (with_got c got)
+breaks-on words s line rest c got e p h =
+    told-map c.before.files (λ files. (one : Job) × (course_of words files ≡ Ok one) × BreaksOff one s [] c)
+    (λ files. (one : Job) × (course_of words files ≡ Ok one) × BreaksOff one s line (with_got c got))
+    (λ files one. (one.0, one.1, job-on one.0 s line rest c got e p one.2)) h
 
--- what was left, with the line
-stops-on : (s : Failure) (words : List (List ℕ)) (line rest : List ℕ) (told now : Option Named) (before mid got : Option (List ℕ)) (a b : ℕ) → line ++ rest ≡ error_line_of s → Appends mid got line
-    → Stops words s [] told now before mid a b → Stops words s line told now before got a b
-stops-on failure.Usage words line rest told now before mid got a b e p h = (h.0, h.1, untouched-on line told now before mid got p h.2)
-stops-on failure.LogFault words line rest told now before mid got a b e p h = (h.0, breaks-on words failure.LogFault line rest told now before mid got e p h.1)
-stops-on failure.OutFault words line rest told now before mid got a b e p h = (h.0, breaks-on words failure.OutFault line rest told now before mid got e p h.1)
-stops-on failure.Long words line rest told now before mid got a b e p (same, inl h) = (same, inl (h.0, untouched-on line told now before mid got p h.1))
-stops-on failure.Long words line rest told now before mid got a b e p (same, inr h) = (same, inr (breaks-on words failure.Long line rest told now before mid got e p h))
-stops-on failure.NoMemory words line rest told now before mid got a b e p (inl h) = inl (untouched-on line told now before mid got p h)
-stops-on failure.NoMemory words line rest told now before mid got a b e p (inr h) = inr (h.0, breaks-on words failure.NoMemory line rest told now before mid got e p h.1)
-stops-on other words line rest told now before mid got a b e p h = (h.0, untouched-on line told now before mid got p h.1)
+stops-on : (s : Failure) (words : List (List ℕ)) (line rest : List ℕ) (c : Change) (got : Option (List ℕ)) → line ++ rest ≡ error_line_of s → Appends c.now.got got line
+    → Stops words s [] c → Stops words s line (with_got c got)
+stops-on failure.Usage words line rest c got e p h = (h.0, h.1, untouched-on line c got p h.2)
+stops-on failure.LogFault words line rest c got e p h = (h.0, breaks-on words failure.LogFault line rest c got e p h.1)
+stops-on failure.OutFault words line rest c got e p h = (h.0, breaks-on words failure.OutFault line rest c got e p h.1)
+stops-on failure.Long words line rest c got e p (same, inl h) = (same, inl (h.0, untouched-on line c got p h.1))
+stops-on failure.Long words line rest c got e p (same, inr h) = (same, inr (breaks-on words failure.Long line rest c got e p h))
+stops-on failure.NoMemory words line rest c got e p (inl h) = inl (untouched-on line c got p h)
+stops-on failure.NoMemory words line rest c got e p (inr h) = inr (h.0, breaks-on words failure.NoMemory line rest c got e p h.1)
+stops-on other words line rest c got e p h = (h.0, untouched-on line c got p h.1)
 
 -- the status of a call that was refused
-pub refused-as : (result : Status) (s : Failure) (mid got : Option (List ℕ)) (d e : ℕ) → Refuses result s mid got d e → (result ≡ status_of s) ⊎ (result ≡ status.NoMemory)
+pub refused-as : (result : Status) (s : Failure) (mid got : Option (List ℕ)) (d e : ℕ) → Refuses result s (putting mid got d e) → (result ≡ status_of s) ⊎ (result ≡ status.NoMemory)
 refused-as result s mid got d e f = elim f.2 [ inl whole ↦ inl whole.2 | inr rest ↦ elim rest [ inl none ↦ inr none.1 | inr rose ↦ inl rose.1 ] ]
 
 pub not-ok : (result : Status) (s : Failure) → (result ≡ status_of s) ⊎ (result ≡ status.NoMemory) → result ≢ status.Ok
@@ -267,37 +294,36 @@ line-whole : (s : Failure) (line rest : List ℕ) (c d e : ℕ) → Counts {A = 
 line-whole failure.OutFault line rest c d e n split rose quiet small = no-front line rest split
 line-whole other line rest c d e n split rose quiet small = absurd (unrisen c d e n quiet small rose)
 
-pub ended : (s : Failure) (words : List (List ℕ)) (told now : Option Named) (before mid got : Option (List ℕ)) (a b w x c d e : ℕ) (result : Status)
-    → Runs {A = Unit {0}} (Err s) words told now before mid a b → Counts {A = Unit {0}} (Err s) c d → Refuses result s mid got d e → IsToldAs s result
-    → Told told (λ files. Names s (IsReached words files))
-    → Ended words result (record { files = told; got = before; loads = a; writes = w; puts = c }) (record { files = now; got = got; loads = b; writes = x; puts = e })
-ended s words told now before mid got a b w x c d e result r n (le, begun, inl (same, all, is)) tells named = record {
+pub ended : (s : Failure) (words : List (List ℕ)) (c : Change) (got : Option (List ℕ)) (counts : Counted) (result : Status)
+    → Runs {A = Unit {0}} (Err s) words c → Counts {A = Unit {0}} (Err s) counts.puts counts.mid → Refuses result s (putting c.now.got got counts.mid counts.puts_now) → IsToldAs s result
+    → Told c.before.files (λ files. Names s (IsReached words files)) → Ended words result (old_world c counts) (new_world c got counts)
+ended s words c got counts result r n (le, begun, inl (same, all, is)) tells named = record {
   cause = s;
   answer = tells;
   line = error_line_of s;
   rest = [];
   split = append-nil (error_line_of s);
   whole = λ some quiet small. refl;
-  left = stops-on s words (error_line_of s) [] told now before mid got a b (append-nil (error_line_of s)) all r;
+  left = stops-on s words (error_line_of s) [] c got (append-nil (error_line_of s)) all r;
   named = named;
 }
-ended s words told now before mid got a b w x c d e result r n (le, begun, inr (inl (same, none))) tells named = record {
+ended s words c got counts result r n (le, begun, inr (inl (same, none))) tells named = record {
   cause = s;
   answer = tells;
   line = begun.0;
   rest = begun.1;
   split = begun.2;
   whole = λ some quiet small. absurd (some none);
-  left = stops-on s words begun.0 begun.1 told now before mid got a b begun.2 begun.3 r;
+  left = stops-on s words begun.0 begun.1 c got begun.2 begun.3 r;
   named = named;
 }
-ended s words told now before mid got a b w x c d e result r n (le, begun, inr (inr (rose, is))) tells named = record {
+ended s words c got counts result r n (le, begun, inr (inr (rose, is))) tells named = record {
   cause = s;
   answer = tells;
   line = begun.0;
   rest = begun.1;
   split = begun.2;
-  whole = λ some quiet small. line-whole s begun.0 begun.1 c d e n begun.2 rose quiet small;
-  left = stops-on s words begun.0 begun.1 told now before mid got a b begun.2 begun.3 r;
+  whole = λ some quiet small. line-whole s begun.0 begun.1 counts.puts counts.mid counts.puts_now n begun.2 rose quiet small;
+  left = stops-on s words begun.0 begun.1 c got begun.2 begun.3 r;
   named = named;
 }

@@ -1,8 +1,12 @@
 -- A run that has ended gives the sequential answer, and one that was too long has a query of too many steps.
-use Rattle.std.proofs.Common.{◌≡◌, ℕ, ◌<◌, ◌≤◌, ◌⊎◌, inl, inr, List, [], ◌∷◌, ◌++◌, map, Option, Result, Err, Bool, true, false, refl, sym, subst, ◌∙◌, arith}
-use Rattle.amber_io.specs.Folder.{Named}
+use Rattle.std.proofs.Common.{◌≡◌, ℕ, ◌<◌, ◌≤◌, ◌⊎◌, inl, inr, List, [], ◌∷◌, ◌++◌, map, Result, Ok, Err, Bool, true, false, refl, sym, ap, subst, ◌∙◌, arith}
+use Rattle.std.specs.Prelude.{◌&&◌, not}
+use Rattle.std.specs.List.{list_all}
+use Rattle.std.specs.Result.{MatchResult}
+use Rattle.std.proofs.lemmas.Bool.{and_from}
+use Rattle.std.proofs.lemmas.List.{append-nil, map-append}
 use Rattle.amber_rows.specs.FlowRules.{IsFlow}
-use Rattle.amber_log.specs.Grammar.{AreItems, IsCommand, IsItem, is_long}
+use Rattle.amber_log.specs.Grammar.{IsCommand, is_long}
 use Rattle.amber_log.specs.declared.command.Command.{Command}
 use Rattle.amber_log.specs.declared.command.Command.TheVariants as command
 use Rattle.amber_log.specs.declared.leg.Close.{Close}
@@ -10,19 +14,22 @@ use Rattle.amber_log.specs.declared.leg.Close.TheVariants as close
 use Rattle.amber_log.specs.declared.log.Item.{Item}
 use Rattle.amber_log.specs.declared.log.Item.TheVariants as item
 use Rattle.amber_log.specs.declared.log.Log.{Log}
-use Rattle.amber_meaning.specs.Legal.{IsLegal, Query, Reaches, alters}
+use Rattle.amber_meaning.specs.Legal.{IsLegal, IsUnaltered, Query, Reaches, after_close, alters, role_in, stops_in}
 use Rattle.amber_meaning.specs.Plain.{answer_of}
 use Rattle.amber_meaning.specs.Replay.{state_after}
 use Rattle.amber_meaning.specs.State.{State, have_finished, start_of, steps_in}
+use Rattle.amber_meaning.specs.Stops.{count_stops, end_stop, held_stops, pause_stops, stops_of}
 use Rattle.amber_meaning.specs.Texts.{answer_text}
 use Rattle.amber_meaning.specs.Total.{step_total}
 use Rattle.amber_meaning.specs.Transcript.{reply_of}
+use Rattle.amber_meaning.proofs.Fronts.{Reaches-parts}
 use Rattle.amber_laws.proofs.Counted.{schedules_take_one_total}
 use Rattle.amber_laws.proofs.Schedules.{ends_reply_the_answer}
 use Rattle.amber_debug.specs.Session.{Session, command_of, is_long_item}
 use Rattle.amber_run.specs.Outcome.{Counts}
-use Rattle.amber_run.specs.UnderWay.{Did, Halts, HasAnswer, IsBare, IsDone, IsLeft, Leaves, Opens, IsUnderWay}
-use Rattle.amber_run.specs.RunTask.{IsSession, RunTask, end_alone, ends_long, most_steps, query_at}
+use Rattle.amber_run.specs.UnderWay.{Halts, HasAnswer, IsAt, IsBare, IsLeft, Leaves, Opens, IsUnderWay, Worked}
+use Rattle.amber_run.specs.RunTask.{AlterNothing, RunTask, end_alone, ends_long, most_steps, query_at}
+use Rattle.amber_run.specs.World.{Shown, showing}
 use Rattle.amber_course.specs.declared.failure.Failure.{Failure}
 use Rattle.amber_course.specs.declared.failure.Failure.TheVariants as failure
 use Rattle.amber_course.proofs.Lines.{appends-same}
@@ -30,16 +37,27 @@ use Rattle.amber_run.proofs.Working.{ends_long-push, last-is}
 
 -- ---- the last item
 
-no-rest : (done : List Item) (last : Item) (left : List Command) → map command_of (done ++ last ∷ []) ++ left ≡ [] → ⊥
-no-rest [] last left e = cc
-no-rest (one ∷ done) last left e = cc
+no-push : {X : Type 0} (xs : List X) (x : X) → [] ≡ xs ++ x ∷ [] → ⊥
+no-push [] x e = cc
+no-push (a ∷ xs) x e = cc
 
--- where nothing is to be done but to run to the end, that is the one item
-last-end : (done : List Item) (last : Item) (left : List Command) → map command_of (done ++ last ∷ []) ++ left ≡ end_alone → command_of last ≡ command.End
-last-end [] last left e = cc
-last-end (one ∷ done) last left e =
-    let rest : map command_of (done ++ last ∷ []) ++ left ≡ [] = cc in
-    absurd (no-rest done last left rest)
+last-same : {X : Type 0} (xs ys : List X) (x y : X) → xs ++ x ∷ [] ≡ ys ++ y ∷ [] → x ≡ y
+last-same [] [] x y e = cc
+last-same [] (b ∷ ys) x y e =
+    let rest : [] ≡ ys ++ y ∷ [] = cc in
+    absurd (no-push ys y rest)
+last-same (a ∷ xs) [] x y e =
+    let rest : xs ++ x ∷ [] ≡ [] = cc in
+    absurd (no-push xs x (sym rest))
+last-same (a ∷ xs) (b ∷ ys) x y e =
+    let rest : xs ++ x ∷ [] ≡ ys ++ y ∷ [] = cc in
+    last-same xs ys x y rest
+
+-- where all is done, the last item is the leg to the end
+last-end : (done : List Item) (last : Item) (script : List Command) → map command_of (done ++ last ∷ []) ++ [] ≡ script ++ end_alone → command_of last ≡ command.End
+last-end done last script e =
+    last-same (map command_of done) script (command_of last) command.End
+    (sym (map-append command_of done (last ∷ [])) ∙ sym (append-nil (map command_of (done ++ last ∷ []))) ∙ e)
 
 not-done : (one : Command) → IsCommand one → one ≡ command.End → ⊥
 not-done command.End h e = absurd h
@@ -63,10 +81,10 @@ is-long close.Long h = refl
 
 -- ---- the answer
 
-pub has-answer : (t : RunTask) (log : Log) (files : Option Named) (written : Option (List ℕ)) → IsFlow t.flow → t.commands ≡ end_alone → IsUnderWay t [] log files written → HasAnswer t log
-has-answer t log files written flow alone h unaltered done last is =
-    let commands = rw is at (h.commands ∙ alone) in
-    by-last last is (last-end done last [] commands)
+pub has-answer : (t : RunTask) (script : List Command) (log : Log) (shown : Shown) → IsFlow t.flow → t.commands ≡ script ++ end_alone → IsUnderWay t [] log shown → HasAnswer t log
+has-answer t script log shown flow all h unaltered done last is =
+    let commands = rw is at (h.commands ∙ all) in
+    by-last last is (last-end done last script commands)
   where
     by-last : (one : Item) → log.items ≡ done ++ one ∷ [] → command_of one ≡ command.End
         → reply_of (query_at t log.batch) (state_after (query_at t log.batch) done) one ≡ answer_text t.flow (answer_of t.flow t.inputs)
@@ -81,92 +99,137 @@ has-answer t log files written flow alone h unaltered done last is =
 
 -- ---- the steps
 
+-- the last item of a log that ends with a leg that was too long
+pub record EndsLong (items : List Item) : Type 0 where
+  pub front : List Item
+  pub one : Item
+  pub split : items ≡ front ++ one ∷ []
+  pub long : is_long_item one ≡ true
+
+ends-long : (first : Item) (items : List Item) → ends_long (is_long_item first) items ≡ true → EndsLong (first ∷ items)
+ends-long first [] h = record { front = []; one = first; split = refl; long = h }
+ends-long first (next ∷ more) h =
+    let rest = ends-long next more h in
+    record { front = first ∷ rest.front; one = rest.one; split = ap (λ xs. first ∷ xs) rest.split; long = rest.long }
+
+some-long : (items : List Item) → ends_long false items ≡ true → EndsLong items
+some-long [] h = cc
+some-long (one ∷ more) h = ends-long one more h
+
 less : (steps most total : ℕ) → steps ≡ most → steps ≤ total → (steps ≡ total → ⊥) → most < total
 less steps most total e le differ = grind arith
 
--- what a leg to the end that was too long has reached
+-- ---- a leg that was too long
+
+no-more : {X : Type 0} (xs ys : List X) → xs ++ ys ≡ [] → ys ≡ []
+no-more [] ys e = e
+no-more (x ∷ xs) ys e = cc
+
+-- where no stop stands, somebody has not finished
+unstopped : (query : Query) (state : State) → stops_in query state ≡ [] → have_finished state ≡ false
+unfolding stops_of
+unstopped query state h =
+    let role = role_in query in
+    let counts = no-more (held_stops query.flow role state) (count_stops query.flow state ++ (pause_stops query.flow state ++ end_stop state)) h in
+    let pauses = no-more (count_stops query.flow state) (pause_stops query.flow state ++ end_stop state) counts in
+    by-finished (have_finished state) refl (no-more (pause_stops query.flow state) (end_stop state) pauses)
+  where
+    by-finished : (b : Bool) → have_finished state ≡ b → end_stop state ≡ [] → have_finished state ≡ false
+    by-finished true e none = absurd (let some = rw e at none in cc)
+    by-finished false e none = e
+
+-- what a leg that was too long has reached
 abbrev IsReached : Query → State → Type 0
 IsReached query after = (steps_in after ≡ query.most) × (have_finished after ≡ false)
 
-long-reached : (query : Query) (start after : State) (one : Item) → Reaches query start (one ∷ []) after → IsItem one → command_of one ≡ command.End → is_long_item one ≡ true → IsReached query after
+long-reached : (query : Query) (start after : State) (one : Item) → Reaches query start (one ∷ []) after → is_long_item one ≡ true → IsReached query after
 unfolding Reaches
-long-reached query start after (item.Do c) h is e long = absurd (not-done c is e)
-long-reached query start after (item.Run leg) h is e long = cc
-long-reached query start after (item.End leg) (m, (reached, worked, closed, leads), ends) is e long =
+long-reached query start after (item.Do c) h long = cc
+long-reached query start after (item.Run leg) (m, (reached, worked, closed, leads), ends) long =
+    let is = is-long leg.close long in
+    let closes = rw is at closed in
+    let same : after ≡ reached = sym ends ∙ leads ∙ ap (λ c. after_close query reached c) is in
+    rw same (closes.1, unstopped query reached closes.2)
+long-reached query start after (item.End leg) (m, (reached, worked, closed, leads), ends) long =
     let closes = rw (is-long leg.close long) at closed in
     rw (← ends, leads) (closes.1, closes.2)
 
-unaltered-end : (one : Item) → command_of one ≡ command.End → IsItem one → alters one ≡ false
-unaltered-end (item.Do c) e is = absurd (not-done c is e)
-unaltered-end (item.Run leg) e is = refl
-unaltered-end (item.End leg) e is = refl
-
-total-of : (query : Query) (batch : ℕ) (one : Item) → IsFlow query.flow → (legal : IsLegal query (record { batch = batch; items = one ∷ [] })) → command_of one ≡ command.End
-    → is_long_item one ≡ true → query.most < step_total query
-unfolding AreItems
-total-of query batch one flow legal e long =
-    let is : IsItem one = legal.text.items.1 in
-    let reached = long-reached query (start_of query.flow) legal.after one legal.reached is e long in
-    let total = schedules_take_one_total query (record { batch = batch; items = one ∷ [] }) flow (rw (unaltered-end one e is) refl) legal in
+total-of : (query : Query) (log : Log) → IsFlow query.flow → (legal : IsLegal query log) → IsUnaltered log.items → ends_long false log.items ≡ true → query.most < step_total query
+total-of query log flow legal unaltered long =
+    let last = some-long log.items long in
+    let parts = Reaches-parts query (start_of query.flow) legal.after last.front (last.one ∷ []) (subst (λ items. Reaches query (start_of query.flow) items legal.after) last.split legal.reached) in
+    let reached = long-reached query parts.0 legal.after last.one parts.2 last.long in
+    let total = schedules_take_one_total query log flow unaltered legal in
     less (steps_in legal.after) query.most (step_total query) reached.0 total.0 (λ same. absurd (unfinished (have_finished legal.after) reached.1 (total.1.0 same)))
   where
     unfinished : (b : Bool) → b ≡ false → b ≡ true → ⊥
     unfinished b pending over = cc
 
-same-size : (a b : ℕ) (one : Item) → (a ≡ b) ⊎ (one ∷ [] ≡ []) → a ≡ b
-same-size a b one (inl e) = e
-same-size a b one (inr e) = cc
+-- ---- scripts that alter nothing
 
-long-items : (t : RunTask) (batch : ℕ) (items : List Item) (left : List Command) → IsFlow t.flow → IsLegal (query_at t batch) (record { batch = batch; items = items })
-    → (batch ≡ t.batch) ⊎ (items ≡ []) → map command_of items ++ left ≡ end_alone → ends_long false items ≡ true → most_steps < step_total (query_at t t.batch)
-long-items t batch [] left flow legal size commands long = cc
-long-items t batch (one ∷ []) left flow legal size commands long =
-    rw (same-size batch t.batch one size) at (total-of (query_at t batch) batch one flow legal (last-end [] one left commands) long)
-long-items t batch (one ∷ two ∷ more) left flow legal size commands long = cc
+and-first : (a b : Bool) → (a && b) ≡ true → a ≡ true
+and-first true b e = refl
+and-first false b e = e
 
-pub too-long : (t : RunTask) (line : List ℕ) (files : Option Named) (written : Option (List ℕ)) → IsFlow t.flow → t.commands ≡ end_alone
-    → (h : IsLeft t failure.Long line files written) → most_steps < step_total (query_at t t.batch)
-too-long t line files written flow alone h = long-items t h.batch (h.done ++ h.last) h.left flow h.legal h.size (h.commands ∙ alone) h.closed
+and-second : (a b : Bool) → (a && b) ≡ true → b ≡ true
+and-second true b e = e
+and-second false b e = cc
+
+-- the items that were made for such commands alter nothing
+unaltered-items : (items : List Item) (left : List Command) → AlterNothing (map command_of items ++ left) → IsUnaltered items
+unaltered-items [] left h = refl
+unaltered-items (item.Do c ∷ items) left h =
+    and_from (not (alters (item.Do c))) (list_all (λ one. not (alters one)) items) (and-first (not (alters (item.Do c))) _ h)
+    (unaltered-items items left (and-second (not (alters (item.Do c))) (list_all (λ one. not (alters one)) (map item.Do (map command_of items ++ left))) h))
+unaltered-items (item.Run leg ∷ items) left h = unaltered-items items left h
+unaltered-items (item.End leg ∷ items) left h = unaltered-items items left h
+
+same-size : (a b : ℕ) (items : List Item) → (a ≡ b) ⊎ (items ≡ []) → EndsLong items → a ≡ b
+same-size a b items (inl e) h = e
+same-size a b items (inr e) h = absurd (no-push h.front h.one (sym e ∙ h.split))
+
+pub too-long : (t : RunTask) (line : List ℕ) (shown : Shown) → IsFlow t.flow → IsLeft t failure.Long line shown → AlterNothing t.commands
+    → most_steps < step_total (query_at t t.batch)
+too-long t line shown flow h nothing =
+    let items = h.done ++ h.last in
+    let unaltered = unaltered-items items h.left (subst AlterNothing (sym h.commands) nothing) in
+    rw (same-size h.batch t.batch items h.size (some-long items h.closed)) at (total-of (query_at t h.batch) (record { batch = h.batch; items = items }) flow h.legal unaltered h.closed)
 
 -- ---- the run
 
-pub bare-none : (t : RunTask) → IsBare t [] t.told t.before
+pub bare-none : (t : RunTask) → IsBare t [] (showing t.told t.before)
 bare-none t = (inl refl, appends-same t.before)
 
 -- it has not begun, for want of memory
-pub begin-failure : (s : Failure) (t : RunTask) → s ≡ failure.NoMemory → Leaves t s [] t.told t.before
+pub begin-failure : (s : Failure) (t : RunTask) → s ≡ failure.NoMemory → Leaves t s [] (showing t.told t.before)
 begin-failure s t e = rw e (inl (bare-none t))
 
 -- the log was not made
-pub opens-failure : (s : Failure) (t : RunTask) (log : Log) (files : Option Named) (written : Option (List ℕ)) → Opens {A = Unit {0}} (Err s) t log files written → Leaves t s [] files written
-opens-failure failure.LogFault t log files written h = h
-opens-failure failure.NoMemory t log files written h = inl h
-opens-failure other t log files written h = absurd h
+pub opens-failure : (s : Failure) (t : RunTask) (log : Log) (shown : Shown) → Opens {A = Unit {0}} (Err s) t log shown → Leaves t s [] shown
+opens-failure failure.LogFault t log shown h = h
+opens-failure failure.NoMemory t log shown h = inl h
+opens-failure other t log shown h = absurd h
 
 -- a command was not done
-pub command-failure : (s : Failure) (t : RunTask) (files : Option Named) (written : Option (List ℕ)) → IsFlow t.flow → t.commands ≡ end_alone → Halts t s files written → Leaves t s [] files written
-command-failure failure.LogFault t files written flow alone h = inr h
-command-failure failure.OutFault t files written flow alone h = h
-command-failure failure.Long t files written flow alone h = (h, too-long t [] files written flow alone h)
-command-failure failure.NoMemory t files written flow alone h = inr h
-command-failure other t files written flow alone h = absurd h
+halts-failure : (s : Failure) (t : RunTask) (shown : Shown) → IsFlow t.flow → Halts t shown s → Leaves t s [] shown
+halts-failure failure.LogFault t shown flow h = inr h
+halts-failure failure.OutFault t shown flow h = h
+halts-failure failure.Long t shown flow h = (h, λ nothing. too-long t [] shown flow h nothing)
+halts-failure failure.NoMemory t shown flow h = inr h
+halts-failure other t shown flow h = absurd h
 
--- all was done
-pub all-done : (t : RunTask) (log : Log) (files : Option Named) (written : Option (List ℕ)) → IsFlow t.flow → t.commands ≡ end_alone → IsUnderWay t [] log files written → IsDone t files written
-all-done t log files written flow alone h = (log, h, has-answer t log files written flow alone h)
+-- the commands were done, or one was not
+pub worked-script : (r : Result (Unit {0}) Failure) (t : RunTask) (script : List Command) (d : Session) (shown : Shown) → IsFlow t.flow → t.commands ≡ script ++ end_alone
+    → MatchResult r (λ done. IsAt t [] d shown) (Halts t shown) → Worked r t shown
+worked-script (Ok u) t script d shown flow all h = (d.log, h.way, has-answer t script d.log shown flow all h.way)
+worked-script (Err s) t script d shown flow all h = halts-failure s t shown flow h
 
 -- the session of a run that begins
-pub session-begun : (t : RunTask) (d : Session) (threads : ℕ) (log : Log) → d ≡ record { flow = t.flow; files = t.inputs; most = most_steps; threads = threads; log = log; spent = false }
-    → IsSession t d
-session-begun t d threads log e = rw e (record { flow = refl; inputs = refl; most = refl })
+pub at-begun : (t : RunTask) (d : Session) (threads : ℕ) (log : Log) (shown : Shown) → d ≡ record { flow = t.flow; files = t.inputs; most = most_steps; threads = threads; log = log; spent = false }
+    → IsUnderWay t t.commands log shown → IsAt t t.commands d shown
+at-begun t d threads log shown e h = rw e (record { session = record { flow = refl; inputs = refl; most = refl }; way = h })
 
 -- where the log was not made, the sink did not fail
-pub opens-counts : (s : Failure) (t : RunTask) (log : Log) (files : Option Named) (written : Option (List ℕ)) (n : ℕ) → Opens {A = Unit {0}} (Err s) t log files written → Counts {A = Unit {0}} (Err s) n n
-opens-counts failure.OutFault t log files written n h = absurd h
-opens-counts other t log files written n h = refl
-
--- the one command of a run that begins
-pub run-command : (r : Result (Unit {0}) Failure) (t : RunTask) (d new : Session) (threads : ℕ) (log : Log) (mid files : Option Named) (written got : Option (List ℕ))
-    → d ≡ record { flow = t.flow; files = t.inputs; most = most_steps; threads = threads; log = log; spent = false } → IsUnderWay t end_alone log mid written
-    → ((left : List Command) → IsSession t d → IsUnderWay t (command.End ∷ left) d.log mid written → Did r t left new files got) → Did r t [] new files got
-run-command r t d new threads log mid files written got e h did = did [] (session-begun t d threads log e) (rw e h)
+pub opens-counts : (s : Failure) (t : RunTask) (log : Log) (shown : Shown) (n : ℕ) → Opens {A = Unit {0}} (Err s) t log shown → Counts {A = Unit {0}} (Err s) n n
+opens-counts failure.OutFault t log shown n h = absurd h
+opens-counts other t log shown n h = refl

@@ -1,5 +1,5 @@
 -- Where the answer of a call is `Long`.
-use Rattle.std.proofs.Common.{◌≡◌, ◌≢◌, ℕ, ◌<◌, ◌⊎◌, inl, inr, List, [], ◌++◌, Option, Result, Ok, Err, Bool, true, false, nat_le, refl, sym, subst, ◌∙◌, arith}
+use Rattle.std.proofs.Common.{◌≡◌, ◌≢◌, ℕ, ◌<◌, ◌⊎◌, inl, inr, List, [], ◌++◌, Result, Ok, Err, Bool, true, false, nat_le, refl, sym, subst, ◌∙◌, arith}
 use Rattle.std.proofs.lemmas.Bool.Decides.{nat_tests}
 use Rattle.amber_io.specs.Counts.{Rose}
 use Rattle.amber_io.specs.Folder.{Named, Told}
@@ -7,15 +7,18 @@ use Rattle.amber_rows.specs.declared.flow.Operator.{Operator}
 use Rattle.amber_log.specs.LogText.{log_text}
 use Rattle.amber_log.proofs.Torn.{reads-whole}
 use Rattle.amber_meaning.specs.Plain.{row_total}
-use Rattle.amber_run.specs.Answering.{BreaksOff, Fulfils, IsUntouched}
+use Rattle.amber_run.specs.Answering.{BreaksOff, Fulfils}
 use Rattle.amber_course.specs.Course.{course_of, require_limit, most_rows}
-use Rattle.amber_run.specs.Outcome.{Answers, AsksFor, Breaks, IsLongWhere, IsPrintStatus, Runs, RunsLong, TellsLong}
+use Rattle.amber_run.specs.Outcome.{Answers, AsksFor, Breaks, IsLongWhere, IsPrintStatus, Runs, RunsLong, StopsLong, TellsLong}
 use Rattle.amber_run.specs.UnderWay.{IsDone, IsLeft}
 use Rattle.amber_course.specs.Failure.{status_of}
 use Rattle.amber_run.specs.RunTask.{run_task_of}
+use Rattle.amber_run.specs.World.{Change, Shown}
+use Rattle.amber_run.proofs.Changes.{Counted}
 use Rattle.amber_run.specs.Writing.{CountsWrites}
 use Rattle.amber_course.specs.declared.job.Job.{Job}
 use Rattle.amber_course.specs.declared.job.Job.TheVariants as job
+use Rattle.amber_course.specs.declared.job.RunJob.{RunJob}
 use Rattle.amber_course.specs.declared.status.Status.{Status}
 use Rattle.amber_course.specs.declared.status.Status.TheVariants as status
 use Rattle.amber_course.specs.declared.failure.Failure.{Failure}
@@ -54,43 +57,37 @@ long-print flow files result a b false is h quiet =
 -- ---- logs
 
 -- a run that stopped, where its log is read
-left-long : (told now : Option Named) (before got : Option (List ℕ)) (flow : List Operator) (files : List (List ℕ)) (log : List ℕ) (batch : ℕ) (result : Status)
-    → IsLeft (run_task_of told before flow files log batch) failure.Long [] now got → result ≡ status.Long → RunsLong result told now log
-left-long told now before got flow files log batch result h is =
+left-long : (before now : Shown) (run : RunJob) (result : Status) → IsLeft (run_task_of before run) failure.Long [] now → result ≡ status.Long → RunsLong result before.files now.files run.log
+left-long before now run result h is =
     inr (record { batch = h.batch; items = h.done ++ h.last }, (h.bytes, h.place, h.read), ((λ e. h.closed), (λ long. is)))
 
-left-short : (told now : Option Named) (before got : Option (List ℕ)) (flow : List Operator) (files : List (List ℕ)) (log : List ℕ) (batch : ℕ) (result : Status)
-    → IsLeft (run_task_of told before flow files log batch) failure.OutFault [] now got → result ≡ status.OutFault → RunsLong result told now log
-left-short told now before got flow files log batch result h is =
+left-short : (before now : Shown) (run : RunJob) (result : Status) → IsLeft (run_task_of before run) failure.OutFault [] now → result ≡ status.OutFault
+    → RunsLong result before.files now.files run.log
+left-short before now run result h is =
     inr (
       record { batch = h.batch; items = h.done ++ h.last },
       (h.bytes, h.place, h.read),
       ((λ e. absurd (let two : status.OutFault ≡ status.Long = sym is ∙ e in cc)), (λ long. absurd (let two : false ≡ true = sym h.closed ∙ long in cc))),
     )
 
-done-short : (told now : Option Named) (before got : Option (List ℕ)) (flow : List Operator) (files : List (List ℕ)) (log : List ℕ) (batch : ℕ)
-    → IsDone (run_task_of told before flow files log batch) now got → RunsLong status.Ok told now log
-done-short told now before got flow files log batch h =
+done-short : (before now : Shown) (run : RunJob) → IsDone (run_task_of before run) now → RunsLong status.Ok before.files now.files run.log
+done-short before now run h =
     inr (
       h.0,
       (log_text h.0, h.1.place, reads-whole h.0 h.1.legal.text),
       ((λ e. cc), (λ long. absurd (let two : false ≡ true = sym h.1.short ∙ long in cc))),
     )
 
-broke-long : (one : Job) (told now : Option Named) (before got : Option (List ℕ)) (flow : List Operator) (files : List (List ℕ)) (log : List ℕ) (threads batch : ℕ) (result : Status)
-    → one ≡ job.Run flow files log threads batch → BreaksOff one failure.Long [] told now before got → result ≡ status.Long → RunsLong result told now log
-broke-long one told now before got flow files log threads batch result e h is =
-    left-long told now before got flow files log batch result (subst (λ j. BreaksOff j failure.Long [] told now before got) e h).0 is
+broke-long : (one : Job) (c : Change) (run : RunJob) (result : Status) → one ≡ job.Run run → BreaksOff one failure.Long [] c → result ≡ status.Long
+    → RunsLong result c.before.files c.now.files run.log
+broke-long one c run result e h is = left-long c.before c.now run result (subst (λ j. BreaksOff j failure.Long [] c) e h).0 is
 
-broke-short : (one : Job) (told now : Option Named) (before got : Option (List ℕ)) (flow : List Operator) (files : List (List ℕ)) (log : List ℕ) (threads batch : ℕ) (result : Status)
-    → one ≡ job.Run flow files log threads batch → BreaksOff one failure.OutFault [] told now before got → result ≡ status.OutFault → RunsLong result told now log
-broke-short one told now before got flow files log threads batch result e h is =
-    left-short told now before got flow files log batch result (subst (λ j. BreaksOff j failure.OutFault [] told now before got) e h) is
+broke-short : (one : Job) (c : Change) (run : RunJob) (result : Status) → one ≡ job.Run run → BreaksOff one failure.OutFault [] c → result ≡ status.OutFault
+    → RunsLong result c.before.files c.now.files run.log
+broke-short one c run result e h is = left-short c.before c.now run result (subst (λ j. BreaksOff j failure.OutFault [] c) e h) is
 
-did-short : (one : Job) (told now : Option Named) (before got : Option (List ℕ)) (flow : List Operator) (files : List (List ℕ)) (log : List ℕ) (threads batch : ℕ)
-    → one ≡ job.Run flow files log threads batch → Fulfils one told now before got → RunsLong status.Ok told now log
-did-short one told now before got flow files log threads batch e h =
-    done-short told now before got flow files log batch (subst (λ j. Fulfils j told now before got) e h)
+did-short : (one : Job) (c : Change) (run : RunJob) → one ≡ job.Run run → Fulfils one c → RunsLong status.Ok c.before.files c.now.files run.log
+did-short one c run e h = done-short c.before c.now run (subst (λ j. Fulfils j c) e h)
 
 -- ---- runs
 
@@ -100,92 +97,83 @@ one-job r j k e f = let both : ◌≡◌ {A = Result Job Failure} (Ok j) (Ok k) 
 no-job : (r : Result Job Failure) (s : Failure) (j : Job) → r ≡ Err s → r ≡ Ok j → ⊥
 no-job r s j e f = let both : ◌≡◌ {A = Result Job Failure} (Err s) (Ok j) = sym e ∙ f in cc
 
--- what is to be said of a run, where the course has one and neither a load nor a write failed
-abbrev pub IsRunLong : List (List ℕ) → Option Named → Option Named → Status → ℕ → ℕ → ℕ → ℕ → Named → Type 0
-IsRunLong words told now result a b w x files =
-    (flow : List Operator) (inputs : List (List ℕ)) (log : List ℕ) (threads batch : ℕ) → course_of words files ≡ Ok (job.Run flow inputs log threads batch)
-    → ¬ (Rose a b) → ¬ (Rose w x) → RunsLong result told now log
+-- what is to be said of a run, where what the course says has one and neither a load nor a write failed
+abbrev pub IsRunLong : Result Job Failure → Status → Change → Counted → Type 0
+IsRunLong course result c k =
+    (run : RunJob) → course ≡ Ok (job.Run run) → ¬ (Rose c.loads c.loads_now) → ¬ (Rose k.writes k.writes_now) → RunsLong result c.before.files c.now.files run.log
 
-run-cause : (s : Failure) (words : List (List ℕ)) (told now : Option Named) (a b w x : ℕ) (result : Status) → Told told (λ files. course_of words files ≡ Err s)
-    → Told told (IsRunLong words told now result a b w x)
-run-cause s words told now a b w x result =
-    told-map told (λ files. course_of words files ≡ Err s) (IsRunLong words told now result a b w x)
-    (λ files p flow inputs log threads batch e read kept. absurd (no-job (course_of words files) s (job.Run flow inputs log threads batch) p e))
+abbrev pub AreRunsLong : List (List ℕ) → Status → Change → Counted → Type 0
+AreRunsLong words result c k = Told c.before.files (λ files. IsRunLong (course_of words files) result c k)
 
-run-out : (words : List (List ℕ)) (told now : Option Named) (before mid : Option (List ℕ)) (a b w x : ℕ) (result : Status) → Breaks words failure.OutFault [] told now before mid
-    → result ≡ status.OutFault → Told told (IsRunLong words told now result a b w x)
-run-out words told now before mid a b w x result h is =
-    told-map told (λ files. (one : Job) × (course_of words files ≡ Ok one) × BreaksOff one failure.OutFault [] told now before mid) (IsRunLong words told now result a b w x)
-    (λ files p flow inputs log threads batch e read kept. broke-short p.0 told now before mid flow inputs log threads batch result
-    (one-job (course_of words files) p.0 (job.Run flow inputs log threads batch) p.1 e) p.2 is) h
+run-cause : (s : Failure) (words : List (List ℕ)) (c : Change) (k : Counted) (result : Status) → Told c.before.files (λ files. course_of words files ≡ Err s) → AreRunsLong words result c k
+run-cause s words c k result =
+    told-map c.before.files (λ files. course_of words files ≡ Err s) (λ files. IsRunLong (course_of words files) result c k)
+    (λ files p run e read kept. absurd (no-job (course_of words files) s (job.Run run) p e))
 
-run-too-long : (words : List (List ℕ)) (told now : Option Named) (before mid : Option (List ℕ)) (a b w x : ℕ) (result : Status) → Breaks words failure.Long [] told now before mid
-    → result ≡ status.Long → Told told (IsRunLong words told now result a b w x)
-run-too-long words told now before mid a b w x result h is =
-    told-map told (λ files. (one : Job) × (course_of words files ≡ Ok one) × BreaksOff one failure.Long [] told now before mid) (IsRunLong words told now result a b w x)
-    (λ files p flow inputs log threads batch e read kept. broke-long p.0 told now before mid flow inputs log threads batch result
-    (one-job (course_of words files) p.0 (job.Run flow inputs log threads batch) p.1 e) p.2 is) h
+run-out : (words : List (List ℕ)) (c : Change) (k : Counted) (result : Status) → Breaks words failure.OutFault [] c → result ≡ status.OutFault → AreRunsLong words result c k
+run-out words c k result h is =
+    told-map c.before.files (λ files. (one : Job) × (course_of words files ≡ Ok one) × BreaksOff one failure.OutFault [] c) (λ files. IsRunLong (course_of words files) result c k)
+    (λ files p run e read kept. broke-short p.0 c run result (one-job (course_of words files) p.0 (job.Run run) p.1 e) p.2 is) h
 
-run-long : (words : List (List ℕ)) (told now : Option Named) (before mid : Option (List ℕ)) (a b w x : ℕ) (result : Status)
-    → (Told told (λ files. course_of words files ≡ Err failure.Long) × IsUntouched [] told now before mid) ⊎ Breaks words failure.Long [] told now before mid
-    → result ≡ status.Long → Told told (IsRunLong words told now result a b w x)
-run-long words told now before mid a b w x result (inl few) is = run-cause failure.Long words told now a b w x result few.0
-run-long words told now before mid a b w x result (inr breaks) is = run-too-long words told now before mid a b w x result breaks is
+run-long : (words : List (List ℕ)) (c : Change) (k : Counted) (result : Status) → StopsLong words [] c → result ≡ status.Long → AreRunsLong words result c k
+run-long words c k result (inl few) is = run-cause failure.Long words c k result few.0
+run-long words c k result (inr breaks) is =
+    told-map c.before.files (λ files. (one : Job) × (course_of words files ≡ Ok one) × BreaksOff one failure.Long [] c) (λ files. IsRunLong (course_of words files) result c k)
+    (λ files p run e read kept. broke-long p.0 c run result (one-job (course_of words files) p.0 (job.Run run) p.1 e) p.2 is) breaks
 
-run-stopped : (s : Failure) (words : List (List ℕ)) (told now : Option Named) (before mid : Option (List ℕ)) (a b w x : ℕ) (result : Status)
-    → Runs {A = Unit {0}} (Err s) words told now before mid a b → CountsWrites {A = Unit {0}} (Err s) w x → (result ≡ status_of s) ⊎ (result ≡ status.NoMemory)
-    → Told told (IsRunLong words told now result a b w x)
-run-stopped s words told now before mid a b w x result r m (inr none) =
-    told-all told (IsRunLong words told now result a b w x) (λ files flow inputs log threads batch e read kept. inl none)
-run-stopped failure.Usage words told now before mid a b w x result r m (inl is) =
-    told-all told (IsRunLong words told now result a b w x)
-    (λ files flow inputs log threads batch e read kept. absurd (no-job (course_of words files) failure.Usage (job.Run flow inputs log threads batch) (course-none words files r.1) e))
-run-stopped (failure.ReadFault name) words told now before mid a b w x result r m (inl is) =
+run-stopped : (s : Failure) (words : List (List ℕ)) (c : Change) (k : Counted) (result : Status)
+    → Runs {A = Unit {0}} (Err s) words c → CountsWrites {A = Unit {0}} (Err s) k.writes k.writes_now → (result ≡ status_of s) ⊎ (result ≡ status.NoMemory) → AreRunsLong words result c k
+run-stopped s words c k result r m (inr none) =
+    told-all c.before.files (λ files. IsRunLong (course_of words files) result c k) (λ files run e read kept. inl none)
+run-stopped failure.Usage words c k result r m (inl is) =
+    told-all c.before.files (λ files. IsRunLong (course_of words files) result c k)
+    (λ files run e read kept. absurd (no-job (course_of words files) failure.Usage (job.Run run) (course-none words files r.1) e))
+run-stopped (failure.ReadFault name) words c k result r m (inl is) =
     elim r.0 [
-      | inl lacks ↦ run-cause (failure.ReadFault name) words told now a b w x result (told-tells told (λ files. course_of words files ≡ Err (failure.ReadFault name)) lacks.1)
-      | inr rose ↦ told-all told (IsRunLong words told now result a b w x) (λ files flow inputs log threads batch e read kept. absurd (read rose))
+      | inl lacks ↦ run-cause (failure.ReadFault name) words c k result (told-tells c.before.files (λ files. course_of words files ≡ Err (failure.ReadFault name)) lacks.1)
+      | inr rose ↦ told-all c.before.files (λ files. IsRunLong (course_of words files) result c k) (λ files run e read kept. absurd (read rose))
     ]
-run-stopped failure.LogFault words told now before mid a b w x result r m (inl is) =
-    told-all told (IsRunLong words told now result a b w x) (λ files flow inputs log threads batch e read kept. absurd (kept m.1))
-run-stopped failure.OutFault words told now before mid a b w x result r m (inl is) = run-out words told now before mid a b w x result r.1 is
-run-stopped failure.Long words told now before mid a b w x result r m (inl is) = run-long words told now before mid a b w x result r.1 is
-run-stopped failure.NoMemory words told now before mid a b w x result r m (inl is) =
-    told-all told (IsRunLong words told now result a b w x) (λ files flow inputs log threads batch e read kept. inl is)
-run-stopped other words told now before mid a b w x result r m (inl is) = run-cause other words told now a b w x result r.0.1
+run-stopped failure.LogFault words c k result r m (inl is) =
+    told-all c.before.files (λ files. IsRunLong (course_of words files) result c k) (λ files run e read kept. absurd (kept m.1))
+run-stopped failure.OutFault words c k result r m (inl is) = run-out words c k result r.1 is
+run-stopped failure.Long words c k result r m (inl is) = run-long words c k result r.1 is
+run-stopped failure.NoMemory words c k result r m (inl is) =
+    told-all c.before.files (λ files. IsRunLong (course_of words files) result c k) (λ files run e read kept. inl is)
+run-stopped other words c k result r m (inl is) = run-cause other words c k result r.0.1
 
-run-done : (words : List (List ℕ)) (told now : Option Named) (before mid : Option (List ℕ)) (a b w x : ℕ) → Told told (λ files. (job : Job) × (course_of words files ≡ Ok job) × Fulfils job told now before mid)
-    → Told told (IsRunLong words told now status.Ok a b w x)
-run-done words told now before mid a b w x =
-    told-map told (λ files. (job : Job) × (course_of words files ≡ Ok job) × Fulfils job told now before mid) (IsRunLong words told now status.Ok a b w x)
-    (λ files p flow inputs log threads batch e read kept. did-short p.0 told now before mid flow inputs log threads batch
-    (one-job (course_of words files) p.0 (job.Run flow inputs log threads batch) p.1 e) p.2)
+run-done : (words : List (List ℕ)) (c : Change) (k : Counted) → Told c.before.files (λ files. (job : Job) × (course_of words files ≡ Ok job) × Fulfils job c)
+    → AreRunsLong words status.Ok c k
+run-done words c k =
+    told-map c.before.files (λ files. (job : Job) × (course_of words files ≡ Ok job) × Fulfils job c) (λ files. IsRunLong (course_of words files) status.Ok c k)
+    (λ files p run e read kept. did-short p.0 c run (one-job (course_of words files) p.0 (job.Run run) p.1 e) p.2)
 
 -- ---- both forms
 
-long-job : (words : List (List ℕ)) (told now : Option Named) (result : Status) (a b w x : ℕ) (files : Named) (one : Job) → Answers (course_of words files) result a b
-    → IsRunLong words told now result a b w x files → AsksFor words files one → ¬ (Rose a b) → ¬ (Rose w x) → TellsLong one result told now
-long-job words told now result a b w x files (job.Plain flow inputs) h run asks read kept =
-    long-print flow inputs result a b (nat_le (row_total flow inputs) most_rows) refl
-    (subst (λ r. Answers r result a b) (course-job words asks.0 files (job.Plain flow inputs) (require_limit (job.Plain flow inputs)) asks.1 asks.2 refl) h) read
-long-job words told now result a b w x files (job.Run flow inputs log threads batch) h run asks read kept =
-    run flow inputs log threads batch
-    (course-job words asks.0 files (job.Run flow inputs log threads batch) (Ok (job.Run flow inputs log threads batch)) asks.1 asks.2 refl) read kept
-
 -- what the clause says
-abbrev pub IsLongTold : List (List ℕ) → Option Named → Option Named → Status → ℕ → ℕ → ℕ → ℕ → Named → Type 0
-IsLongTold words told now result a b w x files = (one : Job) → AsksFor words files one → ¬ (Rose a b) → ¬ (Rose w x) → TellsLong one result told now
+abbrev pub IsLongTold : List (List ℕ) → Status → Change → Counted → Type 0
+IsLongTold words result c k =
+    Told c.before.files (λ files. (one : Job) → AsksFor words files one → ¬ (Rose c.loads c.loads_now) → ¬ (Rose k.writes k.writes_now) → TellsLong one result c.before.files c.now.files)
 
-long-of : (words : List (List ℕ)) (told now : Option Named) (result : Status) (a b w x : ℕ) → Told told (λ files. Answers (course_of words files) result a b)
-    → Told told (IsRunLong words told now result a b w x) → Told told (IsLongTold words told now result a b w x)
-long-of words told now result a b w x =
-    told-both told (λ files. Answers (course_of words files) result a b) (IsRunLong words told now result a b w x) (IsLongTold words told now result a b w x)
-    (λ files h run one asks read kept. long-job words told now result a b w x files one h run asks read kept)
+long-job : (words : List (List ℕ)) (c : Change) (k : Counted) (result : Status) (files : Named) (one : Job) → Answers (course_of words files) result c.loads c.loads_now
+    → IsRunLong (course_of words files) result c k → AsksFor words files one → ¬ (Rose c.loads c.loads_now) → ¬ (Rose k.writes k.writes_now) → TellsLong one result c.before.files c.now.files
+long-job words c k result files (job.Plain flow inputs) h run asks read kept =
+    long-print flow inputs result c.loads c.loads_now (nat_le (row_total flow inputs) most_rows) refl
+    (subst (λ r. Answers r result c.loads c.loads_now) (course-job words asks.0 files (job.Plain flow inputs) (require_limit (job.Plain flow inputs)) asks.1 asks.2 refl) h) read
+long-job words c k result files (job.Run one) h run asks read kept =
+    run one (course-job words asks.0 files (job.Run one) (Ok (job.Run one)) asks.1 asks.2 refl) read kept
 
-pub long-stopped : (s : Failure) (words : List (List ℕ)) (told now : Option Named) (before mid : Option (List ℕ)) (a b w x : ℕ) (result : Status)
-    → Runs {A = Unit {0}} (Err s) words told now before mid a b → CountsWrites {A = Unit {0}} (Err s) w x → (result ≡ status_of s) ⊎ (result ≡ status.NoMemory)
-    → Told told (λ files. Answers (course_of words files) result a b) → Told told (IsLongTold words told now result a b w x)
-long-stopped s words told now before mid a b w x result r m tells h = long-of words told now result a b w x h (run-stopped s words told now before mid a b w x result r m tells)
+long-of : (words : List (List ℕ)) (c : Change) (k : Counted) (result : Status) → Told c.before.files (λ files. Answers (course_of words files) result c.loads c.loads_now)
+    → AreRunsLong words result c k → IsLongTold words result c k
+long-of words c k result =
+    told-both c.before.files (λ files. Answers (course_of words files) result c.loads c.loads_now) (λ files. IsRunLong (course_of words files) result c k)
+    (λ files. (one : Job) → AsksFor words files one → ¬ (Rose c.loads c.loads_now) → ¬ (Rose k.writes k.writes_now) → TellsLong one result c.before.files c.now.files)
+    (λ files h run one asks read kept. long-job words c k result files one h run asks read kept)
 
-pub long-done : (words : List (List ℕ)) (told now : Option Named) (before mid : Option (List ℕ)) (a b w x : ℕ) → Told told (λ files. (job : Job) × (course_of words files ≡ Ok job) × Fulfils job told now before mid)
-    → Told told (λ files. Answers (course_of words files) status.Ok a b) → Told told (IsLongTold words told now status.Ok a b w x)
-long-done words told now before mid a b w x p h = long-of words told now status.Ok a b w x h (run-done words told now before mid a b w x p)
+pub long-stopped : (s : Failure) (words : List (List ℕ)) (c : Change) (k : Counted) (result : Status)
+    → Runs {A = Unit {0}} (Err s) words c → CountsWrites {A = Unit {0}} (Err s) k.writes k.writes_now → (result ≡ status_of s) ⊎ (result ≡ status.NoMemory)
+    → Told c.before.files (λ files. Answers (course_of words files) result c.loads c.loads_now) → IsLongTold words result c k
+long-stopped s words c k result r m tells h = long-of words c k result h (run-stopped s words c k result r m tells)
+
+pub long-done : (words : List (List ℕ)) (c : Change) (k : Counted) → Told c.before.files (λ files. (job : Job) × (course_of words files ≡ Ok job) × Fulfils job c)
+    → Told c.before.files (λ files. Answers (course_of words files) status.Ok c.loads c.loads_now) → IsLongTold words status.Ok c k
+long-done words c k p h = long-of words c k status.Ok h (run-done words c k p)

@@ -1,7 +1,6 @@
 -- From a job to what is printed.
 use Rattle.std.proofs.Common.{◌≡◌, ◌≢◌, ℕ, ◌<◌, ◌≤◌, List, nat_le, Bool, true, false, cond, Option, Result, Ok, Err, inl, inr, refl, arith}
 use Rattle.std.proofs.lemmas.Bool.Decides.{nat_tests}
-use Rattle.amber_io.specs.Folder.{Named}
 use Rattle.amber_rows.specs.declared.flow.Operator.{Operator}
 use Rattle.amber_meaning.specs.Plain.{answer_of, row_total}
 use Rattle.amber_meaning.specs.Texts.{answer_text}
@@ -10,12 +9,15 @@ use Rattle.amber_run.specs.Answering.{IsAnswer, Works, text_of}
 use Rattle.amber_course.specs.Course.{most_rows}
 use Rattle.amber_run.specs.Outcome.{Counts}
 use Rattle.amber_run.specs.UnderWay.{Worked}
-use Rattle.amber_course.specs.Steps.{Judges, Sent}
+use Rattle.amber_course.specs.Steps.{Judges, Sent, putting}
 use Rattle.amber_run.specs.RunTask.{run_task_of}
+use Rattle.amber_run.specs.World.{Change, Shown}
 use Rattle.amber_run.specs.Writing.{CountsWrites}
+use Rattle.amber_course.specs.declared.job.RunJob.{RunJob}
 use Rattle.amber_course.specs.declared.job.Job.TheVariants as job
 use Rattle.amber_course.specs.declared.failure.Failure.{Failure}
 use Rattle.amber_course.specs.declared.failure.Failure.TheVariants as failure
+use Rattle.amber_run.proofs.Changes.{still, with_got}
 use Rattle.amber_course.proofs.Lines.{appends-same, keeps-nil}
 
 -- ---- how many rows there are
@@ -48,16 +50,16 @@ cut-ok true x y e = (refl, cc)
 cut-ok false x y e = cc
 
 -- there was no text
-pub works-failure : (s : Failure) (flow : List Operator) (files : List (List ℕ)) (told : Option Named) (got : Option (List ℕ)) → Judges {A = List ℕ} (Err s) (text_of flow files)
-    → Works {A = Unit {0}} (Err s) (job.Plain flow files) told told got got
-works-failure failure.Usage flow files told got h = absurd h
-works-failure (failure.ReadFault name) flow files told got h = absurd h
-works-failure failure.LogFault flow files told got h = absurd h
-works-failure failure.OutFault flow files told got h = absurd h
-works-failure failure.NoMemory flow files told got h = inl (refl, appends-same got)
-works-failure failure.Long flow files told got h =
-    inl (rw (cut-err (nat_le (row_total flow files) most_rows) (answer_text flow (answer_of flow files)) failure.Long h).0 refl, (refl, appends-same got))
-works-failure other flow files told got h = absurd (let e = (cut-err (nat_le (row_total flow files) most_rows) (answer_text flow (answer_of flow files)) other h).1 in cc)
+pub works-failure : (s : Failure) (flow : List Operator) (files : List (List ℕ)) (shown : Shown) (loads : ℕ) → Judges {A = List ℕ} (Err s) (text_of flow files)
+    → Works {A = Unit {0}} (Err s) (job.Plain flow files) (still shown loads loads)
+works-failure failure.Usage flow files shown loads h = absurd h
+works-failure (failure.ReadFault name) flow files shown loads h = absurd h
+works-failure failure.LogFault flow files shown loads h = absurd h
+works-failure failure.OutFault flow files shown loads h = absurd h
+works-failure failure.NoMemory flow files shown loads h = inl (refl, appends-same shown.got)
+works-failure failure.Long flow files shown loads h =
+    inl (rw (cut-err (nat_le (row_total flow files) most_rows) (answer_text flow (answer_of flow files)) failure.Long h).0 refl, (refl, appends-same shown.got))
+works-failure other flow files shown loads h = absurd (let e = (cut-err (nat_le (row_total flow files) most_rows) (answer_text flow (answer_of flow files)) other h).1 in cc)
 
 pub judged-counts : (s : Failure) (meant : Result (List ℕ) Failure) (n : ℕ) → Judges {A = List ℕ} (Err s) meant → Counts {A = Unit {0}} (Err s) n n
 judged-counts failure.OutFault meant n h = absurd h
@@ -72,34 +74,33 @@ judged-writes failure.LogFault meant n h = absurd h
 judged-writes other meant n h = refl
 
 -- the text was put
-pub works-sent : (r : Result (Unit {0}) Failure) (flow : List Operator) (files : List (List ℕ)) (text : List ℕ) (told : Option Named) (before got : Option (List ℕ)) (a b : ℕ) → text_of flow files ≡ Ok text
-    → Sent r before got a b text → Works r (job.Plain flow files) told told before got
-works-sent (Ok u) flow files text told before got a b e h =
+pub works-sent : (r : Result (Unit {0}) Failure) (flow : List Operator) (files : List (List ℕ)) (text : List ℕ) (shown : Shown) (got : Option (List ℕ)) (loads a b : ℕ) → text_of flow files ≡ Ok text
+    → Sent r (putting shown.got got a b) text → Works r (job.Plain flow files) (with_got (still shown loads loads) got)
+works-sent (Ok u) flow files text shown got loads a b e h =
     let few = cut-ok (nat_le (row_total flow files) most_rows) (answer_text flow (answer_of flow files)) text e in
     (rw few.0 refl, (refl, rw few.1 at h.1))
-works-sent (Err failure.OutFault) flow files text told before got a b e h =
+works-sent (Err failure.OutFault) flow files text shown got loads a b e h =
     let few = cut-ok (nat_le (row_total flow files) most_rows) (answer_text flow (answer_of flow files)) text e in
     (rw few.0 refl, (refl, rw few.1 at h.2))
-works-sent (Err failure.NoMemory) flow files text told before got a b e h = inl (refl, keeps-nil before got h.1)
-works-sent (Err other) flow files text told before got a b e h = absurd h
+works-sent (Err failure.NoMemory) flow files text shown got loads a b e h = inl (refl, keeps-nil shown.got got h.1)
+works-sent (Err other) flow files text shown got loads a b e h = absurd h
 
-pub sent-counts : (r : Result (Unit {0}) Failure) (text : List ℕ) (before got : Option (List ℕ)) (a b : ℕ) → Sent r before got a b text → Counts r a b
+pub sent-counts : (r : Result (Unit {0}) Failure) (text : List ℕ) (before got : Option (List ℕ)) (a b : ℕ) → Sent r (putting before got a b) text → Counts r a b
 sent-counts (Ok u) text before got a b h = h.0
 sent-counts (Err failure.OutFault) text before got a b h = (h.0, h.1)
 sent-counts (Err failure.NoMemory) text before got a b h = h.0
 sent-counts (Err other) text before got a b h = absurd h
 
-pub sent-writes : (r : Result (Unit {0}) Failure) (text : List ℕ) (before got : Option (List ℕ)) (a b n : ℕ) → Sent r before got a b text → CountsWrites r n n
+pub sent-writes : (r : Result (Unit {0}) Failure) (text : List ℕ) (before got : Option (List ℕ)) (a b n : ℕ) → Sent r (putting before got a b) text → CountsWrites r n n
 sent-writes (Ok u) text before got a b n h = refl
 sent-writes (Err failure.LogFault) text before got a b n h = absurd h
 sent-writes (Err other) text before got a b n h = refl
 
 -- a run
-pub works-run : (r : Result (Unit {0}) Failure) (flow : List Operator) (files : List (List ℕ)) (log : List ℕ) (threads batch : ℕ) (told now : Option Named) (before got : Option (List ℕ))
-    → Worked r (run_task_of told before flow files log batch) now got → Works r (job.Run flow files log threads batch) told now before got
-works-run (Ok u) flow files log threads batch told now before got h = (refl, h)
-works-run (Err failure.LogFault) flow files log threads batch told now before got h = (refl, h)
-works-run (Err failure.OutFault) flow files log threads batch told now before got h = (refl, h)
-works-run (Err failure.Long) flow files log threads batch told now before got h = inr (refl, h)
-works-run (Err failure.NoMemory) flow files log threads batch told now before got h = inr (refl, h)
-works-run (Err other) flow files log threads batch told now before got h = absurd h
+pub works-run : (r : Result (Unit {0}) Failure) (run : RunJob) (c : Change) → Worked r (run_task_of c.before run) c.now → Works r (job.Run run) c
+works-run (Ok u) run c h = (refl, h)
+works-run (Err failure.LogFault) run c h = (refl, h)
+works-run (Err failure.OutFault) run c h = (refl, h)
+works-run (Err failure.Long) run c h = inr (refl, h)
+works-run (Err failure.NoMemory) run c h = inr (refl, h)
+works-run (Err other) run c h = absurd h

@@ -5,13 +5,10 @@ use Rattle.std.proofs.Math.Seq.{take-append_seam}
 use Rattle.std.specs.Io.KnownBytes.{Appends}
 use Rattle.amber_io.specs.Folder.{Named, with_file, with_more}
 use Rattle.amber_io.proofs.Told.{with_more-with_file}
-use Rattle.amber_rows.specs.declared.flow.Operator.{Operator}
-use Rattle.amber_log.specs.Fits.{fits_of}
 use Rattle.amber_log.specs.Grammar.{AreItems, IsBatch, IsItem, is_last}
 use Rattle.amber_log.specs.LogText.{head_text, item_text, log_text}
 use Rattle.amber_log.specs.ReadAs.{IsReadAs}
 use Rattle.amber_log.specs.declared.command.Command.{Command}
-use Rattle.amber_log.specs.declared.command.Command.TheVariants as command
 use Rattle.amber_log.specs.declared.log.Item.{Item}
 use Rattle.amber_log.specs.declared.log.Log.{Log}
 use Rattle.amber_log.proofs.Pushes.{log_text-head, log_text-push}
@@ -25,8 +22,9 @@ use Rattle.amber_debug.specs.Session.{Does, Grew, Session, command_of, is_long_i
 use Rattle.amber_debug.specs.declared.done.DebugErr.TheVariants as debug_err
 use Rattle.amber_debug.specs.declared.done.Done.{Done}
 use Rattle.amber_run.specs.UnderWay.{ClosesAs, Halts, IsBare, IsLeft, Opens, IsUnderWay}
-use Rattle.amber_course.specs.Steps.{Sent}
+use Rattle.amber_course.specs.Steps.{Sent, putting}
 use Rattle.amber_run.specs.RunTask.{IsSession, RunTask, ends_long, query_at}
+use Rattle.amber_run.specs.World.{showing}
 use Rattle.amber_run.specs.Writing.{Made, Wrote}
 use Rattle.amber_course.specs.declared.failure.Failure.{Failure}
 use Rattle.amber_course.specs.declared.failure.Failure.TheVariants as failure
@@ -56,7 +54,7 @@ unfolding AreItems Reaches
 legal-start t batch h = record { text = record { batch = h; items = tt }; batch = refl; after = start_of t.flow; reached = refl }
 
 pub stands-start : (t : RunTask) (batch : ℕ) (files : Option Named) (written : Option (List ℕ)) → IsBatch batch → batch ≡ t.batch
-    → files ≡ with_file t.told t.name (head_text batch) → Appends t.before written [] → IsUnderWay t t.commands (record { batch = batch; items = [] }) files written
+    → files ≡ with_file t.told t.name (head_text batch) → Appends t.before written [] → IsUnderWay t t.commands (record { batch = batch; items = [] }) (showing files written)
 unfolding log_text transcript_of replies
 stands-start t batch files written h is place sent = record {
   batch = is;
@@ -69,7 +67,7 @@ stands-start t batch files written h is place sent = record {
 
 -- a log of no item
 left-head : (t : RunTask) (bytes : List ℕ) (batch : ℕ) (files : Option Named) (written : Option (List ℕ)) → IsBatch batch → IsReadAs bytes (record { batch = batch; items = [] })
-    → files ≡ with_file t.told t.name bytes → Appends t.before written [] → IsLeft t failure.LogFault [] files written
+    → files ≡ with_file t.told t.name bytes → Appends t.before written [] → IsLeft t failure.LogFault [] (showing files written)
 unfolding transcript_of replies
 left-head t bytes batch files written h read place sent = record {
   bytes = bytes;
@@ -104,18 +102,18 @@ empty-batch = (omega arith, omega arith)
 
 -- the log was not made
 pub exit-create : (s : Failure) (t : RunTask) (log : Log) (files : Option Named) (written : Option (List ℕ)) → Made {A = Unit {0}} (Err s) t.told files t.name → Appends t.before written []
-    → Opens {A = Unit {0}} (Err s) t log files written
+    → Opens {A = Unit {0}} (Err s) t log (showing files written)
 exit-create failure.LogFault t log files written h sent = inl (h, sent)
 exit-create failure.NoMemory t log files written h sent = (inl h, sent)
 exit-create other t log files written h sent = absurd h
 
 -- there was no memory for its head
-pub exit-bare : (t : RunTask) (files : Option Named) (written : Option (List ℕ)) → files ≡ with_file t.told t.name [] → Appends t.before written [] → IsBare t [] files written
+pub exit-bare : (t : RunTask) (files : Option Named) (written : Option (List ℕ)) → files ≡ with_file t.told t.name [] → Appends t.before written [] → IsBare t [] (showing files written)
 exit-bare t files written h sent = (inr (inr h), sent)
 
 -- its head was not written
 pub exit-head : (s : Failure) (t : RunTask) (log : Log) (batch : ℕ) (head : List ℕ) (mid files : Option Named) (written : Option (List ℕ)) → IsBatch batch → head ≡ head_text batch
-    → mid ≡ with_file t.told t.name [] → Wrote {A = Unit {0}} (Err s) mid files t.name head → Appends t.before written [] → Opens {A = Unit {0}} (Err s) t log files written
+    → mid ≡ with_file t.told t.name [] → Wrote {A = Unit {0}} (Err s) mid files (record { name = t.name; bytes = head }) → Appends t.before written [] → Opens {A = Unit {0}} (Err s) t log (showing files written)
 exit-head failure.LogFault t log batch head mid files written h text made (part, rest, split, new) sent =
     let place : files ≡ with_file t.told t.name part = new ∙ ap (λ m. with_more m t.name part) made ∙ with_more-with_file t.told t.name [] part in
     let front : take (length part) (head_text batch) ≡ part = take-front part rest (head_text batch) (split ∙ text) in
@@ -129,7 +127,7 @@ exit-head other t log batch head mid files written h text made new sent = absurd
 
 -- its head was written
 pub stands-head : (t : RunTask) (batch : ℕ) (head : List ℕ) (mid files : Option Named) (written : Option (List ℕ)) → IsBatch batch → batch ≡ t.batch → head ≡ head_text batch
-    → mid ≡ with_file t.told t.name [] → files ≡ with_more mid t.name head → Appends t.before written [] → IsUnderWay t t.commands (record { batch = batch; items = [] }) files written
+    → mid ≡ with_file t.told t.name [] → files ≡ with_more mid t.name head → Appends t.before written [] → IsUnderWay t t.commands (record { batch = batch; items = [] }) (showing files written)
 stands-head t batch head mid files written h is text made new sent =
     stands-start t batch files written h is
     (new ∙ ap (λ m. with_more m t.name head) made ∙ with_more-with_file t.told t.name [] head ∙ ap (λ b. with_file t.told t.name b) text) sent
@@ -137,8 +135,8 @@ stands-head t batch head mid files written h is text made new sent =
 -- ---- a command
 
 -- the log is as it was, and perhaps a torn item behind it
-left-log : (t : RunTask) (s : Failure) (left : List Command) (log : Log) (bytes : List ℕ) (mid files : Option Named) (written : Option (List ℕ)) → IsUnderWay t left log mid written
-    → files ≡ with_file t.told t.name bytes → IsReadAs bytes log → ClosesAs s false → IsLeft t s [] files written
+left-log : (t : RunTask) (s : Failure) (left : List Command) (log : Log) (bytes : List ℕ) (mid files : Option Named) (written : Option (List ℕ)) → IsUnderWay t left log (showing mid written)
+    → files ≡ with_file t.told t.name bytes → IsReadAs bytes log → ClosesAs s false → IsLeft t s [] (showing files written)
 unfolding replies
 left-log t s left log bytes mid files written h place read closed = record {
   bytes = bytes;
@@ -162,9 +160,9 @@ left-log t s left log bytes mid files written h place read closed = record {
 
 -- the log has an item more, and a part of its reply was put
 left-item : (t : RunTask) (s : Failure) (left : List Command) (command : Command) (log : Log) (one : Item) (part rest : List ℕ) (mid files : Option Named) (written got : Option (List ℕ))
-    → IsUnderWay t (command ∷ left) log mid written → command_of one ≡ command → IsLegal (query_at t log.batch) (one_more log one)
+    → IsUnderWay t (command ∷ left) log (showing mid written) → command_of one ≡ command → IsLegal (query_at t log.batch) (one_more log one)
     → files ≡ with_file t.told t.name (log_text (one_more log one)) → part ++ rest ≡ reply_of (query_at t log.batch) (state_after (query_at t log.batch) log.items) one
-    → (s ≢ failure.OutFault → part ≡ []) → Appends written got part → ClosesAs s (is_long_item one) → IsLeft t s [] files got
+    → (s ≢ failure.OutFault → part ≡ []) → Appends written got part → ClosesAs s (is_long_item one) → IsLeft t s [] (showing files got)
 unfolding replies
 left-item t s left command log one part rest mid files written got h is legal place split whole put closed =
     let query = query_at t log.batch in
@@ -197,13 +195,13 @@ item-place t log one mid files piece place text new =
     ∙ ap (λ b. with_file t.told t.name (log_text log ++ b)) text ∙ ap (λ b. with_file t.told t.name b) (sym (log_text-push log one))
 
 -- there was no item, for want of memory
-pub exit-memory : (t : RunTask) (left : List Command) (log : Log) (files : Option Named) (written : Option (List ℕ)) → IsUnderWay t left log files written → IsLeft t failure.NoMemory [] files written
+pub exit-memory : (t : RunTask) (left : List Command) (log : Log) (files : Option Named) (written : Option (List ℕ)) → IsUnderWay t left log (showing files written) → IsLeft t failure.NoMemory [] (showing files written)
 exit-memory t left log files written h = left-log t failure.NoMemory left log (log_text log) files files written h h.place (reads-whole log h.legal.text) tt
 
 -- the item was not written
 pub exit-write : (s : Failure) (t : RunTask) (left : List Command) (command : Command) (log : Log) (one : Item) (piece : List ℕ) (mid files : Option Named) (written : Option (List ℕ))
-    → IsUnderWay t (command ∷ left) log mid written → command_of one ≡ command → IsLegal (query_at t log.batch) (one_more log one) → piece ≡ item_text one
-    → Wrote {A = Unit {0}} (Err s) mid files t.name piece → Halts t s files written
+    → IsUnderWay t (command ∷ left) log (showing mid written) → command_of one ≡ command → IsLegal (query_at t log.batch) (one_more log one) → piece ≡ item_text one
+    → Wrote {A = Unit {0}} (Err s) mid files (record { name = t.name; bytes = piece }) → Halts t (showing files written) s
 exit-write failure.LogFault t left command log one piece mid files written h is legal text (part, rest, split, new) =
     let place : files ≡ with_file t.told t.name (log_text log ++ part) =
     new ∙ ap (λ m. with_more m t.name part) h.place ∙ with_more-with_file t.told t.name (log_text log) part in
@@ -220,9 +218,9 @@ exit-write other t left command log one piece mid files written h is legal text 
 
 -- the reply was not put
 pub exit-send : (s : Failure) (t : RunTask) (left : List Command) (command : Command) (log : Log) (one : Item) (piece reply : List ℕ) (mid files : Option Named) (written got : Option (List ℕ)) (a b : ℕ)
-    → IsUnderWay t (command ∷ left) log mid written → command_of one ≡ command → IsLegal (query_at t log.batch) (one_more log one) → piece ≡ item_text one
+    → IsUnderWay t (command ∷ left) log (showing mid written) → command_of one ≡ command → IsLegal (query_at t log.batch) (one_more log one) → piece ≡ item_text one
     → is_long_item one ≡ false → files ≡ with_more mid t.name piece → reply ≡ reply_of (query_at t log.batch) (state_after (query_at t log.batch) log.items) one
-    → Sent {A = Unit {0}} (Err s) written got a b reply → Halts t s files got
+    → Sent {A = Unit {0}} (Err s) (putting written got a b) reply → Halts t (showing files got) s
 exit-send failure.OutFault t left command log one piece reply mid files written got a b h is legal text short new answer sent =
     left-item t failure.OutFault left command log one sent.2.0 sent.2.1 mid files written got h is legal (item-place t log one mid files piece h.place text new) (sent.2.2 ∙ answer)
     (λ n. absurd (n refl)) sent.2.3 short
@@ -233,17 +231,17 @@ exit-send other t left command log one piece reply mid files written got a b h i
 
 -- the steps were as many as may be
 pub exit-long : (t : RunTask) (left : List Command) (command : Command) (log : Log) (one : Item) (piece : List ℕ) (mid files : Option Named) (written : Option (List ℕ))
-    → IsUnderWay t (command ∷ left) log mid written → command_of one ≡ command → IsLegal (query_at t log.batch) (one_more log one) → piece ≡ item_text one
-    → is_long_item one ≡ true → files ≡ with_more mid t.name piece → IsLeft t failure.Long [] files written
+    → IsUnderWay t (command ∷ left) log (showing mid written) → command_of one ≡ command → IsLegal (query_at t log.batch) (one_more log one) → piece ≡ item_text one
+    → is_long_item one ≡ true → files ≡ with_more mid t.name piece → IsLeft t failure.Long [] (showing files written)
 exit-long t left command log one piece mid files written h is legal text long new =
     left-item t failure.Long left command log one [] (reply_of (query_at t log.batch) (state_after (query_at t log.batch) log.items) one) mid files written written h is legal
     (item-place t log one mid files piece h.place text new) refl (λ n. refl) (appends-same written) long
 
 -- the command was done
 pub stands-next : (t : RunTask) (left : List Command) (command : Command) (log : Log) (one : Item) (piece reply : List ℕ) (mid files : Option Named) (written got : Option (List ℕ))
-    → IsUnderWay t (command ∷ left) log mid written → command_of one ≡ command → IsLegal (query_at t log.batch) (one_more log one) → piece ≡ item_text one
+    → IsUnderWay t (command ∷ left) log (showing mid written) → command_of one ≡ command → IsLegal (query_at t log.batch) (one_more log one) → piece ≡ item_text one
     → is_long_item one ≡ false → files ≡ with_more mid t.name piece → reply ≡ reply_of (query_at t log.batch) (state_after (query_at t log.batch) log.items) one
-    → Appends written got reply → IsUnderWay t left (one_more log one) files got
+    → Appends written got reply → IsUnderWay t left (one_more log one) (showing files got)
 stands-next t left command log one piece reply mid files written got h is legal text short new answer put =
     let query = query_at t log.batch in
     record {
@@ -269,14 +267,10 @@ session-grown t old new command one h grew legal = rw (grew.flow, grew.files, gr
 
 -- ---- what the debugger did
 
-pub fits-end : (flow : List Operator) (done : Command) → done ≡ command.End → fits_of flow done ≡ true
-unfolding fits_of
-fits-end flow done e = rw e refl
-
 -- a command was done, and its item was not written
 pub done-write : (s : Failure) (t : RunTask) (left : List Command) (old new : Session) (command : Command) (told : Done) (piece : List ℕ) (mid files : Option Named) (written : Option (List ℕ))
-    → IsSession t old → IsUnderWay t (command ∷ left) old.log mid written → Does (Ok told) old new command → IsLegal (query_in new) new.log → piece ≡ told.item
-    → Wrote {A = Unit {0}} (Err s) mid files t.name piece → Halts t s files written
+    → IsSession t old → IsUnderWay t (command ∷ left) old.log (showing mid written) → Does (Ok told) old new command → IsLegal (query_in new) new.log → piece ≡ told.item
+    → Wrote {A = Unit {0}} (Err s) mid files (record { name = t.name; bytes = piece }) → Halts t (showing files written) s
 done-write s t left old new command told piece mid files written session h does legal is wrote =
     exit-write s t left command old.log does.0 piece mid files written h does.1.command (session-grown t old new command does.0 session does.1 legal) (is ∙ does.3) wrote
 
@@ -287,16 +281,16 @@ reply-is t old new command told reply session does is =
 
 -- its reply was not put
 pub done-send : (s : Failure) (t : RunTask) (left : List Command) (old new : Session) (command : Command) (told : Done) (piece reply : List ℕ) (mid files : Option Named) (written got : Option (List ℕ)) (a b : ℕ)
-    → IsSession t old → IsUnderWay t (command ∷ left) old.log mid written → Does (Ok told) old new command → IsLegal (query_in new) new.log → piece ≡ told.item → reply ≡ told.reply
-    → files ≡ with_more mid t.name piece → Sent {A = Unit {0}} (Err s) written got a b reply → Halts t s files got
+    → IsSession t old → IsUnderWay t (command ∷ left) old.log (showing mid written) → Does (Ok told) old new command → IsLegal (query_in new) new.log → piece ≡ told.item → reply ≡ told.reply
+    → files ≡ with_more mid t.name piece → Sent {A = Unit {0}} (Err s) (putting written got a b) reply → Halts t (showing files got) s
 done-send s t left old new command told piece reply mid files written got a b session h does legal is answer wrote sent =
     exit-send s t left command old.log does.0 piece reply mid files written got a b h does.1.command (session-grown t old new command does.0 session does.1 legal) (is ∙ does.3) does.2 wrote
     (reply-is t old new command told reply session does answer) sent
 
 -- all was written and put
 pub done-next : (t : RunTask) (left : List Command) (old new : Session) (command : Command) (told : Done) (piece reply : List ℕ) (mid files : Option Named) (written got : Option (List ℕ))
-    → IsSession t old → IsUnderWay t (command ∷ left) old.log mid written → Does (Ok told) old new command → IsLegal (query_in new) new.log → piece ≡ told.item → reply ≡ told.reply
-    → files ≡ with_more mid t.name piece → Appends written got reply → IsUnderWay t left new.log files got
+    → IsSession t old → IsUnderWay t (command ∷ left) old.log (showing mid written) → Does (Ok told) old new command → IsLegal (query_in new) new.log → piece ≡ told.item → reply ≡ told.reply
+    → files ≡ with_more mid t.name piece → Appends written got reply → IsUnderWay t left new.log (showing files got)
 done-next t left old new command told piece reply mid files written got session h does legal is answer wrote sent =
     rw does.1.log
     (stands-next t left command old.log does.0 piece reply mid files written got h does.1.command (session-grown t old new command does.0 session does.1 legal) (is ∙ does.3) does.2 wrote
@@ -304,14 +298,14 @@ done-next t left old new command told piece reply mid files written got session 
 
 -- a leg was too long, and was not written
 pub long-write : (s : Failure) (t : RunTask) (left : List Command) (old new : Session) (command : Command) (text piece : List ℕ) (mid files : Option Named) (written : Option (List ℕ))
-    → IsSession t old → IsUnderWay t (command ∷ left) old.log mid written → Does (Err (debug_err.Long text)) old new command → IsLegal (query_in new) new.log → piece ≡ text
-    → Wrote {A = Unit {0}} (Err s) mid files t.name piece → Halts t s files written
+    → IsSession t old → IsUnderWay t (command ∷ left) old.log (showing mid written) → Does (Err (debug_err.Long text)) old new command → IsLegal (query_in new) new.log → piece ≡ text
+    → Wrote {A = Unit {0}} (Err s) mid files (record { name = t.name; bytes = piece }) → Halts t (showing files written) s
 long-write s t left old new command text piece mid files written session h does legal is wrote =
     exit-write s t left command old.log does.0 piece mid files written h does.1.command (session-grown t old new command does.0 session does.1 legal) (is ∙ does.3) wrote
 
 -- it was written
 pub long-next : (t : RunTask) (left : List Command) (old new : Session) (command : Command) (text piece : List ℕ) (mid files : Option Named) (written : Option (List ℕ))
-    → IsSession t old → IsUnderWay t (command ∷ left) old.log mid written → Does (Err (debug_err.Long text)) old new command → IsLegal (query_in new) new.log → piece ≡ text
-    → files ≡ with_more mid t.name piece → IsLeft t failure.Long [] files written
+    → IsSession t old → IsUnderWay t (command ∷ left) old.log (showing mid written) → Does (Err (debug_err.Long text)) old new command → IsLegal (query_in new) new.log → piece ≡ text
+    → files ≡ with_more mid t.name piece → IsLeft t failure.Long [] (showing files written)
 long-next t left old new command text piece mid files written session h does legal is wrote =
     exit-long t left command old.log does.0 piece mid files written h does.1.command (session-grown t old new command does.0 session does.1 legal) (is ∙ does.3) does.2 wrote

@@ -1,7 +1,6 @@
 -- What the steps of a job give.
-use Rattle.std.specs.Prelude.{◌≡◌, ℕ, ◌<◌, ◌≤◌, ◌⊎◌, nat_le, List, [], Option, Result, Ok, Err, if◌then◌else◌, ⊤}
+use Rattle.std.specs.Prelude.{◌≡◌, ℕ, ◌<◌, ◌≤◌, ◌⊎◌, nat_le, List, [], Result, Ok, Err, if◌then◌else◌, ⊤}
 use Rattle.std.specs.Io.KnownBytes.{Appends}
-use Rattle.amber_io.specs.Folder.{Named}
 use Rattle.amber_io.specs.Sink.{Begins}
 use Rattle.amber_rows.specs.declared.flow.Operator.{Operator}
 use Rattle.amber_meaning.specs.Plain.{answer_of, row_total}
@@ -10,6 +9,7 @@ use Rattle.amber_meaning.specs.declared.answer.Answer.{Answer}
 use Rattle.amber_course.specs.Course.{require_limit, most_rows}
 use Rattle.amber_run.specs.UnderWay.{IsDone, Leaves}
 use Rattle.amber_run.specs.RunTask.{run_task_of}
+use Rattle.amber_run.specs.World.{Change}
 use Rattle.amber_course.specs.declared.job.Job.{Job}
 use Rattle.amber_course.specs.declared.job.Job.TheVariants as job
 use Rattle.amber_course.specs.declared.failure.Failure.{Failure}
@@ -26,29 +26,30 @@ IsAnswer (Err other) flow files = ⊥
 abbrev pub text_of : List Operator → List (List ℕ) → Result (List ℕ) Failure
 text_of flow files = if nat_le (row_total flow files) most_rows then Ok (answer_text flow (answer_of flow files)) else Err failure.Long
 
--- ---- what a job leaves, from the files that are told and what the sink had before to what they are now
+-- ---- what a job leaves
 
 -- no file has changed, and the sink got a line alone
-abbrev pub IsUntouched : List ℕ → Option Named → Option Named → Option (List ℕ) → Option (List ℕ) → Type 0
-IsUntouched line told now before got = (now ≡ told) × Appends before got line
+abbrev pub IsUntouched : List ℕ → Change → Type 0
+IsUntouched line change = (change.now.files ≡ change.before.files) × Appends change.before.got change.now.got line
 
 -- the job is done: for `plain` no file has changed, and the sink got the text of the sequential answer
-abbrev pub Fulfils : Job → Option Named → Option Named → Option (List ℕ) → Option (List ℕ) → Type 0
-Fulfils (job.Plain flow files) told now before got = IsUntouched (answer_text flow (answer_of flow files)) told now before got
-Fulfils (job.Run flow files log threads batch) told now before got = IsDone (run_task_of told before flow files log batch) now got
+abbrev pub Fulfils : Job → Change → Type 0
+Fulfils (job.Plain flow files) change = IsUntouched (answer_text flow (answer_of flow files)) change
+Fulfils (job.Run run) change = IsDone (run_task_of change.before run) change.now
 
 -- the job was broken off, and a line was put behind: for `plain` the sink failed, which got a front part of that text alone
-abbrev pub BreaksOff : Job → Failure → List ℕ → Option Named → Option Named → Option (List ℕ) → Option (List ℕ) → Type 0
-BreaksOff (job.Plain flow files) failure.OutFault line told now before got = (now ≡ told) × Begins before got (answer_text flow (answer_of flow files))
-BreaksOff (job.Plain flow files) other line told now before got = ⊥
-BreaksOff (job.Run flow files log threads batch) s line told now before got = Leaves (run_task_of told before flow files log batch) s line now got
+abbrev pub BreaksOff : Job → Failure → List ℕ → Change → Type 0
+BreaksOff (job.Plain flow files) failure.OutFault line change =
+    (change.now.files ≡ change.before.files) × Begins change.before.got change.now.got (answer_text flow (answer_of flow files))
+BreaksOff (job.Plain flow files) other line change = ⊥
+BreaksOff (job.Run run) s line change = Leaves (run_task_of change.before run) s line change.now
 
 -- a job was done, or broken off, or nothing was done: for want of memory, or since the query gives too many rows
-abbrev pub Works : {A : Type 0} → Result A Failure → Job → Option Named → Option Named → Option (List ℕ) → Option (List ℕ) → Type 0
-Works (Ok x) done told now before got = (require_limit done ≡ Ok done) × Fulfils done told now before got
-Works (Err failure.LogFault) done told now before got = (require_limit done ≡ Ok done) × BreaksOff done failure.LogFault [] told now before got
-Works (Err failure.OutFault) done told now before got = (require_limit done ≡ Ok done) × BreaksOff done failure.OutFault [] told now before got
-Works (Err failure.Long) done told now before got =
-    ((require_limit done ≡ Err failure.Long) × IsUntouched [] told now before got) ⊎ ((require_limit done ≡ Ok done) × BreaksOff done failure.Long [] told now before got)
-Works (Err failure.NoMemory) done told now before got = IsUntouched [] told now before got ⊎ ((require_limit done ≡ Ok done) × BreaksOff done failure.NoMemory [] told now before got)
-Works (Err other) done told now before got = ⊥
+abbrev pub Works : {A : Type 0} → Result A Failure → Job → Change → Type 0
+Works (Ok x) done change = (require_limit done ≡ Ok done) × Fulfils done change
+Works (Err failure.LogFault) done change = (require_limit done ≡ Ok done) × BreaksOff done failure.LogFault [] change
+Works (Err failure.OutFault) done change = (require_limit done ≡ Ok done) × BreaksOff done failure.OutFault [] change
+Works (Err failure.Long) done change =
+    ((require_limit done ≡ Err failure.Long) × IsUntouched [] change) ⊎ ((require_limit done ≡ Ok done) × BreaksOff done failure.Long [] change)
+Works (Err failure.NoMemory) done change = IsUntouched [] change ⊎ ((require_limit done ≡ Ok done) × BreaksOff done failure.NoMemory [] change)
+Works (Err other) done change = ⊥

@@ -2,4 +2,5 @@ pub mod Answering
 pub mod Outcome
 pub mod RunTask
 pub mod UnderWay
+pub mod World
 pub mod Writing

@@ -9,11 +9,12 @@ use Rattle.amber_meaning.specs.Plain.{row_total}
 use Rattle.amber_meaning.specs.Total.{step_total}
 use Rattle.amber_run.specs.Answering.{BreaksOff, Fulfils, IsUntouched}
 use Rattle.amber_course.specs.Course.{IsReached, course_of, job_of, most_rows}
-use Rattle.amber_run.specs.RunTask.{ends_long, most_steps}
+use Rattle.amber_run.specs.RunTask.{AlterNothing, ends_long, most_steps}
+use Rattle.amber_run.specs.World.{Change, World, change_of}
 use Rattle.amber_course.specs.Words.{call_words_of}
 use Rattle.amber_course.specs.declared.job.Job.{Job}
 use Rattle.amber_course.specs.declared.job.Job.TheVariants as job
-use Rattle.amber_course.specs.Steps.{Names, Stopped, Tells}
+use Rattle.amber_course.specs.Steps.{Names, Stopped, Tells, loading}
 use Rattle.amber_course.specs.Failure.{IsToldAs, error_line_of, status_of}
 use Rattle.amber_course.specs.declared.status.Status.{Status}
 use Rattle.amber_course.specs.declared.status.Status.TheVariants as status
@@ -43,23 +44,23 @@ IsRunStatus other = ⊥
 -- the statuses that are left where the course has a job
 abbrev pub IsJobStatus : Job → Status → Type 0
 IsJobStatus (job.Plain flow files) result = IsPrintStatus result
-IsJobStatus (job.Run flow files log threads batch) result = IsRunStatus result
+IsJobStatus (job.Run run) result = IsRunStatus result
 
 -- the course decides the status, but for want of memory and for reads that failed, which raise the count of failed loads
 abbrev pub Answers : Result Job Failure → Status → ℕ → ℕ → Type 0
 Answers (Ok job) result old new = IsJobStatus job result ⊎ ((result ≡ status.ReadFault) × Rose old new)
 Answers (Err s) result old new = (result ≡ status_of s) ⊎ (result ≡ status.NoMemory) ⊎ ((result ≡ status.ReadFault) × Rose old new)
 
--- the course has a job, which meets the limit on its steps
+-- the course has a job, which meets the limit on its steps: by a script that alters nothing, and whose query has so many steps at most
 abbrev pub MeetsLimit : Result Job Failure → Type 0
 MeetsLimit (Ok (job.Plain flow files)) = ⊤
-MeetsLimit (Ok (job.Run flow files log threads batch)) = step_total (query_over flow files batch most_steps) ≤ most_steps
+MeetsLimit (Ok (job.Run run)) = AlterNothing run.commands × (step_total (query_over run.flow run.files run.batch most_steps) ≤ most_steps)
 MeetsLimit (Err s) = ⊥
 
 -- the statuses where the course has a job and only the sink has failed
 abbrev pub IsSinkStatus : Result Job Failure → Status → Type 0
 IsSinkStatus (Ok (job.Plain flow files)) result = (result ≡ status.OutFault) ⊎ (result ≡ status.NoMemory)
-IsSinkStatus (Ok (job.Run flow files log threads batch)) result = (result ≡ status.OutFault) ⊎ (result ≡ status.Long) ⊎ (result ≡ status.NoMemory)
+IsSinkStatus (Ok (job.Run run)) result = (result ≡ status.OutFault) ⊎ (result ≡ status.Long) ⊎ (result ≡ status.NoMemory)
 IsSinkStatus (Err s) result = ⊤
 
 -- the words do not ask for a run
@@ -90,39 +91,36 @@ RunsLong result told now name =
 -- when a job is too long: `plain` where the operators give more rows than they may, a run where its log says so
 abbrev pub TellsLong : Job → Status → Option Named → Option Named → Type 0
 TellsLong (job.Plain flow files) result told now = IsLongWhere result (most_rows < row_total flow files)
-TellsLong (job.Run flow files log threads batch) result told now = RunsLong result told now log
+TellsLong (job.Run run) result told now = RunsLong result told now run.log
 
 -- ---- what a call leaves
 
--- what the folder and the sink show: the files, what was put, and how many loads, writes and puts failed
-pub record World : Type 0 where
-  pub files : Option Named
-  pub got : Option (List ℕ)
-  pub loads : ℕ
-  pub writes : ℕ
-  pub puts : ℕ
-
 -- the course has a job, and it is done
 abbrev pub Succeeds : List (List ℕ) → Named → World → World → Type 0
-Succeeds words files before after = (job : Job) × (course_of words files ≡ Ok job) × Fulfils job before.files after.files before.got after.got
+Succeeds words files before after = (job : Job) × (course_of words files ≡ Ok job) × Fulfils job (change_of before after)
 
 -- the course has a job, and it was broken off
-abbrev pub Breaks : List (List ℕ) → Failure → List ℕ → Option Named → Option Named → Option (List ℕ) → Option (List ℕ) → Type 0
-Breaks words s line told now before got = Told told (λ files. (job : Job) × (course_of words files ≡ Ok job) × BreaksOff job s line told now before got)
+abbrev pub Breaks : List (List ℕ) → Failure → List ℕ → Change → Type 0
+Breaks words s line change = Told change.before.files (λ files. (job : Job) × (course_of words files ≡ Ok job) × BreaksOff job s line change)
 
 -- a failure behind the words is that of the course, but for want of memory and for reads that failed
-abbrev pub IsCause : List (List ℕ) → Option Named → Failure → ℕ → ℕ → Type 0
-IsCause words told s old new = Stopped s old new (Told told (λ files. course_of words files ≡ Err s)) (Tells told (λ files. course_of words files ≡ Err s))
+abbrev pub IsCause : List (List ℕ) → Failure → Change → Type 0
+IsCause words s change =
+    Stopped s (loading change.before.files change.loads change.loads_now) (Told change.before.files (λ files. course_of words files ≡ Err s)) (Tells change.before.files (λ files. course_of words files ≡ Err s))
 
--- what a call that stopped leaves, with this part of the failure's line. `old` and `new` count the failed loads
-abbrev pub Stops : List (List ℕ) → Failure → List ℕ → Option Named → Option Named → Option (List ℕ) → Option (List ℕ) → ℕ → ℕ → Type 0
-Stops words failure.Usage line told now before got old new = (new ≡ old) × (call_words_of words ≡ None) × IsUntouched line told now before got
-Stops words failure.LogFault line told now before got old new = (new ≡ old) × Breaks words failure.LogFault line told now before got
-Stops words failure.OutFault line told now before got old new = (new ≡ old) × Breaks words failure.OutFault line told now before got
-Stops words failure.Long line told now before got old new =
-    (new ≡ old) × ((Told told (λ files. course_of words files ≡ Err failure.Long) × IsUntouched line told now before got) ⊎ Breaks words failure.Long line told now before got)
-Stops words failure.NoMemory line told now before got old new = IsUntouched line told now before got ⊎ ((new ≡ old) × Breaks words failure.NoMemory line told now before got)
-Stops words other line told now before got old new = IsCause words told other old new × IsUntouched line told now before got
+-- the query gives too many rows, and nothing was done; or a run was too long
+abbrev pub StopsLong : List (List ℕ) → List ℕ → Change → Type 0
+StopsLong words line change =
+    (Told change.before.files (λ files. course_of words files ≡ Err failure.Long) × IsUntouched line change) ⊎ Breaks words failure.Long line change
+
+-- what a call that stopped leaves, with this part of the failure's line
+abbrev pub Stops : List (List ℕ) → Failure → List ℕ → Change → Type 0
+Stops words failure.Usage line change = (change.loads_now ≡ change.loads) × (call_words_of words ≡ None) × IsUntouched line change
+Stops words failure.LogFault line change = (change.loads_now ≡ change.loads) × Breaks words failure.LogFault line change
+Stops words failure.OutFault line change = (change.loads_now ≡ change.loads) × Breaks words failure.OutFault line change
+Stops words failure.Long line change = (change.loads_now ≡ change.loads) × StopsLong words line change
+Stops words failure.NoMemory line change = IsUntouched line change ⊎ ((change.loads_now ≡ change.loads) × Breaks words failure.NoMemory line change)
+Stops words other line change = IsCause words other change × IsUntouched line change
 
 -- why a call did not end with `Ok`, and what it left; a file in the line is one that the order of work reaches, and the line is whole
 -- unless the sink failed or memory ran out
@@ -134,7 +132,7 @@ pub record Ended (words : List (List ℕ)) (result : Status) (old new : World) :
   pub rest : List ℕ
   pub split : line ++ rest ≡ error_line_of cause
   pub whole : result ≢ status.NoMemory → new.puts ≡ old.puts → old.puts < 2 ^ 64 - 1 → line ≡ error_line_of cause
-  pub left : Stops words cause line old.files new.files old.got new.got old.loads new.loads
+  pub left : Stops words cause line (change_of old new)
   pub named : Told old.files (λ files. Names cause (IsReached words files))
 
 -- ---- the whole of it
@@ -171,9 +169,10 @@ pub record Answered (words : List (List ℕ)) (result : Status) (before after : 
 -- ---- the steps of a call
 
 -- a run before its error line
-abbrev pub Runs : {A : Type 0} → Result A Failure → List (List ℕ) → Option Named → Option Named → Option (List ℕ) → Option (List ℕ) → ℕ → ℕ → Type 0
-Runs (Ok x) words told now before got old new = (new ≡ old) × Told told (λ files. (job : Job) × (course_of words files ≡ Ok job) × Fulfils job told now before got)
-Runs (Err s) words told now before got old new = Stops words s [] told now before got old new
+abbrev pub Runs : {A : Type 0} → Result A Failure → List (List ℕ) → Change → Type 0
+Runs (Ok x) words change =
+    (change.loads_now ≡ change.loads) × Told change.before.files (λ files. (job : Job) × (course_of words files ≡ Ok job) × Fulfils job change)
+Runs (Err s) words change = Stops words s [] change
 
 -- the count of failed puts stands, unless the sink failed
 abbrev pub Counts : {A : Type 0} → Result A Failure → ℕ → ℕ → Type 0

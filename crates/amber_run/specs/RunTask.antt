@@ -1,12 +1,15 @@
 -- What a run is to do.
-use Rattle.std.specs.Prelude.{◌≡◌, ℕ, ◌^◌, List, [], ◌∷◌, Option, Bool}
+use Rattle.std.specs.Prelude.{◌≡◌, ℕ, ◌^◌, List, [], ◌∷◌, ◌++◌, map, Option, Bool}
 use Rattle.amber_io.specs.Folder.{Named}
 use Rattle.amber_rows.specs.declared.flow.Operator.{Operator}
 use Rattle.amber_log.specs.declared.command.Command.{Command}
 use Rattle.amber_log.specs.declared.command.Command.TheVariants as command
 use Rattle.amber_log.specs.declared.log.Item.{Item}
-use Rattle.amber_meaning.specs.Legal.{Query, query_over}
+use Rattle.amber_log.specs.declared.log.Item.TheVariants as item
+use Rattle.amber_meaning.specs.Legal.{IsUnaltered, Query, query_over}
+use Rattle.amber_course.specs.declared.job.RunJob.{RunJob}
 use Rattle.amber_debug.specs.Session.{Session, is_long_item}
+use Rattle.amber_run.specs.World.{Shown}
 
 -- what is fixed once nothing is left that refuses a run
 pub record RunTask : Type 0 where
@@ -31,9 +34,13 @@ most_steps = 2 ^ 40
 abbrev pub query_at : RunTask → ℕ → Query
 query_at t batch = query_over t.flow t.inputs batch most_steps
 
--- the commands of a script that has none
+-- what is done behind the commands of a script
 abbrev pub end_alone : List Command
 end_alone = command.End ∷ []
+
+-- no command sets a constant or drops a row
+abbrev pub AlterNothing : List Command → Type 0
+AlterNothing commands = IsUnaltered (map item.Do commands)
 
 -- the session runs what the task asks for
 pub record IsSession (t : RunTask) (d : Session) : Type 0 where
@@ -46,7 +53,14 @@ abbrev pub ends_long : Bool → List Item → Bool
 ends_long long [] = long
 ends_long long (one ∷ more) = ends_long (is_long_item one) more
 
--- a run of a workflow over the files of its scans, by a script without commands
-abbrev pub run_task_of : Option Named → Option (List ℕ) → List Operator → List (List ℕ) → List ℕ → ℕ → RunTask
-run_task_of told before flow inputs name batch =
-    record { told = told; before = before; name = name; flow = flow; inputs = inputs; batch = batch; commands = end_alone }
+-- a run is to do the commands of its script, and then to go to the end
+abbrev pub run_task_of : Shown → RunJob → RunTask
+run_task_of before run = record {
+  told = before.files;
+  before = before.got;
+  name = run.log;
+  flow = run.flow;
+  inputs = run.files;
+  batch = run.batch;
+  commands = run.commands ++ end_alone;
+}

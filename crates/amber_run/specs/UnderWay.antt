@@ -1,7 +1,7 @@
 -- How far a run has come, and what it leaves that ended early.
-use Rattle.std.specs.Prelude.{◌≡◌, ◌≢◌, ℕ, ◌<◌, ◌≤◌, ◌⊎◌, List, [], ◌∷◌, ◌++◌, length, map, Option, Result, Ok, Err, Bool, true, false, ⊤}
+use Rattle.std.specs.Prelude.{◌≡◌, ◌≢◌, ℕ, ◌<◌, ◌≤◌, ◌⊎◌, List, [], ◌∷◌, ◌++◌, length, map, Result, Ok, Err, Bool, true, false, ⊤}
 use Rattle.std.specs.Io.KnownBytes.{Appends}
-use Rattle.amber_io.specs.Folder.{Named, with_file, without_file}
+use Rattle.amber_io.specs.Folder.{with_file, without_file}
 use Rattle.amber_log.specs.LogText.{log_text}
 use Rattle.amber_log.specs.ReadAs.{IsReadAs}
 use Rattle.amber_log.specs.declared.command.Command.{Command}
@@ -14,7 +14,8 @@ use Rattle.amber_meaning.specs.Texts.{answer_text}
 use Rattle.amber_meaning.specs.Total.{step_total}
 use Rattle.amber_meaning.specs.Transcript.{replies, reply_of, transcript_of}
 use Rattle.amber_debug.specs.Session.{Session, command_of}
-use Rattle.amber_run.specs.RunTask.{RunTask, ends_long, most_steps, query_at}
+use Rattle.amber_run.specs.RunTask.{AlterNothing, IsSession, RunTask, ends_long, most_steps, query_at}
+use Rattle.amber_run.specs.World.{Shown}
 use Rattle.amber_course.specs.declared.failure.Failure.{Failure}
 use Rattle.amber_course.specs.declared.failure.Failure.TheVariants as failure
 
@@ -22,13 +23,18 @@ use Rattle.amber_course.specs.declared.failure.Failure.TheVariants as failure
 
 -- the log's file holds the text of a legal log, all other files are as before, and the sink got the log's transcript; `left` are
 -- the commands that are still to be done
-pub record IsUnderWay (t : RunTask) (left : List Command) (log : Log) (files : Option Named) (written : Option (List ℕ)) : Type 0 where
+pub record IsUnderWay (t : RunTask) (left : List Command) (log : Log) (shown : Shown) : Type 0 where
   pub batch : log.batch ≡ t.batch
   pub legal : IsLegal (query_at t log.batch) log
   pub commands : map command_of log.items ++ left ≡ t.commands
-  pub place : files ≡ with_file t.told t.name (log_text log)
-  pub sent : Appends t.before written (transcript_of (query_at t log.batch) log.items)
+  pub place : shown.files ≡ with_file t.told t.name (log_text log)
+  pub sent : Appends t.before shown.got (transcript_of (query_at t log.batch) log.items)
   pub short : ends_long false log.items ≡ false
+
+-- a session that runs what the task asks for has come so far
+pub record IsAt (t : RunTask) (left : List Command) (d : Session) (shown : Shown) : Type 0 where
+  pub session : IsSession t d
+  pub way : IsUnderWay t left d.log shown
 
 -- where no item sets a constant or drops a row, the reply to the last item is the text of the sequential answer
 abbrev pub HasAnswer : RunTask → Log → Type 0
@@ -37,8 +43,8 @@ HasAnswer t log =
     → reply_of (query_at t log.batch) (state_after (query_at t log.batch) done) last ≡ answer_text t.flow (answer_of t.flow t.inputs)
 
 -- a run that has done all
-abbrev pub IsDone : RunTask → Option Named → Option (List ℕ) → Type 0
-IsDone t files written = (log : Log) × IsUnderWay t [] log files written × HasAnswer t log
+abbrev pub IsDone : RunTask → Shown → Type 0
+IsDone t shown = (log : Log) × IsUnderWay t [] log shown × HasAnswer t log
 
 -- ---- a run that ended early
 
@@ -50,7 +56,7 @@ ClosesAs other long = ⊤
 
 -- the log's file reads as a legal log, whose commands are the first of those to be done, and all other files are as before. The sink
 -- got the replies to all items, where that to the last may be wanting, or cut if the sink failed; then a line
-pub record IsLeft (t : RunTask) (s : Failure) (line : List ℕ) (files : Option Named) (written : Option (List ℕ)) : Type 0 where
+pub record IsLeft (t : RunTask) (s : Failure) (line : List ℕ) (shown : Shown) : Type 0 where
   -- the file's bytes
   pub bytes : List ℕ
   -- the log that is read of them: its batch size, the items that were replied to, and perhaps one more
@@ -62,7 +68,7 @@ pub record IsLeft (t : RunTask) (s : Failure) (line : List ℕ) (files : Option 
   -- what was put of the reply to the last item, and what was not
   pub part : List ℕ
   pub rest : List ℕ
-  pub place : files ≡ with_file t.told t.name bytes
+  pub place : shown.files ≡ with_file t.told t.name bytes
   pub few : length last ≤ 1
   pub read : IsReadAs bytes (record { batch = batch; items = done ++ last })
   pub legal : IsLegal (query_at t batch) (record { batch = batch; items = done ++ last })
@@ -70,45 +76,40 @@ pub record IsLeft (t : RunTask) (s : Failure) (line : List ℕ) (files : Option 
   pub commands : map command_of (done ++ last) ++ left ≡ t.commands
   pub split : part ++ rest ≡ replies (query_at t batch) (state_after (query_at t batch) done) last
   pub whole : s ≢ failure.OutFault → part ≡ []
-  pub sent : Appends t.before written (transcript_of (query_at t batch) done ++ (part ++ line))
+  pub sent : Appends t.before shown.got (transcript_of (query_at t batch) done ++ (part ++ line))
   pub closed : ClosesAs s (ends_long false (done ++ last))
 
 -- the log's file is as before, absent or empty, all other files are as before, and the sink got a line alone
-abbrev pub IsBare : RunTask → List ℕ → Option Named → Option (List ℕ) → Type 0
-IsBare t line files written =
-    ((files ≡ t.told) ⊎ (files ≡ without_file t.told t.name) ⊎ (files ≡ with_file t.told t.name [])) × Appends t.before written line
+abbrev pub IsBare : RunTask → List ℕ → Shown → Type 0
+IsBare t line shown =
+    ((shown.files ≡ t.told) ⊎ (shown.files ≡ without_file t.told t.name) ⊎ (shown.files ≡ with_file t.told t.name [])) × Appends t.before shown.got line
 
--- what each failure of a run that was begun leaves
-abbrev pub Leaves : RunTask → Failure → List ℕ → Option Named → Option (List ℕ) → Type 0
-Leaves t failure.LogFault line files written = IsBare t line files written ⊎ IsLeft t failure.LogFault line files written
-Leaves t failure.OutFault line files written = IsLeft t failure.OutFault line files written
-Leaves t failure.Long line files written = IsLeft t failure.Long line files written × (most_steps < step_total (query_at t t.batch))
-Leaves t failure.NoMemory line files written = IsBare t line files written ⊎ IsLeft t failure.NoMemory line files written
-Leaves t other line files written = ⊥
+-- what each failure of a run that was begun leaves; a script that alters nothing is too long only where its query has too many steps
+abbrev pub Leaves : RunTask → Failure → List ℕ → Shown → Type 0
+Leaves t failure.LogFault line shown = IsBare t line shown ⊎ IsLeft t failure.LogFault line shown
+Leaves t failure.OutFault line shown = IsLeft t failure.OutFault line shown
+Leaves t failure.Long line shown = IsLeft t failure.Long line shown × (AlterNothing t.commands → most_steps < step_total (query_at t t.batch))
+Leaves t failure.NoMemory line shown = IsBare t line shown ⊎ IsLeft t failure.NoMemory line shown
+Leaves t other line shown = ⊥
 
 -- ---- the steps of a run
 
 -- the log was made
-abbrev pub Opens : {A : Type 0} → Result A Failure → RunTask → Log → Option Named → Option (List ℕ) → Type 0
-Opens (Ok x) t log files written = IsUnderWay t t.commands log files written
-Opens (Err failure.LogFault) t log files written = IsBare t [] files written ⊎ IsLeft t failure.LogFault [] files written
-Opens (Err failure.NoMemory) t log files written = IsBare t [] files written
-Opens (Err other) t log files written = ⊥
+abbrev pub Opens : {A : Type 0} → Result A Failure → RunTask → Log → Shown → Type 0
+Opens (Ok x) t log shown = IsUnderWay t t.commands log shown
+Opens (Err failure.LogFault) t log shown = IsBare t [] shown ⊎ IsLeft t failure.LogFault [] shown
+Opens (Err failure.NoMemory) t log shown = IsBare t [] shown
+Opens (Err other) t log shown = ⊥
 
 -- what a failure at a command leaves
-abbrev pub Halts : RunTask → Failure → Option Named → Option (List ℕ) → Type 0
-Halts t failure.LogFault files written = IsLeft t failure.LogFault [] files written
-Halts t failure.OutFault files written = IsLeft t failure.OutFault [] files written
-Halts t failure.Long files written = IsLeft t failure.Long [] files written
-Halts t failure.NoMemory files written = IsLeft t failure.NoMemory [] files written
-Halts t other files written = ⊥
-
--- a command was done
-abbrev pub Did : {A : Type 0} → Result A Failure → RunTask → List Command → Session → Option Named → Option (List ℕ) → Type 0
-Did (Ok x) t left d files written = IsUnderWay t left d.log files written
-Did (Err s) t left d files written = Halts t s files written
+abbrev pub Halts : RunTask → Shown → Failure → Type 0
+Halts t shown failure.LogFault = IsLeft t failure.LogFault [] shown
+Halts t shown failure.OutFault = IsLeft t failure.OutFault [] shown
+Halts t shown failure.Long = IsLeft t failure.Long [] shown
+Halts t shown failure.NoMemory = IsLeft t failure.NoMemory [] shown
+Halts t shown other = ⊥
 
 -- the run was done
-abbrev pub Worked : {A : Type 0} → Result A Failure → RunTask → Option Named → Option (List ℕ) → Type 0
-Worked (Ok x) t files written = IsDone t files written
-Worked (Err s) t files written = Leaves t s [] files written
+abbrev pub Worked : {A : Type 0} → Result A Failure → RunTask → Shown → Type 0
+Worked (Ok x) t shown = IsDone t shown
+Worked (Err s) t shown = Leaves t s [] shown

@@ -12,12 +12,17 @@ Made (Err failure.LogFault) old new name = (new ≡ old) ⊎ (new ≡ without_fi
 Made (Err failure.NoMemory) old new name = new ≡ old
 Made (Err other) old new name = ⊥
 
--- a piece was written behind a file
-abbrev pub Wrote : {A : Type 0} → Result A Failure → Option Named → Option Named → List ℕ → List ℕ → Type 0
-Wrote (Ok x) old new name piece = new ≡ with_more old name piece
-Wrote (Err failure.LogFault) old new name piece = Starts old new name piece
-Wrote (Err failure.NoMemory) old new name piece = new ≡ old
-Wrote (Err other) old new name piece = ⊥
+-- bytes for the file of this name
+pub record Piece : Type 0 where
+  pub name : List ℕ
+  pub bytes : List ℕ
+
+-- a piece was written behind its file
+abbrev pub Wrote : {A : Type 0} → Result A Failure → Option Named → Option Named → Piece → Type 0
+Wrote (Ok x) old new piece = new ≡ with_more old piece.name piece.bytes
+Wrote (Err failure.LogFault) old new piece = Starts old new piece.name piece.bytes
+Wrote (Err failure.NoMemory) old new piece = new ≡ old
+Wrote (Err other) old new piece = ⊥
 
 -- the count of failed writes stands, unless the log could not be written
 abbrev pub CountsWrites : {A : Type 0} → Result A Failure → ℕ → ℕ → Type 0

@@ -4,6 +4,7 @@ ghost use Rattle.amber_course.specs.Ready.{AreInputs, WritesNothing, IsReady};
 ghost use Rattle.amber_run.specs.Answering.{IsAnswer, Works, text_of};
 ghost use Rattle.amber_run.specs.Outcome.{Counts};
 ghost use Rattle.amber_course.specs.Steps.{Judges};
+ghost use Rattle.amber_run.specs.World.{showing};
 ghost use Rattle.amber_run.specs.Writing.{CountsWrites};
 
 use crate::printed::Printed;
@@ -58,9 +59,13 @@ fn print_answer<O: Sink>(
     printed: &mut Printed,
 ) -> Result<(), Failure>
     requires { AreInputs flow.now files.now }
-    ensures works { (told : Option Named)
-        → Works result (Job.Plain flow.now files.now) told told (O.written out.old)
-        (O.written out.new) }
+    ensures works { (told : Option Named) (loads : ℕ) → Works result (Job.Plain flow.now files.now)
+        (record {
+          before = showing told (O.written out.old);
+          now = showing told (O.written out.new);
+          loads = loads;
+          loads_now = loads;
+        }) }
     ensures puts { Counts result (O.faults out.old) (O.faults out.new) }
     ensures unlogged { IfErr result (λ failure. failure ≢ Failure.LogFault) }
     ensures still { (writes : ℕ) → CountsWrites result writes writes }
@@ -79,8 +84,12 @@ pub(crate) fn do_job<F: Folder, O: Sink>(
     printed: &mut Printed,
 ) -> Result<(), Failure>
     requires { IsReady job }
-    ensures works { Works result job (F.files folder.old) (F.files folder.new) (O.written out.old)
-        (O.written out.new) }
+    ensures works { Works result job (record {
+      before = showing (F.files folder.old) (O.written out.old);
+      now = showing (F.files folder.new) (O.written out.new);
+      loads = F.load_faults folder.old;
+      loads_now = F.load_faults folder.new;
+    }) }
     ensures writes { CountsWrites result (F.write_faults folder.old) (F.write_faults folder.new) }
     ensures puts { Counts result (O.faults out.old) (O.faults out.new) }
     ensures loads { F.load_faults folder.new ≡ F.load_faults folder.old }
@@ -90,22 +99,6 @@ pub(crate) fn do_job<F: Folder, O: Sink>(
 {
     match job {
         Job::Plain { flow, files } => print_answer(alloc, &flow, &files, out, printed),
-        Job::Run {
-            flow,
-            files,
-            log,
-            threads,
-            batch,
-        } => work(
-            alloc,
-            flow,
-            files,
-            log.get(),
-            threads,
-            batch,
-            folder,
-            out,
-            printed,
-        ),
+        Job::Run(run) => work(alloc, run, folder, out, printed),
     }
 }

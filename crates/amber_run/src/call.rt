@@ -4,6 +4,7 @@ ghost use Rattle.amber_course.specs.Course.{IsReached};
 ghost use Rattle.amber_course.specs.Steps.{Names};
 ghost use Rattle.amber_course.specs.Words.{call_words_of};
 ghost use Rattle.amber_run.specs.Outcome.{Answered, AsksNoRun, Counts, Runs, Worded};
+ghost use Rattle.amber_run.specs.World.{showing};
 ghost use Rattle.amber_run.specs.Writing.{CountsWrites};
 
 use crate::answer::do_job;
@@ -19,10 +20,12 @@ fn run<F: Folder, O: Sink>(
     out: &mut O,
     printed: &mut Printed,
 ) -> Result<(), Failure>
-    ensures ran { Runs result (map string_bytes words.now)
-        (F.files folder.old) (F.files folder.new)
-        (O.written out.old) (O.written out.new)
-        (F.load_faults folder.old) (F.load_faults folder.new) }
+    ensures ran { Runs result (map string_bytes words.now) (record {
+      before = showing (F.files folder.old) (O.written out.old);
+      now = showing (F.files folder.new) (O.written out.new);
+      loads = F.load_faults folder.old;
+      loads_now = F.load_faults folder.new;
+    }) }
     ensures named { Told (F.files folder.old) (λ files.
         IfErr result (λ failure. Names failure (IsReached (map string_bytes words.now) files))) }
     ensures puts { Counts result (O.faults out.old) (O.faults out.new) }
@@ -47,7 +50,7 @@ fn run<F: Folder, O: Sink>(
 /// - `run WORKFLOW SCRIPT LOG THREADS BATCH` runs the workflow by the commands of the script and then to its end,
 ///   writes each command with all that was done for it into the file LOG, and prints the replies. THREADS is 1 to
 ///   64, and BATCH, the rows of a batch, 1 to 65,536, in decimal without leading zeros. LOG is none of the other
-///   files. So far a script has no commands.
+///   files.
 ///
 /// The words are read, and the workflow is loaded and read; for a run LOG is compared with the scans' files, and
 /// the script is loaded and read; then each scan's file is loaded and its header compared. `plain` computes the

@@ -1,18 +1,20 @@
-ghost use Rattle.std.specs.Prelude.{◌≡◌, ◌∷◌, [], List, Option, ℕ, IfErr, IfOk, false, true};
+ghost use Rattle.std.specs.Prelude.{◌≡◌, ◌≢◌, ◌⊎◌, ◌∷◌, ◌++◌, [], List, Option, ℕ, IfErr, IfOk, MatchResult, false, true};
 ghost use Rattle.std.specs.Io.KnownBytes.{Appends};
 ghost use Rattle.amber_io.specs.Folder.{IsThere};
-ghost use Rattle.amber_rows.specs.FlowRules.{IsFlow};
+ghost use Rattle.amber_log.specs.Fits.{fits_of};
 ghost use Rattle.amber_log.specs.Grammar.{IsBatch, ends_over};
 ghost use Rattle.amber_rows.specs.Crew.{AreAlone};
-ghost use Rattle.amber_course.specs.Ready.{AreInputs};
-ghost use Rattle.amber_run.specs.Outcome.{Counts};
-ghost use Rattle.amber_run.specs.UnderWay.{Did, Opens, IsUnderWay, Worked};
-ghost use Rattle.amber_run.specs.RunTask.{IsSession, RunTask, most_steps, run_task_of};
+ghost use Rattle.amber_script.specs.Commands.{is_scripted};
+ghost use Rattle.amber_course.specs.Ready.{AreInputs, AreOfScript, IsRunReady};
 ghost use Rattle.amber_course.specs.Words.{AreSizes};
+ghost use Rattle.amber_run.specs.Outcome.{Counts};
+ghost use Rattle.amber_run.specs.UnderWay.{Halts, IsAt, Opens, Worked};
+ghost use Rattle.amber_run.specs.RunTask.{RunTask, end_alone, most_steps, run_task_of};
+ghost use Rattle.amber_run.specs.World.{showing};
 ghost use Rattle.amber_run.specs.Writing.{CountsWrites, Made, Wrote};
 
 use crate::printed::Printed;
-use amber_course::{Failure, put_output};
+use amber_course::{Failure, RunJob, put_output};
 use amber_debug::{DebugErr, Debugger, HomeErr};
 use amber_io::{Folder, IoErr, Sink};
 use amber_journal::write_head;
@@ -68,7 +70,8 @@ fn create_log<F: Folder>(name: &str, folder: &mut F) -> Result<(), Failure>
 // Writes a piece behind the log, in one call.
 fn append_piece<F: Folder>(name: &str, piece: &[u8], folder: &mut F) -> Result<(), Failure>
     requires { IsThere (F.files folder.old) name.now }
-    ensures wrote { Wrote result (F.files folder.old) (F.files folder.new) name.now piece.now }
+    ensures wrote { Wrote result (F.files folder.old) (F.files folder.new)
+        (record { name = name.now; bytes = piece.now }) }
     ensures writes { CountsWrites result (F.write_faults folder.old) (F.write_faults folder.new) }
     ensures loads { F.load_faults folder.new ≡ F.load_faults folder.old }
 {
@@ -82,9 +85,9 @@ fn append_piece<F: Folder>(name: &str, piece: &[u8], folder: &mut F) -> Result<(
 // Makes the log, with its head.
 fn make_log<F: Folder>(alloc: Global, batch: u32, name: &str, folder: &mut F) -> Result<(), Failure>
     requires { IsBatch batch }
-    ensures made { (t : RunTask) (written : Option (List ℕ)) → t.name ≡ name.now → batch ≡ t.batch
-        → F.files folder.old ≡ t.told → Appends t.before written []
-        → Opens result t (record { batch = batch; items = [] }) (F.files folder.new) written }
+    ensures made { (t : RunTask) (got : Option (List ℕ)) → t.name ≡ name.now → batch ≡ t.batch
+        → F.files folder.old ≡ t.told → Appends t.before got []
+        → Opens result t (record { batch = batch; items = [] }) (showing (F.files folder.new) got) }
     ensures there { IfOk result (λ made. IsThere (F.files folder.new) name.now) }
     ensures writes { CountsWrites result (F.write_faults folder.old) (F.write_faults folder.new) }
     ensures loads { F.load_faults folder.new ≡ F.load_faults folder.old }
@@ -105,13 +108,20 @@ fn do_command<F: Folder, O: Sink>(
     out: &mut O,
     printed: &mut Printed,
 ) -> Result<(), Failure>
-    requires to_end { command.now ≡ Command.End }
-    requires there { IsThere (F.files folder.old) name.now }
+    requires fits { fits_of debugger.old.flow command.now ≡ true }
+    requires scripted { (is_scripted command.now ≡ true) ⊎ (command.now ≡ Command.End) }
     requires open { ends_over false debugger.old.log.items ≡ false }
-    ensures did { (t : RunTask) (left : List Command) → t.name ≡ name.now → IsSession t debugger.old
-        → IsUnderWay t (command.now ∷ left) debugger.old.log
-        (F.files folder.old) (O.written out.old)
-        → Did result t left debugger.new (F.files folder.new) (O.written out.new) }
+    requires there { IsThere (F.files folder.old) name.now }
+    ensures did { (t : RunTask) (left : List Command) → t.name ≡ name.now
+        → IsAt t (command.now ∷ left) debugger.old
+        (showing (F.files folder.old) (O.written out.old))
+        → MatchResult result
+        (λ done. IsAt t left debugger.new (showing (F.files folder.new) (O.written out.new)))
+        (Halts t (showing (F.files folder.new) (O.written out.new))) }
+    ensures flow { IfOk result (λ done. debugger.new.flow ≡ debugger.old.flow) }
+    ensures open { IfOk result (λ done. command.now ≢ Command.End
+        → ends_over false debugger.new.log.items ≡ false) }
+    ensures there { IfOk result (λ done. IsThere (F.files folder.new) name.now) }
     ensures writes { CountsWrites result (F.write_faults folder.old) (F.write_faults folder.new) }
     ensures puts { Counts result (O.faults out.old) (O.faults out.new) }
     ensures loads { F.load_faults folder.new ≡ F.load_faults folder.old }
@@ -133,39 +143,99 @@ fn do_command<F: Folder, O: Sink>(
     }
 }
 
-/// Does a run: the log is made with its head, and then comes one command after another.
-pub(crate) fn work<F: Folder, O: Sink>(
+// Does commands of a script, one after the other.
+fn do_all<F: Folder, O: Sink>(
     alloc: Global,
-    flow: Flow,
-    files: Files,
+    debugger: &mut Debugger,
+    commands: &[Command],
     name: &str,
-    threads: u32,
-    batch: u32,
     folder: &mut F,
     out: &mut O,
     printed: &mut Printed,
 ) -> Result<(), Failure>
-    requires inputs { AreInputs flow files }
-    requires sizes { AreSizes threads batch }
-    requires alone { AreAlone flow }
-    requires flow { IsFlow flow }
-    ensures worked { Worked result
-        (run_task_of (F.files folder.old) (O.written out.old) flow files name.now batch)
-        (F.files folder.new) (O.written out.new) }
+    requires script { AreOfScript debugger.old.flow commands.now }
+    requires open { ends_over false debugger.old.log.items ≡ false }
+    requires there { IsThere (F.files folder.old) name.now }
+    ensures did { (t : RunTask) (left : List Command) → t.name ≡ name.now
+        → IsAt t (commands.now ++ left) debugger.old
+        (showing (F.files folder.old) (O.written out.old))
+        → MatchResult result
+        (λ done. IsAt t left debugger.new (showing (F.files folder.new) (O.written out.new)))
+        (Halts t (showing (F.files folder.new) (O.written out.new))) }
+    ensures open { IfOk result (λ done. ends_over false debugger.new.log.items ≡ false) }
+    ensures there { IfOk result (λ done. IsThere (F.files folder.new) name.now) }
     ensures writes { CountsWrites result (F.write_faults folder.old) (F.write_faults folder.new) }
     ensures puts { Counts result (O.faults out.old) (O.faults out.new) }
     ensures loads { F.load_faults folder.new ≡ F.load_faults folder.old }
 {
+    for command in commands {
+        do_command(alloc, debugger, command, name, folder, out, printed)?;
+    }
+    Ok(())
+}
+
+// Does the commands of a script, and behind them the one to the end.
+fn do_script<F: Folder, O: Sink>(
+    alloc: Global,
+    debugger: &mut Debugger,
+    commands: &[Command],
+    name: &str,
+    folder: &mut F,
+    out: &mut O,
+    printed: &mut Printed,
+) -> Result<(), Failure>
+    requires script { AreOfScript debugger.old.flow commands.now }
+    requires open { ends_over false debugger.old.log.items ≡ false }
+    requires there { IsThere (F.files folder.old) name.now }
+    ensures did { (t : RunTask) → t.name ≡ name.now
+        → IsAt t (commands.now ++ end_alone) debugger.old
+        (showing (F.files folder.old) (O.written out.old))
+        → MatchResult result
+        (λ done. IsAt t [] debugger.new (showing (F.files folder.new) (O.written out.new)))
+        (Halts t (showing (F.files folder.new) (O.written out.new))) }
+    ensures writes { CountsWrites result (F.write_faults folder.old) (F.write_faults folder.new) }
+    ensures puts { Counts result (O.faults out.old) (O.faults out.new) }
+    ensures loads { F.load_faults folder.new ≡ F.load_faults folder.old }
+{
+    do_all(alloc, debugger, commands, name, folder, out, printed)?;
+    do_command(alloc, debugger, &Command::End, name, folder, out, printed)
+}
+
+/// Does a run: the log is made with its head, and then come the commands of the script, and behind
+/// them the one to the end.
+pub(crate) fn work<F: Folder, O: Sink>(
+    alloc: Global,
+    run: RunJob,
+    folder: &mut F,
+    out: &mut O,
+    printed: &mut Printed,
+) -> Result<(), Failure>
+    requires { IsRunReady run }
+    ensures worked { Worked result
+        (run_task_of (showing (F.files folder.old) (O.written out.old)) run)
+        (showing (F.files folder.new) (O.written out.new)) }
+    ensures writes { CountsWrites result (F.write_faults folder.old) (F.write_faults folder.new) }
+    ensures puts { Counts result (O.faults out.old) (O.faults out.new) }
+    ensures loads { F.load_faults folder.new ≡ F.load_faults folder.old }
+{
+    let RunJob {
+        flow,
+        files,
+        commands,
+        log,
+        threads,
+        batch,
+    } = run;
+    let name = log.get();
     let mut debugger = begin(alloc, flow, files, threads, batch)?;
     make_log(alloc, batch, name, folder)?;
-    do_command(
+    do_script(
         alloc,
         &mut debugger,
-        &Command::End,
+        commands.get(),
         name,
         folder,
         out,
         printed,
-    )?;
-    Ok(())
+    )
 }

@@ -1,5 +1,5 @@
 -- Commands that are read fit the workflow.
-use Rattle.std.proofs.Common.{◌≡◌, ◌+◌, ◌-◌, ◌<◌, ◌==◌, ℕ, zero, suc, true, false, List, [], ◌∷◌, ◌++◌, length, Option, None, Some, option_map, refl, sym, subst, ◌∙◌, arith}
+use Rattle.std.proofs.Common.{◌≡◌, ◌+◌, ◌-◌, ◌<◌, ◌==◌, ℕ, zero, suc, Bool, true, false, List, [], ◌∷◌, ◌++◌, length, Option, None, Some, option_map, refl, sym, subst, ◌∙◌, arith}
 use Rattle.std.specs.Prelude.{◌&&◌, slice_get}
 use Rattle.std.specs.List.{list_all}
 use Rattle.std.proofs.lemmas.Bool.{and_from, ne_eqb}
@@ -13,7 +13,7 @@ use Rattle.amber_rows.specs.declared.column.Column.{Column}
 use Rattle.amber_rows.specs.declared.flow.What.{What}
 use Rattle.amber_rows.specs.declared.flow.What.TheVariants as what
 use Rattle.amber_rows.specs.declared.flow.Operator.{Operator}
-use Rattle.amber_log.specs.Fits.{may_be_set_to, fits_of, is_cell_of, is_there, takes_constant}
+use Rattle.amber_log.specs.Fits.{may_be_set_to, is_cell_of, is_there, takes_constant}
 use Rattle.amber_log.specs.declared.command.Command.{Command}
 use Rattle.amber_script.specs.Commands.{filtered_kind, settable_kind}
 
@@ -55,7 +55,7 @@ is_taken (Some operator) kind one is fits = of_filter operator.what operator.sch
 -- ---- lists
 
 -- one command more
-pub all_fit_more : (flow : List Operator) (commands : List Command) (one : Command) → list_all (fits_of flow) commands ≡ true → fits_of flow one ≡ true
-    → list_all (fits_of flow) (commands ++ one ∷ []) ≡ true
-all_fit_more flow commands one before fits =
-    list_all-append (fits_of flow) commands (one ∷ []) ∙ and_from (list_all (fits_of flow) commands) (fits_of flow one && true) before (and_from (fits_of flow one) true fits refl)
+pub all_fit_more : (test : Command → Bool) (commands : List Command) (one : Command) → list_all test commands ≡ true → test one ≡ true
+    → list_all test (commands ++ one ∷ []) ≡ true
+all_fit_more test commands one before fits =
+    list_all-append test commands (one ∷ []) ∙ and_from (list_all test commands) (test one && true) before (and_from (test one) true fits refl)

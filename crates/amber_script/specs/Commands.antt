@@ -1,5 +1,5 @@
 -- The command that words mean, or the first reason why they mean none.
-use Rattle.std.specs.Prelude.{ℕ, ◌+◌, ◌^◌, ◌||◌, ◌&&◌, List, [], ◌∷◌, codes, decimal, bytes_eq, position, Option, Some, None, option_map, option_and_then, ok_or, Result, Ok, Err, Bool, if◌then◌else◌}
+use Rattle.std.specs.Prelude.{ℕ, ◌+◌, ◌^◌, ◌||◌, ◌&&◌, List, [], ◌∷◌, codes, decimal, bytes_eq, position, Option, Some, None, option_map, option_and_then, ok_or, Result, Ok, Err, Bool, true, false, if◌then◌else◌}
 use Rattle.std.specs.List.{list_all}
 use Rattle.std.specs.Str.{is_utf8}
 use Rattle.std.specs.Str.Parse.{digits_value}
@@ -140,6 +140,20 @@ any_command_of flow (a ∷ b ∷ c ∷ d ∷ e ∷ f ∷ g ∷ more) = Err why.W
 -- the first word of a command that no run does yet
 unfoldable pub is_unbuilt : List ℕ → Bool
 is_unbuilt name = bytes_eq name (codes "break") || bytes_eq name (codes "drop") || bytes_eq name (codes "lose")
+
+-- a command that a script may have so far. It has no `end`, and none that counts rows, stops at a condition, drops a row or loses a
+-- worker
+abbrev pub is_scripted : Command → Bool
+is_scripted command.Run = true
+is_scripted command.End = false
+is_scripted (command.Pause op n) = true
+is_scripted (command.Count op n) = false
+is_scripted (command.When op cond) = false
+is_scripted (command.Clear op) = true
+is_scripted (command.Set op value) = true
+is_scripted (command.Drop op worker) = false
+is_scripted (command.Inspect op) = true
+is_scripted (command.Lose op worker) = false
 
 -- the command of these words, where runs do it
 unfoldable pub built_command_of : List Operator → List (List ℕ) → Result Command ScriptWhy

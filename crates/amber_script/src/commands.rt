@@ -2,7 +2,7 @@
 ghost use Rattle.std.specs.Prelude.{◌≡◌, IfOk, false, true};
 ghost use Rattle.amber_log.specs.Fits.{fits_of};
 ghost use Rattle.amber_log.specs.declared.command.Command.TheVariants as command;
-ghost use Rattle.amber_script.specs.Commands.{built_command_of, is_unbuilt, of_three, of_two, on_rows, set_of};
+ghost use Rattle.amber_script.specs.Commands.{built_command_of, is_scripted, is_unbuilt, of_three, of_two, on_rows, set_of};
 
 use crate::error::ScriptWhy;
 use crate::numbers::read_number;
@@ -18,6 +18,7 @@ const MOST_ROWS: u64 = 1 << 40;
 fn read_pause(flow: &Flow, id: &str, word: &str) -> Result<Command, ScriptWhy>
     ensures command { result ≡ on_rows (λ op n. command.Pause op n) flow.now id.now word.now }
     ensures fits { IfOk result (λ command. fits_of flow.now command ≡ true) }
+    ensures scripted { IfOk result (λ command. is_scripted command ≡ true) }
 {
     let op = match find_operator(flow, id) {
         Ok(op) => op,
@@ -36,6 +37,7 @@ fn read_pause(flow: &Flow, id: &str, word: &str) -> Result<Command, ScriptWhy>
 fn read_set(flow: &Flow, id: &str, word: &Text) -> Result<Result<Command, ScriptWhy>, AllocError>
     ensures command { IfOk result (λ read. read ≡ set_of flow.now id.now word.now) }
     ensures fits { IfOk result (λ read. IfOk read (λ command. fits_of flow.now command ≡ true)) }
+    ensures scripted { IfOk result (λ read. IfOk read (λ command. is_scripted command ≡ true)) }
 {
     let op = match find_operator(flow, id) {
         Ok(op) => op,
@@ -54,6 +56,7 @@ fn read_set(flow: &Flow, id: &str, word: &Text) -> Result<Result<Command, Script
 fn read_two(flow: &Flow, name: &str, id: &str) -> Result<Command, ScriptWhy>
     ensures command { result ≡ of_two flow.now name.now id.now }
     ensures fits { IfOk result (λ command. fits_of flow.now command ≡ true) }
+    ensures scripted { IfOk result (λ command. is_scripted command ≡ true) }
 {
     let clears = name == "clear";
     if !clears && name != "inspect" {
@@ -77,6 +80,7 @@ fn read_three(
     requires { is_unbuilt name.now ≡ false }
     ensures command { IfOk result (λ read. read ≡ of_three flow.now name.now id.now word.now) }
     ensures fits { IfOk result (λ read. IfOk read (λ command. fits_of flow.now command ≡ true)) }
+    ensures scripted { IfOk result (λ read. IfOk read (λ command. is_scripted command ≡ true)) }
 {
     match name {
         "pause" => Ok(read_pause(flow, id, word.get())),
@@ -98,6 +102,7 @@ fn is_unbuilt(name: &str) -> bool
 pub fn read_command(flow: &Flow, words: &[Text]) -> Result<Result<Command, ScriptWhy>, AllocError>
     ensures command { IfOk result (λ read. read ≡ built_command_of flow.now words.now) }
     ensures fits { IfOk result (λ read. IfOk read (λ command. fits_of flow.now command ≡ true)) }
+    ensures scripted { IfOk result (λ read. IfOk read (λ command. is_scripted command ≡ true)) }
 {
     match words {
         [name, ..] if is_unbuilt(name.get()) => Ok(Err(ScriptWhy::Word)),

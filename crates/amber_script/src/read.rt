@@ -4,7 +4,7 @@ ghost use Rattle.std.specs.List.{list_all};
 ghost use Rattle.amber_log.specs.Fits.{fits_of};
 ghost use Rattle.std.specs.Str.Lines.{strip_carriage_return};
 ghost use Rattle.amber_script.specs.Answers.{AnswersScript, LeadsBehind, after};
-ghost use Rattle.amber_script.specs.Commands.{read_command};
+ghost use Rattle.amber_script.specs.Commands.{is_scripted, read_command};
 ghost use Rattle.amber_script.specs.Script.{commands_from, script_of};
 ghost use Rattle.amber_script.specs.Words.{script_words_of};
 
@@ -26,6 +26,7 @@ fn read_line(
     ensures command { IfOk result
         (λ read. read ≡ read_command flow.now (script_words_of line.now)) }
     ensures fits { IfOk result (λ read. IfOk read (λ command. fits_of flow.now command ≡ true)) }
+    ensures scripted { IfOk result (λ read. IfOk read (λ command. is_scripted command ≡ true)) }
 {
     let Some(words) = read_words(alloc, line)? else {
         return Ok(Err(ScriptWhy::Word));
@@ -45,11 +46,13 @@ fn add_line(
     flow: &Flow,
     commands: &mut Vec<Command>,
 ) -> Result<(), ScriptErr>
-    requires { list_all (fits_of flow.now) commands.old.items ≡ true }
+    requires fits { list_all (fits_of flow.now) commands.old.items ≡ true }
+    requires scripted { list_all is_scripted commands.old.items ≡ true }
     ensures leads { (more : List (List ℕ)) → LeadsBehind result
         (after commands.old.items (commands_from number flow.now (line.now ∷ more)))
         (after commands.new.items (commands_from (number + 1) flow.now more)) }
     ensures fits { list_all (fits_of flow.now) commands.new.items ≡ true }
+    ensures scripted { list_all is_scripted commands.new.items ≡ true }
 {
     if !says_something(line) {
         return Ok(());
@@ -70,6 +73,7 @@ fn add_line(
 pub fn read_script(alloc: Global, bytes: &[u8], flow: &Flow) -> Result<Commands, ScriptErr>
     ensures answer { AnswersScript result (script_of bytes.now flow.now) }
     ensures fits { IfOk result (λ commands. list_all (fits_of flow.now) commands ≡ true) }
+    ensures scripted { IfOk result (λ commands. list_all is_scripted commands ≡ true) }
 {
     let mut commands = Vec::new(alloc);
     let mut number: u64 = 1;

@@ -35,6 +35,8 @@ mod records;
 #[cfg(test)]
 mod report;
 #[cfg(test)]
+mod rooms;
+#[cfg(test)]
 mod routing;
 #[cfg(test)]
 mod rows;

@@ -6,6 +6,7 @@ use std::test::Fail;
 
 // Bytes, and the worker that they give of so many. The bytes are vectors of FNV-1a with 64 bits, by two moduli that show its low and
 // its high half.
+#[derive(Drop)]
 struct HashCase {
     bytes: &'static str,
     workers: u32,
@@ -54,6 +55,7 @@ fn hashes_are_those_of_the_published_vectors(rt: HostRuntime) -> Result<(), Fail
 }
 
 // A row, the columns of its key, the key's bytes, and its worker of 16 and of 4.
+#[derive(Drop)]
 struct KeyCase {
     row: &'static str,
     columns: &'static str,
@@ -121,6 +123,7 @@ const WORKFLOW: &str = r#"{"operators":[
 {"id":"s","kind":"sink","input":"j"}]}"#;
 
 // Of each worker, those that send to it and those to which it sends.
+#[derive(Drop)]
 struct LinkCase {
     worker: u32,
     senders: &'static str,

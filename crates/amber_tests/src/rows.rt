@@ -64,6 +64,7 @@ const COMPARED: [Compared; 6] = [
 ];
 
 // A sign, and with which of these it holds of the row: an `x` where it does, else a `.`.
+#[derive(Drop)]
 struct SignCase {
     op: Cmp,
     marks: &'static str,

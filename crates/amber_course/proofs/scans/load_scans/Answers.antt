@@ -1,5 +1,5 @@
 -- A step of the walk, and its ends.
-use Rattle.std.proofs.Common.{◌≡◌, ◌<◌, ◌≤◌, length, get_or, [], false, refl, Err, arith, rules, ◌∙◌, sym}
+use Rattle.std.proofs.Common.{◌≡◌, ◌<◌, ◌≤◌, length, get_or, [], false, refl, Err, arith, rules, ◌∙◌}
 use Rattle.amber_rows.specs.Kinds.{is_scan}
 use Rattle.amber_course.specs.Course.{most_scanned, scans_of}
 use Rattle.amber_course.proofs.Following.{told-all}

@@ -18,8 +18,8 @@ returns-clause-course g c =
     follows-on c.read_script.result c.in_ok-bytes.bytes (g.F.Folder.files c.args.folder.now) (load_of most_text c.args.name.now) (λ files bytes. script_read (first_said bytes))
     (g.F.Folder.load_faults c.args.folder.now) (g.F.Folder.load_faults c.load.new.folder) (g.F.Folder.load_faults c.load.new.folder) c.in_ok-bytes.ensures.course
     (follows-judged c.read_script.result (script_read (first_said c.in_ok-bytes.bytes)) (g.F.Folder.files c.args.folder.now) (g.F.Folder.load_faults c.load.new.folder)
-    (rw c.get.ensures at c.read_script.ensures))
+    (rw c.get.ensures at c.read_script.ensures.commands))
 
 pub returns-clause-named : goal.returns-clause-named
 returns-clause-named g c =
-    judged-named c.read_script.result (script_read (first_said c.in_ok-bytes.bytes)) (λ file. file ≡ c.args.name.now) (rw c.get.ensures at c.read_script.ensures)
+    judged-named c.read_script.result (script_read (first_said c.in_ok-bytes.bytes)) (λ file. file ≡ c.args.name.now) (rw c.get.ensures at c.read_script.ensures.commands)

@@ -10,10 +10,11 @@ pub loop-place-preserved : goal.loop-place-preserved
 loop-place-preserved c =
     let put = λ (other : List Value). c.args.probe.now ++ other in
     let at = slice_get c.args.build.now in
-    let places = c.args.places.now in
+    let first = c.get-first.result.0 in
+    let more = c.get-first.result.1.now in
     let i = c.loop-place.place-index in
-    let place = get_or places i 0 in
-    let next : take (i + 1) places ≡ take i places ++ place ∷ [] = take_more places i 0 c.loop-place-test.true in
-    c.in_ok-add_match.ensures
+    let place = get_or more i 0 in
+    let next : first ∷ take (i + 1) more ≡ (first ∷ take i more) ++ place ∷ [] = ap (λ ps. first ∷ ps) (take_more more i 0 c.loop-place-test.true) in
+    c.in_ok-add_match-2.ensures
     ∙ ap (λ before. before ++ map put (filter_map at (place ∷ []))) c.loop-place.invariant
-    ∙ sym (ap (λ ps. map put (filter_map at ps)) next ∙ ap (map put) (filter_map-append at (take i places) (place ∷ [])) ∙ map-append put (filter_map at (take i places)) (filter_map at (place ∷ [])))
+    ∙ sym (ap (λ ps. map put (filter_map at ps)) next ∙ ap (map put) (filter_map-append at (first ∷ take i more) (place ∷ [])) ∙ map-append put (filter_map at (first ∷ take i more)) (filter_map at (place ∷ [])))

@@ -42,9 +42,9 @@ returns-in_ok-insert-in-None-clause-came c = λ keys rows row is key.
 pub returns-in_ok-insert-in-None-clause-ok : goal.returns-in_ok-insert-in-None-clause-ok
 returns-in_ok-insert-in-None-clause-ok c = λ keys rows row is key place.
     let entries = c.args.table.now.entries in
-    let new = c.in_ok-places-in-None.places in
+    let new = c.one.result in
     let none : lookup (same_row c.args.key) entries ≡ None = none_is (lookup (same_row c.args.key) entries) c.in-None.ensures.found in
     c.in_ok-insert-in-None.ensures.entries
     ∙ insert_entry-new same_row c.args.table.now c.args.key new none
     ∙ ap (λ k. entries ++ (k, new) ∷ []) key
-    ∙ table-new keys rows row entries new is (ap (λ k. lookup (same_row k) entries) (sym key) ∙ none) (c.in_ok-places-in-None.ensures ∙ ap (λ n. n ∷ []) place)
+    ∙ table-new keys rows row entries new is (ap (λ k. lookup (same_row k) entries) (sym key) ∙ none) (c.one.ensures ∙ ap (λ n. n ∷ []) place)

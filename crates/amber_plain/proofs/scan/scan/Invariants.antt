@@ -3,4 +3,4 @@ use Rattle.amber_plain.proofs.Records.{IsAt}
 use Rattle.amber_plain.proofs.scan.scan.Given as goal
 
 abbrev pub invariant-records : goal.invariant-records
-invariant-records l = IsAt l.file l.reader l.number l.op l.schema l.rows.items l.fn.refused.items l.refused.items
+invariant-records l = IsAt l.file l.reader l.number l.op l.schema l.fn.chain l.chain l.refused.items

@@ -8,5 +8,5 @@ returns c =
     let parsed = rw c.in-Ok.ensures.cases.0 at c.parse.ensures.value.0 in
     c.ok.ensures.value ∙ read_int-parses c.args.bytes.now c.parse.result parsed
 
-pub returns-in_default : goal.returns-in_default
-returns-in_default c = read_int-none c.args.bytes.now c.in_default.ensures.cases.0
+pub returns-in_default-from_utf8 : goal.returns-in_default-from_utf8
+returns-in_default-from_utf8 c = read_int-none c.args.bytes.now c.in_default-from_utf8.ensures.cases.0

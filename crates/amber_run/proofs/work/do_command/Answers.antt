@@ -1,52 +1,59 @@
 -- A command's item is written, and then its reply is put.
 use Rattle.std.proofs.Common.{◌≡◌, ◌∷◌, Err, rules}
-use Rattle.amber_run.proofs.Working.{done-next, done-send, done-write, exit-memory, fits-end, long-next, long-write}
+use Rattle.amber_io.proofs.Told.{more_there}
+use Rattle.amber_run.proofs.Scripted.{at-next, open-next}
+use Rattle.amber_run.proofs.Working.{done-send, done-write, exit-memory, long-next, long-write}
 use Rattle.amber_run.proofs.work.do_command.Goals as goal
-
-pub command-requires-clause-fits : goal.command-requires-clause-fits
-command-requires-clause-fits g c = fits-end c.args.debugger.now.flow c.args.command.now c.requires.to_end
 
 pub returns-in_err-append_piece-in-Ok-clause-did : goal.returns-in_err-append_piece-in-Ok-clause-did
 returns-in_err-append_piece-in-Ok-clause-did g c =
-    λ t left same session h.
+    λ t left same h.
     let e : c.from_residual.result ≡ Err c.in_err-append_piece-in-Ok.field-0.0 = search rules in
     rw e (done-write c.in_err-append_piece-in-Ok.field-0.0 t left c.args.debugger.now c.command.new.self c.args.command.now c.in-Ok.done c.get.result.now (g.F.Folder.files c.args.folder.now)
-    (g.F.Folder.files c.append_piece.new.folder) (g.O.Sink.written c.args.out.now) session h c.in-Ok.ensures.does c.in-Ok.ensures.legal c.get.ensures (rw (← same) at c.in_err-append_piece-in-Ok.ensures.wrote))
+    (g.F.Folder.files c.append_piece.new.folder) (g.O.Sink.written c.args.out.now) h.session h.way c.in-Ok.ensures.does c.in-Ok.ensures.legal c.get.ensures (rw (← same) at c.in_err-append_piece-in-Ok.ensures.wrote))
 
 pub returns-in_err-put_output-in-Ok-clause-did : goal.returns-in_err-put_output-in-Ok-clause-did
 returns-in_err-put_output-in-Ok-clause-did g c =
-    λ t left same session h.
+    λ t left same h.
     let e : c.from_residual-in_err-put_output-in-Ok.result ≡ Err c.in_err-put_output-in-Ok.field-0.0 = search rules in
     rw e (done-send c.in_err-put_output-in-Ok.field-0.0 t left c.args.debugger.now c.command.new.self c.args.command.now c.in-Ok.done c.get.result.now c.get-in-Ok.result.now (g.F.Folder.files c.args.folder.now)
-    (g.F.Folder.files c.append_piece.new.folder) (g.O.Sink.written c.args.out.now) (g.O.Sink.written c.put_output.new.out) (g.O.Sink.faults c.args.out.now) (g.O.Sink.faults c.put_output.new.out) session h
+    (g.F.Folder.files c.append_piece.new.folder) (g.O.Sink.written c.args.out.now) (g.O.Sink.written c.put_output.new.out) (g.O.Sink.faults c.args.out.now) (g.O.Sink.faults c.put_output.new.out) h.session h.way
     c.in-Ok.ensures.does c.in-Ok.ensures.legal c.get.ensures c.get-in-Ok.ensures (rw (← same) at c.in_ok-append_piece-in-Ok.ensures.wrote) c.in_err-put_output-in-Ok.ensures)
 
 pub returns-in_err-append_piece-in-Err-Long-clause-did : goal.returns-in_err-append_piece-in-Err-Long-clause-did
 returns-in_err-append_piece-in-Err-Long-clause-did g c =
-    λ t left same session h.
+    λ t left same h.
     let e : c.from_residual-in_err-append_piece-in-Err-Long.result ≡ Err c.in_err-append_piece-in-Err-Long.field-0.0 = search rules in
     rw e (long-write c.in_err-append_piece-in-Err-Long.field-0.0 t left c.args.debugger.now c.command.new.self c.args.command.now c.in-Err-Long.item c.get-in-Err-Long.result.now (g.F.Folder.files c.args.folder.now)
-    (g.F.Folder.files c.append_piece-in-Err-Long.new.folder) (g.O.Sink.written c.args.out.now) session h (rw c.in-Err-Long.field-0-is at c.in-Err-Long.ensures.does) c.in-Err-Long.ensures.legal c.get-in-Err-Long.ensures
+    (g.F.Folder.files c.append_piece-in-Err-Long.new.folder) (g.O.Sink.written c.args.out.now) h.session h.way (rw c.in-Err-Long.field-0-is at c.in-Err-Long.ensures.does) c.in-Err-Long.ensures.legal c.get-in-Err-Long.ensures
     (rw (← same) at c.in_err-append_piece-in-Err-Long.ensures.wrote))
 
 pub returns-in_ok-put_output-in-Ok-clause-did : goal.returns-in_ok-put_output-in-Ok-clause-did
 returns-in_ok-put_output-in-Ok-clause-did g c =
-    λ t left same session h.
-    done-next t left c.args.debugger.now c.command.new.self c.args.command.now c.in-Ok.done c.get.result.now c.get-in-Ok.result.now (g.F.Folder.files c.args.folder.now)
-    (g.F.Folder.files c.append_piece.new.folder) (g.O.Sink.written c.args.out.now) (g.O.Sink.written c.put_output.new.out) session h
+    λ t left same h.
+    at-next t left c.args.debugger.now c.command.new.self c.args.command.now c.in-Ok.done c.get.result.now c.get-in-Ok.result.now (g.F.Folder.files c.args.folder.now)
+    (g.F.Folder.files c.append_piece.new.folder) (g.O.Sink.written c.args.out.now) (g.O.Sink.written c.put_output.new.out) h
     c.in-Ok.ensures.does c.in-Ok.ensures.legal c.get.ensures c.get-in-Ok.ensures (rw (← same) at c.in_ok-append_piece-in-Ok.ensures.wrote) c.in_ok-put_output-in-Ok.ensures.1
 
 pub returns-in_ok-append_piece-in-Err-Long-clause-did : goal.returns-in_ok-append_piece-in-Err-Long-clause-did
 returns-in_ok-append_piece-in-Err-Long-clause-did g c =
-    λ t left same session h.
+    λ t left same h.
     long-next t left c.args.debugger.now c.command.new.self c.args.command.now c.in-Err-Long.item c.get-in-Err-Long.result.now (g.F.Folder.files c.args.folder.now)
-    (g.F.Folder.files c.append_piece-in-Err-Long.new.folder) (g.O.Sink.written c.args.out.now) session h (rw c.in-Err-Long.field-0-is at c.in-Err-Long.ensures.does) c.in-Err-Long.ensures.legal c.get-in-Err-Long.ensures
+    (g.F.Folder.files c.append_piece-in-Err-Long.new.folder) (g.O.Sink.written c.args.out.now) h.session h.way (rw c.in-Err-Long.field-0-is at c.in-Err-Long.ensures.does) c.in-Err-Long.ensures.legal c.get-in-Err-Long.ensures
     (rw (← same) at c.in_ok-append_piece-in-Err-Long.ensures.wrote)
 
 pub returns-in-Err-Spent-clause-did : goal.returns-in-Err-Spent-clause-did
 returns-in-Err-Spent-clause-did g c =
-    λ t left same session h. exit-memory t (c.args.command.now ∷ left) c.args.debugger.now.log (g.F.Folder.files c.args.folder.now) (g.O.Sink.written c.args.out.now) h
+    λ t left same h. exit-memory t (c.args.command.now ∷ left) c.args.debugger.now.log (g.F.Folder.files c.args.folder.now) (g.O.Sink.written c.args.out.now) h.way
 
 pub returns-in-Err-NoMemory-clause-did : goal.returns-in-Err-NoMemory-clause-did
 returns-in-Err-NoMemory-clause-did g c =
-    λ t left same session h. exit-memory t (c.args.command.now ∷ left) c.args.debugger.now.log (g.F.Folder.files c.args.folder.now) (g.O.Sink.written c.args.out.now) h
+    λ t left same h. exit-memory t (c.args.command.now ∷ left) c.args.debugger.now.log (g.F.Folder.files c.args.folder.now) (g.O.Sink.written c.args.out.now) h.way
+
+pub returns-in_ok-put_output-in-Ok-clause-open : goal.returns-in_ok-put_output-in-Ok-clause-open
+returns-in_ok-put_output-in-Ok-clause-open g c =
+    λ other. open-next c.args.debugger.now c.command.new.self c.args.command.now c.in-Ok.done c.in-Ok.ensures.does other
+
+pub returns-in_ok-put_output-in-Ok-clause-there : goal.returns-in_ok-put_output-in-Ok-clause-there
+returns-in_ok-put_output-in-Ok-clause-there g c =
+    rw c.in_ok-append_piece-in-Ok.ensures.wrote (more_there (g.F.Folder.files c.args.folder.now) c.args.name.now c.get.result.now c.requires.there)

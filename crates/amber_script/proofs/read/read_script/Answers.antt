@@ -14,6 +14,7 @@ loop-more-preserved c =
     record {
       meant = c.loop-more.invariant.meant ∙ ap meaning left ∙ c.in-Ok.ensures.leads [] ∙ after_end c.add_line.new.commands.items (c.loop-more.number + 1) c.args.flow.now ∙ sym (after_end c.add_line.new.commands.items c.loop-more.number c.args.flow.now);
       fit = c.in-Ok.ensures.fits;
+      scripted = c.in-Ok.ensures.scripted;
       nth = c.loop-more.invariant.nth;
     }
 

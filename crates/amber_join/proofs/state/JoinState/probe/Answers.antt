@@ -14,7 +14,7 @@ returns-in-Some c =
     let state = c.self.inside in
     let entries = state.table.entries in
     c.new.ensures ∙ c.in_ok-matches-in-Some.ensures
-    ∙ (λ j. map (λ (other : List Value). row ++ other) (filter_map (slice_get (c.as_slice.ensures.value j)) (c.get-in-Some.ensures j)))
+    ∙ (λ j. map (λ (other : List Value). row ++ other) (filter_map (slice_get (c.as_slice.ensures.value j)) c.in-Some.places.now))
     ∙ probe-found state.build_keys state.probe_keys state.rows.items row entries c.in-Some.places.now c.self.invariant
     (ap (λ k. lookup (same_row k) entries) (sym c.in_ok-key.ensures) ∙ sym c.in-Some.ensures.value)
     ∙ ap (λ (view : Join). matches_of view.build_keys view.probe_keys view.rows row) c.self.view_is
