@@ -1,4 +1,4 @@
-ghost use Rattle.std.specs.Prelude.{◌≡◌, ◌^◌, ◌-◌, ◌++◌, ◌∷◌, [], ℕ, List, OnErr, OnOk, length, min};
+ghost use Rattle.std.specs.Prelude.{◌≡◌, ◌^◌, ◌-◌, ◌++◌, ◌∷◌, [], ℕ, List, IfOk, OnErr, OnOk, length, min};
 ghost use Rattle.amber_rows.specs.Operators.{pick_cells};
 ghost use Rattle.amber_rows.specs.declared.value.Value.{Value as Cell};
 ghost use Rattle.amber_join.specs.Came.{HasCome};
@@ -109,17 +109,24 @@ pub fn note(
             Ok(Came::Known(i))
         }
         None => {
-    /// Takes the last place away, where it is not the only one.
-    fn remove_last(&mut self)
-        ensures { (first : ℕ) (places : List ℕ) (last : ℕ)
-            → self.old ≡ first ∷ (places ++ last ∷ []) → self.new ≡ first ∷ places }
-    {
-        let _last = self.more.pop();
+            table.insert(key, Places::one(alloc, place))?;
+            Ok(Came::New)
+        }
     }
+}
 
-    /// How many places there are.
-    pub fn len(&self) -> usize
-        ensures { result ≡ min (length self.now) (2 ^ 64 - 1) }
+/// Forgets where the row stands that came last. So a table of some rows and one more becomes that of these rows.
+pub fn forget(table: &mut IndexMap<Key, Places>, came: Came)
+    requires { (keys : List ℕ) × (rows : List (List Cell)) × (row : List Cell)
+        × (table.old.entries ≡ table_of keys (rows ++ row ∷ [])) × HasCome came keys rows row }
+    ensures { (keys : List ℕ) (rows : List (List Cell)) (row : List Cell)
+        → table.old.entries ≡ table_of keys (rows ++ row ∷ []) → HasCome came keys rows row
+        → table.new.entries ≡ table_of keys rows }
+{
+    match came {
+        Came::Known(i) => table[i].remove_last(),
+        Came::New => {
+            let _last = table.pop();
         }
     }
 }
