@@ -70,7 +70,7 @@ at-origin zero k = refl
 at-origin (suc n) zero = refl
 at-origin (suc n) (suc k) = at-origin n k
 
-start-position : (flow : List Operator) (worker : ℕ) → position_at (start_of flow).positions worker ≡ origin
+pub start-position : (flow : List Operator) (worker : ℕ) → position_at (start_of flow).positions worker ≡ origin
 unfolding start_of
 start-position flow worker = position-get_or (replicate (crew_of flow) origin) worker ∙ at-origin (crew_of flow) worker
 

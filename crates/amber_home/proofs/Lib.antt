@@ -6,6 +6,7 @@ pub mod Crews
 pub mod Cut
 pub mod Dealing
 pub mod Ended
+pub mod Fresh
 pub mod Gathered
 pub mod Going
 pub mod Homes

@@ -9,6 +9,7 @@ ghost use Rattle.amber_meaning.specs.Views.{answer_in, inspected_of};
 ghost use Rattle.amber_home.specs.HomeState.{BeginsOrNames, ClosesIn, Ends, StepsOn, has_crew, is_done_at_rest, is_open, query_of, runs_to_end, state_of, stops_of_home, with_item, with_leg};
 
 use crate::answer::{gather, gather_all};
+use crate::crew::start_crew;
 use crate::error::{HomeErr, LegErr};
 use crate::leg::steps_of;
 use crate::opening::{begin_all, clear_for};
@@ -95,8 +96,21 @@ impl Home {
         }) }
         ensures header { BeginsOrNames result flow files }
     {
-        let _all = (alloc, flow, files, batch, most);
-        Err(HomeErr::NoMemory)
+        let crew = start_crew(alloc, &flow, &files, batch)?;
+        let arms = InForce::new(alloc, &flow)?;
+        Ok(Home {
+            flow,
+            files,
+            most,
+            log: Log {
+                batch,
+                items: Items::new(Vec::new(alloc)),
+            },
+            phase: Phase::Resting,
+            crew,
+            arms,
+            stops: Stops::new(Vec::new(alloc)),
+        })
     }
 
     /// Does a command that is no leg: a pause, another constant, a look, or taking back all that was asked to stop at an
