@@ -1,6 +1,7 @@
 ghost use Rattle.std.specs.Prelude.{◌≡◌, ◌↔◌, IsTrue};
 
 use amber_rows::{Cond, Value};
+use std::alloc::AllocError;
 use std::marker::Model;
 
 /// A command to a paused run. Operators and columns are numbered from 1, an operator's workers from 0.
@@ -34,6 +35,37 @@ impl Command {
         ensures { IsTrue result ↔ (self.now ≡ other.now) }
     {
         self == other
+    }
+}
+
+impl Clone for Command {
+    ghost is_clone = { λ a copy. copy ≡ a };
+
+    fn clone(&self) -> Result<Self, AllocError> {
+        match self {
+            Command::Run => Ok(Command::Run),
+            Command::End => Ok(Command::End),
+            Command::Pause { op, n } => Ok(Command::Pause { op: *op, n: *n }),
+            Command::Count { op, n } => Ok(Command::Count { op: *op, n: *n }),
+            Command::When { op, cond } => Ok(Command::When {
+                op: *op,
+                cond: cond.clone()?,
+            }),
+            Command::Clear { op } => Ok(Command::Clear { op: *op }),
+            Command::Set { op, value } => Ok(Command::Set {
+                op: *op,
+                value: value.clone()?,
+            }),
+            Command::Drop { op, worker } => Ok(Command::Drop {
+                op: *op,
+                worker: *worker,
+            }),
+            Command::Inspect { op } => Ok(Command::Inspect { op: *op }),
+            Command::Lose { op, worker } => Ok(Command::Lose {
+                op: *op,
+                worker: *worker,
+            }),
+        }
     }
 }
 

@@ -1,6 +1,7 @@
 ghost use Rattle.std.specs.Prelude.{◌≡◌};
 
 use amber_rows::{Cond, Row, Value};
+use std::alloc::AllocError;
 use std::marker::Model;
 
 /// Why a run has stopped. Operators are numbered from 1, an operator's workers from 0.
@@ -14,6 +15,30 @@ pub enum Stop {
     Pause { op: u32, n: u64, emitted: u64 },
     /// All workers have finished.
     End,
+}
+
+impl Clone for Stop {
+    ghost is_clone = { λ a copy. copy ≡ a };
+
+    fn clone(&self) -> Result<Self, AllocError> {
+        match self {
+            Stop::Held { op, worker, row } => Ok(Stop::Held {
+                op: *op,
+                worker: *worker,
+                row: row.clone()?,
+            }),
+            Stop::Count { op, target } => Ok(Stop::Count {
+                op: *op,
+                target: *target,
+            }),
+            Stop::Pause { op, n, emitted } => Ok(Stop::Pause {
+                op: *op,
+                n: *n,
+                emitted: *emitted,
+            }),
+            Stop::End => Ok(Stop::End),
+        }
+    }
 }
 
 /// The stops of a run, seen as a list.
@@ -44,6 +69,16 @@ impl Stops {
         ensures { result.now ≡ self.now }
     {
         self.inner.as_slice()
+    }
+}
+
+impl Clone for Stops {
+    ghost is_clone = { λ a copy. copy ≡ a };
+
+    fn clone(&self) -> Result<Self, AllocError> {
+        Ok(Stops {
+            inner: self.inner.clone()?,
+        })
     }
 }
 
