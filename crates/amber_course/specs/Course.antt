@@ -11,7 +11,7 @@ use Rattle.amber_flow.specs.Workflow.{workflow_of}
 use Rattle.amber_flow.specs.declared.error.Fault.{Fault}
 use Rattle.amber_log.specs.declared.command.Command.{Command}
 use Rattle.amber_meaning.specs.Plain.{row_total}
-use Rattle.amber_course.specs.Script.{first_said, script_read}
+use Rattle.amber_script.specs.Script.{BadLine, script_of}
 use Rattle.amber_course.specs.Words.{call_words_of}
 use Rattle.amber_course.specs.declared.job.Job.{Job}
 use Rattle.amber_course.specs.declared.job.Job.TheVariants as job
@@ -62,9 +62,14 @@ flow_read (Err fault) = Err (failure.BadFlow fault.op (reason.Flow fault.why))
 unfoldable pub workflow_in : List ℕ → Named → Result (List Operator) Failure
 workflow_in name files = then_on (load_of most_text name files) (λ bytes. flow_read (workflow_of bytes))
 
--- the commands of the script in the file of this name
-unfoldable pub script_in : List ℕ → Named → Result (List Command) Failure
-script_in name files = then_on (load_of most_text name files) (λ bytes. script_read (first_said bytes))
+-- the commands that were read, or the first bad line of the script with its first reason
+abbrev pub script_read : Result (List Command) BadLine → Result (List Command) Failure
+script_read (Ok commands) = Ok commands
+script_read (Err bad) = Err (failure.BadScript bad.line bad.why)
+
+-- the commands of the script in the file of this name, for a workflow
+unfoldable pub script_in : List ℕ → List Operator → Named → Result (List Command) Failure
+script_in name flow files = then_on (load_of most_text name files) (λ bytes. script_read (script_of bytes flow))
 
 -- ---- the log
 
@@ -134,7 +139,7 @@ job_of (form.Plain workflow) files =
     then_on (workflow_in workflow files) (λ flow. then_on (scans_of flow files) (λ inputs. Ok (job.Plain flow inputs)))
 job_of (form.Run words) files =
     then_on (run_flow words.workflow words.log files)
-    (λ flow. then_on (script_in words.script files) (λ commands. then_on (scans_of flow files) (λ inputs. Ok (job.Run (run_of words flow commands inputs)))))
+    (λ flow. then_on (script_in words.script flow files) (λ commands. then_on (scans_of flow files) (λ inputs. Ok (job.Run (run_of words flow commands inputs)))))
 
 -- the operators of a query that is printed at once give no more rows than they may
 abbrev pub require_limit : Job → Result Job Failure
@@ -163,7 +168,7 @@ IsScanned workflow files file = (flow : List Operator) × (workflow_in workflow 
 -- the script of a run, where its workflow stands, and the file of a scan of it, where the script stands too
 abbrev pub IsBehind : RunWords → Named → List ℕ → Type 0
 IsBehind words files file = (flow : List Operator) × (run_flow words.workflow words.log files ≡ Ok flow)
-    × ((file ≡ words.script) ⊎ (IsOk (script_in words.script files) × IsScanFile flow files file))
+    × ((file ≡ words.script) ⊎ (IsOk (script_in words.script flow files) × IsScanFile flow files file))
 
 abbrev pub IsLoaded : Words → Named → List ℕ → Type 0
 IsLoaded (form.Plain workflow) files file = (file ≡ workflow) ⊎ IsScanned workflow files file

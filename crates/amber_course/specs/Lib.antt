@@ -1,7 +1,6 @@
 pub mod Course
 pub mod Failure
 pub mod Ready
-pub mod Script
 pub mod Status
 pub mod Steps
 pub mod Told

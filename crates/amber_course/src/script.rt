@@ -1,40 +1,26 @@
-ghost use Rattle.std.specs.Prelude.{◌≡◌, ◌≤◌, ◌^◌, length, IfErr, IfOk, IfSome};
-ghost use Rattle.amber_course.specs.Course.{script_in};
+ghost use Rattle.std.specs.Prelude.{◌≡◌, IfErr, IfOk};
+ghost use Rattle.amber_course.specs.Course.{script_in, script_read};
 ghost use Rattle.amber_course.specs.Ready.{AreOfScript};
-ghost use Rattle.amber_course.specs.Script.{first_said, script_read};
 ghost use Rattle.amber_course.specs.Steps.{Follows, Judges, Names, loading};
+ghost use Rattle.amber_script.specs.Script.{script_of};
 
 use crate::failure::Failure;
 use crate::inputs::{MOST_TEXT, load};
 use amber_io::Folder;
 use amber_log::Commands;
-use amber_rows::Flow;
-use amber_script::ScriptWhy;
-use amber_script::lines::{says_something, without_return};
+use amber_rows::{Bytes, Flow};
+use amber_script::{ScriptErr, read_script};
 use std::alloc::Global;
 
-// The place of the first line that says something.
-fn first_said(bytes: &[u8]) -> Option<usize>
-    ensures place { result ≡ first_said bytes.now }
-    ensures few { IfSome result (λ place. place ≤ length bytes.now) }
-{
-    bytes
-        .split(|byte| *byte == b'\n')
-        .position(|line| says_something(without_return(line)))
-}
-
-// Reads a script, which so far has no command.
-fn read_script(alloc: Global, bytes: &[u8], flow: &Flow) -> Result<Commands, Failure>
-    requires { length bytes.now ≤ 2 ^ 20 }
-    ensures commands { Judges result (script_read (first_said bytes.now)) }
+// The commands that the bytes of a file are for a workflow.
+fn read(alloc: Global, bytes: &Bytes, flow: &Flow) -> Result<Commands, Failure>
+    ensures commands { Judges result (script_read (script_of bytes.now flow.now)) }
     ensures fit { IfOk result (AreOfScript flow.now) }
 {
-    match first_said(bytes) {
-        None => Ok(Commands::new(Vec::new(alloc))),
-        Some(place) => Err(Failure::BadScript {
-            line: place as u64 + 1,
-            why: ScriptWhy::Word,
-        }),
+    match read_script(alloc, bytes.get(), flow) {
+        Ok(commands) => Ok(commands),
+        Err(ScriptErr::Bad { line, why }) => Err(Failure::BadScript { line, why }),
+        Err(ScriptErr::NoMemory) => Err(Failure::NoMemory),
     }
 }
 
@@ -45,7 +31,7 @@ pub(crate) fn load_script<F: Folder>(
     flow: &Flow,
     folder: &mut F,
 ) -> Result<Commands, Failure>
-    ensures course { Follows result (script_in name.now)
+    ensures course { Follows result (script_in name.now flow.now)
         (loading (F.files folder.old) (F.load_faults folder.old) (F.load_faults folder.new)) }
     ensures fit { IfOk result (AreOfScript flow.now) }
     ensures named { IfErr result (λ failure. Names failure (λ file. file ≡ name.now)) }
@@ -53,5 +39,5 @@ pub(crate) fn load_script<F: Folder>(
     ensures writes { F.write_faults folder.new ≡ F.write_faults folder.old }
 {
     let bytes = load(alloc, name, MOST_TEXT, folder)?;
-    read_script(alloc, bytes.get(), flow)
+    read(alloc, &bytes, flow)
 }
