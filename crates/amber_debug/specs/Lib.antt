@@ -1,3 +1,3 @@
-pub mod Ending
+pub mod AtHome
 pub mod Session
 pub use Rattle.amber_home.specs.HomeState

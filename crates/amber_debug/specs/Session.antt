@@ -1,7 +1,7 @@
 -- What a debugger shows, and what a command does to it.
 use Rattle.std.specs.Prelude.{◌≡◌, ℕ, ◌⊎◌, List, [], ◌∷◌, ◌++◌, Result, Ok, Err, Bool, true, false}
 use Rattle.amber_rows.specs.declared.flow.Operator.{Operator}
-use Rattle.amber_log.specs.Grammar.{is_long}
+use Rattle.amber_log.specs.Grammar.{ends_over, is_long}
 use Rattle.amber_log.specs.LogText.{item_text}
 use Rattle.amber_log.specs.declared.command.Command.{Command}
 use Rattle.amber_log.specs.declared.command.Command.TheVariants as command
@@ -11,7 +11,8 @@ use Rattle.amber_log.specs.declared.log.Log.{Log}
 use Rattle.amber_meaning.specs.Legal.{IsLegal, Query, query_over}
 use Rattle.amber_meaning.specs.Replay.{state_after}
 use Rattle.amber_meaning.specs.Transcript.{reply_of}
-use Rattle.amber_home.specs.HomeState.{HomeState, is_spent, query_of}
+use Rattle.amber_home.specs.HomeState.{HomeState, query_of}
+use Rattle.amber_home.specs.declared.phase.Phase.TheVariants as phase
 use Rattle.amber_debug.specs.declared.done.DebugErr.{DebugErr}
 use Rattle.amber_debug.specs.declared.done.DebugErr.TheVariants as debug_err
 use Rattle.amber_debug.specs.declared.done.Done.{Done}
@@ -32,10 +33,10 @@ pub record Session : Type 0 where
 abbrev pub query_in : Session → Query
 query_in d = query_over d.flow d.files d.log.batch d.most
 
--- the home's log is legal, and a session whose home is spent is cut off
+-- the home's log is legal, and where more may follow it is at rest
 pub record IsKept (home : HomeState) (spent : Bool) : Type 0 where
   pub legal : IsLegal (query_of home) home.log
-  pub told : is_spent home.phase ≡ true → spent ≡ true
+  pub rests : spent ≡ false → ends_over false home.log.items ≡ false → home.phase ≡ phase.Resting
 
 -- the command that an item was made for
 abbrev pub command_of : Item → Command

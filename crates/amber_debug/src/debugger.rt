@@ -1,25 +1,27 @@
-ghost use Rattle.std.specs.Prelude.{◌≡◌, ◌≢◌, ◌<◌, ◌≤◌, ◌⊎◌, ◌^◌, ◌↔◌, [], Err, IfOk, false, true, length};
+ghost use Rattle.std.specs.Prelude.{◌≡◌, ◌≢◌, ◌<◌, ◌≤◌, ◌⊎◌, ◌^◌, ◌↔◌, [], Err, IfOk, OnErr, false, true, length};
 ghost use Rattle.amber_log.specs.Fits.{fits_of};
 ghost use Rattle.amber_log.specs.Grammar.{IsLog, ends_over};
+ghost use Rattle.amber_log.specs.declared.log.Item.TheVariants as item;
 ghost use Rattle.amber_meaning.specs.Legal.{IsLegal};
 ghost use Rattle.amber_meaning.specs.Plain.{scan_count};
-ghost use Rattle.amber_rows.specs.Crew.{AreAlone};
-ghost use Rattle.amber_home.specs.HomeState.{BeginsOrNames, is_spent, query_of};
+ghost use Rattle.amber_meaning.specs.Transcript.{reply_of};
 ghost use Rattle.amber_script.specs.Commands.{is_scripted};
-ghost use Rattle.amber_debug.specs.Ending.{EndsAs, IsLastText};
+ghost use Rattle.amber_home.specs.HomeState.{BeginsOrNames, is_done_at_rest, query_of, rest_state};
+ghost use Rattle.amber_home.specs.declared.phase.Phase.TheVariants as phase;
+ghost use Rattle.amber_debug.specs.AtHome.{DoesAtRest, IsLastText, RunsAs};
 ghost use Rattle.amber_debug.specs.Session.{Does, query_in};
 
 use crate::done::{DebugErr, Done, EndErr};
 use amber_home::{Home, HomeErr, LegErr};
-use amber_journal::write_item;
+use amber_journal::{commands_have_text, write_command, write_item};
 use amber_log::{Command, Log};
-use amber_report::answer_lines;
+use amber_report::{answer_lines, inspect_lines, ok_line, stop_lines};
 use amber_rows::{Bytes, Files, Flow};
 use std::alloc::{AllocError, Global};
 use std::marker::Model;
 
 /// A run to which commands are given, seen as a `Session`.
-#[derive(Debug, Drop)]
+#[derive(Drop)]
 pub struct Debugger {
     home: Home,
     threads: u32,
@@ -42,7 +44,7 @@ impl Model for Debugger {
 
     ghost use Rattle.amber_debug.specs.Session.{IsKept};
 
-    // The log is legal, and a run that cannot go on at home is told to be so.
+    // The log is legal, and where more may follow the home is at rest.
     ghost invariant = { λ a. IsKept a.home a.spent };
 }
 
@@ -57,16 +59,46 @@ fn last_text(alloc: Global, log: &Log) -> Result<Bytes, AllocError>
     Ok(Bytes::new(text))
 }
 
-// Runs a leg to the end, and writes its text and the answer.
-fn do_end(alloc: Global, home: &mut Home) -> Result<Done, EndErr>
-    requires unspent { is_spent home.old.phase ≡ false }
+// Runs up to a stop, and writes the leg and the stops.
+fn do_run(alloc: Global, home: &mut Home) -> Result<Done, EndErr>
+    requires resting { home.old.phase ≡ phase.Resting }
     requires open { ends_over false home.old.log.items ≡ false }
-    ensures ends { EndsAs result home.old home.new }
+    requires legal { IsLegal (query_of home.old) home.old.log }
+    ensures runs { RunsAs result false home.old home.new }
+    ensures rests { IfOk result (λ done. home.new.phase ≡ phase.Resting) }
     ensures legal { IsLegal (query_of home.new) home.new.log }
 {
-    match home.run_to_end(alloc) {
-        Ok(answer) => {
+    match home.leg_home(alloc, false) {
+        Ok(()) => {
             let item = last_text(alloc, home.log())?;
+            let stops = home.stops(alloc)?;
+            let reply = stop_lines(alloc, home.flow(), &stops)?;
+            Ok(Done {
+                item,
+                reply,
+                rows: None,
+            })
+        }
+        Err(LegErr::Long) => {
+            let item = last_text(alloc, home.log())?;
+            Err(EndErr::Long { item })
+        }
+        Err(LegErr::NoMemory) => Err(EndErr::NoMemory),
+    }
+}
+
+// Runs to the end, and writes the leg and the answer.
+fn do_end(alloc: Global, home: &mut Home) -> Result<Done, EndErr>
+    requires resting { home.old.phase ≡ phase.Resting }
+    requires open { ends_over false home.old.log.items ≡ false }
+    requires legal { IsLegal (query_of home.old) home.old.log }
+    ensures runs { RunsAs result true home.old home.new }
+    ensures legal { IsLegal (query_of home.new) home.new.log }
+{
+    match home.leg_home(alloc, true) {
+        Ok(()) => {
+            let item = last_text(alloc, home.log())?;
+            let answer = home.take_answer(alloc)?;
             let reply = answer_lines(alloc, home.flow(), &answer)?;
             Ok(Done {
                 item,
@@ -80,6 +112,49 @@ fn do_end(alloc: Global, home: &mut Home) -> Result<Done, EndErr>
         }
         Err(LegErr::NoMemory) => Err(EndErr::NoMemory),
     }
+}
+
+// The reply to a command that is no leg.
+fn reply_at_rest(alloc: Global, home: &Home, command: &Command) -> Result<Bytes, AllocError>
+    requires resting { home.now.phase ≡ phase.Resting }
+    requires fits { fits_of home.now.flow command.now ≡ true }
+    requires at_rest { is_done_at_rest command.now ≡ true }
+    ensures { IfOk result (λ reply. reply
+        ≡ reply_of (query_of home.now) (rest_state home.now) (item.Do command.now)) }
+{
+    match command {
+        Command::Inspect { op } => {
+            let seen = home.inspect(alloc, *op)?;
+            let reply = inspect_lines(alloc, home.flow(), &seen)?;
+            Ok(reply)
+        }
+        _ => {
+            let reply = ok_line(alloc, home.flow(), command, None)?;
+            Ok(reply)
+        }
+    }
+}
+
+// Does a command that is no leg. Its text and the reply are there before it is done.
+fn do_at_rest(alloc: Global, home: &mut Home, command: &Command) -> Result<Done, AllocError>
+    requires resting { home.old.phase ≡ phase.Resting }
+    requires open { ends_over false home.old.log.items ≡ false }
+    requires fits { fits_of home.old.flow command.now ≡ true }
+    requires at_rest { is_done_at_rest command.now ≡ true }
+    requires legal { IsLegal (query_of home.old) home.old.log }
+    ensures ok { IfOk result (λ done. DoesAtRest home.old home.new done command.now) }
+    ensures err { OnErr result (home.new ≡ home.old) }
+    ensures legal { IsLegal (query_of home.new) home.new.log }
+{
+    commands_have_text(command);
+    let item = Bytes::new(write_command(alloc, command)?);
+    let reply = reply_at_rest(alloc, home, command)?;
+    home.apply(alloc, command)?;
+    Ok(Done {
+        item,
+        reply,
+        rows: None,
+    })
 }
 
 // Memory ran out at a command to run, and no command follows.
@@ -113,8 +188,6 @@ impl Debugger {
         requires few_threads { threads ≤ 64 }
         requires steps { most ≤ 2 ^ 40 }
 
-        // For now every operator has one worker.
-        requires alone { AreAlone flow }
         ensures begins { IfOk result (λ d. d ≡ record {
           flow = flow;
           files = files;
@@ -144,7 +217,8 @@ impl Debugger {
     pub fn command(&mut self, alloc: Global, command: &Command) -> Result<Done, DebugErr>
         requires fits { fits_of self.old.flow command.now ≡ true }
 
-        // Counts, conditions, drops and losses of workers are not built yet, and no script has them.
+        // Counts, conditions, drops and losses of workers are not built yet, and no script has
+        // them.
         requires scripted { (is_scripted command.now ≡ true) ⊎ (command.now ≡ Command.End) }
         requires open { ends_over false self.old.log.items ≡ false }
         ensures does { Does result self.old self.new command.now }
@@ -156,10 +230,24 @@ impl Debugger {
             return Err(DebugErr::Spent);
         }
         match command {
+            Command::Run => self.run(alloc),
             Command::End => self.end(alloc),
-            // For now there is a way to the end alone.
-            Command::Run => Err(cut_off(&mut self.spent)),
-            _ => Err(DebugErr::NoMemory),
+            _ => self.change(alloc, command),
+        }
+    }
+
+    // Runs up to a stop.
+    fn run(&mut self, alloc: Global) -> Result<Done, DebugErr>
+        requires unspent { self.old.spent ≡ false }
+        requires open { ends_over false self.old.log.items ≡ false }
+        ensures does { Does result self.old self.new Command.Run }
+        ensures unspent { result ≢ Err DebugErr.Spent }
+        ensures legal { IsLegal (query_in self.new) self.new.log }
+    {
+        match do_run(alloc, &mut self.home) {
+            Ok(done) => Ok(done),
+            Err(EndErr::Long { item }) => Err(DebugErr::Long { item }),
+            Err(EndErr::NoMemory) => Err(cut_off(&mut self.spent)),
         }
     }
 
@@ -176,6 +264,20 @@ impl Debugger {
             Err(EndErr::Long { item }) => Err(DebugErr::Long { item }),
             Err(EndErr::NoMemory) => Err(cut_off(&mut self.spent)),
         }
+    }
+
+    // Does a command that is no leg.
+    fn change(&mut self, alloc: Global, command: &Command) -> Result<Done, DebugErr>
+        requires unspent { self.old.spent ≡ false }
+        requires open { ends_over false self.old.log.items ≡ false }
+        requires fits { fits_of self.old.flow command.now ≡ true }
+        requires at_rest { is_done_at_rest command.now ≡ true }
+        ensures does { Does result self.old self.new command.now }
+        ensures unspent { result ≢ Err DebugErr.Spent }
+        ensures legal { IsLegal (query_in self.new) self.new.log }
+    {
+        let done = do_at_rest(alloc, &mut self.home, command)?;
+        Ok(done)
     }
 
     /// The log of the run so far.

@@ -1,20 +1,20 @@
 -- The leg stands in the log with its text, and the answer with its.
-use Rattle.std.proofs.Common.{Some, ap, subst, ◌∙◌}
-use Rattle.amber_meaning.specs.Texts.{answer_text}
-use Rattle.amber_debug.specs.Ending.{IsLastText}
-use Rattle.amber_debug.proofs.Endings.{ends-long, ends-ok}
+use Rattle.std.proofs.Common.{Some, subst, true}
+use Rattle.amber_debug.specs.AtHome.{IsLastText}
+use Rattle.amber_debug.proofs.Homes.{all-finished, runs-end, runs-long}
 use Rattle.amber_debug.proofs.debugger.do_end.Goals as goal
 
-pub returns-in_ok-reply-in-Ok-clause-ends : goal.returns-in_ok-reply-in-Ok-clause-ends
-returns-in_ok-reply-in-Ok-clause-ends c =
-    let ends = c.in-Ok.ensures.ends in
-    ends-ok c.args.home.now c.run_to_end.new.self
-    (record { item = c.in_ok-item-in-Ok.item; reply = c.in_ok-reply-in-Ok.reply; rows = Some c.in-Ok.answer.rows }) c.flow.result.now ends.0
-    (subst (λ log. IsLastText log c.in_ok-item-in-Ok.item) c.log.ensures.log c.in_ok-item-in-Ok.ensures) c.flow.ensures
-    (c.in_ok-reply-in-Ok.ensures ∙ ap (answer_text c.flow.result.now) ends.2)
+pub take_answer-requires-clause-finished : goal.take_answer-requires-clause-finished
+take_answer-requires-clause-finished c = all-finished c.args.home.now c.leg_home.new.self c.in-Ok.ensures.ends
 
-pub returns-in_ok-item-in-Err-Long-clause-ends : goal.returns-in_ok-item-in-Err-Long-clause-ends
-returns-in_ok-item-in-Err-Long-clause-ends c =
-    let ends = rw c.in-Err-Long.field-0-is at c.in-Err-Long.ensures.ends in
-    ends-long c.args.home.now c.run_to_end.new.self c.in_ok-item-in-Err-Long.item ends.0
+pub returns-in_ok-reply-in-Ok-clause-runs : goal.returns-in_ok-reply-in-Ok-clause-runs
+returns-in_ok-reply-in-Ok-clause-runs c =
+    let last = subst (λ log. IsLastText log c.in_ok-item-in-Ok.item) c.log.ensures.log c.in_ok-item-in-Ok.ensures in
+    runs-end c.args.home.now c.leg_home.new.self c.take_answer.new.self
+    (record { item = c.in_ok-item-in-Ok.item; reply = c.in_ok-reply-in-Ok.reply; rows = Some c.in_ok-answer-in-Ok.answer.rows }) c.flow.result.now c.in_ok-answer-in-Ok.answer
+    c.in-Ok.ensures.ends last c.take_answer.ensures.over c.flow.ensures c.in_ok-answer-in-Ok.ensures.answer c.in_ok-reply-in-Ok.ensures
+
+pub returns-in_ok-item-in-Err-Long-clause-runs : goal.returns-in_ok-item-in-Err-Long-clause-runs
+returns-in_ok-item-in-Err-Long-clause-runs c =
+    runs-long true c.args.home.now c.leg_home.new.self c.in_ok-item-in-Err-Long.item (rw c.in-Err-Long.field-0-is at c.in-Err-Long.ensures.ends)
     (subst (λ log. IsLastText log c.in_ok-item-in-Err-Long.item) c.log-in-Err-Long.ensures.log c.in_ok-item-in-Err-Long.ensures)

@@ -1,6 +1,6 @@
 -- The last item is there and has a text.
 use Rattle.std.proofs.Common.{◌∙◌}
-use Rattle.amber_debug.proofs.Endings.{last-item, last-text}
+use Rattle.amber_debug.proofs.Homes.{last-item, last-text}
 use Rattle.amber_debug.proofs.debugger.last_text.Goals as goal
 
 pub write_item-requires : goal.write_item-requires

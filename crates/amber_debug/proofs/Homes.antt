@@ -1,0 +1,215 @@
+-- What commands leave at home.
+use Rattle.std.proofs.Common.{◌≡◌, ◌⊎◌, inl, inr, refl, sym, ap, subst, ◌∙◌, ℕ, zero, suc, ◌-◌, ◌<◌, ◌≤◌, ◌==◌, List, [], ◌∷◌, ◌++◌, length, get_or, Option, Bool, true, false, Ok, Err, arith}
+use Rattle.std.specs.Prelude.{slice_get}
+use Rattle.std.proofs.lemmas.Bool.{ne_eqb}
+use Rattle.std.proofs.lemmas.List.{get_or_push, length_push}
+use Rattle.amber_rows.specs.Lists.{nth}
+use Rattle.amber_rows.specs.declared.flow.Operator.{Operator}
+use Rattle.amber_rows.specs.declared.value.Value.{Value}
+use Rattle.amber_log.specs.Fits.{fits_of, is_there}
+use Rattle.amber_log.specs.Grammar.{AreItems, IsCommand, IsItem, IsLog, ends_over, is_last}
+use Rattle.amber_log.specs.LogText.{item_text}
+use Rattle.amber_log.specs.declared.command.Command.{Command}
+use Rattle.amber_log.specs.declared.command.Command.TheVariants as command
+use Rattle.amber_log.specs.declared.leg.Close.{Close}
+use Rattle.amber_log.specs.declared.leg.Close.TheVariants as close
+use Rattle.amber_log.specs.declared.log.Item.{Item}
+use Rattle.amber_log.specs.declared.log.Item.TheVariants as item
+use Rattle.amber_log.specs.declared.log.Log.{Log}
+use Rattle.amber_meaning.specs.declared.answer.Answer.{Answer}
+use Rattle.amber_meaning.specs.declared.view.Stop.{Stop}
+use Rattle.amber_meaning.specs.declared.view.Inspected.{Inspected}
+use Rattle.amber_meaning.specs.Legal.{IsLegal, Query}
+use Rattle.amber_meaning.specs.Replay.{after_item}
+use Rattle.amber_meaning.specs.State.{State, after_command, have_finished}
+use Rattle.amber_meaning.specs.Texts.{answer_text, inspected_text, stops_text}
+use Rattle.amber_meaning.specs.Transcript.{reply_of}
+use Rattle.amber_meaning.specs.Views.{answer_in, inspected_of}
+use Rattle.amber_meaning.proofs.Fronts.{legal_logs_grow, transcripts_grow}
+use Rattle.amber_lines.proofs.Kept.{kept_stops_were_replied}
+use Rattle.amber_report.specs.Replies.{done_text}
+use Rattle.amber_home.specs.HomeState.{ClosesLeg, HomeState, is_done_at_rest, leg_item, query_of, rest_state, state_of, stops_of_home, with_item}
+use Rattle.amber_home.specs.declared.phase.Phase.TheVariants as phase
+use Rattle.amber_debug.specs.declared.done.Done.{Done}
+use Rattle.amber_debug.specs.declared.done.EndErr.TheVariants as end_err
+use Rattle.amber_log.specs.declared.leg.Part.{Part}
+use Rattle.amber_debug.specs.AtHome.{HasLeg, HasLog, IsLastText, RunsAs}
+use Rattle.amber_debug.specs.Session.{IsKept}
+
+-- ---- the last item
+
+item-at : (over : Bool) (items : List Item) (k : ℕ) (d : Item) → AreItems over items → k < length items → IsItem (get_or items k d)
+unfolding AreItems
+item-at over [] k d are h = absurd (omega arith)
+item-at over (one ∷ more) zero d are h = are.1
+item-at over (one ∷ more) (suc k) d are h = item-at (is_last one) more k d are.2 (omega arith)
+
+pub last-item : (log : Log) (items : List Item) (one : Item) → IsLog log → items ≡ log.items → 0 < length log.items → one ≡ get_or items (length items - 1) one → IsItem one
+last-item log items one text same some is =
+    rw is (subst (λ xs. IsItem (get_or xs (length xs - 1) one)) (sym same) (item-at false log.items (length log.items - 1) one text.items (omega arith)))
+
+pub last-text : (log : Log) (items : List Item) (one : Item) (text : List ℕ) → items ≡ log.items → one ≡ get_or items (length items - 1) one → text ≡ item_text one → IsLastText log text
+unfolding IsLastText
+last-text log items one text same is text-is before last split =
+    let all : items ≡ before ++ last ∷ [] = same ∙ split in
+    let place : length items - 1 ≡ length before = ap (λ xs. length xs - 1) all ∙ ap (λ n. n - 1) (length_push before last) ∙ omega arith in
+    text-is ∙ ap item_text (is ∙ ap (λ n. get_or items n one) place ∙ ap (λ xs. get_or xs (length before) one) all ∙ get_or_push before last one (length before) refl)
+
+-- ---- legs
+
+abbrev has-leg : (to_end : Bool) (old new : HomeState) (closed : Close) → ClosesLeg to_end old new closed → HasLeg to_end old new closed
+has-leg to_end old new closed leg = record {
+  parts = leg.parts;
+  kept = record {
+    flow = ap (λ (e : HomeState). e.flow) leg.is;
+    files = ap (λ (e : HomeState). e.files) leg.is;
+    most = ap (λ (e : HomeState). e.most) leg.is;
+    log = ap (λ (e : HomeState). e.log) leg.is;
+  };
+}
+
+leg-text : (to_end : Bool) (old new : HomeState) (closed : Close) (text : List ℕ) → (leg : ClosesLeg to_end old new closed) → IsLastText new.log text
+    → text ≡ item_text (leg_item to_end leg.parts closed)
+unfolding IsLastText
+leg-text to_end old new closed text leg last = last old.log.items (leg_item to_end leg.parts closed) (ap (λ (e : HomeState). e.log.items) leg.is)
+
+-- a leg that was too long
+pub runs-long : (to_end : Bool) (old new : HomeState) (text : List ℕ) → ClosesLeg to_end old new close.Long → IsLastText new.log text → RunsAs (Err (end_err.Long text)) to_end old new
+runs-long to_end old new text leg last = (has-leg to_end old new close.Long leg, leg-text to_end old new close.Long text leg last)
+
+-- ---- up to a stop
+
+stops-replied : (old new : HomeState) → (leg : ClosesLeg false old new close.Cut)
+    → stops_text new.flow (stops_of_home new) ≡ reply_of (query_of old) (rest_state old) (leg_item false leg.parts close.Cut)
+unfolding stops_of_home
+stops-replied old new leg = rw leg.is (sym (kept_stops_were_replied (query_of old) old.log.items leg.parts))
+
+pub runs-stop : (old new : HomeState) (done : Done) (flow : List Operator) (stops : List Stop) → ClosesLeg false old new close.Cut → IsLastText new.log done.item → flow ≡ new.flow
+    → stops ≡ stops_of_home new → done.reply ≡ stops_text flow stops → RunsAs (Ok done) false old new
+runs-stop old new done flow stops leg last same are reply = (
+  has-leg false old new close.Cut leg,
+  leg-text false old new close.Cut done.item leg last,
+  reply ∙ ap (λ f. stops_text f stops) same ∙ ap (stops_text new.flow) are ∙ stops-replied old new leg,
+)
+
+-- ---- to the end
+
+state-after : (old new : HomeState) → (leg : ClosesLeg true old new close.Cut) → state_of new ≡ after_item (query_of old) (rest_state old) (leg_item true leg.parts close.Cut)
+unfolding state_of
+state-after old new leg = rw leg.is (transcripts_grow (query_of old) old.log.items (leg_item true leg.parts close.Cut)).1
+
+pub all-finished : (old new : HomeState) → ClosesLeg true old new close.Cut → have_finished (state_of new) ≡ true
+unfolding after_item
+all-finished old new leg = ap have_finished (state-after old new leg) ∙ leg.so.2
+
+answer-replied : (old new : HomeState) → (leg : ClosesLeg true old new close.Cut)
+    → answer_text new.flow (answer_in (query_of new) (state_of new)) ≡ reply_of (query_of old) (rest_state old) (leg_item true leg.parts close.Cut)
+unfolding reply_of after_item
+answer-replied old new leg =
+    let query : query_of new ≡ query_of old = ap query_of leg.is in
+    let flow : new.flow ≡ old.flow = ap (λ (e : HomeState). e.flow) leg.is in
+    ap (λ f. answer_text f (answer_in (query_of new) (state_of new))) flow ∙ ap (λ q. answer_text old.flow (answer_in q (state_of new))) query
+    ∙ ap (λ state. answer_text old.flow (answer_in (query_of old) state)) (state-after old new leg)
+
+abbrev over : (mid new : HomeState) → new ≡ record mid { phase = phase.Over } → HasLog mid new mid.log
+over mid new e = record {
+  flow = ap (λ (h : HomeState). h.flow) e;
+  files = ap (λ (h : HomeState). h.files) e;
+  most = ap (λ (h : HomeState). h.most) e;
+  log = ap (λ (h : HomeState). h.log) e;
+}
+
+abbrev over-leg : (old mid new : HomeState) → HasLeg true old mid close.Cut → new ≡ record mid { phase = phase.Over } → HasLeg true old new close.Cut
+over-leg old mid new leg e =
+    let same = over mid new e in
+    record {
+      parts = leg.parts;
+      kept = record {
+        flow = same.flow ∙ leg.kept.flow;
+        files = same.files ∙ leg.kept.files;
+        most = same.most ∙ leg.kept.most;
+        log = same.log ∙ leg.kept.log;
+      };
+    }
+
+pub runs-end : (old mid new : HomeState) (done : Done) (flow : List Operator) (answer : Answer) → ClosesLeg true old mid close.Cut → IsLastText mid.log done.item
+    → new ≡ record mid { phase = phase.Over } → flow ≡ new.flow → answer ≡ answer_in (query_of mid) (state_of mid) → done.reply ≡ answer_text flow answer → RunsAs (Ok done) true old new
+runs-end old mid new done flow answer leg last e same is reply = (
+  over-leg old mid new (has-leg true old mid close.Cut leg) e,
+  leg-text true old mid close.Cut done.item leg last,
+  reply ∙ ap (λ f. answer_text f answer) (same ∙ ap (λ (h : HomeState). h.flow) e) ∙ ap (answer_text mid.flow) is ∙ answer-replied old mid leg,
+)
+
+-- ---- at rest
+
+got-at : (xs : List Operator) (place : ℕ) → is_there (slice_get xs place) ≡ true → place < length xs
+got-at [] place h = absurd (let never : false ≡ true = h in cc)
+got-at (x ∷ xs) zero h = omega arith
+got-at (x ∷ xs) (suc place) h = omega (arith, got-at xs place h)
+
+is-at : (flow : List Operator) (op : ℕ) → is_there (nth flow op) ≡ true → (0 < op) × (op ≤ length flow)
+is-at flow zero h = absurd (let never : false ≡ true = h in cc)
+is-at flow (suc place) h =
+    let no : (suc place == 0) ≡ false = ne_eqb (suc place) 0 (omega arith) in
+    let less : suc place - 1 ≡ place = omega arith in
+    let inside = got-at flow place (rw (no, less) at h) in
+    (omega arith, omega (arith, inside))
+
+pub inspected-there : (flow : List Operator) (done : Command) (op : ℕ) → done ≡ command.Inspect op → fits_of flow done ≡ true → (0 < op) × (op ≤ length flow)
+unfolding fits_of
+inspected-there flow done op is fits = is-at flow op (rw is at fits)
+
+state-rest : (home : HomeState) → home.phase ≡ phase.Resting → state_of home ≡ rest_state home
+unfolding state_of
+state-rest home e = rw e refl
+
+pub reply-inspect : (home : HomeState) (done : Command) (op : ℕ) (seen : Inspected) (flow : List Operator) (text : List ℕ) → home.phase ≡ phase.Resting → done ≡ command.Inspect op → flow ≡ home.flow
+    → seen ≡ inspected_of (query_of home) (state_of home) op → text ≡ inspected_text flow seen → text ≡ reply_of (query_of home) (rest_state home) (item.Do done)
+unfolding reply_of
+reply-inspect home done op seen flow text rests is same shown e =
+    e ∙ ap (λ f. inspected_text f seen) same ∙ ap (inspected_text home.flow) (shown ∙ ap (λ s. inspected_of (query_of home) s op) (state-rest home rests)) ∙ rw is refl
+
+done-replied : (query : Query) (state : State) (done : Command) (dropped : Option (List Value)) → is_done_at_rest done ≡ true → ((op : ℕ) → done ≡ command.Inspect op → ⊥)
+    → done_text query.flow done dropped ≡ reply_of query state (item.Do done)
+unfolding reply_of
+done-replied query state (command.Pause op n) dropped rest other = refl
+done-replied query state (command.Clear op) dropped rest other = refl
+done-replied query state (command.Set op value) dropped rest other = refl
+done-replied query state (command.Inspect op) dropped rest other = absurd (other op refl)
+done-replied query state command.Run dropped rest other = absurd (let never : false ≡ true = rest in cc)
+done-replied query state command.End dropped rest other = absurd (let never : false ≡ true = rest in cc)
+done-replied query state (command.Count op n) dropped rest other = absurd (let never : false ≡ true = rest in cc)
+done-replied query state (command.When op cond) dropped rest other = absurd (let never : false ≡ true = rest in cc)
+done-replied query state (command.Drop op worker) dropped rest other = absurd (let never : false ≡ true = rest in cc)
+done-replied query state (command.Lose op worker) dropped rest other = absurd (let never : false ≡ true = rest in cc)
+
+pub reply-done : (home : HomeState) (done : Command) (dropped : Option (List Value)) (flow : List Operator) (text : List ℕ) → is_done_at_rest done ≡ true → ((op : ℕ) → done ≡ command.Inspect op → ⊥)
+    → flow ≡ home.flow → text ≡ done_text flow done dropped → text ≡ reply_of (query_of home) (rest_state home) (item.Do done)
+reply-done home done dropped flow text rest other same e = e ∙ ap (λ f. done_text f done dropped) same ∙ done-replied (query_of home) (rest_state home) done dropped rest other
+
+-- the log stays legal
+pub legal-done : (old new : HomeState) (done : Command) → IsLegal (query_of old) old.log → ends_over false old.log.items ≡ false → IsCommand done → fits_of old.flow done ≡ true
+    → new ≡ record old { log = with_item old.log (item.Do done) } → IsLegal (query_of new) new.log
+legal-done old new done legal more is fits e =
+    rw e (legal_logs_grow (query_of old) old.log.batch old.log.items (item.Do done) (after_command old.flow done legal.after) legal more is (fits, refl)).0
+
+-- ---- what is kept
+
+over-push : (over : Bool) (items : List Item) (one : Item) → ends_over over (items ++ one ∷ []) ≡ is_last one
+over-push over [] one = refl
+over-push over (x ∷ items) one = over-push (is_last x) items one
+
+-- behind a leg to the end, and one that was too long, nothing follows
+last-is : (to_end : Bool) (parts : List Part) (closed : Close) → (to_end ≡ true) ⊎ (closed ≡ close.Long) → is_last (leg_item to_end parts closed) ≡ true
+last-is true parts closed h = refl
+last-is false parts closed (inl e) = absurd (let never : false ≡ true = e in cc)
+last-is false parts closed (inr e) = rw e refl
+
+pub kept-over : (to_end : Bool) (old new : HomeState) (closed : Close) (spent : Bool) → HasLeg to_end old new closed → (to_end ≡ true) ⊎ (closed ≡ close.Long) → IsLegal (query_of new) new.log
+    → IsKept new spent
+kept-over to_end old new closed spent leg h legal = record {
+  legal = legal;
+  rests = λ unspent more.
+      absurd (let never : false ≡ true = sym more ∙ ap (λ log. ends_over false log.items) leg.kept.log ∙ over-push false old.log.items (leg_item to_end leg.parts closed)
+      ∙ last-is to_end leg.parts closed h in cc);
+}

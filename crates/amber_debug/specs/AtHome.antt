@@ -1,0 +1,46 @@
+-- What commands do at home.
+use Rattle.std.specs.Prelude.{◌≡◌, ℕ, ◌⊎◌, List, [], ◌∷◌, ◌++◌, Result, Ok, Err, Bool}
+use Rattle.amber_log.specs.LogText.{item_text}
+use Rattle.amber_log.specs.declared.command.Command.{Command}
+use Rattle.amber_log.specs.declared.leg.Close.{Close}
+use Rattle.amber_log.specs.declared.leg.Close.TheVariants as close
+use Rattle.amber_log.specs.declared.leg.Part.{Part}
+use Rattle.amber_log.specs.declared.log.Item.{Item}
+use Rattle.amber_log.specs.declared.log.Item.TheVariants as item
+use Rattle.amber_log.specs.declared.log.Log.{Log}
+use Rattle.amber_meaning.specs.Transcript.{reply_of}
+use Rattle.amber_home.specs.HomeState.{HomeState, leg_item, query_of, rest_state, with_item}
+use Rattle.amber_debug.specs.declared.done.EndErr.{EndErr}
+use Rattle.amber_debug.specs.declared.done.EndErr.TheVariants as end_err
+use Rattle.amber_debug.specs.declared.done.Done.{Done}
+
+-- the text is that of the last item, whatever that is
+unfoldable pub IsLastText : Log → List ℕ → Type 0
+IsLastText log text = (before : List Item) (last : Item) → log.items ≡ before ++ last ∷ [] → text ≡ item_text last
+
+-- the log may have grown, and nothing else of what is run has changed
+pub record HasLog (old new : HomeState) (grown : Log) : Type 0 where
+  pub flow : new.flow ≡ old.flow
+  pub files : new.files ≡ old.files
+  pub most : new.most ≡ old.most
+  pub log : new.log ≡ grown
+
+-- the log has a leg more, up to a stop or to the end, closed so
+pub record HasLeg (to_end : Bool) (old new : HomeState) (closed : Close) : Type 0 where
+  pub parts : List Part
+  pub kept : HasLog old new (with_item old.log (leg_item to_end parts closed))
+
+-- the leg stands in the log, with its text and the reply to it; or it was too long, and stands there; or memory ran out before or
+-- behind that
+abbrev pub RunsAs : Result Done EndErr → Bool → HomeState → HomeState → Type 0
+RunsAs (Ok done) to_end old new =
+    (leg : HasLeg to_end old new close.Cut) × (done.item ≡ item_text (leg_item to_end leg.parts close.Cut))
+    × (done.reply ≡ reply_of (query_of old) (rest_state old) (leg_item to_end leg.parts close.Cut))
+RunsAs (Err (end_err.Long text)) to_end old new = (leg : HasLeg to_end old new close.Long) × (text ≡ item_text (leg_item to_end leg.parts close.Long))
+RunsAs (Err end_err.NoMemory) to_end old new = HasLog old new old.log ⊎ ((closed : Close) × HasLeg to_end old new closed)
+
+-- a command that is no leg has its item in the log, with its text and the reply to it
+pub record DoesAtRest (old new : HomeState) (told : Done) (command : Command) : Type 0 where
+  pub home : new ≡ record old { log = with_item old.log (item.Do command) }
+  pub text : told.item ≡ item_text (item.Do command)
+  pub reply : told.reply ≡ reply_of (query_of old) (rest_state old) (item.Do command)
