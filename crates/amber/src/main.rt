@@ -18,11 +18,21 @@ const HELP: &str = "amber answers queries over CSV files.
 
   amber plain WORKFLOW   prints the answer of the workflow in the file WORKFLOW
   amber run WORKFLOW SCRIPT LOG THREADS BATCH
-                         runs the workflow and prints its answer; what was done is written into the
-                         file LOG. A script has no commands yet: it is empty, or has comments. THREADS
-                         is 1 to 64, and changes nothing yet; BATCH, the rows of a batch, is 1 to 65536
+                         does the commands of the script, one after the other, then runs to the end,
+                         and prints the replies, of which the last is the answer; what was done is
+                         written into the file LOG. THREADS is 1 to 64, and changes nothing yet; BATCH,
+                         the rows of a batch, is 1 to 65536
   amber --help           prints this text
   amber --version        prints the version
+
+A script has a command a line; blank lines, and lines that begin with #, say nothing. OP is the id of
+an operator. A script may be empty.
+
+  run                    runs until something stops it, and tells what
+  pause OP N             asks to stop once OP has emitted N rows since the start
+  inspect OP             shows how far the workers of OP are
+  set OP VALUE           changes the constant of the filter OP, for the rows that it takes from then on
+  clear OP               takes back what was asked to stop at OP
 
 A workflow is a JSON text with a list of operators: scans of CSV files, filters, projections, joins,
 groups and a sink. The answer is the sink's rows in their order, behind their number and the columns'
