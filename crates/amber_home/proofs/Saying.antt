@@ -5,7 +5,7 @@ use Rattle.amber_rows.specs.Crew.{crew_of}
 use Rattle.amber_meaning.specs.declared.answer.Answer.{Answer}
 use Rattle.amber_meaning.specs.declared.view.Inspected.{Inspected}
 use Rattle.amber_meaning.specs.declared.view.Stop.{Stop}
-use Rattle.amber_meaning.specs.Legal.{Query}
+use Rattle.amber_meaning.specs.Legal.{Query, stops_in}
 use Rattle.amber_meaning.specs.Position.{Position}
 use Rattle.amber_meaning.specs.State.{Arms, State, have_finished, position_at}
 use Rattle.amber_meaning.specs.Views.{answer_in, inspected_of}
@@ -15,13 +15,15 @@ use Rattle.amber_meaning.proofs.Senders.{flows_send_forward}
 use Rattle.amber_worker.specs.WorkerState.{WorkerState}
 use Rattle.amber_home.specs.Answers.{IsAnswerOf, IsShownAt}
 use Rattle.amber_home.specs.AtWork.{AreAtWork, HaveFinished, worker_state_at}
-use Rattle.amber_home.specs.HomeState.{HomeState, has_crew, query_of, rest_state, state_of}
+use Rattle.amber_home.specs.HomeState.{HomeState, has_crew, query_of, rest_state, state_of, stops_of_home}
+use Rattle.amber_home.specs.Leg.{stops_by}
 use Rattle.amber_home.specs.Kept.{IsHome}
 use Rattle.amber_home.specs.Parts.{open_parts, state_reached}
 use Rattle.amber_home.specs.declared.phase.Phase.{Phase}
 use Rattle.amber_home.specs.declared.phase.Phase.TheVariants as phase
-use Rattle.amber_home.proofs.Legs.{start, state-here}
+use Rattle.amber_home.proofs.Legs.{loose, start, state-here}
 use Rattle.amber_home.proofs.Opened.{listed-whole}
+use Rattle.amber_home.proofs.Stopped.{stops-are}
 use Rattle.amber_home.proofs.Within.{unfinished-reached}
 
 -- the home in a phase, with the parts of its workers
@@ -93,3 +95,22 @@ pub answers-state : (query : Query) (state : State) (crew : List WorkerState) (a
 unfolding IsAnswerOf
 answers-state query state crew arms answer h done is =
     is query h.start h.positions refl h.at (all-finished-in query state crew arms h done) ∙ ap (answer_in query) (sym h.reached)
+
+-- ---- the stops
+
+pub stops-open : (e : HomeState) (crew : List WorkerState) (arms : List Arms) (kept : List Stop) (to_end : Bool) (shown : List Stop)
+    → IsHome (record e { phase = phase.Open to_end }) crew arms kept → shown ≡ stops_by (record { flow = e.flow; arms = arms }) crew
+    → shown ≡ stops_of_home (in_phase e crew (phase.Open to_end))
+unfolding stops_of_home
+stops-open e crew arms kept to_end shown home shown-is =
+    let here : HomeState = record e { phase = phase.Open to_end } in
+    let leg = home.stands in
+    let begin = start to_end here crew arms leg home.legal in
+    shown-is
+    ∙ sym (stops-are (query_of e) begin crew leg.positions leg.at (record { flow = e.flow; arms = arms }) refl leg.arms_are (loose to_end here crew arms leg home.legal))
+    ∙ ap (stops_in (query_of e)) (sym (state-here to_end here crew arms leg home.legal))
+
+pub stops-rest : (e : HomeState) (crew : List WorkerState) (arms : List Arms) (kept : List Stop) → IsHome (record e { phase = phase.Resting }) crew arms kept
+    → kept ≡ stops_of_home (in_phase e crew phase.Resting)
+unfolding stops_of_home
+stops-rest e crew arms kept home = home.stands.stops_are

@@ -220,7 +220,12 @@ impl Home {
         requires there { has_crew self.now.phase ≡ true }
         ensures { IfOk result (λ stops. stops ≡ stops_of_home self.now) }
     {
-        Err(AllocError)
+        match self.phase {
+            Phase::Open { .. } => {
+                stops_of(alloc, &self.flow, &self.arms, self.crew.as_slice())
+            }
+            _ => self.stops.clone(),
+        }
     }
 
     /// What the workers of an operator show, and what is in force there.
