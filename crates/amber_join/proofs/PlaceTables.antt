@@ -1,5 +1,5 @@
 -- The table of the places as a row is added, and what the places of a key lead to.
-use Rattle.std.proofs.Common.{◌≡◌, ℕ, zero, suc, ◌+◌, ◌<◌, ◌||◌, Bool, true, false, cond, List, [], ◌∷◌, ◌++◌, length, filter, map, Some, None, position, slice_get, refl, sym, ap, ◌∙◌, append_assoc, arith, length-append}
+use Rattle.std.proofs.Common.{◌≡◌, ℕ, zero, suc, ◌+◌, ◌<◌, ◌||◌, if◌then◌else◌, Bool, true, false, cond, List, [], ◌∷◌, ◌++◌, length, filter, map, Some, None, position, slice_get, refl, sym, ap, ◌∙◌, append_assoc, arith, length-append}
 use Rattle.std.specs.List.{filter_map, list_any, IsDistinct}
 use Rattle.std.specs.Map.{keys_of, lookup, values_of}
 use Rattle.std.proofs.lemmas.List.{append-nil, length-map}
@@ -9,7 +9,7 @@ use Rattle.amber_rows.specs.declared.value.Value.{Value}
 use Rattle.amber_keys.specs.SameRows.{same-itself}
 use Rattle.amber_keys.proofs.FirstKeys.{among, among-first_keys, first_keys-push, rows_with-absent}
 use Rattle.amber_keys.specs.Tables.{table_entries}
-use Rattle.std.proofs.lemmas.Bool.{or_right}
+use Rattle.std.proofs.lemmas.Bool.{false≢true, or_right}
 use Rattle.std.proofs.lemmas.List.{map-append}
 use Rattle.amber_keys.proofs.Tables.{cond_none, entries-absent, entries-known, entries-new, entries-set, entry-place, lookup-entries}
 use Rattle.amber_join.specs.Places.{places_from, places_of, table_of}
@@ -152,6 +152,18 @@ set-same (x ∷ xs) (suc i) v e = ap (λ es. x ∷ es) (set-same xs i v e)
 
 -- ---- a step back
 
+-- where some row passes, it has a place
+pub places-some : {A : Type 0} (test : A → Bool) (n : ℕ) (xs : List A) → list_any test xs ≡ true → 0 < length (places_from test n xs)
+unfolding places_from
+places-some test n [] some = absurd (false≢true some)
+places-some test n (x ∷ xs) some = by (test x) some (places-some test (n + 1) xs)
+  where
+    by : (b : Bool) → (b || list_any test xs) ≡ true → (list_any test xs ≡ true → 0 < length (places_from test (n + 1) xs))
+        → 0 < length (if b then n ∷ places_from test (n + 1) xs else places_from test (n + 1) xs)
+    by true here more = omega arith
+    by false here more = more here
+
+
 in_place : (k : Row) (ks : List Row) (i : ℕ) → slice_get ks i ≡ Some k → among k ks ≡ true
 in_place k [] i e = absurd (cc)
 in_place k (x ∷ xs) zero e = let same : x ≡ k = cc in rw (same, same-itself k) refl
@@ -229,6 +241,11 @@ module _ (keys : List ℕ) (rows : List Row) (row : Row) where
       let k = pick_cells keys row in
       let ks = first_keys keys rows in
       sym (among-first_keys keys rows k) ∙ cond_none (among k ks) (places_of keys rows k) (sym (lookup-entries (places_of keys rows) k ks) ∙ ap (lookup (same_row k)) (sym is) ∙ none)
+
+  pub place-known : (i : ℕ) → slice_get (first_keys keys rows) i ≡ Some (pick_cells keys row) → 0 < length (places_of keys rows (pick_cells keys row))
+  place-known i place =
+      let k = pick_cells keys row in
+      places-some (λ other. same_row (pick_cells keys other) k) 0 rows (sym (among-first_keys keys rows k) ∙ in_place k (first_keys keys rows) i place)
 
   pub place-within : (entries : List (Row × List ℕ)) (i : ℕ) → slice_get (first_keys keys rows) i ≡ Some (pick_cells keys row) → entries ≡ table_of keys (rows ++ row ∷ []) → i < length entries
   place-within entries i place is =

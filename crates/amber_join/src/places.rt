@@ -1,4 +1,4 @@
-ghost use Rattle.std.specs.Prelude.{◌≡◌, ◌^◌, ◌-◌, ◌++◌, ◌∷◌, [], ℕ, List, IfOk, OnErr, OnOk, length, min};
+ghost use Rattle.std.specs.Prelude.{◌≡◌, ◌^◌, ◌-◌, ◌++◌, ◌∷◌, ◌<◌, [], ℕ, List, IfOk, OnErr, OnOk, length, min};
 ghost use Rattle.amber_rows.specs.Operators.{pick_cells};
 ghost use Rattle.amber_rows.specs.declared.value.Value.{Value as Cell};
 ghost use Rattle.amber_join.specs.Came.{HasCome};
@@ -47,8 +47,8 @@ impl Places {
 
     /// Takes the last place away, where it is not the only one.
     fn remove_last(&mut self)
-        ensures { (first : ℕ) (places : List ℕ) (last : ℕ)
-            → self.old ≡ first ∷ (places ++ last ∷ []) → self.new ≡ first ∷ places }
+        ensures { (places : List ℕ) (last : ℕ) → 0 < length places
+            → self.old ≡ places ++ last ∷ [] → self.new ≡ places }
     {
         let _last = self.more.pop();
     }

@@ -3,7 +3,7 @@ use Rattle.std.proofs.Common.{◌≡◌, ◌++◌, ◌∷◌, [], List, Option, 
 use Rattle.std.specs.Option.{IsSome, option_to_list}
 use Rattle.amber_join.specs.Places.{places_of}
 use Rattle.amber_rows.specs.Operators.{pick_cells}
-use Rattle.amber_join.proofs.PlaceTables.{last-place, place-within, some-entries, table-back_known, table-back_new}
+use Rattle.amber_join.proofs.PlaceTables.{last-place, place-known, place-within, some-entries, table-back_known, table-back_new}
 use Rattle.amber_join.proofs.places.forget.Goals as goal
 
 popped-last : {A : Type 0} (o : Option A) (all rest : List A) → all ≡ rest ++ option_to_list o → IsSome o → (last : A) × (all ≡ rest ++ last ∷ [])
@@ -21,7 +21,7 @@ returns-in-Known c keys rows row is has =
     let at = rw c.in-Known.is at has in
     let entries = c.args.table.now.entries in
     let old = last-place keys rows row entries c.in-Known.i c.index_mut.result.now at.0 is c.index_mut.ensures.value in
-    table-back_known keys rows row entries c.in-Known.i c.remove_last.new.self at.0 at.1 is (c.remove_last.ensures (places_of keys rows (pick_cells keys row)) (length rows) old)
+    table-back_known keys rows row entries c.in-Known.i c.remove_last.new.self at.0 at.1 is (c.remove_last.ensures (places_of keys rows (pick_cells keys row)) (length rows) (place-known keys rows row c.in-Known.i at.0) old)
 
 pub returns-in-New : goal.returns-in-New
 returns-in-New c keys rows row is has =
