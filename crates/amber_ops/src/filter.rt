@@ -1,6 +1,5 @@
 ghost use Rattle.std.specs.Prelude.{◌≡◌, IfOk, if◌then◌else◌};
 ghost use Rattle.amber_rows.specs.Cond.{holds_of};
-ghost use Rattle.amber_rows.specs.Columns.{kind_of};
 
 use amber_rows::{Cond, Row, Value, holds};
 use std::alloc::AllocError;
@@ -48,9 +47,8 @@ impl FilterState {
         holds(&self.cond, row)
     }
 
-    /// Puts a value of the same kind in place of the condition's constant.
+    /// Puts a value in place of the condition's constant. No row is passed by one of another kind than the condition's column.
     pub fn set(&mut self, value: Value)
-        requires { kind_of value ≡ kind_of self.old.constant }
         ensures { self.new ≡ record self.old { constant = value } }
     {
         self.cond.constant = value;

@@ -12,7 +12,7 @@ use Rattle.amber_meaning.specs.Rules.{Leads, Orders}
 use Rattle.amber_meaning.specs.State.{let_go}
 use Rattle.amber_meaning.specs.Task.{Arrival, Role, Task}
 use Rattle.amber_worker.specs.AtPosition.{Base, DoesKind, IsAtPosition, KeepsRows, Placement, Shows}
-use Rattle.amber_worker.specs.Changes.{MaySet, ShowsSet, StandsAtLeg, with_leg, with_value}
+use Rattle.amber_worker.specs.Changes.{ShowsSet, StandsAtLeg, with_leg, with_value}
 use Rattle.amber_worker.specs.WorkerState.{WorkerState}
 use Rattle.amber_worker.specs.declared.operator_state.OperatorState.{OperatorState}
 use Rattle.amber_worker.specs.declared.operator_state.OperatorState.TheVariants as operator_state
@@ -23,32 +23,32 @@ other-constant : (value : Value) (own : Cond) (constants : List Value) → recor
 other-constant value own [] = refl
 other-constant value own (constant ∷ more) = refl
 
-does-set : (value : Value) (d : OperatorState) (kind : What) (constants : List Value) (role : Role) → MaySet value d → DoesKind d kind constants role
+does-set : (value : Value) (d : OperatorState) (kind : What) (constants : List Value) (role : Role) → DoesKind d kind constants role
     → DoesKind (with_value value d) kind (value ∷ []) role
-does-set value (operator_state.Filter cond) (what.Filter input own) constants role may does =
+does-set value (operator_state.Filter cond) (what.Filter input own) constants role does =
     ap (λ (one : Cond). record one { constant = value }) does ∙ other-constant value own constants
-does-set value operator_state.Scan kind constants role may does = absurd may
-does-set value (operator_state.Project from) kind constants role may does = absurd may
-does-set value (operator_state.Join state) kind constants role may does = absurd may
-does-set value (operator_state.Group state) kind constants role may does = absurd may
-does-set value operator_state.Sink kind constants role may does = absurd may
-does-set value d kind constants role may does = absurd does
+does-set value operator_state.Scan (what.Scan file) constants role does = does
+does-set value (operator_state.Project from) (what.Project input columns) constants role does = does
+does-set value (operator_state.Join state) (what.Join build probe build_keys probe_keys) constants role does = does
+does-set value (operator_state.Group state) (what.Group input keys aggs) constants role does = does
+does-set value operator_state.Sink (what.Sink input) constants role does = does
+does-set value d kind constants role does = absurd does
 
-keeps-set : (value : Value) (d : OperatorState) (task : Task) (arrivals : List Arrival) → MaySet value d → KeepsRows d task arrivals → KeepsRows (with_value value d) task arrivals
-keeps-set value operator_state.Scan task arrivals may keeps = absurd may
-keeps-set value (operator_state.Filter cond) task arrivals may keeps = tt
-keeps-set value (operator_state.Project from) task arrivals may keeps = absurd may
-keeps-set value (operator_state.Join state) task arrivals may keeps = absurd may
-keeps-set value (operator_state.Group state) task arrivals may keeps = absurd may
-keeps-set value operator_state.Sink task arrivals may keeps = absurd may
+keeps-set : (value : Value) (d : OperatorState) (task : Task) (arrivals : List Arrival) → KeepsRows d task arrivals → KeepsRows (with_value value d) task arrivals
+keeps-set value operator_state.Scan task arrivals keeps = keeps
+keeps-set value (operator_state.Filter cond) task arrivals keeps = tt
+keeps-set value (operator_state.Project from) task arrivals keeps = keeps
+keeps-set value (operator_state.Join state) task arrivals keeps = keeps
+keeps-set value (operator_state.Group state) task arrivals keeps = keeps
+keeps-set value operator_state.Sink task arrivals keeps = keeps
 
-pub shows-set : (value : Value) (w : WorkerState) → MaySet value w.operator_state → ShowsSet value w (record w { operator_state = with_value value w.operator_state })
+pub shows-set : (value : Value) (w : WorkerState) → ShowsSet value w (record w { operator_state = with_value value w.operator_state })
 unfolding ShowsSet
-shows-set value w may placement orders p base shows = record {
+shows-set value w placement orders p base shows = record {
   op = shows.op;
   number = shows.number;
-  operator_state = does-set value w.operator_state placement.role.task.kind orders.constants placement.role may shows.operator_state;
-  state = keeps-set value w.operator_state placement.role.task _ may shows.state;
+  operator_state = does-set value w.operator_state placement.role.task.kind orders.constants placement.role shows.operator_state;
+  state = keeps-set value w.operator_state placement.role.task _ shows.state;
   columns = shows.columns;
   build_columns = shows.build_columns;
   sides = shows.sides;

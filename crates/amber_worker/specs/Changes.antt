@@ -1,6 +1,5 @@
 -- What commands change of a worker between legs.
 use Rattle.std.specs.Prelude.{◌≡◌, ℕ, ◌||◌, not, List, [], ◌∷◌, Option, Result, Bool, false}
-use Rattle.amber_rows.specs.Columns.{kind_of}
 use Rattle.amber_rows.specs.declared.value.Value.{Value}
 use Rattle.amber_rows.specs.declared.flow.Operator.{Operator}
 use Rattle.amber_rows.specs.declared.record.RowFault.{RowFault}
@@ -24,15 +23,6 @@ StandsNew flow worker size share made = (records : List (List (Result (List Valu
 -- taken
 abbrev pub wants_batch : WorkerState → Bool
 wants_batch w = not ((w.finished || w.paused) || (has_some w.pending || has_some w.rest))
-
--- it is a filter, whose constant may become this one
-abbrev pub MaySet : Value → OperatorState → Type 0
-MaySet value operator_state.Scan = ⊥
-MaySet value (operator_state.Filter cond) = kind_of value ≡ kind_of cond.constant
-MaySet value (operator_state.Project from) = ⊥
-MaySet value (operator_state.Join state) = ⊥
-MaySet value (operator_state.Group state) = ⊥
-MaySet value operator_state.Sink = ⊥
 
 -- a filter with another constant
 abbrev pub with_value : Value → OperatorState → OperatorState

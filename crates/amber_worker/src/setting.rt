@@ -1,14 +1,13 @@
 //! What commands change of what a worker does.
 
 ghost use Rattle.std.specs.Prelude.{◌≡◌};
-ghost use Rattle.amber_worker.specs.Changes.{MaySet, with_value};
+ghost use Rattle.amber_worker.specs.Changes.{with_value};
 
 use crate::operator_state::OperatorState;
 use amber_rows::Value;
 
-// Puts a value in place of the constant of a filter.
+// Puts a value in place of the constant of a filter; nothing else has one.
 pub(crate) fn set_value(operator_state: &mut OperatorState, value: Value)
-    requires { MaySet value operator_state.old }
     ensures { operator_state.new ≡ with_value value operator_state.old }
 {
     match operator_state {
@@ -17,6 +16,6 @@ pub(crate) fn set_value(operator_state: &mut OperatorState, value: Value)
         | OperatorState::Project(_)
         | OperatorState::Join(_)
         | OperatorState::Group(_)
-        | OperatorState::Sink => unreachable!(),
+        | OperatorState::Sink => {}
     }
 }

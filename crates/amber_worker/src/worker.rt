@@ -12,7 +12,7 @@ ghost use Rattle.amber_link.specs.declared.senders.Sender.{Sender as OneSender};
 ghost use Rattle.amber_worker.specs.WorkerState.{steps_made};
 ghost use Rattle.amber_worker.specs.Steps.{IsCalm};
 ghost use Rattle.amber_worker.specs.Made.{IsFresh, IsFreshIn, IsFreshOut, end_of, link_of, roomless};
-ghost use Rattle.amber_worker.specs.Changes.{MaySet, ShowsSet, StandsAtLeg, StandsNew, wants_batch, with_leg, with_value};
+ghost use Rattle.amber_worker.specs.Changes.{ShowsSet, StandsAtLeg, StandsNew, wants_batch, with_leg, with_value};
 
 mod giving;
 mod linking;
@@ -210,6 +210,13 @@ impl Worker {
         self.finished
     }
 
+    /// The operator whose worker it is, from 1.
+    pub fn op(&self) -> u32
+        ensures { result ≡ self.now.op }
+    {
+        self.op
+    }
+
     /// The running number of the worker in its workflow, from 0.
     pub fn number(&self) -> u32
         ensures { result ≡ self.now.number }
@@ -312,9 +319,8 @@ impl Worker {
         Entries::new(mem::replace(&mut self.journal, empty))
     }
 
-    /// Puts a value in place of the constant of a filter.
+    /// Puts a value in place of the constant of a filter. Other operators have none, and nothing changes.
     pub fn set(&mut self, value: Value)
-        requires { MaySet value self.old.operator_state }
         ensures only { self.new
             ≡ record self.old { operator_state = with_value value self.old.operator_state } }
         ensures shows { ShowsSet value self.old self.new }
