@@ -18,8 +18,8 @@ mod opening;
 mod parts;
 pub mod phase;
 mod settling;
-mod shown;
 mod shares;
+mod shown;
 mod stopping;
 
 pub use error::{HomeErr, LegErr};

@@ -163,7 +163,6 @@ places-some test n (x ∷ xs) some = by (test x) some (places-some test (n + 1) 
     by true here more = omega arith
     by false here more = more here
 
-
 in_place : (k : Row) (ks : List Row) (i : ℕ) → slice_get ks i ≡ Some k → among k ks ≡ true
 in_place k [] i e = absurd (cc)
 in_place k (x ∷ xs) zero e = let same : x ≡ k = cc in rw (same, same-itself k) refl
