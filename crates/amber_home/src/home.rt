@@ -11,7 +11,7 @@ ghost use Rattle.amber_home.specs.HomeState.{BeginsOrNames, ClosesIn, Ends, Step
 use crate::answer::{gather, gather_all};
 use crate::crew::start_crew;
 use crate::error::{HomeErr, LegErr};
-use crate::leg::steps_of;
+use crate::leg::{step_first, steps_of};
 use crate::opening::{begin_all, clear_for};
 use crate::parts::{is_last, leg_item, take_parts};
 use crate::phase::Phase;
@@ -148,8 +148,11 @@ impl Home {
         ensures ok { OnOk result (StepsOn self.old self.new) }
         ensures err { OnErr result (self.new ≡ record self.old { phase = Phase.Spent; parts = [] }) }
     {
+        let phase = self.phase;
         self.phase = Phase::Spent;
-        Err(AllocError)
+        step_first(self.crew.as_mut_slice())?;
+        self.phase = phase;
+        Ok(())
     }
 
     // Runs the leg that is open, and says how it may be closed.

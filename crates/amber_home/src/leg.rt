@@ -1,6 +1,7 @@
 //! A leg: the workers make their steps, one worker after the other.
 
 ghost use Rattle.std.specs.Prelude.{◌≡◌, ◌+◌, ◌^◌, ◌<◌, ◌≤◌, ◌||◌, ℕ, IfOk, OnOk, false, length};
+ghost use Rattle.std.specs.List.{list_all};
 ghost use Rattle.amber_rows.specs.Crew.{crew_of, op_of, workers_of};
 ghost use Rattle.amber_rows.specs.FlowRules.{IsFlow};
 ghost use Rattle.amber_worker.specs.WorkerState.{steps_made};
@@ -33,6 +34,22 @@ pub(crate) fn step(crew: &mut [Worker], number: usize) -> Result<(), AllocError>
     }
     settle_inputs(crew, number)?;
     Ok(())
+}
+
+/// One step of the unfinished worker with the smallest number.
+pub(crate) fn step_first(crew: &mut [Worker]) -> Result<(), AllocError>
+    requires crew { IsCrew crew.old }
+    requires unfinished { list_all (λ w. w.finished) crew.old ≡ false }
+    requires few { steps_by crew.old < 2 ^ 40 }
+    ensures on { OnOk result (GoOn crew.old crew.new) }
+    ensures one { OnOk result (steps_by crew.new ≡ steps_by crew.old + 1) }
+{
+    'workers: for number in 0..crew.len() {
+        if !crew[number].is_finished() {
+            return step(crew, number);
+        }
+    }
+    unreachable!()
 }
 
 // The rows that an operator's workers have emitted.
