@@ -15,6 +15,7 @@ pub mod Linked
 pub mod Links
 pub mod Listed
 pub mod Numbers
+pub mod OneMore
 pub mod OnePlace
 pub mod Opened
 pub mod OperatorNumbers

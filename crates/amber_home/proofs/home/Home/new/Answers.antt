@@ -4,4 +4,6 @@ use Rattle.amber_home.proofs.Fresh.{home-new}
 use Rattle.amber_home.proofs.home.Home.new.Goals as goal
 
 pub invariant_of-result : goal.invariant_of-result
-invariant_of-result c = ?
+invariant_of-result c =
+    home-new c.args.flow c.args.files c.args.most c.args.batch _ c.in_ok-crew.crew.items _ _ c.requires.steps c.requires.some c.requires.few ? c.in_ok-arms.ensures ?
+    (c.in_ok-crew.ensures.start c.args.most) c.in_ok-crew.ensures.journals
