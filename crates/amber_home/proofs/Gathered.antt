@@ -8,9 +8,10 @@ use Rattle.amber_rows.specs.declared.value.Value.{Value}
 use Rattle.amber_meaning.specs.declared.answer.Refusal.{Refusal}
 use Rattle.amber_meaning.specs.Legal.{Query}
 use Rattle.amber_meaning.specs.Position.{Position}
-use Rattle.amber_worker.specs.AtPosition.{IsGivenOf, Shows}
+use Rattle.amber_worker.specs.AtPosition.{IsGivenOf, Shows, placement_of}
 use Rattle.amber_worker.specs.WorkerState.{WorkerState}
 use Rattle.amber_worker.specs.declared.given.Given.{Given}
+use Rattle.amber_worker.proofs.Shares.{by_number-share}
 use Rattle.amber_home.specs.Answers.{HaveGiven, ShowAll, refused_at, rows_before}
 use Rattle.amber_home.specs.AtWork.{no_worker_state, placement_at}
 
@@ -25,11 +26,11 @@ all-before query crew w positions shows k below =
 
 pub given-more : (crew : List WorkerState) (w : WorkerState) (given : Given) (refused longer : List Refusal) (rows : List (List Value))
     → HaveGiven crew refused rows → IsGivenOf w given → longer ≡ refused ++ given.refused → HaveGiven (crew ++ w ∷ []) longer given.rows
-unfolding HaveGiven IsGivenOf refused_at rows_before numbers_below
+unfolding HaveGiven IsGivenOf refused_at rows_before numbers_below placement_of
 given-more crew w given refused longer rows before gives is query positions shows =
     let n = length crew in
     let last = shows n (rw (length_push crew w) (omega arith)) in
-    let here = gives (placement_at query n) last.0 (positions n) last.1
+    let here = gives (placement_at query n) last.0 (positions n) last.1 (λ m. by_number-share query.flow query.records n m)
     (subst (λ v. Shows (placement_at query n) last.0 v (positions n) last.1) (get_or_push crew w no_worker_state n refl) last.2) in
     let old = before query positions (all-before query crew w positions shows) in
     let count : length (crew ++ w ∷ []) ≡ suc n = length_push crew w ∙ add-one n in (

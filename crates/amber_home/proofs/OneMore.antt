@@ -7,7 +7,7 @@ use Rattle.amber_meaning.specs.Legal.{Query}
 use Rattle.amber_meaning.specs.State.{Arms, State, have_finished, steps_in}
 use Rattle.amber_worker.specs.WorkerState.{WorkerState}
 use Rattle.amber_home.specs.AtWork.{GoOn, IsCrew, steps_by}
-use Rattle.amber_home.specs.HomeState.{HomeState, has_crew, is_open, query_of, state_of}
+use Rattle.amber_home.specs.HomeState.{HomeState, StepsOn, has_crew, is_open, query_of, state_of}
 use Rattle.amber_home.specs.Kept.{IsHome}
 use Rattle.amber_home.specs.Parts.{open_parts, state_reached}
 use Rattle.amber_home.specs.declared.phase.Phase.{Phase}
@@ -62,3 +62,6 @@ module _ (e : HomeState) (crew lent after back : List WorkerState) (arms : List 
       ap steps_by (back-is ∙ written-back crew after n (long ∙ ap length lent-is) size) ∙ one ∙ ap (λ xs. steps_by xs + 1) lent-is in
       sym (steps-open (record e { parts = open_parts now back }) back arms stops now home-stepped within)
       ∙ grown ∙ ap (λ m. m + 1) (steps-open e crew arms stops now home within)
+
+pub steps-on : (e old new : HomeState) → e ≡ old → new ≡ record e { parts = new.parts } → steps_in (state_of new) ≡ steps_in (state_of e) + 1 → StepsOn old new
+steps-on e old new same only one = subst (λ (h : HomeState). StepsOn h new) same (record { only = only; one = one })

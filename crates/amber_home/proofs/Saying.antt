@@ -15,7 +15,7 @@ use Rattle.amber_meaning.proofs.Senders.{flows_send_forward}
 use Rattle.amber_worker.specs.WorkerState.{WorkerState}
 use Rattle.amber_home.specs.Answers.{IsAnswerOf, IsShownAt}
 use Rattle.amber_home.specs.AtWork.{AreAtWork, HaveFinished, worker_state_at}
-use Rattle.amber_home.specs.HomeState.{HomeState, has_crew, query_of, rest_state, state_of, stops_of_home}
+use Rattle.amber_home.specs.HomeState.{HomeState, has_crew, is_open, query_of, rest_state, state_of, stops_of_home}
 use Rattle.amber_home.specs.Leg.{stops_by}
 use Rattle.amber_home.specs.Kept.{IsHome}
 use Rattle.amber_home.specs.Parts.{open_parts, state_reached}
@@ -98,19 +98,26 @@ answers-state query state crew arms answer h done is =
 
 -- ---- the stops
 
-pub stops-open : (e : HomeState) (crew : List WorkerState) (arms : List Arms) (kept : List Stop) (to_end : Bool) (shown : List Stop)
-    → IsHome (record e { phase = phase.Open to_end }) crew arms kept → shown ≡ stops_by (record { flow = e.flow; arms = arms }) crew
-    → shown ≡ stops_of_home (in_phase e crew (phase.Open to_end))
-unfolding stops_of_home
-stops-open e crew arms kept to_end shown home shown-is =
-    let here : HomeState = record e { phase = phase.Open to_end } in
-    let leg = home.stands in
-    let begin = start to_end here crew arms leg home.legal in
-    shown-is
-    ∙ sym (stops-are (query_of e) begin crew leg.positions leg.at (record { flow = e.flow; arms = arms }) refl leg.arms_are (loose to_end here crew arms leg home.legal))
-    ∙ ap (stops_in (query_of e)) (sym (state-here to_end here crew arms leg home.legal))
+module _ (e : HomeState) (crew : List WorkerState) (arms : List Arms) (kept : List Stop) where
+  -- within a leg those that stand
+  pub stops-open : (now : Phase) → IsHome (record e { phase = now }) crew arms kept → is_open now ≡ true → (shown : List Stop)
+      → shown ≡ stops_by (record { flow = e.flow; arms = arms }) crew → shown ≡ stops_of_home (in_phase e crew now)
+  unfolding stops_of_home
+  stops-open phase.Resting home within shown is = absurd (false≢true within)
+  stops-open phase.Over home within shown is = absurd (false≢true within)
+  stops-open phase.Spent home within shown is = absurd (false≢true within)
+  stops-open (phase.Open to_end) home within shown is =
+      let here : HomeState = record e { phase = phase.Open to_end } in
+      let leg = home.stands in
+      let begin = start to_end here crew arms leg home.legal in
+      is
+      ∙ sym (stops-are (query_of e) begin crew leg.positions leg.at (record { flow = e.flow; arms = arms }) refl leg.arms_are (loose to_end here crew arms leg home.legal))
+      ∙ ap (stops_in (query_of e)) (sym (state-here to_end here crew arms leg home.legal))
 
-pub stops-rest : (e : HomeState) (crew : List WorkerState) (arms : List Arms) (kept : List Stop) → IsHome (record e { phase = phase.Resting }) crew arms kept
-    → kept ≡ stops_of_home (in_phase e crew phase.Resting)
-unfolding stops_of_home
-stops-rest e crew arms kept home = home.stands.stops_are
+  -- outside of one those that are kept
+  pub stops-rest : (now : Phase) → IsHome (record e { phase = now }) crew arms kept → has_crew now ≡ true → is_open now ≡ false → kept ≡ stops_of_home (in_phase e crew now)
+  unfolding stops_of_home
+  stops-rest phase.Resting home there rests = home.stands.stops_are
+  stops-rest phase.Over home there rests = absurd (false≢true there)
+  stops-rest phase.Spent home there rests = absurd (false≢true there)
+  stops-rest (phase.Open to_end) home there rests = absurd (false≢true (sym rests))

@@ -223,9 +223,10 @@ impl Home {
         requires there { has_crew self.now.phase ≡ true }
         ensures { IfOk result (λ stops. stops ≡ stops_of_home self.now) }
     {
-        match self.phase {
-            Phase::Open { .. } => { stops_of(alloc, &self.flow, &self.arms, self.crew.as_slice()) }
-            _ => self.stops.clone(),
+        if self.phase.is_open() {
+            stops_of(alloc, &self.flow, &self.arms, self.crew.as_slice())
+        } else {
+            self.stops.clone()
         }
     }
 

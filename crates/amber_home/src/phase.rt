@@ -1,5 +1,5 @@
 ghost use Rattle.std.specs.Prelude.{◌≡◌};
-ghost use Rattle.amber_home.specs.HomeState.{runs_to_end};
+ghost use Rattle.amber_home.specs.HomeState.{is_open, runs_to_end};
 
 /// Where a run is.
 #[derive(Clone, Copy, Debug, PartialEq, Eq)]
@@ -15,6 +15,13 @@ pub enum Phase {
 }
 
 impl Phase {
+    // Whether a leg is open.
+    pub(crate) fn is_open(self) -> bool
+        ensures { result ≡ is_open self }
+    {
+        matches!(self, Phase::Open { .. })
+    }
+
     // Whether a leg is open that is one to the end.
     pub(crate) fn runs_to_end(self) -> bool
         ensures { result ≡ runs_to_end self }

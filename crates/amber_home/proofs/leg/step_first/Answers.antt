@@ -1,5 +1,6 @@
 -- The first that has not finished makes the step.
 use Rattle.std.proofs.Common.{◌≡◌, refl, sym, ap, subst, ◌∙◌, ◌+◌, ◌<◌, length, false, arith, rules}
+use Rattle.std.specs.List.{list_all}
 use Rattle.std.specs.Result.{OnOk}
 use Rattle.std.proofs.lemmas.Bool.{false≢true}
 use Rattle.amber_worker.specs.WorkerState.{WorkerState}
@@ -39,3 +40,10 @@ workers-preserved c = record {
   same = c.workers.invariant.same;
   first = finished-more c.workers.crew c.workers.number c.index-crew-number.result (search rules) (sym c.is_finished.ensures.over ∙ c.if-not-is_finished.false) c.workers.invariant.first;
 }
+
+pub unreachable-requires : goal.unreachable-requires
+unreachable-requires c =
+    let same = c.workers.invariant.same in
+    let past = c.workers-test.false in
+    let unfinished = subst (λ crew. list_all (λ (w : WorkerState). w.finished) crew ≡ false) (sym same) c.requires.unfinished in
+    false≢true (sym unfinished ∙ have-all c.workers.crew (λ k less. c.workers.invariant.first k (omega arith)))

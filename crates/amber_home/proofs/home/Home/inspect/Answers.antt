@@ -1,5 +1,5 @@
 -- What is said of the workers is said of the state.
-use Rattle.std.proofs.Common.{◌≡◌, refl, sym, ap, subst, ◌∙◌, IfOk, Ok, Err, true}
+use Rattle.std.proofs.Common.{◌≡◌, refl, sym, ap, subst, ◌∙◌, IfOk, Ok, Err, true, length}
 use Rattle.amber_rows.specs.Crew.{crew_of}
 use Rattle.amber_meaning.specs.Views.{inspected_of}
 use Rattle.amber_home.specs.Answers.{IsShownAt}
@@ -18,5 +18,10 @@ returns c =
     (ok-map c.inspect.result (λ shown is. shows-operator (query_of e) (state_of e) i.crew.items i.arms c.args.op shown h is)
     (subst (λ crew. IfOk c.inspect.result (IsShownAt i.flow i.arms crew c.args.op)) c.as_slice.ensures.value c.inspect.ensures))
 
-pub inspect-requires-all : goal.inspect-requires-all
-inspect-requires-all c = ?
+pub inspect-requires-clause-all : goal.inspect-requires-clause-all
+inspect-requires-clause-all c =
+    let i = c.self.inside in
+    let e : HomeState = record { flow = i.flow; files = i.files; most = i.most; log = i.log; phase = i.phase; parts = open_parts i.phase i.crew.items } in
+    let there : has_crew i.phase ≡ true = ap (λ (h : HomeState). has_crew h.phase) c.self.view_is ∙ c.requires.there in
+    let h = stands-somewhere e i.crew.items i.arms i.stops i.phase c.self.invariant there in
+    ap length c.as_slice.ensures.value ∙ h.at.at.at_positions.all

@@ -17,4 +17,4 @@ returns-clause-answer c =
     let done : have_finished (state_of e) ≡ true = ap (λ (at : HomeState). have_finished (state_of at)) c.self.view_is ∙ c.requires.finished in
     subst (λ (at : HomeState). IfOk c.gather_all.result (λ answer. answer ≡ answer_in (query_of at) (state_of at))) c.self.view_is
     (ok-map c.gather_all.result (λ answer is. answers-state (query_of e) (state_of e) i.crew.items i.arms answer h done is)
-    (subst (λ crew. IfOk c.gather_all.result (IsAnswerOf i.flow crew)) ? c.gather_all.ensures))
+    (subst (λ crew. IfOk c.gather_all.result (IsAnswerOf i.flow crew)) (rw c.replace-crew.ensures.value refl) c.gather_all.ensures))
