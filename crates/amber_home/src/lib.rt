@@ -9,6 +9,7 @@
 #![tactic(auto)]
 
 mod answer;
+mod applying;
 mod crew;
 pub mod error;
 pub mod home;
@@ -18,8 +19,8 @@ mod opening;
 mod parts;
 pub mod phase;
 mod settling;
-mod shown;
 mod shares;
+mod shown;
 mod stopping;
 
 pub use error::{HomeErr, LegErr};
