@@ -1,5 +1,5 @@
 -- A command is done at rest: the log is legal with it, and the workers stand where it says.
-use Rattle.std.proofs.Common.{◌≡◌, ◌≢◌, refl, sym, ap, subst, ◌∙◌, ℕ, zero, suc, ◌+◌, ◌-◌, ◌<◌, ◌≤◌, ◌^◌, eqb, nat_eq, List, [], ◌∷◌, ◌++◌, length, map, Bool, true, false, Option, None, Some, unwrap_or, option_map, if◌then◌else◌, inl, inr, add-one, arith}
+use Rattle.std.proofs.Common.{◌≡◌, ◌≢◌, refl, sym, ap, subst, ◌∙◌, ℕ, zero, suc, ◌+◌, ◌-◌, ◌<◌, ◌^◌, eqb, nat_eq, List, [], ◌∷◌, length, map, Bool, true, false, Option, None, Some, unwrap_or, option_map, if◌then◌else◌, inl, inr, add-one, arith}
 use Rattle.std.specs.List.{slice_get}
 use Rattle.std.proofs.lemmas.Bool.{and_parts, eq-eqb, false≢true, ne_eqb}
 use Rattle.std.proofs.lemmas.Bool.Decides.{eqb_tells}

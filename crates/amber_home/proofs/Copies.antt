@@ -1,5 +1,5 @@
 -- Copies of a value, taken one after the other from the end.
-use Rattle.std.proofs.Common.{◌≡◌, ap, ◌∙◌, ℕ, ◌-◌, ◌<◌, ◌≤◌, List, length, replicate, take, get_or, Some, unwrap_or, arith}
+use Rattle.std.proofs.Common.{◌≡◌, ap, ◌∙◌, ℕ, ◌-◌, ◌<◌, List, length, replicate, take, get_or, Some, unwrap_or, arith}
 use Rattle.std.proofs.lemmas.List.{get_or-replicate, length-replicate, take-replicate}
 
 module _ {A : Type 0} (n many : ℕ) (value : A) (old : List A) (are : old ≡ replicate n value) (count : many ≡ length old) where

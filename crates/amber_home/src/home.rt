@@ -227,7 +227,9 @@ impl Home {
         ensures { IfOk result (λ stops. stops ≡ stops_of_home self.now) }
     {
         match self.phase {
-            Phase::Open { .. } => { stops_of(alloc, &self.flow, &self.arms, self.crew.as_slice()) }
+            Phase::Open { .. } => {
+                stops_of(alloc, &self.flow, &self.arms, self.crew.as_slice())
+            }
             _ => self.stops.clone(),
         }
     }

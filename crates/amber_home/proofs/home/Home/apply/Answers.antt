@@ -1,5 +1,5 @@
 -- The command stands in the log, and what it changes is in force.
-use Rattle.std.proofs.Common.{rules, ◌≡◌, refl, ap, ◌∙◌, length, [], ◌∷◌, ◌++◌, false}
+use Rattle.std.proofs.Common.{rules, ◌≡◌, ap, ◌∙◌, length, [], ◌∷◌, ◌++◌, false}
 use Rattle.amber_log.specs.Fits.{fits_of}
 use Rattle.amber_log.specs.Grammar.{ends_over}
 use Rattle.amber_log.specs.declared.log.Item.TheVariants as item
