@@ -58,7 +58,7 @@ nth-same : {A : Type 0} (xs ys : List A) → length xs ≡ length ys → ((op : 
 nth-same xs ys long same = get-same xs ys long (λ i less. sym (nth-next xs i) ∙ same (i + 1) (omega arith) (omega arith) ∙ nth-next ys i)
 
 -- one that is there
-nth-some : (arms : List Arms) (op : ℕ) → 0 < op → op ≤ length arms → nth arms op ≡ Some (unwrap_or (nth arms op) no_arms)
+pub nth-some : (arms : List Arms) (op : ℕ) → 0 < op → op ≤ length arms → nth arms op ≡ Some (unwrap_or (nth arms op) no_arms)
 nth-some arms zero some within = absurd (omega arith)
 nth-some arms (suc i) some within =
     ap (nth arms) (sym (add-one i)) ∙ nth-next arms i ∙ get arms i (omega arith)

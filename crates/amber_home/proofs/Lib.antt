@@ -2,6 +2,8 @@ pub mod Answered
 pub mod Begun
 pub mod Closed
 pub mod Closings
+pub mod Commanded
+pub mod Copies
 pub mod Crews
 pub mod Cut
 pub mod Dealing

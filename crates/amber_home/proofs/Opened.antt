@@ -62,7 +62,7 @@ arms-map change arms positions op none = by (nat_eq op 0)
     by true = sym none
     by false = get arms (op - 1)
 
-quiet-orders : (arms : Arms) → IsQuiet arms → orders_of (without_arms arms) ≡ orders_of arms
+pub quiet-orders : (arms : Arms) → IsQuiet arms → orders_of (without_arms arms) ≡ orders_of arms
 quiet-orders arms quiet = λ i. record { constants = arms.constants; watch = sym quiet.unwatched i; counted = ap is_some (sym quiet.uncounted) i }
 
 module _ (query : Query) (rest : State) (quiet : (op : ℕ) → IsQuiet (arms_at rest op)) where

@@ -1,4 +1,5 @@
 pub mod Answers
+pub mod Applied
 pub mod AtWork
 pub mod HomeState
 pub mod Kept

@@ -9,6 +9,7 @@ ghost use Rattle.amber_meaning.specs.Views.{answer_in, inspected_of};
 ghost use Rattle.amber_home.specs.HomeState.{BeginsOrNames, ClosesIn, Ends, StepsOn, has_crew, is_done_at_rest, is_open, query_of, runs_to_end, state_of, stops_of_home, with_item, with_leg};
 
 use crate::answer::{gather, gather_all};
+use crate::applying::{copies_for, has_text, put_in_force};
 use crate::crew::start_crew;
 use crate::error::{HomeErr, LegErr};
 use crate::leg::{step_first, steps_of};
@@ -125,7 +126,12 @@ impl Home {
         }) }
         ensures err { OnErr result (self.new ≡ self.old) }
     {
-        Err(AllocError)
+        has_text(command);
+        let item = Item::Do(command.clone()?);
+        let copies = copies_for(alloc, command, self.crew.len() + 1)?;
+        self.log.items.push(item)?;
+        put_in_force(command, copies, &mut self.arms, self.crew.as_mut_slice());
+        Ok(())
     }
 
     /// Opens a leg, up to a stop or to the end. To the end nothing is armed any more.

@@ -9,6 +9,7 @@
 #![tactic(auto)]
 
 mod answer;
+mod applying;
 mod crew;
 pub mod error;
 pub mod home;

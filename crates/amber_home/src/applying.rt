@@ -1,0 +1,146 @@
+//! A command that is done at rest: the copies that it wants, and what it changes.
+
+ghost use Rattle.std.specs.Prelude.{◌≡◌, ◌∷◌, ◌+◌, ◌<◌, ◌≤◌, ◌^◌, IfOk, [], length, map, replicate, true};
+ghost use Rattle.std.specs.Str.{is_utf8};
+ghost use Rattle.amber_rows.specs.Lists.{changed_at};
+ghost use Rattle.amber_rows.specs.Number.{fits_i64};
+ghost use Rattle.amber_log.specs.Grammar.{IsCommand, IsConstant};
+ghost use Rattle.amber_home.specs.Applied.{IsNumbered, NamesOneOf, arms_after, copies_wanted, crew_after, worker_set};
+ghost use Rattle.amber_home.specs.HomeState.{is_done_at_rest};
+
+use amber_arms::InForce;
+use amber_log::Command;
+use amber_rows::Value;
+use amber_worker::Worker;
+use std::alloc::{AllocError, Global};
+
+// ---- its text
+
+fn fits_32(number: u32)
+    ensures { number < 2 ^ 32 }
+{}
+
+fn fits_64(number: u64)
+    ensures { number < 2 ^ 64 }
+{}
+
+fn fits_signed(number: i64)
+    ensures { fits_i64 number ≡ true }
+{}
+
+fn is_text(text: &str)
+    ensures { is_utf8 text.now ≡ true }
+{}
+
+// A constant has a text.
+fn constant_has_text(constant: &Value)
+    ensures { IsConstant constant.now }
+{
+    match constant {
+        Value::Int(number) => fits_signed(*number),
+        Value::Text(text) => is_text(text.get()),
+    }
+}
+
+/// A command that is done at rest has a text, so it may stand in a log. It does nothing; its contract is the law.
+pub(crate) fn has_text(command: &Command)
+    requires { is_done_at_rest command.now ≡ true }
+    ensures { IsCommand command.now }
+{
+    match command {
+        Command::Pause { op, n } => {
+            fits_32(*op);
+            fits_64(*n);
+        }
+        Command::Clear { op } | Command::Inspect { op } => fits_32(*op),
+        Command::Set { op, value } => {
+            fits_32(*op);
+            constant_has_text(value);
+        }
+        _ => unreachable!(),
+    }
+}
+
+// ---- what it wants
+
+// So many copies of a value.
+fn copies_of(alloc: Global, value: &Value, count: usize) -> Result<Vec<Value>, AllocError>
+    ensures { IfOk result (λ copies. copies.items ≡ replicate count value.now) }
+{
+    let mut copies = Vec::new(alloc);
+    'copies: for _ in 0..count {
+        copies.push(value.clone()?)?;
+    }
+    Ok(copies)
+}
+
+/// So many copies of the value that a command sets; none where it sets nothing.
+pub(crate) fn copies_for(
+    alloc: Global,
+    command: &Command,
+    count: usize,
+) -> Result<Vec<Value>, AllocError>
+    ensures { IfOk result (λ copies. copies.items ≡ copies_wanted command.now count) }
+{
+    match command {
+        Command::Set { value, .. } => copies_of(alloc, value, count),
+        _ => Ok(Vec::new(alloc)),
+    }
+}
+
+// ---- what it changes
+
+// Puts a value in place of a worker's constant, where it is a worker of this operator.
+fn set_worker(op: u32, value: Value, worker: &mut Worker)
+    ensures { worker.new ≡ worker_set op value worker.old }
+{
+    if worker.op() == op {
+        worker.set(value);
+    }
+}
+
+// Puts a value in place of the constant of each of an operator's workers.
+fn set_workers(op: u32, value: &Value, mut copies: Vec<Value>, crew: &mut [Worker])
+    requires { copies.items ≡ replicate (length crew.old) value.now }
+    ensures { crew.new ≡ map (worker_set op value.now) crew.old }
+{
+    for worker in crew.iter_mut() {
+        if let Some(copy) = copies.pop() {
+            set_worker(op, copy, worker);
+        }
+    }
+}
+
+// Puts a value in force at an operator, and in place of its workers' constant.
+fn set_all(op: u32, value: &Value, mut copies: Vec<Value>, arms: &mut InForce, crew: &mut [Worker])
+    requires there { IsNumbered op (length arms.old) }
+    requires copies { copies.items ≡ replicate (length crew.old + 1) value.now }
+    ensures arms { arms.new
+        ≡ changed_at (λ one. record one { constants = value.now ∷ [] }) op arms.old }
+    ensures crew { crew.new ≡ map (worker_set op value.now) crew.old }
+{
+    if let Some(copy) = copies.pop() {
+        arms.set(op, copy);
+    }
+    set_workers(op, value, copies, crew);
+}
+
+/// Puts in force what a command asks for that is done at rest: it wants no memory, for the copies were made before.
+pub(crate) fn put_in_force(
+    command: &Command,
+    copies: Vec<Value>,
+    arms: &mut InForce,
+    crew: &mut [Worker],
+)
+    requires there { NamesOneOf command.now (length arms.old) }
+    requires copies { copies.items ≡ copies_wanted command.now (length crew.old + 1) }
+    ensures arms { arms.new ≡ arms_after command.now arms.old }
+    ensures crew { crew.new ≡ crew_after command.now crew.old }
+{
+    match command {
+        Command::Pause { op, n } => arms.pause(*op, *n),
+        Command::Clear { op } => arms.clear(*op),
+        Command::Set { op, value } => set_all(*op, value, copies, arms, crew),
+        _ => {}
+    }
+}
