@@ -1,5 +1,5 @@
 -- What the workers give together is the answer in the state that they reached.
-use Rattle.std.proofs.Common.{◌≡◌, refl, sym, ap, ◌∙◌, ℕ, zero, suc, ◌+◌, ◌-◌, ◌<◌, ◌≤◌, List, [], ◌∷◌, ◌++◌, length, true, append-nil, arith}
+use Rattle.std.proofs.Common.{◌≡◌, refl, sym, ap, ◌∙◌, ℕ, zero, suc, ◌+◌, ◌-◌, ◌<◌, List, [], ◌∷◌, length, true, append-nil, arith}
 use Rattle.std.specs.List.{flat_map}
 use Rattle.std.proofs.lemmas.Bool.{false≢true}
 use Rattle.amber_rows.specs.Columns.{columns_at}
@@ -28,7 +28,7 @@ use Rattle.amber_meaning.proofs.Numbers.{among, among-first}
 use Rattle.amber_worker.specs.AtPosition.{no_base, placement_of}
 use Rattle.amber_worker.specs.WorkerState.{WorkerState}
 use Rattle.amber_home.specs.Answers.{HaveGiven, IsAnswerOf, ShowAll, refused_at, rows_before, sort_refusals}
-use Rattle.amber_home.specs.AtWork.{AreAtWork, HaveFinished}
+use Rattle.amber_home.specs.AtWork.{AreAtWork}
 use Rattle.amber_home.specs.Parts.{state_reached}
 use Rattle.amber_home.proofs.OperatorNumbers.{last-worker}
 use Rattle.amber_home.proofs.Refusing.{all-refuse}

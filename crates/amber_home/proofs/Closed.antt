@@ -1,5 +1,5 @@
 -- A leg is closed: the log is legal with it, and the workers stand where it says.
-use Rattle.std.proofs.Common.{◌≡◌, ◌≢◌, refl, sym, ap, subst, ◌∙◌, ℕ, zero, suc, ◌+◌, ◌-◌, ◌<◌, ◌≤◌, ◌^◌, List, [], ◌∷◌, ◌++◌, length, map, take, get_or, nat_eq, nat_le, Bool, true, false, Option, None, Some, is_some, unwrap_or, option_map, if◌then◌else◌, inl, inr, length-append, add-one, arith}
+use Rattle.std.proofs.Common.{◌≡◌, refl, sym, ap, subst, ◌∙◌, ℕ, zero, suc, ◌+◌, ◌-◌, ◌<◌, ◌≤◌, List, [], ◌∷◌, ◌++◌, length, map, nat_eq, Bool, true, false, None, Some, is_some, unwrap_or, if◌then◌else◌, inl, inr, length-append, add-one, arith}
 use Rattle.std.specs.List.{slice_get}
 use Rattle.std.proofs.lemmas.List.{length-map, map-append}
 use Rattle.std.proofs.lemmas.Bool.Decides.{eqb_tells}
@@ -14,10 +14,9 @@ use Rattle.amber_log.specs.declared.leg.Close.TheVariants as close
 use Rattle.amber_log.specs.declared.leg.Part.{Part}
 use Rattle.amber_log.specs.declared.log.Log.{Log}
 use Rattle.amber_meaning.specs.declared.view.Stop.{Stop}
-use Rattle.amber_meaning.specs.Legal.{IsLegal, IsOpen, IsSettled, IsWorked, Query, after_close, leg_start, stops_in}
-use Rattle.amber_meaning.specs.Position.{Position}
-use Rattle.amber_meaning.specs.Replay.{after_leg, state_after}
-use Rattle.amber_meaning.specs.State.{Arms, Counting, State, arms_at, no_arms, orders_of, position_at, steps_in}
+use Rattle.amber_meaning.specs.Legal.{IsLegal, IsOpen, IsWorked, Query, after_close, leg_start, stops_in}
+use Rattle.amber_meaning.specs.Replay.{state_after}
+use Rattle.amber_meaning.specs.State.{Arms, State, arms_at, no_arms, orders_of, position_at}
 use Rattle.amber_meaning.specs.Stops.{arms_left, count_left, op_numbers, without_stops}
 use Rattle.amber_meaning.proofs.Crews.{op-within}
 use Rattle.amber_meaning.proofs.Lists.{nth-next}
@@ -27,14 +26,14 @@ use Rattle.amber_meaning.proofs.Senders.{flows_send_forward}
 use Rattle.amber_worker.specs.AtPosition.{no_base}
 use Rattle.amber_worker.specs.WorkerState.{WorkerState}
 use Rattle.amber_worker.proofs.Settling.{IsAtPosition-without_journal}
-use Rattle.amber_home.specs.AtWork.{AreAtWork, IsQuiet, placement_at, steps_by, worker_state_at}
+use Rattle.amber_home.specs.AtWork.{AreAtWork, IsQuiet, placement_at, worker_state_at}
 use Rattle.amber_home.specs.HomeState.{ClosesIn, HomeState, leg_item, query_of, rest_state, with_item}
 use Rattle.amber_home.specs.Kept.{IsAtRest, IsWithinLeg}
 use Rattle.amber_home.specs.Parts.{parts_from, state_reached, without_journal}
 use Rattle.amber_home.specs.declared.phase.Phase.TheVariants as phase
 use Rattle.amber_home.proofs.Paused.{crew-few}
 use Rattle.amber_home.proofs.Renewed.{HasItsEnds, renewed}
-use Rattle.amber_home.proofs.Within.{after-is, parts-text, position-here, steps-reached, worked}
+use Rattle.amber_home.proofs.Within.{parts-text, position-here, steps-reached, worked}
 
 -- ---- what a close leaves in force
 

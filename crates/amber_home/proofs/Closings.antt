@@ -1,16 +1,12 @@
 -- A home after its leg was closed.
-use Rattle.std.proofs.Common.{◌≡◌, refl, sym, ap, subst, ◌∙◌, ℕ, ◌+◌, ◌<◌, ◌≤◌, ◌^◌, List, [], ◌∷◌, ◌++◌, length, map, take, drop, Bool, true, false, arith}
+use Rattle.std.proofs.Common.{◌≡◌, refl, sym, ap, subst, ◌∙◌, ◌<◌, ◌^◌, List, [], length, map, true, arith}
 use Rattle.std.proofs.lemmas.Bool.{false≢true}
-use Rattle.std.proofs.lemmas.List.{length-map}
-use Rattle.amber_rows.specs.Crew.{crew_of}
 use Rattle.amber_log.specs.declared.leg.Close.{Close}
-use Rattle.amber_log.specs.declared.leg.Part.{Part}
 use Rattle.amber_log.specs.declared.log.Log.{Log}
 use Rattle.amber_meaning.specs.declared.view.Stop.{Stop}
 use Rattle.amber_meaning.specs.State.{Arms, State}
 use Rattle.amber_worker.specs.WorkerState.{WorkerState}
-use Rattle.amber_home.specs.AtWork.{steps_by}
-use Rattle.amber_home.specs.HomeState.{ClosesIn, HomeState, is_open, leg_item, query_of, rest_state, runs_to_end, state_of, with_item}
+use Rattle.amber_home.specs.HomeState.{ClosesIn, HomeState, is_open, leg_item, query_of, runs_to_end, state_of, with_item}
 use Rattle.amber_home.specs.Kept.{IsHome}
 use Rattle.amber_home.specs.Leg.{Run, closed_arms, stops_by}
 use Rattle.amber_home.specs.Parts.{open_parts, parts_from, without_journal}
@@ -18,8 +14,7 @@ use Rattle.amber_home.specs.declared.phase.Phase.{Phase}
 use Rattle.amber_home.specs.declared.phase.Phase.TheVariants as phase
 use Rattle.amber_home.proofs.Closed.{legal-closed, rest-closed}
 use Rattle.amber_home.proofs.Cut.{closed-is}
-use Rattle.amber_home.proofs.Homes.{written-back}
-use Rattle.amber_home.proofs.Legs.{arms-long, loose, start, state-here}
+use Rattle.amber_home.proofs.Legs.{loose, start, state-here}
 use Rattle.amber_home.proofs.Paused.{crew-few}
 use Rattle.amber_home.proofs.Stopped.{stops-are}
 

@@ -6,12 +6,12 @@ use Rattle.amber_rows.specs.Crew.{crew_of, op_of}
 use Rattle.amber_lines.specs.Moving.{orders_in}
 use Rattle.amber_meaning.specs.Legal.{Query}
 use Rattle.amber_meaning.specs.Position.{Position}
-use Rattle.amber_meaning.specs.State.{State, arms_at, position_at}
-use Rattle.amber_worker.specs.AtPosition.{HasSameEnds, IsAtPosition, Keeps, KeepsUnder, no_base, placement_of}
-use Rattle.amber_worker.specs.Pairs.{AreJoined, PassesOn, StaysAt}
+use Rattle.amber_meaning.specs.State.{State, position_at}
+use Rattle.amber_worker.specs.AtPosition.{HasSameEnds, IsAtPosition, Keeps, KeepsUnder, no_base}
+use Rattle.amber_worker.specs.Pairs.{AreJoined, StaysAt}
 use Rattle.amber_worker.specs.WorkerState.{WorkerState}
 use Rattle.amber_worker.proofs.Turns.{ends-same}
-use Rattle.amber_home.specs.AtWork.{AreAtPositions, AreJoinedAt, no_worker_state, placement_at, worker_state_at}
+use Rattle.amber_home.specs.AtWork.{AreJoinedAt, no_worker_state, placement_at, worker_state_at}
 use Rattle.amber_home.proofs.Linked.{joined-still}
 
 -- ---- positions

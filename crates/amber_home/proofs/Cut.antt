@@ -1,17 +1,15 @@
 -- What a close leaves in force is what the definitions say.
-use Rattle.std.proofs.Common.{◌≡◌, refl, sym, ap, subst, ◌∙◌, ℕ, ◌<◌, ◌≤◌, nat_le, List, [], ◌∷◌, length, map, Bool, true, false, Option, None, Some, unwrap_or, if◌then◌else◌}
-use Rattle.amber_rows.specs.Crew.{crew_of, workers_of}
-use Rattle.amber_rows.specs.Lists.{nth}
-use Rattle.amber_rows.specs.declared.flow.Operator.{Operator}
+use Rattle.std.proofs.Common.{◌≡◌, refl, sym, ap, ◌∙◌, ℕ, nat_le, List, [], ◌∷◌, map, Bool, true, false, Option, None, Some, if◌then◌else◌}
+use Rattle.amber_rows.specs.Crew.{workers_of}
 use Rattle.amber_log.specs.declared.leg.Close.{Close}
 use Rattle.amber_log.specs.declared.leg.Close.TheVariants as close
 use Rattle.amber_meaning.specs.Legal.{Query}
 use Rattle.amber_meaning.specs.Position.{Position}
-use Rattle.amber_meaning.specs.State.{Arms, Counting, State, arms_at, emitted_by, no_arms}
+use Rattle.amber_meaning.specs.State.{State, arms_at}
 use Rattle.amber_meaning.specs.Stops.{arms_left, count_left, op_numbers, pause_left, without_stops}
 use Rattle.amber_worker.specs.WorkerState.{WorkerState}
-use Rattle.amber_home.specs.AtWork.{AreAtWork, worker_state_at}
-use Rattle.amber_home.specs.Leg.{Run, closed_arms, cut_arms, cut_at, emitted_at, is_paused, pause_at, stands_after}
+use Rattle.amber_home.specs.AtWork.{AreAtWork}
+use Rattle.amber_home.specs.Leg.{Run, closed_arms, cut_at, emitted_at, stands_after}
 use Rattle.amber_home.specs.Parts.{state_reached}
 use Rattle.amber_home.proofs.Closed.{closed_state}
 use Rattle.amber_home.proofs.Stopped.{emitted-is}

@@ -1,6 +1,5 @@
 -- A run that has not begun is at home.
-use Rattle.std.proofs.Common.{◌≡◌, refl, sym, subst, ◌∙◌, ap, ℕ, ◌<◌, ◌≤◌, ◌^◌, List, [], length}
-use Rattle.amber_rows.specs.Crew.{crew_of}
+use Rattle.std.proofs.Common.{◌≡◌, refl, sym, subst, ℕ, ◌<◌, ◌≤◌, ◌^◌, List, []}
 use Rattle.amber_rows.specs.declared.flow.Operator.{Operator}
 use Rattle.amber_log.specs.Grammar.{AreItems}
 use Rattle.amber_log.specs.declared.log.Item.{Item}
@@ -8,13 +7,12 @@ use Rattle.amber_lines.specs.KeptStops.{kept_stops, stops_along}
 use Rattle.amber_lines.specs.Moving.{orders_in}
 use Rattle.amber_meaning.specs.declared.view.Stop.{Stop}
 use Rattle.amber_meaning.specs.Legal.{IsLegal, Query, Reaches, query_over}
-use Rattle.amber_meaning.specs.Position.{Position, origin}
+use Rattle.amber_meaning.specs.Position.{origin}
 use Rattle.amber_meaning.specs.Replay.{after_items, state_after}
-use Rattle.amber_meaning.specs.State.{Arms, State, position_at, start_of}
+use Rattle.amber_meaning.specs.State.{Arms, position_at, start_of}
 use Rattle.amber_worker.specs.AtPosition.{IsAtPosition, no_base}
 use Rattle.amber_worker.specs.WorkerState.{WorkerState}
 use Rattle.amber_home.specs.AtWork.{AreAtWork, placement_at, worker_state_at}
-use Rattle.amber_home.specs.HomeState.{HomeState}
 use Rattle.amber_home.specs.Kept.{IsHome}
 use Rattle.amber_home.specs.declared.phase.Phase.TheVariants as phase
 use Rattle.amber_home.proofs.Begun.{start-position}

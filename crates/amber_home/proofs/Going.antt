@@ -1,11 +1,8 @@
 -- Workers that go on.
-use Rattle.std.proofs.Common.{◌≡◌, ◌≢◌, refl, sym, ap, ◌∙◌, ℕ, ◌+◌, ◌<◌, List, length, get_or, true, false, inl, inr, arith}
+use Rattle.std.proofs.Common.{◌≡◌, refl, sym, ap, ◌∙◌, ℕ, ◌+◌, ◌<◌, List, length, get_or, true, inl, inr, arith}
 use Rattle.std.proofs.lemmas.Bool.Decides.{eqb_tells}
-use Rattle.amber_meaning.specs.Legal.{Query}
-use Rattle.amber_meaning.specs.Position.{Position}
-use Rattle.amber_meaning.specs.State.{State}
 use Rattle.amber_worker.specs.WorkerState.{WorkerState}
-use Rattle.amber_home.specs.AtWork.{AreAtWork, GoOn, HaveFinished, IsCrew, IsSameBesides, MovesOnly, worker_state_at}
+use Rattle.amber_home.specs.AtWork.{GoOn, HaveFinished, IsCrew, MovesOnly, worker_state_at}
 use Rattle.amber_home.proofs.Split.{read-at}
 
 pub on-refl : (crew : List WorkerState) → GoOn crew crew

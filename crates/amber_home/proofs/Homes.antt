@@ -1,9 +1,8 @@
 -- What a home keeps from call to call.
-use Rattle.std.proofs.Common.{◌≡◌, refl, sym, ap, subst, ◌∙◌, ℕ, zero, suc, ◌+◌, ◌-◌, ◌<◌, ◌≤◌, ◌^◌, List, [], ◌∷◌, ◌++◌, length, map, take, drop, append-nil, Bool, true, false, if◌then◌else◌, arith}
-use Rattle.std.proofs.lemmas.List.{drop_all, length-map, take_all}
+use Rattle.std.proofs.Common.{◌≡◌, refl, sym, ap, subst, ◌∙◌, ℕ, ◌+◌, ◌-◌, ◌≤◌, List, [], ◌∷◌, ◌++◌, length, map, take, drop, append-nil, Bool, true, false, if◌then◌else◌, arith}
+use Rattle.std.proofs.lemmas.List.{drop_all, take_all}
 use Rattle.amber_log.specs.Grammar.{ends_over}
 use Rattle.amber_meaning.specs.declared.view.Stop.{Stop}
-use Rattle.amber_meaning.specs.Legal.{IsLegal}
 use Rattle.amber_meaning.specs.State.{Arms, without_arms}
 use Rattle.amber_worker.specs.Changes.{with_leg}
 use Rattle.amber_worker.specs.WorkerState.{WorkerState}
@@ -12,7 +11,7 @@ use Rattle.amber_log.specs.declared.leg.Close.{Close}
 use Rattle.amber_home.specs.AtWork.{GoOn, steps_by}
 use Rattle.amber_home.specs.Leg.{IsLegDone}
 use Rattle.amber_home.specs.HomeState.{ClosesIn, HomeState, is_open, query_of, runs_to_end, state_of}
-use Rattle.amber_home.specs.Kept.{IsAtRest, IsHome, IsWithinLeg, StandsIn}
+use Rattle.amber_home.specs.Kept.{IsAtRest, IsHome, StandsIn}
 use Rattle.amber_home.specs.Parts.{open_parts, parts_from}
 use Rattle.amber_home.specs.declared.phase.Phase.{Phase}
 use Rattle.amber_home.specs.declared.phase.Phase.TheVariants as phase

@@ -1,13 +1,11 @@
 -- A home within a leg: what its workers need to go on, and how they may be closed.
-use Rattle.std.proofs.Common.{◌≡◌, refl, sym, ap, subst, ◌∙◌, ℕ, ◌+◌, ◌-◌, ◌<◌, ◌≤◌, ◌^◌, List, [], length, map, Bool, true, false, Option, None, unwrap_or, if◌then◌else◌, arith}
+use Rattle.std.proofs.Common.{◌≡◌, refl, sym, ap, subst, ◌∙◌, ℕ, ◌<◌, ◌≤◌, List, length, map, Bool, true, false, None, if◌then◌else◌}
 use Rattle.std.proofs.lemmas.List.{length-map}
-use Rattle.amber_rows.specs.Crew.{crew_of, op_of}
-use Rattle.amber_rows.specs.FlowRules.{IsFlow}
+use Rattle.amber_rows.specs.Crew.{crew_of}
 use Rattle.amber_log.specs.declared.leg.Close.{Close}
-use Rattle.amber_meaning.specs.declared.view.Stop.{Stop}
 use Rattle.amber_meaning.specs.Legal.{IsLegal, leg_start}
 use Rattle.amber_meaning.specs.Position.{Position}
-use Rattle.amber_meaning.specs.State.{Arms, State, arms_at, begin_last_leg, begin_leg, let_go, no_arms, position_at, steps_in, without_arms}
+use Rattle.amber_meaning.specs.State.{Arms, State, begin_last_leg, begin_leg, let_go, position_at, without_arms}
 use Rattle.amber_meaning.proofs.OneState.{legal_logs_have_one_state}
 use Rattle.amber_meaning.proofs.Rest.{legal_logs_rest}
 use Rattle.amber_meaning.proofs.Senders.{flows_send_forward}
@@ -15,7 +13,7 @@ use Rattle.amber_worker.specs.WorkerState.{WorkerState}
 use Rattle.amber_home.specs.AtWork.{GoOn, IsCrew, steps_by}
 use Rattle.amber_home.specs.HomeState.{ClosesIn, HomeState, leg_state, query_of, rest_state}
 use Rattle.amber_home.specs.Kept.{IsWithinLeg}
-use Rattle.amber_home.specs.Leg.{IsLegDone, Run, pause_at}
+use Rattle.amber_home.specs.Leg.{IsLegDone, pause_at}
 use Rattle.amber_home.specs.Parts.{parts_from, state_reached}
 use Rattle.amber_home.proofs.Opened.{arms-map, position-start}
 use Rattle.amber_home.proofs.Stopped.{may-close}

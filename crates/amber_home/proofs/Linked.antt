@@ -1,12 +1,12 @@
 -- The link of two workers, where one of them makes a turn or passes batches on.
-use Rattle.std.proofs.Common.{◌≡◌, ◌≢◌, refl, sym, ap, ◌∙◌, ℕ, zero, suc, ◌<◌, List, [], ◌∷◌, length, get_or, map, set, Bool, true, false, subst, arith, length-set, get_or-set_other}
-use Rattle.rtrb.specs.Ring.{known_items, received, sent}
-use Rattle.amber_link.specs.Links.{AreLinked, AreSettled, has_some}
-use Rattle.amber_link.specs.Sides.{AreSameReceivers, AreSameSenders, IsSameReceiver, IsSameSender, Pairwise}
+use Rattle.std.proofs.Common.{◌≡◌, ◌≢◌, sym, ap, ◌∙◌, ℕ, zero, suc, ◌<◌, List, [], ◌∷◌, length, get_or, false, arith, length-set, get_or-set_other}
+use Rattle.rtrb.specs.Ring.{sent}
+use Rattle.amber_link.specs.Links.{has_some}
+use Rattle.amber_link.specs.Sides.{IsSameReceiver, IsSameSender, Pairwise}
 use Rattle.amber_link.specs.declared.receivers.Receiver.{Receiver}
 use Rattle.amber_link.specs.declared.senders.Sender.{Sender}
 use Rattle.amber_link.proofs.LinkEnds.{linked-still, none-first, settled-by}
-use Rattle.amber_link.proofs.Sides.{get_or-any, map-at, map-length, pairwise-length}
+use Rattle.amber_link.proofs.Sides.{get_or-any, map-at, pairwise-length}
 use Rattle.amber_worker.specs.AtPosition.{HasSameEnds}
 use Rattle.amber_worker.specs.Links.{HaveSentNothing}
 use Rattle.amber_worker.specs.Pairs.{AreJoined, AreSettledAt, IsLinkAt, PassesOn}

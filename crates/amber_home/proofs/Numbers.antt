@@ -1,5 +1,5 @@
 -- Which workers a worker sends to, and which send to it, at which places, does not change.
-use Rattle.std.proofs.Common.{◌≡◌, refl, sym, ap, ◌∙◌, ℕ, zero, suc, ◌<◌, nat_eq, List, [], ◌∷◌, length, get_or, map, true, arith}
+use Rattle.std.proofs.Common.{◌≡◌, refl, sym, ap, ◌∙◌, ℕ, ◌<◌, nat_eq, List, [], ◌∷◌, length, get_or, map}
 use Rattle.std.specs.List.{list_any}
 use Rattle.amber_rows.specs.Crew.{receivers_of, senders_of}
 use Rattle.amber_rows.specs.declared.batch.Batch.{Batch}

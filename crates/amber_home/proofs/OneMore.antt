@@ -1,5 +1,5 @@
 -- A leg goes on by one step.
-use Rattle.std.proofs.Common.{◌≡◌, refl, sym, ap, subst, ◌∙◌, ℕ, ◌+◌, ◌-◌, ◌<◌, ◌≤◌, ◌^◌, List, ◌++◌, length, take, drop, Bool, true, false, arith}
+use Rattle.std.proofs.Common.{◌≡◌, refl, sym, ap, subst, ◌∙◌, ℕ, ◌+◌, ◌-◌, ◌<◌, ◌≤◌, List, ◌++◌, length, take, drop, Bool, true, false, arith}
 use Rattle.std.specs.List.{list_all}
 use Rattle.std.proofs.lemmas.Bool.{false≢true}
 use Rattle.amber_meaning.specs.declared.view.Stop.{Stop}
@@ -9,14 +9,13 @@ use Rattle.amber_worker.specs.WorkerState.{WorkerState}
 use Rattle.amber_home.specs.AtWork.{GoOn, IsCrew, steps_by}
 use Rattle.amber_home.specs.HomeState.{HomeState, StepsOn, has_crew, is_open, query_of, state_of}
 use Rattle.amber_home.specs.Kept.{IsHome}
-use Rattle.amber_home.specs.Parts.{open_parts, state_reached}
+use Rattle.amber_home.specs.Parts.{open_parts}
 use Rattle.amber_home.specs.declared.phase.Phase.{Phase}
 use Rattle.amber_home.specs.declared.phase.Phase.TheVariants as phase
 use Rattle.amber_home.proofs.Homes.{home-ran, written-back}
-use Rattle.amber_home.proofs.Legs.{crew-here}
 use Rattle.amber_home.proofs.Saying.{StandsSomewhere, in_phase, stands-somewhere}
 use Rattle.amber_home.proofs.Stopped.{all-have}
-use Rattle.amber_home.proofs.Whole.{steps-are, steps-small}
+use Rattle.amber_home.proofs.Whole.{steps-are}
 use Rattle.amber_home.proofs.Within.{finished-reached}
 
 open-there : (now : Phase) → is_open now ≡ true → has_crew now ≡ true

@@ -1,5 +1,5 @@
 -- A receiver stands at one place alone.
-use Rattle.std.proofs.Common.{◌≡◌, ◌≢◌, refl, sym, ap, ◌∙◌, ℕ, zero, suc, ◌<◌, eqb, nat_eq, List, [], ◌∷◌, length, get_or, Bool, true, false, ◌⊎◌, inl, inr, subst, arith}
+use Rattle.std.proofs.Common.{◌≡◌, refl, sym, ap, ◌∙◌, ℕ, zero, suc, ◌<◌, eqb, nat_eq, List, [], ◌∷◌, length, get_or, Bool, true, false, ◌⊎◌, inl, inr, subst, arith}
 use Rattle.std.specs.List.{list_any}
 use Rattle.std.proofs.lemmas.Bool.{eq-eqb, false≢true, or_cases, or_left, or_right, eqb-true}
 use Rattle.amber_rows.specs.declared.batch.Batch.{Batch}
@@ -12,7 +12,7 @@ use Rattle.amber_worker.specs.WorkerState.{WorkerState}
 use Rattle.amber_home.specs.AtWork.{IsJoinedCrew, worker_state_at}
 use Rattle.amber_home.specs.Passing.{Come, Settled}
 use Rattle.amber_home.proofs.Linked.{settled-come}
-use Rattle.amber_home.proofs.Sending.{IsSending, number-shown, sending-in, sending-out}
+use Rattle.amber_home.proofs.Sending.{IsSending, sending-in, sending-out}
 use Rattle.amber_home.proofs.Split.{read-at}
 
 is-receiver : (placement : Placement) (receivers : List ℕ) (rows : List (List Value)) (ended : Bool) (gave : ℕ → List Batch) (outs : List Receiver) (j n : ℕ) (d : Receiver) → j < length outs

@@ -1,28 +1,25 @@
 -- A leg is opened: the workers stand where it begins.
-use Rattle.std.proofs.Common.{◌≡◌, ◌≢◌, refl, sym, ap, subst, ◌∙◌, ℕ, zero, suc, ◌+◌, ◌-◌, ◌<◌, ◌≤◌, ◌^◌, List, [], ◌∷◌, ◌++◌, length, map, take, get_or, sum_by, nat_eq, Bool, true, false, Option, None, Some, is_some, unwrap_or, option_map, if◌then◌else◌, add-one, arith}
+use Rattle.std.proofs.Common.{◌≡◌, refl, sym, ap, subst, ◌∙◌, ℕ, zero, suc, ◌-◌, ◌<◌, ◌≤◌, List, [], ◌∷◌, ◌++◌, length, map, take, nat_eq, Bool, true, false, None, is_some, unwrap_or, if◌then◌else◌, add-one, arith}
 use Rattle.std.specs.List.{slice_get}
 use Rattle.std.proofs.lemmas.List.{map-append, take_all, length-map}
 use Rattle.std.proofs.lemmas.Grind.{take_at_read}
 use Rattle.std.proofs.Math.ListN.{get_or-map}
 use Rattle.amber_rows.specs.Crew.{crew_of, op_of}
-use Rattle.amber_rows.specs.Lists.{numbers_below, nth}
-use Rattle.amber_log.specs.declared.log.Log.{Log}
+use Rattle.amber_rows.specs.Lists.{numbers_below}
 use Rattle.amber_log.specs.Grammar.{ends_over}
 use Rattle.amber_lines.specs.Moving.{orders_in}
 use Rattle.amber_meaning.specs.declared.view.Stop.{Stop}
 use Rattle.amber_meaning.specs.Legal.{IsLegal, Query, leg_start}
 use Rattle.amber_meaning.specs.Position.{Position, origin}
-use Rattle.amber_meaning.specs.Rules.{Orders}
 use Rattle.amber_meaning.specs.State.{Arms, State, arms_at, begin_last_leg, begin_leg, let_go, no_arms, orders_of, position_at, steps_in, without_arms}
-use Rattle.amber_meaning.specs.Replay.{state_after}
 use Rattle.amber_meaning.proofs.OneState.{legal_logs_have_one_state, position-get_or}
 use Rattle.amber_meaning.proofs.Rest.{legal_logs_rest}
 use Rattle.amber_meaning.proofs.Senders.{flows_send_forward}
-use Rattle.amber_worker.specs.AtPosition.{IsAtPosition, no_base}
+use Rattle.amber_worker.specs.AtPosition.{no_base}
 use Rattle.amber_worker.specs.Changes.{StandsAtLeg, with_leg}
-use Rattle.amber_worker.specs.WorkerState.{WorkerState, steps_made}
+use Rattle.amber_worker.specs.WorkerState.{WorkerState}
 use Rattle.amber_worker.proofs.Commands.{stands-begun}
-use Rattle.amber_home.specs.AtWork.{AreAtWork, IsQuiet, no_worker_state, placement_at, steps_by, worker_state_at}
+use Rattle.amber_home.specs.AtWork.{IsQuiet, placement_at, steps_by, worker_state_at}
 use Rattle.amber_home.specs.HomeState.{HomeState, query_of, rest_state}
 use Rattle.amber_home.specs.Kept.{IsAtRest, IsWithinLeg}
 use Rattle.amber_home.specs.Parts.{state_reached}

@@ -1,9 +1,7 @@
 -- The parts of a leg are those of its workers, by rising numbers.
 use Rattle.std.proofs.Common.{◌≡◌, refl, sym, ap, ◌∙◌, ℕ, zero, suc, ◌+◌, ◌<◌, ◌≤◌, ◌^◌, List, [], ◌∷◌, ◌++◌, length, get_or, nat_eq, Bool, true, false, if◌then◌else◌, ◌⊎◌, inl, inr, append-nil, add-zero, arith}
-use Rattle.std.proofs.Common.{map, take, drop, set, ◌-◌, append_assoc}
-use Rattle.std.proofs.lemmas.List.{drop_all, drop_more, get_or-append_right, get_or-drop, length-map, length-take-le, map-append}
-use Rattle.std.proofs.lemmas.Grind.{take_at_read}
-use Rattle.std.proofs.Math.Seq.{set-append_seam}
+use Rattle.std.proofs.Common.{map, take, drop, append_assoc}
+use Rattle.std.proofs.lemmas.List.{drop_all, drop_more}
 use Rattle.std.specs.List.{list_any}
 use Rattle.std.proofs.lemmas.Bool.{eq-eqb, eqb-true, false≢true, ne_eqb, or_cases}
 use Rattle.amber_log.specs.Grammar.{AreEntries, AreParts}

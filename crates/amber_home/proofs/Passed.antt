@@ -1,14 +1,9 @@
 -- What stays where batches go on from one worker to another.
-use Rattle.std.proofs.Common.{◌≡◌, ◌≢◌, refl, sym, ap, subst, ◌∙◌, ℕ, ◌<◌, List, length, set, nat_eq, true, inl, inr, arith, get_or-set_same, get_or-set_other, length-set}
-use Rattle.std.proofs.lemmas.Bool.Decides.{eqb_tells}
+use Rattle.std.proofs.Common.{◌≡◌, ◌≢◌, refl, sym, ap, subst, ◌∙◌, ℕ, ◌<◌, List, length, set, nat_eq, true, arith, length-set}
 use Rattle.std.specs.List.{list_any}
-use Rattle.amber_link.specs.Links.{has_some}
-use Rattle.amber_meaning.specs.Legal.{Query}
-use Rattle.amber_meaning.specs.Position.{Position}
-use Rattle.amber_meaning.specs.State.{State}
-use Rattle.amber_worker.specs.Pairs.{AreJoined, AreSettledAt}
+use Rattle.amber_worker.specs.Pairs.{AreJoined}
 use Rattle.amber_worker.specs.WorkerState.{WorkerState}
-use Rattle.amber_home.specs.AtWork.{AllHasCome, AreJoinedAt, IsJoinedCrew, IsSameBesides, StayPut, worker_state_at}
+use Rattle.amber_home.specs.AtWork.{AreJoinedAt, IsJoinedCrew, IsSameBesides, StayPut, worker_state_at}
 use Rattle.amber_home.specs.Passing.{AreSameBesides, Come, PassedOn, Settled, SettledStay}
 use Rattle.amber_home.proofs.Crews.{at-each, here-now, joined-stays, there-still}
 use Rattle.amber_home.proofs.Linked.{come-aside, come-settled, settled-aside, settled-beside, settled-same}

@@ -1,5 +1,5 @@
 -- The rows that an operator's workers have emitted, and whether its pause stands.
-use Rattle.std.proofs.Common.{◌≡◌, ◌≢◌, refl, sym, ap, ◌∙◌, ℕ, zero, suc, ◌+◌, ◌-◌, ◌*◌, ◌^◌, ◌<◌, ◌≤◌, List, [], ◌∷◌, ◌++◌, length, get_or, map, sum_by, true, false, inl, inr, arith, add-one, zero-add}
+use Rattle.std.proofs.Common.{◌≡◌, ◌≢◌, refl, sym, ap, ◌∙◌, ℕ, ◌+◌, ◌-◌, ◌*◌, ◌^◌, ◌<◌, ◌≤◌, List, [], ◌∷◌, ◌++◌, length, get_or, map, sum_by, true, false, inl, inr, arith, add-one, zero-add}
 use Rattle.std.proofs.lemmas.List.{map-append}
 use Rattle.std.proofs.lemmas.List.Sums.{sum_by-append, sum_by-cons}
 use Rattle.std.proofs.lemmas.Bool.Decides.{eqb_tells}
@@ -10,7 +10,7 @@ use Rattle.amber_rows.specs.declared.flow.Operator.{Operator}
 use Rattle.amber_rows.proofs.CrewFacts.{count-there}
 use Rattle.amber_meaning.proofs.Crews.{place-worker, worker-known, worker-op}
 use Rattle.amber_meaning.proofs.Numbers.{among, among-first, among-more}
-use Rattle.amber_worker.specs.WorkerState.{WorkerState, steps_made}
+use Rattle.amber_worker.specs.WorkerState.{WorkerState}
 use Rattle.amber_home.specs.AtWork.{MovesOnly, steps_by, worker_state_at}
 use Rattle.amber_home.specs.Leg.{NonePaused, Run, emitted_at, is_paused, pause_at, stands_after}
 use Rattle.amber_home.proofs.Split.{read-at}

@@ -1,24 +1,20 @@
 -- The state that workers reach at these positions.
-use Rattle.std.proofs.Common.{◌≡◌, refl, sym, ap, ◌∙◌, ℕ, zero, suc, ◌+◌, ◌<◌, ◌≤◌, List, [], ◌∷◌, ◌++◌, length, map, take, get_or, length-append, if◌then◌else◌, ◌-◌, ◌&&◌, inl, inr, add-one, nat_eq, replicate, sum_by, Bool, true, false, Option, Some, None, unwrap_or, option_map, arith}
-use Rattle.std.specs.List.{list_all, slice_get}
+use Rattle.std.proofs.Common.{◌≡◌, refl, sym, ap, ◌∙◌, ℕ, zero, suc, ◌+◌, ◌<◌, ◌≤◌, List, [], ◌∷◌, ◌++◌, length, map, take, length-append, ◌&&◌, inl, inr, add-one, sum_by, Bool, true, false, arith}
+use Rattle.std.specs.List.{list_all}
 use Rattle.std.proofs.lemmas.Bool.{false≢true}
 use Rattle.std.proofs.lemmas.Bool.Decides.{eqb_tells}
 use Rattle.std.proofs.lemmas.List.{map-append}
 use Rattle.std.proofs.lemmas.List.Sums.{sum_by-append}
 use Rattle.std.proofs.lemmas.Grind.{take_at_read}
-use Rattle.std.proofs.Math.ListN.{get_or-map}
-use Rattle.amber_rows.specs.Lists.{numbers_below, nth}
-use Rattle.amber_rows.specs.Crew.{crew_of, kind_at, op_of, what_at}
-use Rattle.amber_rows.specs.declared.flow.Operator.{Operator}
+use Rattle.amber_rows.specs.Lists.{numbers_below}
 use Rattle.amber_log.specs.declared.entry.Entry.{Entry}
 use Rattle.amber_log.specs.declared.entry.Entry.TheVariants as entry
-use Rattle.amber_meaning.specs.Position.{Position, origin, steps_of}
+use Rattle.amber_meaning.specs.Position.{Position, steps_of}
 use Rattle.amber_meaning.specs.Rules.{Leads, Moves, Orders}
-use Rattle.amber_meaning.specs.State.{arms_at, begin_last_leg, without_arms, first_constants, let_go, no_arms, orders_of, position_at, start_of}
+use Rattle.amber_meaning.specs.State.{position_at}
 use Rattle.amber_meaning.specs.Task.{Role}
 use Rattle.amber_meaning.proofs.Lists.{list_all-at, list_all-below}
-use Rattle.amber_meaning.proofs.OneState.{position-before, position-get_or, position-last}
-use Rattle.amber_worker.specs.AtPosition.{first_orders}
+use Rattle.amber_meaning.proofs.OneState.{position-before, position-last}
 use Rattle.amber_worker.specs.WorkerState.{WorkerState}
 use Rattle.amber_worker.specs.WorkerState as worker_state
 use Rattle.amber_home.specs.AtWork.{no_worker_state, worker_state_at, steps_by}

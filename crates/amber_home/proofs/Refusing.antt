@@ -1,10 +1,10 @@
 -- What all workers have refused, put in order, is what the answer says.
-use Rattle.std.proofs.Common.{◌≡◌, refl, sym, ap, ◌∙◌, ℕ, zero, suc, ◌+◌, ◌<◌, ◌≤◌, List, [], ◌∷◌, ◌++◌, length, map, take, Result, Ok, Err, Bool, true, false, if◌then◌else◌, cond, append-nil, arith}
-use Rattle.std.specs.List.{flat_map, list_all}
+use Rattle.std.proofs.Common.{◌≡◌, refl, sym, ap, ◌∙◌, ℕ, zero, suc, ◌<◌, ◌≤◌, List, [], ◌∷◌, ◌++◌, length, map, take, Ok, Err, Bool, true, false, cond, append-nil, arith}
+use Rattle.std.specs.List.{flat_map}
 use Rattle.std.proofs.lemmas.Bool.{false≢true}
 use Rattle.std.proofs.lemmas.Grind.{flat_map-append}
 use Rattle.std.proofs.lemmas.List.{map-append}
-use Rattle.amber_rows.specs.Crew.{crew_of, op_of, what_at, workers_of}
+use Rattle.amber_rows.specs.Crew.{crew_of, what_at, workers_of}
 use Rattle.amber_rows.specs.Kinds.{is_scan}
 use Rattle.amber_rows.specs.Lists.{numbers_below}
 use Rattle.amber_rows.specs.Order.{sort_rows}
@@ -20,7 +20,7 @@ use Rattle.amber_meaning.specs.Refused.{refusal_in, refused_groups, refused_in}
 use Rattle.amber_meaning.specs.State.{State, position_at}
 use Rattle.amber_meaning.specs.Stops.{op_numbers}
 use Rattle.amber_meaning.specs.Task.{Arrival, Task}
-use Rattle.amber_meaning.specs.Views.{by_number, insert_numbered, op_refuses, taken_by, taken_of, worker_refuses}
+use Rattle.amber_meaning.specs.Views.{by_number, op_refuses, taken_by, taken_of, worker_refuses}
 use Rattle.amber_meaning.specs.declared.answer.Refusal.{Refusal}
 use Rattle.amber_meaning.specs.declared.answer.Refusal.TheVariants as refusal
 use Rattle.amber_meaning.proofs.Crews.{worker-known, worker-op}

@@ -1,18 +1,15 @@
 -- Workers with the same ends of their links that stand somewhere under what another state has in force.
-use Rattle.std.proofs.Common.{◌≡◌, ◌≢◌, refl, sym, ap, subst, ◌∙◌, ℕ, ◌<◌, List, [], ◌∷◌, length, map, get_or, None, Some, true, false, is_some}
-use Rattle.amber_rows.specs.Crew.{crew_of, op_of}
+use Rattle.std.proofs.Common.{◌≡◌, sym, subst, ◌∙◌, ℕ, ◌<◌, List, length}
+use Rattle.amber_rows.specs.Crew.{crew_of}
 use Rattle.amber_link.specs.Sides.{AreSameReceivers, AreSameSenders}
 use Rattle.amber_link.proofs.SameEnds.{receivers-same, senders-same}
 use Rattle.amber_lines.specs.Moving.{orders_in}
 use Rattle.amber_meaning.specs.Legal.{Query}
 use Rattle.amber_meaning.specs.Position.{Position}
-use Rattle.amber_meaning.specs.Rules.{Orders}
-use Rattle.amber_meaning.specs.State.{Arms, State, arms_at, orders_of, position_at}
+use Rattle.amber_meaning.specs.State.{State, arms_at, position_at}
 use Rattle.amber_worker.specs.AtPosition.{HasSameEnds, IsAtPosition, no_base}
 use Rattle.amber_worker.specs.WorkerState.{WorkerState}
-use Rattle.amber_worker.proofs.Settling.{IsAtPosition-without_journal}
 use Rattle.amber_home.specs.AtWork.{AreAtWork, IsQuiet, placement_at, worker_state_at}
-use Rattle.amber_home.specs.Parts.{without_journal}
 use Rattle.amber_home.proofs.Crews.{joined-each}
 use Rattle.amber_home.proofs.Linked.{settled-same}
 

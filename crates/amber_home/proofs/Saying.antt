@@ -1,5 +1,6 @@
 -- What is said of the workers is said of the state.
-use Rattle.std.proofs.Common.{◌≡◌, refl, sym, ap, subst, ◌∙◌, ℕ, ◌<◌, List, length, Bool, true, false, Result, Ok, Err, IfOk}
+use Rattle.std.proofs.Common.{◌≡◌, refl, sym, ap, ◌∙◌, ℕ, List, length, Bool, true, false, Result, Ok, Err, IfOk}
+use Rattle.std.specs.Result.{MatchResult}
 use Rattle.std.proofs.lemmas.Bool.{false≢true}
 use Rattle.amber_rows.specs.Crew.{crew_of}
 use Rattle.amber_meaning.specs.declared.answer.Answer.{Answer}
@@ -71,6 +72,10 @@ module _ (e : HomeState) (crew : List WorkerState) (arms : List Arms) (stops : L
 pub ok-map : {A E : Type 0} {P Q : A → Type 0} (result : Result A E) → ((x : A) → P x → Q x) → IfOk result P → IfOk result Q
 ok-map (Ok x) change h = change x h
 ok-map (Err error) change h = tt
+
+pub ok-copy : {A E : Type 0} {P Q : A → Type 0} (R : E → Type 0) (result : Result A E) → ((x : A) → P x → Q x) → MatchResult result P R → IfOk result Q
+ok-copy R (Ok x) change h = change x h
+ok-copy R (Err error) change h = tt
 
 -- ---- what an operator shows
 

@@ -1,5 +1,5 @@
 -- A turn of one worker, and then its links settled again: all are at work.
-use Rattle.std.proofs.Common.{◌≡◌, ◌≢◌, refl, sym, ap, subst, ◌∙◌, ℕ, zero, suc, ◌+◌, ◌<◌, List, [], ◌∷◌, length, get_or, set, nat_eq, Bool, true, false, inl, inr, arith, length-set}
+use Rattle.std.proofs.Common.{◌≡◌, ◌≢◌, refl, sym, ap, subst, ◌∙◌, ℕ, suc, ◌+◌, ◌<◌, List, [], ◌∷◌, length, get_or, set, nat_eq, Bool, true, false, arith, length-set}
 use Rattle.std.specs.List.{list_any}
 use Rattle.amber_meaning.specs.Legal.{Query}
 use Rattle.amber_meaning.specs.Position.{Position}
@@ -9,13 +9,11 @@ use Rattle.amber_worker.specs.Changes.{wants_batch}
 use Rattle.amber_worker.specs.Links.{HaveSentNothing}
 use Rattle.amber_worker.specs.WorkerState.{WorkerState, steps_made}
 use Rattle.amber_worker.specs.declared.turn.Turn.{Turn}
-use Rattle.amber_home.specs.AtWork.{AreAtWork, AreJoinedAt, GoOn, HaveFinished, IsCrew, IsJoinedCrew, IsSameBesides, MovesOnly, SendsTo, StayPut, steps_by, worker_state_at}
+use Rattle.amber_home.specs.AtWork.{AreAtWork, AreJoinedAt, GoOn, HaveFinished, IsCrew, IsJoinedCrew, MovesOnly, SendsTo, StayPut, steps_by, worker_state_at}
 use Rattle.amber_home.specs.Passing.{AreSameBesides, Come, Settled, SettledStay}
 use Rattle.amber_home.proofs.Crews.{at-each, here-now, joined-turned, placed, there-still}
 use Rattle.amber_home.proofs.Linked.{come-turned, settled-same}
-use Rattle.amber_home.proofs.Numbers.{length-put}
-use Rattle.amber_home.proofs.Passed.{same-besides, stay-then}
-use Rattle.amber_home.proofs.Sending.{number-shown, sending, sending-in, sending-out}
+use Rattle.amber_home.proofs.Sending.{sending, sending-out}
 use Rattle.amber_home.proofs.Split.{read-at}
 use Rattle.amber_home.proofs.Steps.{moves, steps-cons, sum-more}
 

@@ -1,5 +1,5 @@
 -- The stops of the state that workers reached are those that they show.
-use Rattle.std.proofs.Common.{◌≡◌, ◌≢◌, refl, sym, ap, subst, ◌∙◌, ℕ, zero, suc, ◌+◌, ◌-◌, ◌<◌, ◌≤◌, List, [], ◌∷◌, ◌++◌, length, map, get_or, sum_by, eqb, nat_eq, nat_le, Bool, true, false, Option, None, Some, is_some, unwrap_or, if◌then◌else◌, ◌&&◌, ◌⊎◌, inl, inr, add-one, arith}
+use Rattle.std.proofs.Common.{◌≡◌, ◌≢◌, refl, sym, ap, ◌∙◌, ℕ, zero, suc, ◌+◌, ◌-◌, ◌<◌, ◌≤◌, List, [], ◌∷◌, ◌++◌, length, map, sum_by, nat_le, Bool, true, false, Option, None, Some, unwrap_or, if◌then◌else◌, ◌&&◌, ◌⊎◌, inl, inr, add-one, arith}
 use Rattle.std.specs.List.{flat_map, list_all, slice_get}
 use Rattle.std.proofs.lemmas.Bool.{and_parts, cases_lt, false≢true}
 use Rattle.std.proofs.lemmas.List.Sums.{sum_by-cons}
@@ -14,10 +14,9 @@ use Rattle.amber_log.specs.declared.leg.Close.TheVariants as close
 use Rattle.amber_meaning.specs.declared.view.Stop.{Stop}
 use Rattle.amber_meaning.specs.declared.view.Stop.TheVariants as stop
 use Rattle.amber_meaning.specs.Legal.{IsSettled, Query, role_in, stops_in}
-use Rattle.amber_meaning.specs.Plan.{role_of}
 use Rattle.amber_meaning.specs.Position.{Position, emitted_count, pending_rows}
 use Rattle.amber_meaning.specs.Rules.{Leads, Moves, Orders, first_is_watched}
-use Rattle.amber_meaning.specs.State.{Arms, Counting, State, arms_at, crew_at, emitted_by, have_finished, no_arms, orders_of, position_at, steps_in}
+use Rattle.amber_meaning.specs.State.{Arms, State, arms_at, crew_at, emitted_by, have_finished, no_arms, position_at, steps_in}
 use Rattle.amber_meaning.specs.Stops.{count_stop, count_stops, end_stop, held_stop, held_stops, op_numbers, pause_stop, pause_stops, stops_of}
 use Rattle.amber_meaning.specs.Task.{Role}
 use Rattle.amber_meaning.proofs.Crews.{worker-known}

@@ -1,24 +1,21 @@
 -- What the workers of an operator show, and the operator.
 use Rattle.std.proofs.Common.{◌≡◌, refl, sym, ap, subst, ◌∙◌, ℕ, ◌+◌, ◌-◌, ◌<◌, ◌≤◌, List, [], ◌∷◌, ◌++◌, length, get_or, map, None, Option, option_map, true, unwrap_or, add-one, arith}
 use Rattle.std.proofs.lemmas.List.{map-append}
-use Rattle.amber_rows.specs.Crew.{crew_of, first_worker_of, op_of, worker_count, workers_of}
+use Rattle.amber_rows.specs.Crew.{first_worker_of, worker_count, workers_of}
 use Rattle.amber_rows.specs.Lists.{first_of, nth, numbers_below}
 use Rattle.amber_rows.specs.declared.flow.Operator.{Operator}
 use Rattle.amber_rows.specs.declared.value.Value.{Value}
-use Rattle.amber_meaning.specs.Legal.{Query, role_in}
-use Rattle.amber_meaning.specs.Plan.{role_of}
-use Rattle.amber_meaning.specs.Position.{Position}
-use Rattle.amber_meaning.specs.State.{Arms, State, arms_at, no_arms, position_at}
+use Rattle.amber_meaning.specs.Legal.{role_in}
+use Rattle.amber_meaning.specs.State.{Arms, no_arms, position_at}
 use Rattle.amber_meaning.specs.Views.{counted_view, inspected_of, view_of}
-use Rattle.amber_meaning.specs.declared.view.Inspected.{Inspected}
 use Rattle.amber_meaning.specs.declared.view.WorkerView.{WorkerView}
 use Rattle.amber_rows.proofs.CrewFacts.{count-there}
 use Rattle.amber_meaning.proofs.Crews.{worker-known}
 use Rattle.amber_meaning.proofs.Numbers.{among, among-first, among-more}
 use Rattle.amber_worker.specs.AtPosition.{IsViewOf, Shows, placement_of}
 use Rattle.amber_worker.specs.WorkerState.{WorkerState}
-use Rattle.amber_home.specs.Answers.{IsShownAt, ShowAll, ShowWorkers}
-use Rattle.amber_home.specs.AtWork.{AreAtWork, placement_at, worker_state_at}
+use Rattle.amber_home.specs.Answers.{IsShownAt, ShowWorkers}
+use Rattle.amber_home.specs.AtWork.{placement_at, worker_state_at}
 use Rattle.amber_home.specs.Parts.{state_reached}
 use Rattle.amber_home.proofs.Answered.{at-work-show}
 use Rattle.amber_home.proofs.Split.{read-at}

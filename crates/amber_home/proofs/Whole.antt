@@ -1,11 +1,9 @@
 -- A whole leg, and what a home says of its steps.
-use Rattle.std.proofs.Common.{◌≡◌, refl, sym, ap, subst, ◌∙◌, ℕ, zero, suc, ◌+◌, ◌-◌, ◌<◌, ◌≤◌, ◌^◌, List, [], ◌∷◌, length, get_or, Bool, true, false, Option, None, Some, arith}
+use Rattle.std.proofs.Common.{◌≡◌, sym, ap, subst, ◌∙◌, suc, ◌-◌, ◌<◌, ◌≤◌, ◌^◌, List, [], ◌∷◌, length, get_or, Bool, true, arith}
 use Rattle.std.proofs.lemmas.Bool.{false≢true}
-use Rattle.std.specs.List.{slice_get}
 use Rattle.amber_rows.specs.Crew.{crew_of}
 use Rattle.amber_log.specs.Grammar.{ends_over, is_last}
 use Rattle.amber_log.specs.declared.leg.Close.{Close}
-use Rattle.amber_log.specs.declared.leg.Close.TheVariants as close
 use Rattle.amber_log.specs.declared.log.Item.{Item}
 use Rattle.amber_meaning.specs.declared.view.Stop.{Stop}
 use Rattle.amber_meaning.specs.State.{Arms, State, position_at, steps_in}
@@ -15,7 +13,7 @@ use Rattle.amber_meaning.proofs.Senders.{flows_send_forward}
 use Rattle.amber_worker.specs.WorkerState.{WorkerState}
 use Rattle.amber_home.specs.AtWork.{steps_by}
 use Rattle.amber_home.specs.HomeState.{ClosesIn, ClosesLeg, HomeState, has_crew, query_of, rest_state, runs_to_end, state_of, with_leg}
-use Rattle.amber_home.specs.Kept.{IsAtRest, IsHome}
+use Rattle.amber_home.specs.Kept.{IsHome}
 use Rattle.amber_home.specs.Parts.{open_parts}
 use Rattle.amber_home.specs.declared.phase.Phase.{Phase}
 use Rattle.amber_home.specs.declared.phase.Phase.TheVariants as phase

@@ -1,29 +1,25 @@
 -- The state that workers reach within a leg, and that the leg is open there.
-use Rattle.std.proofs.Common.{◌≡◌, ◌≢◌, refl, sym, ap, subst, ◌∙◌, ℕ, zero, suc, ◌+◌, ◌<◌, ◌≤◌, ◌^◌, List, [], ◌∷◌, ◌++◌, length, map, filter, eqb, Bool, true, false, get_or, Option, None, Some, is_some, zero-add, append_assoc, arith}
+use Rattle.std.proofs.Common.{◌≡◌, refl, sym, ap, ◌∙◌, ℕ, ◌<◌, ◌≤◌, ◌^◌, List, [], ◌∷◌, length, true, false, get_or, None, Some, is_some, zero-add, arith}
 use Rattle.std.proofs.lemmas.List.{take_all}
-use Rattle.std.specs.List.{list_all, list_any}
-use Rattle.amber_rows.specs.Chunks.{chunks_of}
-use Rattle.amber_rows.specs.Crew.{crew_of, op_of, senders_of}
-use Rattle.amber_rows.specs.FlowRules.{IsFlow}
+use Rattle.amber_rows.specs.Crew.{crew_of, op_of}
 use Rattle.amber_lines.specs.Moving.{orders_in}
 use Rattle.amber_link.specs.Links.{waiting}
 use Rattle.amber_link.specs.declared.senders.Sender.{Sender}
-use Rattle.amber_log.specs.Grammar.{AreEntries, AreParts}
-use Rattle.amber_log.specs.declared.leg.Part.{Part}
+use Rattle.amber_log.specs.Grammar.{AreParts}
 use Rattle.amber_meaning.specs.Legal.{AreOffered, IsSettled, IsWorked, Query, batches_for, entries_of, role_in, stream_of}
 use Rattle.amber_meaning.specs.Plan.{role_of}
-use Rattle.amber_meaning.specs.Position.{Position, emitted_rows, taken_from}
+use Rattle.amber_meaning.specs.Position.{Position}
 use Rattle.amber_meaning.specs.Replay.{after_leg}
 use Rattle.amber_meaning.specs.Rules.{Leads}
-use Rattle.amber_meaning.specs.State.{Counting, State, arms_at, have_finished, orders_of, position_at, steps_in}
+use Rattle.amber_meaning.specs.State.{State, have_finished, position_at, steps_in}
 use Rattle.amber_meaning.proofs.OneState.{legs_have_one_state}
 use Rattle.amber_meaning.proofs.Senders.{flows_send_forward}
-use Rattle.amber_worker.specs.AtPosition.{no_base, placement_of, stream_to}
+use Rattle.amber_worker.specs.AtPosition.{no_base, placement_of}
 use Rattle.amber_worker.specs.Pairs.{OffersAll}
 use Rattle.amber_worker.specs.WorkerState.{WorkerState}
 use Rattle.amber_worker.proofs.PairFacts.{offers-all}
 use Rattle.amber_worker.proofs.Settling.{steps-shown}
-use Rattle.amber_home.specs.AtWork.{AreAtPositions, AreAtWork, AreJoinedAt, HaveFinished, placement_at, steps_by, worker_state_at}
+use Rattle.amber_home.specs.AtWork.{AreAtWork, HaveFinished, placement_at, steps_by, worker_state_at}
 use Rattle.amber_home.specs.Parts.{parts_from, state_reached}
 use Rattle.amber_home.proofs.OnePlace.{in-place}
 use Rattle.amber_home.proofs.PartFacts.{are-parts, entries-at, part-above}

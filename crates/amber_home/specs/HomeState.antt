@@ -1,5 +1,5 @@
 -- What a home keeps, and what its calls change.
-use Rattle.std.specs.Prelude.{◌≡◌, ℕ, ◌+◌, List, [], ◌∷◌, ◌++◌, None, Some, Result, Ok, Err, ⊤, Bool, true, false, if◌then◌else◌}
+use Rattle.std.specs.Prelude.{◌≡◌, ℕ, ◌+◌, List, [], ◌∷◌, ◌++◌, None, Some, Result, Ok, Err, ⊤, Bool, true, false}
 use Rattle.amber_rows.specs.declared.flow.Operator.{Operator}
 use Rattle.amber_lines.specs.KeptStops.{kept_stops}
 use Rattle.amber_log.specs.declared.command.Command.{Command}

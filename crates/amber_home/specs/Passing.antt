@@ -1,5 +1,5 @@
 -- What it comes to that batches go on from one worker to another.
-use Rattle.std.specs.Prelude.{◌≡◌, ◌≢◌, ℕ, ◌<◌, List, length, slice_set}
+use Rattle.std.specs.Prelude.{◌≡◌, ℕ, ◌<◌, List, length, slice_set}
 use Rattle.amber_worker.specs.AtPosition.{HasSameEnds}
 use Rattle.amber_worker.specs.Pairs.{AreSettledAt, PassesOn, StaysAt}
 use Rattle.amber_worker.specs.WorkerState.{WorkerState}

@@ -1,5 +1,5 @@
 -- Each turn is a step, and the workers stay at work.
-use Rattle.std.proofs.Common.{◌≡◌, sym, add-zero, arith}
+use Rattle.std.proofs.Common.{sym, add-zero, arith}
 use Rattle.amber_home.specs.AtWork.{steps_by}
 use Rattle.amber_home.proofs.Going.{crew-on, finished-on, on-refl, on-then, only-refl, only-then}
 use Rattle.amber_home.proofs.Steps.{sum-member}

@@ -1,10 +1,5 @@
 -- The rows of one worker more are counted.
-use Rattle.std.proofs.Common.{◌≡◌, refl, sym, ap, ◌∙◌, ℕ, ◌+◌, ◌<◌, ◌≤◌, length, subst, arith, rules}
-use Rattle.std.proofs.lemmas.List.{take_all}
-use Rattle.amber_rows.specs.Crew.{crew_of, first_worker_of, worker_count}
-use Rattle.amber_rows.proofs.CrewFacts.{count-there}
-use Rattle.amber_meaning.proofs.Crews.{place-worker, worker-known}
-use Rattle.amber_home.specs.AtWork.{worker_state_at}
+use Rattle.std.proofs.Common.{refl, ◌+◌, ◌<◌, length, arith}
 use Rattle.amber_home.proofs.Paused.{all-emitted, crew-few, next-emitted, place-inside}
 use Rattle.amber_home.proofs.leg.emitted_by.Goals as goal
 

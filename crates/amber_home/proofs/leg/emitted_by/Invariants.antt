@@ -1,6 +1,5 @@
 -- The rows of the first workers of the operator are counted.
-use Rattle.std.proofs.Common.{◌≡◌, ℕ, ◌+◌, ◌*◌, ◌^◌, ◌≤◌, map}
-use Rattle.amber_rows.specs.Crew.{first_worker_of}
+use Rattle.std.proofs.Common.{◌≡◌, ◌+◌, ◌*◌, ◌^◌, ◌≤◌, map}
 use Rattle.amber_rows.specs.Lists.{numbers_below}
 use Rattle.amber_home.specs.Leg.{emitted_at}
 use Rattle.amber_home.proofs.leg.emitted_by.Given as goal

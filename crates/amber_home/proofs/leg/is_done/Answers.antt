@@ -1,5 +1,5 @@
 -- The worker's operator is there.
-use Rattle.std.proofs.Common.{◌≡◌, ◌<◌, length, arith}
+use Rattle.std.proofs.Common.{arith}
 use Rattle.amber_meaning.proofs.Crews.{op-within}
 use Rattle.amber_home.proofs.Paused.{crew-few}
 use Rattle.amber_home.proofs.leg.is_done.Goals as goal

@@ -1,9 +1,9 @@
 -- One worker after the other finishes.
 use Rattle.std.proofs.Common.{◌≡◌, refl, sym, ap, ◌∙◌, ◌<◌, length, false, inl, arith, rules}
-use Rattle.amber_rows.specs.Crew.{crew_of, op_of}
+use Rattle.amber_rows.specs.Crew.{op_of}
 use Rattle.amber_meaning.proofs.Crews.{op-within}
 use Rattle.amber_worker.specs.WorkerState.{WorkerState}
-use Rattle.amber_home.specs.AtWork.{steps_by, worker_state_at}
+use Rattle.amber_home.specs.AtWork.{worker_state_at}
 use Rattle.amber_home.specs.Leg.{Run, is_paused}
 use Rattle.amber_home.proofs.Going.{crew-on, finished-more, finished-on, on-refl, on-then}
 use Rattle.amber_home.proofs.Paused.{crew-few, none-moved}

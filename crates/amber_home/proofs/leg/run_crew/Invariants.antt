@@ -1,5 +1,5 @@
 -- The workers so far have finished, and no pause stands.
-use Rattle.std.proofs.Common.{◌≡◌, ◌+◌, length}
+use Rattle.std.proofs.Common.{◌≡◌, ◌+◌}
 use Rattle.amber_home.specs.AtWork.{GoOn, HaveFinished, steps_by}
 use Rattle.amber_home.specs.Leg.{NonePaused}
 use Rattle.amber_home.proofs.leg.run_crew.Given as goal

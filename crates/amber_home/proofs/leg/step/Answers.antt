@@ -1,5 +1,5 @@
 -- The worker moves, and its links are settled again.
-use Rattle.std.proofs.Common.{◌≡◌, ◌∙◌}
+use Rattle.std.proofs.Common.{◌∙◌}
 use Rattle.amber_home.proofs.Numbers.{length-put}
 use Rattle.amber_home.proofs.Passed.{besides-then, joined-put}
 use Rattle.amber_home.proofs.Stepped.{IsTurn, at-crew, come-then, goes-on, goes-on-settled, joined-then, not-wanted, one-then, only-then, steps-then}

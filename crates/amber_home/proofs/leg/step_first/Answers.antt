@@ -1,10 +1,10 @@
 -- The first that has not finished makes the step.
-use Rattle.std.proofs.Common.{◌≡◌, refl, sym, ap, subst, ◌∙◌, ◌+◌, ◌<◌, length, false, arith, rules}
+use Rattle.std.proofs.Common.{◌≡◌, refl, sym, ap, subst, ◌∙◌, ◌+◌, false, arith, rules}
 use Rattle.std.specs.List.{list_all}
 use Rattle.std.specs.Result.{OnOk}
 use Rattle.std.proofs.lemmas.Bool.{false≢true}
 use Rattle.amber_worker.specs.WorkerState.{WorkerState}
-use Rattle.amber_home.specs.AtWork.{GoOn, IsCrew, steps_by, worker_state_at}
+use Rattle.amber_home.specs.AtWork.{GoOn, IsCrew, steps_by}
 use Rattle.amber_home.proofs.Going.{finished-more}
 use Rattle.amber_home.proofs.Split.{read-at}
 use Rattle.amber_home.proofs.Steps.{sum-member}

@@ -1,6 +1,5 @@
 -- The steps of one worker more.
-use Rattle.std.proofs.Common.{◌≡◌, sym, ◌+◌, length, arith}
-use Rattle.amber_home.specs.AtWork.{steps_by}
+use Rattle.std.proofs.Common.{sym, ◌+◌, arith}
 use Rattle.amber_home.proofs.Steps.{steps-few, steps-next, steps-none}
 use Rattle.amber_home.proofs.leg.steps_of.Goals as goal
 

@@ -1,9 +1,8 @@
 -- One receiver more has what was made for it.
-use Rattle.std.proofs.Common.{◌≡◌, sym, ap, ◌∙◌, ℕ, ◌+◌, ◌<◌, ◌≤◌, length, get_or, subst, inl, inr, arith}
+use Rattle.std.proofs.Common.{sym, ap, ◌∙◌, ◌<◌, ◌≤◌, length, get_or, subst, inl, inr, arith}
 use Rattle.std.proofs.lemmas.Bool.Decides.{eqb_tells}
 use Rattle.amber_worker.specs.WorkerState.{WorkerState}
 use Rattle.amber_home.specs.AtWork.{worker_state_at}
-use Rattle.amber_home.specs.Passing.{Settled}
 use Rattle.amber_home.proofs.Numbers.{any-same, length-put, outs-long, to-same}
 use Rattle.amber_home.proofs.OnePlace.{any-out, out-place}
 use Rattle.amber_home.proofs.Passed.{besides-same, besides-then, can-pass, joined-put, put-same, put-then, stay-same, stay-then}

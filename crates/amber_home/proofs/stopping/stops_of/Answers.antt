@@ -1,5 +1,4 @@
 -- The stop of one operator more is there.
-use Rattle.std.proofs.Common.{◌≡◌, refl, sym, ap, ◌∙◌, ◌+◌, length, suc}
 use Rattle.amber_rows.specs.Crew.{workers_of}
 use Rattle.amber_home.specs.Leg.{emitted_at, pause_at, paused_stop}
 use Rattle.amber_home.proofs.Listed.{listed-more}

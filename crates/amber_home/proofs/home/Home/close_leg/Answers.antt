@@ -1,5 +1,5 @@
 -- The leg stands in the log, and the workers rest.
-use Rattle.std.proofs.Common.{◌≡◌, refl, sym, ap, subst, ◌∙◌, length, map, [], ◌∷◌, ◌++◌, ◌<◌, ◌^◌}
+use Rattle.std.proofs.Common.{◌≡◌, sym, ap, subst, ◌∙◌, length, map, [], ◌∷◌, ◌++◌, ◌<◌, ◌^◌}
 use Rattle.std.proofs.lemmas.List.{length-map}
 use Rattle.amber_home.specs.HomeState.{ClosesIn, HomeState, is_open, leg_item, query_of, runs_to_end, state_of}
 use Rattle.amber_home.specs.Kept.{IsHome}

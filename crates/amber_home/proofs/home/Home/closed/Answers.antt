@@ -1,5 +1,5 @@
 -- The last item, where there is one.
-use Rattle.std.proofs.Common.{◌≡◌, false, sym, ap, ◌∙◌}
+use Rattle.std.proofs.Common.{false, sym, ap, ◌∙◌}
 use Rattle.amber_log.specs.Grammar.{ends_over}
 use Rattle.amber_home.specs.HomeState.{HomeState}
 use Rattle.amber_home.proofs.Whole.{over-last}

@@ -1,10 +1,10 @@
 -- One step more, and the home stays one.
-use Rattle.std.proofs.Common.{◌≡◌, refl, sym, ap, subst, ◌∙◌, ◌+◌, ◌<◌, ◌^◌, false, length, arith}
+use Rattle.std.proofs.Common.{◌≡◌, refl, sym, ap, subst, ◌∙◌, ◌<◌, ◌^◌, false, arith}
 use Rattle.std.specs.List.{list_all}
 use Rattle.amber_meaning.specs.State.{have_finished, steps_in}
 use Rattle.amber_worker.specs.WorkerState.{WorkerState}
 use Rattle.amber_home.specs.AtWork.{IsCrew, steps_by}
-use Rattle.amber_home.specs.HomeState.{HomeState, is_open, query_of, state_of}
+use Rattle.amber_home.specs.HomeState.{HomeState, is_open, state_of}
 use Rattle.amber_home.specs.Parts.{open_parts}
 use Rattle.amber_home.proofs.OneMore.{crew-open, home-stepped, left-open, steps-on, steps-open, steps-stepped}
 use Rattle.amber_home.proofs.home.Home.home_step.Goals as goal

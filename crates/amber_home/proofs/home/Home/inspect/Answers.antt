@@ -1,6 +1,5 @@
 -- What is said of the workers is said of the state.
-use Rattle.std.proofs.Common.{◌≡◌, refl, sym, ap, subst, ◌∙◌, IfOk, Ok, Err, true, length}
-use Rattle.amber_rows.specs.Crew.{crew_of}
+use Rattle.std.proofs.Common.{◌≡◌, ap, subst, ◌∙◌, IfOk, true, length}
 use Rattle.amber_meaning.specs.Views.{inspected_of}
 use Rattle.amber_home.specs.Answers.{IsShownAt}
 use Rattle.amber_home.specs.HomeState.{HomeState, has_crew, query_of, state_of}

@@ -1,5 +1,5 @@
 -- The leg was opened, gone through and closed.
-use Rattle.std.proofs.Common.{◌≡◌, ap, subst, ◌∙◌}
+use Rattle.std.proofs.Common.{ap, subst, ◌∙◌}
 use Rattle.amber_log.specs.declared.leg.Close.TheVariants as close
 use Rattle.amber_home.specs.HomeState.{ClosesIn, query_of, runs_to_end, state_of, with_leg}
 use Rattle.amber_home.proofs.Whole.{leg-closes}

@@ -1,5 +1,5 @@
 -- The workers stand where the leg begins.
-use Rattle.std.proofs.Common.{◌≡◌, refl, sym, ap, ◌∙◌, length, map, false, []}
+use Rattle.std.proofs.Common.{refl, ap, ◌∙◌, length, map, false, []}
 use Rattle.std.proofs.lemmas.List.{length-map}
 use Rattle.amber_log.specs.Grammar.{ends_over}
 use Rattle.amber_worker.specs.Changes.{with_leg}

@@ -1,7 +1,7 @@
 -- The workers go on, and the home with them.
-use Rattle.std.proofs.Common.{◌≡◌, refl, sym, ap, subst, ◌∙◌, length}
+use Rattle.std.proofs.Common.{refl, ap, ◌∙◌}
 use Rattle.amber_home.specs.AtWork.{steps_by}
-use Rattle.amber_home.specs.HomeState.{ClosesIn, HomeState, is_open, query_of, runs_to_end, state_of}
+use Rattle.amber_home.specs.HomeState.{HomeState, is_open}
 use Rattle.amber_home.specs.Parts.{open_parts}
 use Rattle.amber_home.proofs.Homes.{closes-ran, home-ran, long-open}
 use Rattle.amber_home.proofs.home.Home.run_open.Goals as goal

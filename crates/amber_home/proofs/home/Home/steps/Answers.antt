@@ -1,5 +1,5 @@
 -- The steps of the state are those of the workers.
-use Rattle.std.proofs.Common.{◌≡◌, sym, ap, subst, ◌∙◌, ◌≤◌, ◌^◌}
+use Rattle.std.proofs.Common.{sym, ap, subst, ◌∙◌, ◌≤◌, ◌^◌}
 use Rattle.amber_meaning.specs.State.{steps_in}
 use Rattle.amber_home.specs.AtWork.{steps_by}
 use Rattle.amber_home.specs.HomeState.{HomeState, has_crew, state_of}

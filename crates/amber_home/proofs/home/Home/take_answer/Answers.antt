@@ -1,5 +1,5 @@
 -- What is said of the workers is said of the state.
-use Rattle.std.proofs.Common.{◌≡◌, refl, sym, ap, subst, ◌∙◌, IfOk, true}
+use Rattle.std.proofs.Common.{◌≡◌, refl, ap, subst, ◌∙◌, IfOk, true}
 use Rattle.amber_meaning.specs.State.{have_finished}
 use Rattle.amber_meaning.specs.Views.{answer_in}
 use Rattle.amber_home.specs.Answers.{IsAnswerOf}
