@@ -84,7 +84,8 @@ impl InForce {
     pub fn set(&mut self, op: u32, value: Value)
         requires some { 0 < op }
         requires there { op ≤ length self.old }
-        ensures { self.new ≡ changed_at (λ arms. record arms { constants = value ∷ [] }) op self.old }
+        ensures { self.new
+            ≡ changed_at (λ arms. record arms { constants = value ∷ [] }) op self.old }
     {
         self.arms[op as usize - 1].set_constant(value);
     }

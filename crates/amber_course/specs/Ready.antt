@@ -1,7 +1,6 @@
 -- What a job is made of, and which words ask for it.
 use Rattle.std.specs.Prelude.{◌≡◌, ⊤, List, None, length, ℕ, true}
 use Rattle.std.specs.List.{list_all}
-use Rattle.amber_rows.specs.Crew.{AreAlone}
 use Rattle.amber_rows.specs.FlowRules.{IsFlow}
 use Rattle.amber_rows.specs.declared.flow.Operator.{Operator}
 use Rattle.amber_log.specs.Fits.{fits_of}
@@ -28,7 +27,6 @@ pub record AreOfScript (flow : List Operator) (commands : List Command) : Type 0
 pub record IsRunReady (run : RunJob) : Type 0 where
   pub inputs : AreInputs run.flow run.files
   pub sizes : AreSizes run.threads run.batch
-  pub alone : AreAlone run.flow
   pub flow : IsFlow run.flow
   pub commands : AreOfScript run.flow run.commands
 

@@ -1,5 +1,4 @@
 ghost use Rattle.std.specs.Prelude.{◌≡◌, ◌<◌, ◌≤◌, ◌^◌, length, IfErr, IfOk};
-ghost use Rattle.amber_rows.specs.Crew.{AreAlone};
 ghost use Rattle.amber_flow.specs.Workflow.{workflow_of};
 ghost use Rattle.amber_course.specs.Course.{flow_read, load_of, workflow_in};
 ghost use Rattle.amber_course.specs.Steps.{Follows, IsBounded, IsMissing, IsOversized, Judges, Names, loading};
@@ -71,8 +70,7 @@ pub(crate) fn load<F: Folder>(
 
 // The workflow that the bytes of a file are.
 fn read(alloc: Global, bytes: &Bytes) -> Result<Flow, Failure>
-    ensures flow { Judges result (flow_read (workflow_of bytes.now)) }
-    ensures alone { IfOk result (λ flow. AreAlone flow) }
+    ensures { Judges result (flow_read (workflow_of bytes.now)) }
 {
     match read_flow(alloc, bytes.get()) {
         Ok(flow) => Ok(flow),
@@ -92,7 +90,6 @@ pub(crate) fn load_flow<F: Folder>(
 ) -> Result<Flow, Failure>
     ensures course { Follows result (workflow_in name.now)
         (loading (F.files folder.old) (F.load_faults folder.old) (F.load_faults folder.new)) }
-    ensures alone { IfOk result (λ flow. AreAlone flow) }
     ensures named { IfErr result (λ failure. Names failure (λ file. file ≡ name.now)) }
     ensures same { F.files folder.new ≡ F.files folder.old }
     ensures writes { F.write_faults folder.new ≡ F.write_faults folder.old }

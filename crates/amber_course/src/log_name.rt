@@ -1,5 +1,4 @@
 ghost use Rattle.std.specs.Prelude.{◌≡◌, IfErr, IfOk};
-ghost use Rattle.amber_rows.specs.Crew.{AreAlone};
 ghost use Rattle.amber_course.specs.Course.{apart_from, log_scan, is_scan_of, run_flow};
 ghost use Rattle.amber_course.specs.Steps.{Follows, Judges, Names, loading};
 
@@ -55,7 +54,6 @@ pub(crate) fn load_run_flow<F: Folder>(
 ) -> Result<Flow, Failure>
     ensures course { Follows result (run_flow workflow.now log.now)
         (loading (F.files folder.old) (F.load_faults folder.old) (F.load_faults folder.new)) }
-    ensures alone { IfOk result (λ flow. AreAlone flow) }
     ensures named { IfErr result (λ failure. Names failure (λ file. file ≡ workflow.now)) }
     ensures same { F.files folder.new ≡ F.files folder.old }
     ensures writes { F.write_faults folder.new ≡ F.write_faults folder.old }

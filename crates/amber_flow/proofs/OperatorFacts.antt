@@ -10,7 +10,6 @@ use Rattle.amber_rows.specs.FlowRules.{AreNext, IsNext, ends_in_sink}
 use Rattle.amber_rows.specs.Columns.{is_among}
 use Rattle.amber_rows.specs.Kinds.{is_sink}
 use Rattle.amber_rows.specs.declared.flow.Operator.{Operator}
-use Rattle.amber_rows.specs.Crew.{AreAlone}
 use Rattle.amber_flow.specs.Inputs.{IsNarrow}
 use Rattle.amber_flow.specs.Operators.{ids_of, operator_of}
 use Rattle.amber_flow.specs.Workflow.{fault_at, operators_from}
@@ -58,7 +57,6 @@ pub record IsRead (trees : List Value) (i : ℕ) (operators : List Operator) : T
   pub next : AreNext [] operators
   pub placed : IsPlaced (length trees) 0 operators
   pub narrow : All IsNarrow operators
-  pub alone : AreAlone operators
 
 operators-more : (count : ℕ) (trees : List Value) (i : ℕ) (tree : Value) (before : List Operator) (operator : Operator) → i < length trees → tree ≡ get_or trees i tree → Ok operator ≡ operator_of count before (view tree)
     → operators_from count before (map view (drop i trees)) ≡ operators_from count (before ++ operator ∷ []) (map view (drop (i + 1) trees))
@@ -76,17 +74,16 @@ operators-end count trees i before h = rw (drop_all i trees h)
 
 pub read-none : (trees : List Value) → IsRead trees 0 []
 unfolding AreNext
-read-none trees = record { meant = refl; count = refl; next = tt; placed = tt; narrow = λ k d h. absurd (omega arith); alone = λ k d h. absurd (omega arith) }
+read-none trees = record { meant = refl; count = refl; next = tt; placed = tt; narrow = λ k d h. absurd (omega arith) }
 
 pub read-more : (trees : List Value) (i : ℕ) (tree : Value) (before : List Operator) (operator : Operator) → IsRead trees i before → i < length trees → tree ≡ get_or trees i tree → Ok operator ≡ operator_of (length trees) before (view tree)
-    → IsNext before operator → is_sink operator.what ≡ (length before + 1 == length trees) → operator.workers ≡ 1 → IsRead trees (i + 1) (before ++ operator ∷ [])
-read-more trees i tree before operator done h is read next placed alone = record {
+    → IsNext before operator → is_sink operator.what ≡ (length before + 1 == length trees) → IsRead trees (i + 1) (before ++ operator ∷ [])
+read-more trees i tree before operator done h is read next placed = record {
   meant = done.meant ∙ operators-more (length trees) trees i tree before operator h is read;
   count = simp length-append (omega (arith, done.count));
   next = AreNext-push [] before operator done.next next;
   placed = placed-push (length trees) 0 before operator done.placed (placed ∙ ap (λ n. n + 1 == length trees) (sym (zero-add (length before))));
   narrow = All-push IsNarrow before operator done.narrow next.columns.few;
-  alone = All-push (λ operator. operator.workers ≡ 1) before operator done.alone alone;
 }
 
 pub read-stop : (trees : List Value) (i : ℕ) (tree : Value) (before : List Operator) (why : FlowWhy) → IsRead trees i before → i < length trees → tree ≡ get_or trees i tree → Err why ≡ operator_of (length trees) before (view tree)

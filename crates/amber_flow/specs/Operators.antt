@@ -40,9 +40,9 @@ new_id before id = do
   named ← require (is_id id) why.Name
   require (not (is_among id (ids_of before))) why.Duplicate
 
--- the most workers that an operator other than a sink may have: one, until several can run
+-- the most workers that an operator other than a sink may have
 abbrev pub worker_limit : ℕ
-worker_limit = 1
+worker_limit = 16
 
 -- the most workers that an operator of a kind may have
 abbrev pub most_workers : Kind → ℕ

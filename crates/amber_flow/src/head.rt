@@ -46,14 +46,13 @@ pub fn check_id(before: &[Operator], id: &str) -> Result<(), FlowWhy>
 }
 
 /// The most workers that an operator other than a sink may have.
-const WORKER_LIMIT: u64 = 1;
+const WORKER_LIMIT: u64 = 16;
 
 /// The most workers that an operator of this kind may have.
 fn most_of(kind: Kind) -> u64
     ensures most { result ≡ most_workers kind }
     ensures some { 0 < result }
     ensures few { result ≤ 16 }
-    ensures one { result ≡ 1 }
     ensures sink { is_sink_kind kind ≡ true → result ≡ 1 }
 {
     if kind.is_sink() { 1 } else { WORKER_LIMIT }
@@ -92,7 +91,6 @@ pub fn read_head(is_last: bool, word: &str, tree: &Value) -> Result<Head, FlowWh
     ensures head { result ≡ head_of is_last word.now (view tree.now) }
     ensures some_workers { IfOk result (λ head. 0 < head.workers) }
     ensures few_workers { IfOk result (λ head. head.workers ≤ 16) }
-    ensures one_worker { IfOk result (λ head. head.workers ≡ 1) }
     ensures one_at_sink { IfOk result (λ head. is_sink_kind head.kind ≡ true → head.workers ≡ 1) }
     ensures placed { IfOk result (λ head. is_sink_kind head.kind ≡ is_last) }
 {

@@ -25,7 +25,6 @@ pub fn read_operator(
     ensures operator { IfOk result (λ read. read ≡ operator_of count before.now (view tree.now)) }
     ensures next { IfOk result (λ read. IfOk read (λ operator. IsNext before.now operator)) }
     ensures placed { IfOk result (λ read. IfOk read (SinkIsLast count before.now)) }
-    ensures alone { IfOk result (λ read. IfOk read (λ operator. operator.workers ≡ 1)) }
 {
     let Some(id) = text_field(tree, "id") else {
         return Ok(Err(FlowWhy::Shape));

@@ -1,7 +1,6 @@
 ghost use Rattle.std.specs.Prelude.{◌≡◌, ◌==◌, ◌<◌, ◌≤◌, ◌⊎◌, [], true, length, map, MatchResult, IfOk, Ok, Err};
 ghost use Rattle.serde_json.specs.View.{view};
 ghost use Rattle.amber_rows.specs.FlowRules.{AreNext, ends_in_sink};
-ghost use Rattle.amber_rows.specs.Crew.{AreAlone};
 ghost use Rattle.amber_flow.specs.Answers.{AnswersFlow, AnswersTree};
 ghost use Rattle.amber_flow.specs.Workflow.{check_whole, flow_of, is_flow_length, operators_from, tree_of, workflow_of};
 
@@ -45,7 +44,6 @@ fn read_operators(
     ensures ends { IfOk result
         (λ read. IfOk read (λ operators. 0 < length trees.now → ends_in_sink operators.items
         ≡ true)) }
-    ensures alone { IfOk result (λ read. IfOk read (λ operators. AreAlone operators.items)) }
 {
     let mut operators = Vec::new(alloc);
     for tree in trees {
@@ -94,8 +92,7 @@ fn may_be_flow(count: usize) -> bool
 /// The workflow that a JSON value means, or its first reason and the operator at fault.
 #[tactic(auto, unfolding(crate::specs::Workflow::flow_of))]
 fn read_whole(alloc: Global, tree: &Value) -> Result<Result<Flow, Fault>, AllocError>
-    ensures meant { IfOk result (λ read. read ≡ flow_of (view tree.now)) }
-    ensures alone { IfOk result (λ read. IfOk read (λ flow. AreAlone flow)) }
+    ensures { IfOk result (λ read. read ≡ flow_of (view tree.now)) }
 {
     let Some(trees) = list_field(tree, "operators") else {
         return Ok(Err(Fault {
@@ -121,7 +118,6 @@ fn read_whole(alloc: Global, tree: &Value) -> Result<Result<Flow, Fault>, AllocE
 #[tactic(auto, unfolding(crate::specs::Workflow::workflow_of))]
 pub fn read_flow(alloc: Global, bytes: &[u8]) -> Result<Flow, FlowErr>
     ensures answer { AnswersFlow result (workflow_of bytes.now) }
-    ensures alone { IfOk result (λ flow. AreAlone flow) }
 {
     let tree = read_tree(alloc, bytes)?;
     match read_whole(alloc, &tree) {

@@ -10,6 +10,7 @@ use Rattle.amber_rows.specs.declared.flow.What.TheVariants as what
 use Rattle.amber_meaning.specs.Refused.{refused_groups, refused_records}
 use Rattle.amber_meaning.specs.declared.answer.Refusal.{Refusal}
 use Rattle.amber_plain.specs.Unread.{Records, Waiting, nothing, unread_at, unread_rows, without}
+use Rattle.amber_plain.specs.declared.evaluator.Evaluated.{Evaluated}
 use Rattle.amber_plain.specs.declared.stage.Source.{Source}
 use Rattle.amber_plain.specs.declared.stage.Source.TheVariants as source
 use Rattle.amber_plain.specs.declared.stage.Stage.{Stage}
@@ -53,6 +54,10 @@ refused_now records op (what.Project input from) waiting = []
 refused_now records op (what.Join build probe build_keys probe_keys) waiting = []
 refused_now records op (what.Group input keys aggs) waiting = refused_groups op (refused_keys keys aggs (unread_rows records (unread_at waiting input)))
 refused_now records op (what.Sink input) waiting = []
+
+-- both
+abbrev pub evaluated_of : Records → ℕ → What → List Waiting → Evaluated
+evaluated_of records op kind waiting = record { unread = unread_of records op kind waiting; refused = refused_now records op kind waiting }
 
 abbrev pub without_input : List Waiting → Option ℕ → List Waiting
 without_input waiting None = waiting

@@ -7,7 +7,7 @@ ghost use Rattle.amber_meaning.specs.Refused.{refused_groups};
 ghost use Rattle.amber_meaning.specs.declared.answer.Refusal.TheVariants as refusal;
 ghost use Rattle.amber_plain.specs.Holding.{Spends};
 ghost use Rattle.amber_plain.specs.Unread.{HasInputs, HasOne, unread_at, unread_count, unread_rows, without};
-ghost use Rattle.amber_plain.specs.Steps.{others_of, unread_of, read_for, refused_now, through, told_by};
+ghost use Rattle.amber_plain.specs.Steps.{others_of, evaluated_of, read_for, through, told_by};
 ghost use Rattle.amber_plain.specs.declared.stage.Source.TheVariants as source;
 ghost use Rattle.amber_plain.specs.declared.stage.Stage.TheVariants as stage;
 
@@ -84,16 +84,21 @@ fn from_groups(alloc: Global, op: u32, groups: Grouped) -> Result<Evaluated, All
     })
 }
 
-// The rows that are unread in their order. Equal rows all stay.
+// The rows that are unread, in their order, as a source. Equal rows all stay, and nothing is refused at once.
 fn sorted(
     alloc: Global,
     flow: &Flow,
     files: &Files,
     unread: Unread,
     tally: &mut Tally,
-) -> Result<Rows, PlainErr>
-    ensures rows { IfOk result (λ rows. rows
-        ≡ sort_rows (unread_rows (records_of files.now flow.now) unread)) }
+) -> Result<Evaluated, PlainErr>
+    ensures new { IfOk result (λ new. new ≡ record {
+      unread = record {
+        source = source.Rows (sort_rows (unread_rows (records_of files.now flow.now) unread));
+        stages = [];
+      };
+      refused = [];
+    }) }
     ensures left { Spends result tally.old.left tally.new.left
         (unread_count (records_of files.now flow.now) unread) }
     ensures told { OnOk result (tally.new.told.items
@@ -101,7 +106,8 @@ fn sorted(
 {
     let mut rows = gathered(alloc, flow, files, unread, tally)?;
     sort(&mut rows);
-    Ok(Rows::new(rows))
+    let source = Source::Rows(Rows::new(rows));
+    Ok(unrefused(alloc, Unread::new(alloc, source)))
 }
 
 // A join of the rows that are unread on its build side.
@@ -140,10 +146,8 @@ pub fn evaluate(
     tally: &mut Tally,
 ) -> Result<Evaluated, PlainErr>
     requires { HasInputs waiting.old.items kind.now }
-    ensures unread { IfOk result (λ new. new.unread
-        ≡ unread_of (records_of files.now flow.now) op kind.now waiting.old.items) }
-    ensures refused { IfOk result (λ new. new.refused
-        ≡ refused_now (records_of files.now flow.now) op kind.now waiting.old.items) }
+    ensures new { IfOk result (λ new. new
+        ≡ evaluated_of (records_of files.now flow.now) op kind.now waiting.old.items) }
     ensures others { OnOk result (waiting.new.items ≡ others_of kind.now waiting.old.items) }
     ensures told { OnOk result (tally.new.told.items ≡ told_by (records_of files.now flow.now)
         tally.old.told.items (read_for kind.now waiting.old.items).source) }
@@ -152,23 +156,16 @@ pub fn evaluate(
 {
     match kind {
         What::Scan { .. } => Ok(unrefused(alloc, Unread::new(alloc, Source::Scan(op)))),
-        What::Filter { input, cond } => {
-            let stage = Stage::Filter(cond.clone()?);
-            Ok(behind(alloc, waiting, *input, stage)?)
-        }
-        What::Project { input, from } => {
-            let stage = Stage::Project(from.clone()?);
-            Ok(behind(alloc, waiting, *input, stage)?)
-        }
+        What::Filter { input, cond } => Ok(behind(alloc, waiting, *input, Stage::test(cond)?)?),
+        What::Project { input, from } => Ok(behind(alloc, waiting, *input, Stage::pick(from)?)?),
         What::Join {
             build,
             probe,
             build_keys,
             probe_keys,
         } => {
-            let build_side = take(alloc, waiting, *build);
-            let keys = (build_keys, probe_keys);
-            let built = built(alloc, flow, files, keys, build_side, tally)?;
+            let build = take(alloc, waiting, *build);
+            let built = built(alloc, flow, files, (build_keys, probe_keys), build, tally)?;
             Ok(behind(alloc, waiting, *probe, Stage::Probe(built))?)
         }
         What::Group { input, keys, aggs } => {
@@ -176,10 +173,6 @@ pub fn evaluate(
             let groups = grouped(alloc, flow, files, unread, keys, aggs, tally)?;
             Ok(from_groups(alloc, op, groups)?)
         }
-        What::Sink { input } => {
-            let unread = take(alloc, waiting, *input);
-            let rows = sorted(alloc, flow, files, unread, tally)?;
-            Ok(unrefused(alloc, Unread::new(alloc, Source::Rows(rows))))
-        }
+        What::Sink { input } => sorted(alloc, flow, files, take(alloc, waiting, *input), tally),
     }
 }

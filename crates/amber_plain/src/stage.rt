@@ -1,6 +1,10 @@
 // Where the rows of an operator come from, and through what they pass.
+ghost use Rattle.std.specs.Prelude.{◌≡◌, IfOk};
+ghost use Rattle.amber_plain.specs.declared.stage.Stage.TheVariants as stage;
+
 use crate::joining::Built;
 use amber_rows::{Cols, Cond, Rows};
+use std::alloc::AllocError;
 
 /// Where rows come from.
 #[derive(Debug, Drop)]
@@ -20,4 +24,20 @@ pub enum Stage {
     Project(Cols),
     /// A join that is probed: the row before each match.
     Probe(Built),
+}
+
+impl Stage {
+    /// A filter by this condition.
+    pub fn test(cond: &Cond) -> Result<Self, AllocError>
+        ensures { IfOk result (λ made. made ≡ stage.Filter cond.now) }
+    {
+        Ok(Stage::Filter(cond.clone()?))
+    }
+
+    /// A projection to these columns.
+    pub fn pick(from: &Cols) -> Result<Self, AllocError>
+        ensures { IfOk result (λ made. made ≡ stage.Project from.now) }
+    {
+        Ok(Stage::Project(from.clone()?))
+    }
 }

@@ -2,6 +2,7 @@
 use Rattle.std.specs.Prelude.{◌≡◌, ◌≢◌, ℕ, ◌<◌, ◌≤◌, ◌⊎◌, List, [], ◌∷◌, ◌++◌, length, map, Result, Ok, Err, Bool, true, false, ⊤}
 use Rattle.std.specs.Io.KnownBytes.{Appends}
 use Rattle.amber_io.specs.Folder.{with_file, without_file}
+use Rattle.amber_log.specs.Grammar.{ends_over}
 use Rattle.amber_log.specs.LogText.{log_text}
 use Rattle.amber_log.specs.ReadAs.{IsReadAs}
 use Rattle.amber_log.specs.declared.command.Command.{Command}
@@ -20,6 +21,10 @@ use Rattle.amber_course.specs.declared.failure.Failure.{Failure}
 use Rattle.amber_course.specs.declared.failure.Failure.TheVariants as failure
 
 -- ---- between two commands
+
+-- more may follow: the log's last item is none that nothing follows
+abbrev pub IsOpen : Log → Type 0
+IsOpen log = ends_over false log.items ≡ false
 
 -- the log's file holds the text of a legal log, all other files are as before, and the sink got the log's transcript; `left` are
 -- the commands that are still to be done

@@ -2,13 +2,12 @@ ghost use Rattle.std.specs.Prelude.{◌≡◌, ◌≢◌, ◌⊎◌, ◌∷◌, 
 ghost use Rattle.std.specs.Io.KnownBytes.{Appends};
 ghost use Rattle.amber_io.specs.Folder.{IsThere};
 ghost use Rattle.amber_log.specs.Fits.{fits_of};
-ghost use Rattle.amber_log.specs.Grammar.{IsBatch, ends_over};
-ghost use Rattle.amber_rows.specs.Crew.{AreAlone};
+ghost use Rattle.amber_log.specs.Grammar.{IsBatch};
 ghost use Rattle.amber_script.specs.Commands.{is_scripted};
 ghost use Rattle.amber_course.specs.Ready.{AreInputs, AreOfScript, IsRunReady};
 ghost use Rattle.amber_course.specs.Words.{AreSizes};
 ghost use Rattle.amber_run.specs.Outcome.{Counts};
-ghost use Rattle.amber_run.specs.UnderWay.{Halts, IsAt, Opens, Worked};
+ghost use Rattle.amber_run.specs.UnderWay.{Halts, IsAt, IsOpen, Opens, Worked};
 ghost use Rattle.amber_run.specs.RunTask.{RunTask, end_alone, most_steps, run_task_of};
 ghost use Rattle.amber_run.specs.World.{showing};
 ghost use Rattle.amber_run.specs.Writing.{CountsWrites, Made, Wrote};
@@ -35,7 +34,6 @@ fn begin(
 ) -> Result<Debugger, Failure>
     requires inputs { AreInputs flow files }
     requires sizes { AreSizes threads batch }
-    requires alone { AreAlone flow }
     ensures begins { IfOk result (λ d. d ≡ record {
       flow = flow;
       files = files;
@@ -98,7 +96,8 @@ fn make_log<F: Folder>(alloc: Global, batch: u32, name: &str, folder: &mut F) ->
     Ok(())
 }
 
-// Does a command: its item is written behind the log, and then its reply is put.
+// Does a command: its item is written behind the log, and then its reply is put. A leg that was too long is in
+// the log before that is told.
 fn do_command<F: Folder, O: Sink>(
     alloc: Global,
     debugger: &mut Debugger,
@@ -110,7 +109,7 @@ fn do_command<F: Folder, O: Sink>(
 ) -> Result<(), Failure>
     requires fits { fits_of debugger.old.flow command.now ≡ true }
     requires scripted { (is_scripted command.now ≡ true) ⊎ (command.now ≡ Command.End) }
-    requires open { ends_over false debugger.old.log.items ≡ false }
+    requires open { IsOpen debugger.old.log }
     requires there { IsThere (F.files folder.old) name.now }
     ensures did { (t : RunTask) (left : List Command) → t.name ≡ name.now
         → IsAt t (command.now ∷ left) debugger.old
@@ -119,8 +118,7 @@ fn do_command<F: Folder, O: Sink>(
         (λ done. IsAt t left debugger.new (showing (F.files folder.new) (O.written out.new)))
         (Halts t (showing (F.files folder.new) (O.written out.new))) }
     ensures flow { IfOk result (λ done. debugger.new.flow ≡ debugger.old.flow) }
-    ensures open { IfOk result (λ done. command.now ≢ Command.End
-        → ends_over false debugger.new.log.items ≡ false) }
+    ensures open { IfOk result (λ done. command.now ≢ Command.End → IsOpen debugger.new.log) }
     ensures there { IfOk result (λ done. IsThere (F.files folder.new) name.now) }
     ensures writes { CountsWrites result (F.write_faults folder.old) (F.write_faults folder.new) }
     ensures puts { Counts result (O.faults out.old) (O.faults out.new) }
@@ -133,13 +131,11 @@ fn do_command<F: Folder, O: Sink>(
             printed.keep(done.rows);
             Ok(())
         }
-        // The leg is in the log before it is told that it was too long.
         Err(DebugErr::Long { item }) => {
             append_piece(name, item.get(), folder)?;
             Err(Failure::Long)
         }
-        Err(DebugErr::Spent) => Err(Failure::NoMemory),
-        Err(DebugErr::NoMemory) => Err(Failure::NoMemory),
+        Err(DebugErr::Spent | DebugErr::NoMemory) => Err(Failure::NoMemory),
     }
 }
 
@@ -154,7 +150,7 @@ fn do_all<F: Folder, O: Sink>(
     printed: &mut Printed,
 ) -> Result<(), Failure>
     requires script { AreOfScript debugger.old.flow commands.now }
-    requires open { ends_over false debugger.old.log.items ≡ false }
+    requires open { IsOpen debugger.old.log }
     requires there { IsThere (F.files folder.old) name.now }
     ensures did { (t : RunTask) (left : List Command) → t.name ≡ name.now
         → IsAt t (commands.now ++ left) debugger.old
@@ -162,7 +158,7 @@ fn do_all<F: Folder, O: Sink>(
         → MatchResult result
         (λ done. IsAt t left debugger.new (showing (F.files folder.new) (O.written out.new)))
         (Halts t (showing (F.files folder.new) (O.written out.new))) }
-    ensures open { IfOk result (λ done. ends_over false debugger.new.log.items ≡ false) }
+    ensures open { IfOk result (λ done. IsOpen debugger.new.log) }
     ensures there { IfOk result (λ done. IsThere (F.files folder.new) name.now) }
     ensures writes { CountsWrites result (F.write_faults folder.old) (F.write_faults folder.new) }
     ensures puts { Counts result (O.faults out.old) (O.faults out.new) }
@@ -185,7 +181,7 @@ fn do_script<F: Folder, O: Sink>(
     printed: &mut Printed,
 ) -> Result<(), Failure>
     requires script { AreOfScript debugger.old.flow commands.now }
-    requires open { ends_over false debugger.old.log.items ≡ false }
+    requires open { IsOpen debugger.old.log }
     requires there { IsThere (F.files folder.old) name.now }
     ensures did { (t : RunTask) → t.name ≡ name.now
         → IsAt t (commands.now ++ end_alone) debugger.old

@@ -1,7 +1,6 @@
 // A debugger whose runs are short: the numbers of a file that are 2 or more.
 ghost use Rattle.std.specs.Prelude.{◌≡◌, ◌<◌, ◌≤◌, ◌^◌, [], length, IfOk};
 ghost use Rattle.amber_meaning.specs.Plain.{scan_count};
-ghost use Rattle.amber_rows.specs.Crew.{AreAlone};
 
 use crate::query::query;
 use amber_debug::{DebugErr, Debugger, HomeErr, NoMemory};
@@ -22,7 +21,6 @@ fn started(
     most: u64,
 ) -> Result<Debugger, HomeErr>
     requires one_each { length files ≡ scan_count flow }
-    requires alone { AreAlone flow }
     requires some { 0 < batch }
     requires few { batch ≤ 65536 }
     requires steps { most ≤ 2 ^ 40 }
@@ -35,7 +33,6 @@ fn started(
 #[tactic(auto, unfolding(amber_log::specs::Fits::fits_of))]
 fn told_of(alloc: Global, flow: Flow, files: Files, batch: u32, most: u64) -> Result<String, Fail>
     requires one_each { length files ≡ scan_count flow }
-    requires alone { AreAlone flow }
     requires some { 0 < batch }
     requires few { batch ≤ 65536 }
     requires steps { most ≤ 2 ^ 40 }

@@ -1,6 +1,6 @@
 // The workers of one query, the numbers of a file that are 2 or more. What they show and write down is computed from the
 // definitions in `proofs/ExampleWorkers.antt` of `amber_worker`.
-use crate::crew::{drive_first, new_crew, turned, work};
+use crate::crew::Crew;
 use amber_log::Entry;
 use amber_meaning::{Refusal, WorkerView};
 use amber_rows::Row;
@@ -53,28 +53,22 @@ fn append_given(alloc: Global, told: &mut String, given: &Given) -> Result<(), N
 }
 
 // What all of them give, the last one's first.
-fn append_all_given(
-    alloc: Global,
-    told: &mut String,
-    workers: &mut Vec<Worker>,
-) -> Result<(), NoMemory> {
-    for _ in 0..3 {
-        if let Some(worker) = workers.pop() {
-            append_given(alloc, told, &worker.into_given()?)?;
-        }
-    }
-    Ok(())
+fn append_all_given(alloc: Global, told: &mut String, crew: Crew) -> Result<(), NoMemory> {
+    let (scan, filter, sink) = crew.into_workers();
+    append_given(alloc, told, &sink.into_given()?)?;
+    append_given(alloc, told, &filter.into_given()?)?;
+    append_given(alloc, told, &scan.into_given()?)
 }
 
 // The journals of all workers over a file, and what they give.
 fn told(alloc: Global, file: &str, batch: u32) -> Result<String, Fail> {
-    let mut workers = new_crew(alloc, file, batch)?;
-    work(workers.as_mut_slice())?;
+    let mut crew = Crew::new(alloc, file, batch)?;
+    crew.work()?;
     let mut told = String::new(alloc);
-    for worker in &workers {
-        append_journal(alloc, &mut told, worker)?;
-    }
-    append_all_given(alloc, &mut told, &mut workers)?;
+    append_journal(alloc, &mut told, crew.scan())?;
+    append_journal(alloc, &mut told, crew.filter())?;
+    append_journal(alloc, &mut told, crew.sink())?;
+    append_all_given(alloc, &mut told, crew)?;
     Ok(told)
 }
 
@@ -122,12 +116,10 @@ fn threes(alloc: Global, count: u32) -> Result<String, NoMemory> {
 // The journal of the filter over 400 threes.
 fn filtered(alloc: Global, batch: u32) -> Result<String, Fail> {
     let file = threes(alloc, 400)?;
-    let mut workers = new_crew(alloc, &file, batch)?;
-    work(workers.as_mut_slice())?;
+    let mut crew = Crew::new(alloc, &file, batch)?;
+    crew.work()?;
     let mut told = String::new(alloc);
-    if let Some(filter) = workers.get(1) {
-        append_journal(alloc, &mut told, filter)?;
-    }
+    append_journal(alloc, &mut told, crew.filter())?;
     Ok(told)
 }
 
@@ -167,36 +159,29 @@ fn append_view(alloc: Global, told: &mut String, view: &WorkerView) -> Result<()
     told.push_str("| ")
 }
 
-// A turn, and what the worker shows then.
-fn append_turn(alloc: Global, told: &mut String, worker: &mut Worker) -> Result<(), Fail> {
-    let turn = turned(worker)?;
+// A turn of the filter, and what it shows then.
+fn append_turn(alloc: Global, told: &mut String, crew: &mut Crew) -> Result<(), Fail> {
+    let turn = crew.turn_filter()?;
     told.push_str(&format!(in alloc; "{turn:?} ")?)?;
-    append_view(alloc, told, &worker.view()?)?;
+    append_view(alloc, told, &crew.filter().view()?)?;
     Ok(())
 }
 
-// So many turns of the second worker.
-fn append_turns(
-    alloc: Global,
-    told: &mut String,
-    workers: &mut [Worker],
-    turns: u32,
-) -> Result<(), Fail> {
+// So many turns of the filter.
+fn append_turns(alloc: Global, told: &mut String, crew: &mut Crew, turns: u32) -> Result<(), Fail> {
     for _ in 0..turns {
-        if let Some(filter) = workers.get_mut(1) {
-            append_turn(alloc, told, filter)?;
-        }
+        append_turn(alloc, told, crew)?;
     }
     Ok(())
 }
 
 // The steps of the filter: before there is a batch, and then to the end.
 fn steps(alloc: Global) -> Result<String, Fail> {
-    let mut workers = new_crew(alloc, "n\n3\n1\n2\n5\n0\n", 400)?;
+    let mut crew = Crew::new(alloc, "n\n3\n1\n2\n5\n0\n", 400)?;
     let mut told = String::new(alloc);
-    append_turns(alloc, &mut told, workers.as_mut_slice(), 1)?;
-    drive_first(workers.as_mut_slice())?;
-    append_turns(alloc, &mut told, workers.as_mut_slice(), 11)?;
+    append_turns(alloc, &mut told, &mut crew, 1)?;
+    crew.drive_scan()?;
+    append_turns(alloc, &mut told, &mut crew, 11)?;
     Ok(told)
 }
 
@@ -210,21 +195,65 @@ fn a_filter_has_its_rest_and_its_pending_row_after_each_step(rt: HostRuntime) ->
     Ok(())
 }
 
-// The first worker has finished and has made nothing that is not moved; its journal is handed out, and is empty then.
-fn hands_out(workers: &mut [Worker]) -> bool {
-    match workers.first_mut() {
-        None => false,
-        Some(scan) => {
-            let over = scan.is_finished() && scan.waits_for().is_none();
-            over && scan.take_journal().get().len() == 2 && scan.journal().is_empty()
-        }
-    }
+// A worker has finished and has made nothing that is not moved; its journal is handed out, and is empty then.
+fn hands_out(scan: &mut Worker) -> bool {
+    let over = scan.is_finished() && scan.first_waiting().is_none();
+    over && scan.take_journal().get().len() == 2 && scan.journal().is_empty()
 }
 
 #[test]
 fn a_journal_is_handed_out_once(rt: HostRuntime) -> Result<(), Fail> {
-    let mut workers = new_crew(rt.alloc(), "n\n3\n", 400)?;
-    work(workers.as_mut_slice())?;
-    assert!(rt; hands_out(workers.as_mut_slice()));
+    let mut crew = Crew::new(rt.alloc(), "n\n3\n", 400)?;
+    crew.work()?;
+    let (mut scan, _filter, _sink) = crew.into_workers();
+    assert!(rt; hands_out(&mut scan));
+    Ok(())
+}
+
+// A worker is the filter, and has sent nothing.
+fn is_the_filter(filter: &Worker) -> bool {
+    if filter.senders() != 1 || filter.receivers() != 1 {
+        return false;
+    }
+    let linked = filter.sender_at(0) == 0 && filter.waiting_at(0).is_none();
+    linked && filter.op() == 2 && filter.number() == 1 && filter.emitted() == 0
+}
+
+#[test]
+fn a_worker_tells_where_it_stands(rt: HostRuntime) -> Result<(), Fail> {
+    let crew = Crew::new(rt.alloc(), "n\n3\n", 400)?;
+    assert!(rt; is_the_filter(crew.filter()));
+    assert!(rt; crew.filter().wants_batch() && !crew.scan().wants_batch());
+    Ok(())
+}
+
+// The filter has finished, and its last batch was not sent yet.
+#[test]
+fn a_batch_waits_for_the_receiver(rt: HostRuntime) -> Result<(), Fail> {
+    let mut crew = Crew::new(rt.alloc(), "n\n3\n", 400)?;
+    crew.drive_scan()?;
+    for _ in 0..4 {
+        crew.turn_filter()?;
+    }
+    assert_eq!(rt; crew.filter().first_waiting(), Some(2));
+    Ok(())
+}
+
+// The rows that a new constant lets through, and no entry behind the beginning of a leg.
+fn set_anew(alloc: Global) -> Result<String, Fail> {
+    let mut crew = Crew::new(alloc, "n\n3\n1\n2\n", 400)?;
+    crew.set_filter(3);
+    crew.work()?;
+    let (mut scan, _filter, sink) = crew.into_workers();
+    scan.begin();
+    let mut told = String::new(alloc);
+    append_journal(alloc, &mut told, &scan)?;
+    append_given(alloc, &mut told, &sink.given()?)?;
+    Ok(told)
+}
+
+#[test]
+fn a_constant_is_set_before_the_first_row(rt: HostRuntime) -> Result<(), Fail> {
+    assert_eq!(rt; set_anew(rt.alloc())?.as_str(), "| 3 ");
     Ok(())
 }

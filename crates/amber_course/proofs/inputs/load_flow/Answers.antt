@@ -17,7 +17,7 @@ unfolding workflow_in
 returns-clause-course g c =
     follows-on c.read.result c.in_ok-bytes.bytes (g.F.Folder.files c.args.folder.now) (load_of most_text c.args.name.now) (λ files bytes. flow_read (workflow_of bytes))
     (g.F.Folder.load_faults c.args.folder.now) (g.F.Folder.load_faults c.load.new.folder) (g.F.Folder.load_faults c.load.new.folder) c.in_ok-bytes.ensures.course
-    (follows-judged c.read.result (flow_read (workflow_of c.in_ok-bytes.bytes)) (g.F.Folder.files c.args.folder.now) (g.F.Folder.load_faults c.load.new.folder) c.read.ensures.flow)
+    (follows-judged c.read.result (flow_read (workflow_of c.in_ok-bytes.bytes)) (g.F.Folder.files c.args.folder.now) (g.F.Folder.load_faults c.load.new.folder) c.read.ensures)
 
 pub returns-in_err-bytes-clause-named : goal.returns-in_err-bytes-clause-named
 returns-in_err-bytes-clause-named g c =
@@ -25,4 +25,4 @@ returns-in_err-bytes-clause-named g c =
     rw e (names-map c.in_err-bytes.field-0.0 (λ file. file ≡ c.args.name.now) (λ file. file ≡ c.args.name.now) (λ file is. is) c.in_err-bytes.ensures.named)
 
 pub returns-clause-named : goal.returns-clause-named
-returns-clause-named g c = judged-named c.read.result (flow_read (workflow_of c.in_ok-bytes.bytes)) (λ file. file ≡ c.args.name.now) c.read.ensures.flow
+returns-clause-named g c = judged-named c.read.result (flow_read (workflow_of c.in_ok-bytes.bytes)) (λ file. file ≡ c.args.name.now) c.read.ensures

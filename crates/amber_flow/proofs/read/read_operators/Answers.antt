@@ -16,8 +16,7 @@ loop-tree-preserved c =
     let done = subst (λ (operators : List Operator). IsRead c.args.trees.now c.loop-tree.tree-index operators) (sym c.as_slice-before.ensures.value) c.loop-tree.invariant in
     let next = rw c.in-Ok.is at c.in_ok-operator.ensures.next in
     let placed = rw c.in-Ok.is at c.in_ok-operator.ensures.placed in
-    let alone = rw c.in-Ok.is at c.in_ok-operator.ensures.alone in
-    let more = read-more c.args.trees.now c.loop-tree.tree-index _ c.as_slice-before.result.now c.in-Ok.operator done c.loop-tree-test.true c.tree-item.is (sym c.in-Ok.is ∙ c.in_ok-operator.ensures.operator) next placed alone in
+    let more = read-more c.args.trees.now c.loop-tree.tree-index _ c.as_slice-before.result.now c.in-Ok.operator done c.loop-tree-test.true c.tree-item.is (sym c.in-Ok.is ∙ c.in_ok-operator.ensures.operator) next placed in
     let pushed = ap (λ (operators : List Operator). operators ++ c.in-Ok.operator ∷ []) c.as_slice-before.ensures.value ∙ sym c.in_ok-push-in-Ok.ensures.items in
     subst (λ (operators : List Operator). IsRead c.args.trees.now (c.loop-tree.tree-index + 1) operators) pushed more
 

@@ -16,15 +16,15 @@ returns-in_ok-behind-in-Filter-clause-left c = rw c.in-Filter.is (omega (arith, 
 pub returns-in_ok-behind-in-Project-clause-left : goal.returns-in_ok-behind-in-Project-clause-left
 returns-in_ok-behind-in-Project-clause-left c = rw c.in-Project.is (omega (arith, count_through-none []))
 
-pub returns-in_ok-behind-in-Join-clause-unread : goal.returns-in_ok-behind-in-Join-clause-unread
-returns-in_ok-behind-in-Join-clause-unread c =
+pub returns-in_ok-behind-in-Join-clause-new : goal.returns-in_ok-behind-in-Join-clause-new
+returns-in_ok-behind-in-Join-clause-new c =
     let records = records_of c.args.files.now c.args.flow.now in
     let waiting = c.args.waiting.now.items in
     let build = c.in-Join.build in
     let probe = c.in-Join.probe in
     let h = rw c.in-Join.is at c.requires in
     let with : Waiting → Join = λ unread. record { build_keys = c.in-Join.build_keys; probe_keys = c.in-Join.probe_keys; rows = unread_rows records unread; sealed = true } in
-    let probed : unread_at c.take-build_side.new.waiting.items probe ≡ unread_at waiting probe =
-    ap (λ others. unread_at others probe) c.take-build_side.ensures.others ∙ taken-other waiting build probe h.1.0 h.0.0 (λ e. h.2 (sym e)) in
-    let built : c.in_ok-built-in-Join.built ≡ with (unread_at waiting build) = c.in_ok-built-in-Join.ensures.built ∙ ap with c.take-build_side.ensures.taken in
-    rw c.in-Join.is (ap (λ new. new.unread) c.in_ok-behind-in-Join.ensures.new ∙ rw (probed, built) refl)
+    let probed : unread_at c.take-build.new.waiting.items probe ≡ unread_at waiting probe =
+    ap (λ others. unread_at others probe) c.take-build.ensures.others ∙ taken-other waiting build probe h.1.0 h.0.0 (λ e. h.2 (sym e)) in
+    let built : c.in_ok-built-in-Join.built ≡ with (unread_at waiting build) = c.in_ok-built-in-Join.ensures.built ∙ ap with c.take-build.ensures.taken in
+    rw c.in-Join.is (c.in_ok-behind-in-Join.ensures.new ∙ rw (probed, built) refl)

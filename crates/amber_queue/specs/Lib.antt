@@ -1,2 +1,0 @@
-pub mod Incoming
-pub mod Outgoing
