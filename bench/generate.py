@@ -60,8 +60,9 @@ def scan(name, columns):
     return {"id": name, "kind": "scan", "file": f"{name}.csv", "columns": columns}
 
 
-def write(top, name, tables, operators, query):
-    """A workload: its tables as (name, columns, rows), its operators behind the scans, and what sqlite3 is asked."""
+def write(top, name, tables, operators, query, workers=1):
+    """A workload: its tables as (name, columns, rows), its operators behind the scans, what sqlite3 is asked, and how many
+    workers an operator has."""
     if len(sys.argv) > 2 and name not in sys.argv[2:]:
         return
     folder = os.path.join(top, name)
@@ -76,6 +77,9 @@ def write(top, name, tables, operators, query):
         kinds = ", ".join(f"{column} {sql[kind]}" for column, kind in columns)
         script += f"CREATE TABLE {table} ({kinds});\n.import --skip 1 {table}.csv {table}\n"
     scans = [scan(table, columns) for table, columns, _ in tables]
+    if workers > 1:
+        for operator in scans + operators:
+            operator["workers"] = workers
     answer = {"id": "answer", "kind": "sink", "input": (scans + operators)[-1]["id"]}
     with open(os.path.join(folder, "workflow.json"), "w") as out:
         json.dump({"operators": scans + operators + [answer]}, out, indent=1)
@@ -114,6 +118,8 @@ def main():
           'SELECT item, count(*) AS "count", sum(qty) AS "sum:qty", max(note) AS "max:note" FROM data GROUP BY item ORDER BY item')
     write(top, "group_100k", [("data", SALE, sales(1_000_000, 100_000))], [totals("part", ["count", "sum:qty", "min:sale"])],
           'SELECT part, count(*) AS "count", sum(qty) AS "sum:qty", min(sale) AS "min:sale" FROM data GROUP BY part ORDER BY part')
+    write(top, "group_100k_by_4", [("data", SALE, sales(1_000_000, 100_000))], [totals("part", ["count", "sum:qty", "min:sale"])],
+          'SELECT part, count(*) AS "count", sum(qty) AS "sum:qty", min(sale) AS "min:sale" FROM data GROUP BY part ORDER BY part', 4)
     write(top, "faults_10", [("data", ORDER, faulty(orders(1_000_000)))], [kept("qty", ">=", 10)], "SELECT 1")
 
 
