@@ -1,11 +1,22 @@
 -- Workers hold the ends of their links, whatever they do.
-use Rattle.std.proofs.Common.{◌≡◌, ℕ, List, refl, sym, subst}
+use Rattle.std.proofs.Common.{◌≡◌, ℕ, zero, suc, ◌<◌, List, [], ◌∷◌, All, false, get_or, length, map, refl, sym, ap, ◌∙◌, subst, arith}
+use Rattle.rtrb.specs.Ring.{received, sent}
+use Rattle.amber_link.specs.Links.{AreLinked, waiting}
+use Rattle.amber_link.specs.Outgoing.{Outgoing}
+use Rattle.amber_link.specs.declared.ends.Out.{Out}
+use Rattle.amber_link.specs.declared.ends.In.{In}
+use Rattle.amber_link.proofs.SameEnds.{receivers-same, senders-same}
+use Rattle.amber_link.proofs.Sides.{map-length}
 use Rattle.amber_worker.specs.AtPosition.{HasSameEnds}
-use Rattle.amber_worker.specs.Pairs.{AreJoined}
+use Rattle.amber_worker.specs.Made.{IsFreshIn, IsFreshOut, end_of, link_of, roomless}
+use Rattle.amber_worker.specs.Pairs.{AreJoined, IsLinkAt}
 use Rattle.amber_worker.specs.WorkerState.{WorkerState}
-use Rattle.amber_worker.proofs.PairFacts.{joined-still}
+use Rattle.amber_worker.specs.declared.operator_state.OperatorState.{OperatorState}
+use Rattle.amber_worker.proofs.PairFacts.{joined-made, joined-still}
 use Rattle.amber_worker.proofs.Turns.{ends-same}
-use Rattle.amber_tests.specs.Chain.{HoldsEnds}
+use Rattle.amber_tests.specs.Chain.{AreChained, HoldsEnds, IsOneLink}
+
+-- ---- one worker
 
 pub holds-same : (old new : WorkerState) → HasSameEnds old new → HoldsEnds old new
 holds-same old new same = record {
@@ -21,3 +32,54 @@ holds-then old between new first second = record {
   before = λ from joined. second.before from (first.before from joined);
   behind = λ to joined. second.behind to (first.behind to joined);
 }
+
+-- what it does for its operator is no end
+pub holds-set : (old new : WorkerState) (state : OperatorState) → new ≡ record old { operator_state = state } → HoldsEnds old new
+holds-set old new state is =
+    holds-same old new
+    (subst (λ w. HasSameEnds old w) (sym is) (record { ins = senders-same old.ins; outs = receivers-same old.outs; number = refl; watch = refl; route = refl }))
+
+-- ---- a new link
+
+all-one : {A : Type 0} (P : A → Type 0) (x : A) → P x → All P (x ∷ [])
+all-one P x p zero d less = p
+all-one P x p (suc k) d less = absurd (omega arith)
+
+linked-one : (out : Out) (into : In) → AreLinked out into → (j k : ℕ) → j < 1 → k < 1 → (d : Out) (e : In) → AreLinked (get_or (out ∷ []) j d) (get_or (into ∷ []) k e)
+linked-one out into linked zero zero j_less k_less d e = linked
+linked-one out into linked zero (suc k) j_less k_less d e = absurd (omega arith)
+linked-one out into linked (suc j) k j_less k_less d e = absurd (omega arith)
+
+pub one-link : (batch : ℕ) (out : Out) (into : In) → AreLinked out into
+    → out.kept ≡ record { size = batch; made = 0; ended = false; waiting = []; partial = []; room = 0 } → sent out.ring ≡ [] → received into.ring ≡ [] → waiting into ≡ []
+    → IsOneLink batch (out ∷ []) (into ∷ [])
+one-link batch out into linked kept none_sent none_came none_known =
+    let with : ℕ → Outgoing = λ room. record { size = batch; made = 0; ended = false; waiting = []; partial = []; room = room } in
+    let room : out.kept.room ≡ 0 = ap (λ (one : Outgoing). one.room) kept in
+    record {
+      out = refl;
+      into = refl;
+      fresh_out = all-one (IsFreshOut batch) out (none_sent, kept ∙ ap with (sym room));
+      fresh_in = all-one IsFreshIn into (none_came, none_known);
+      linked = linked-one out into linked;
+    }
+
+-- new workers that were given its ends are joined
+pub joined-new : (from to : WorkerState) (batch : ℕ) (outs : List Out) (ins : List In) → IsOneLink batch outs ins → map link_of from.outs ≡ map roomless outs → map end_of to.ins ≡ ins
+    → AreJoined from to
+joined-new from to batch outs ins one outs_are ins_are =
+    joined-made from to outs ins outs_are ins_are (λ j k places d e.
+        let j_less : j < length outs = subst (λ n. j < n) (sym (map-length link_of from.outs) ∙ ap length outs_are ∙ map-length roomless outs) places.j_within in
+        let k_less : k < length ins = subst (λ n. k < n) (sym (map-length end_of to.ins) ∙ ap length ins_are) places.k_within in
+        one.linked j k j_less k_less d e)
+
+-- ---- three workers, of whom one does something
+
+pub chain-scan : (scan now filter sink : WorkerState) → AreChained scan filter sink → HoldsEnds scan now → AreChained now filter sink
+chain-scan scan now filter sink chained held = record { first = held.behind filter chained.first; second = chained.second }
+
+pub chain-filter : (scan filter now sink : WorkerState) → AreChained scan filter sink → HoldsEnds filter now → AreChained scan now sink
+chain-filter scan filter now sink chained held = record { first = held.before scan chained.first; second = held.behind sink chained.second }
+
+pub chain-sink : (scan filter sink now : WorkerState) → AreChained scan filter sink → HoldsEnds sink now → AreChained scan filter now
+chain-sink scan filter sink now chained held = record { first = chained.first; second = held.before filter chained.second }

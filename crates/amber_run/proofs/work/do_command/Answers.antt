@@ -46,10 +46,6 @@ pub returns-in-Err-Spent-clause-did : goal.returns-in-Err-Spent-clause-did
 returns-in-Err-Spent-clause-did g c =
     λ t left same h. exit-memory t (c.args.command.now ∷ left) c.args.debugger.now.log (g.F.Folder.files c.args.folder.now) (g.O.Sink.written c.args.out.now) h.way
 
-pub returns-in-Err-NoMemory-clause-did : goal.returns-in-Err-NoMemory-clause-did
-returns-in-Err-NoMemory-clause-did g c =
-    λ t left same h. exit-memory t (c.args.command.now ∷ left) c.args.debugger.now.log (g.F.Folder.files c.args.folder.now) (g.O.Sink.written c.args.out.now) h.way
-
 pub returns-in_ok-put_output-in-Ok-clause-open : goal.returns-in_ok-put_output-in-Ok-clause-open
 returns-in_ok-put_output-in-Ok-clause-open g c =
     λ other. open-next c.args.debugger.now c.command.new.self c.args.command.now c.in-Ok.done c.in-Ok.ensures.does other
