@@ -7,10 +7,6 @@
 #[cfg(test)]
 mod cases;
 #[cfg(test)]
-mod crew;
-#[cfg(test)]
-mod debug;
-#[cfg(test)]
 mod flows;
 #[cfg(test)]
 mod folders;
@@ -27,8 +23,6 @@ mod ops;
 #[cfg(test)]
 mod plain;
 #[cfg(test)]
-mod query;
-#[cfg(test)]
 mod real;
 #[cfg(test)]
 mod records;
@@ -44,7 +38,5 @@ mod rows;
 mod scans;
 #[cfg(test)]
 mod script;
-#[cfg(test)]
-mod workers;
 #[cfg(test)]
 mod written;

@@ -14,7 +14,7 @@ use Rattle.amber_worker.specs.WorkerState.{WorkerState}
 use Rattle.amber_worker.specs.declared.operator_state.OperatorState.{OperatorState}
 use Rattle.amber_worker.proofs.PairFacts.{joined-made, joined-still}
 use Rattle.amber_worker.proofs.Turns.{ends-same}
-use Rattle.amber_tests.specs.Chain.{AreChained, HoldsEnds, IsOneLink}
+use Rattle.amber_worker_tests.specs.Chain.{AreChained, HoldsEnds, IsOneLink}
 
 -- ---- one worker
 
@@ -69,9 +69,9 @@ pub joined-new : (from to : WorkerState) (batch : ℕ) (outs : List Out) (ins : 
     → AreJoined from to
 joined-new from to batch outs ins one outs_are ins_are =
     joined-made from to outs ins outs_are ins_are (λ j k places d e.
-        let j_less : j < length outs = subst (λ n. j < n) (sym (map-length link_of from.outs) ∙ ap length outs_are ∙ map-length roomless outs) places.j_within in
-        let k_less : k < length ins = subst (λ n. k < n) (sym (map-length end_of to.ins) ∙ ap length ins_are) places.k_within in
-        one.linked j k j_less k_less d e)
+    let j_less : j < length outs = subst (λ n. j < n) (sym (map-length link_of from.outs) ∙ ap length outs_are ∙ map-length roomless outs) places.j_within in
+    let k_less : k < length ins = subst (λ n. k < n) (sym (map-length end_of to.ins) ∙ ap length ins_are) places.k_within in
+    one.linked j k j_less k_less d e)
 
 -- ---- three workers, of whom one does something
 

@@ -1,7 +1,7 @@
 // The workers of the query of `query.rt`.
 ghost use Rattle.std.specs.Prelude.{◌<◌, ◌≤◌, IfOk};
 ghost use Rattle.amber_worker.specs.Pairs.{AreJoined};
-ghost use Rattle.amber_tests.specs.Chain.{HoldsEnds, IsOneLink};
+ghost use Rattle.amber_worker_tests.specs.Chain.{HoldsEnds, IsOneLink};
 
 use crate::query::{columns, query};
 use amber_link::{In, NoMemory, Out, link};
@@ -26,7 +26,7 @@ impl Model for Crew {
 
     ghost Value = { List WorkerState };
 
-    ghost use Rattle.amber_tests.specs.Chain.{AreChained};
+    ghost use Rattle.amber_worker_tests.specs.Chain.{AreChained};
 
     ghost view = { λ a. a.scan ∷ a.filter ∷ a.sink ∷ [] };
 

@@ -4,9 +4,14 @@ ghost use Rattle.amber_rows.specs.Crew.{crew_of, op_of, receivers_of, senders_of
 ghost use Rattle.amber_rows.specs.Kinds.{is_scan};
 ghost use Rattle.amber_meaning.specs.Plain.{scan_count};
 
-use crate::written::text;
-use amber_rows::{Cmp, ColKind, Column, Cond, Flow, NoMemory, Operator, Schema, Value, What};
+use amber_rows::{Cmp, ColKind, Column, Cond, Flow, NoMemory, Operator, Schema, Text, Value, What};
 use std::alloc::Global;
+
+fn text(alloc: Global, written: &str) -> Result<Text, NoMemory>
+    ensures { IfOk result (λ text. text ≡ written.now) }
+{
+    Ok(Text::new(String::from_str(alloc, written)?))
+}
 
 /// One column of numbers.
 pub fn columns(alloc: Global) -> Result<Schema, NoMemory>

@@ -5,7 +5,7 @@ use Rattle.amber_rows.specs.Lists.{numbers_below}
 use Rattle.amber_rows.specs.FlowRules.{IsFlow}
 use Rattle.amber_meaning.specs.Plain.{scan_count}
 use Rattle.amber_worker.proofs.ExampleFlow.{crew, from_two, is_flow, scans}
-use Rattle.amber_tests.proofs.query.query.Goals as goal
+use Rattle.amber_worker_tests.proofs.query.query.Goals as goal
 
 one_scan : scan_count from_two ≡ 1
 unfolding scan_count
