@@ -31,6 +31,7 @@ fn rows_of_other_widths_and_kinds_have_an_order_too(rt: HostRuntime) -> Result<(
 }
 
 // A column, and a constant with which its cell is compared.
+#[derive(Drop)]
 struct Compared {
     column: u32,
     constant: &'static str,
