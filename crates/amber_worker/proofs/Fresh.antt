@@ -1,8 +1,6 @@
 -- Whom a new worker has as senders and receivers.
 use Rattle.std.proofs.Common.{◌≡◌, ℕ, zero, suc, ◌+◌, ◌<◌, ◌++◌, map, take, arith, List, [], ◌∷◌, length, All, get_or, true, false, refl, sym, ap, ◌∙◌}
 use Rattle.std.proofs.lemmas.List.{map-append}
-use Rattle.amber_link.specs.declared.senders.Sender.{Sender}
-use Rattle.amber_worker.specs.Made.{from_of}
 use Rattle.amber_rows.specs.Lists.{numbers_below}
 use Rattle.std.proofs.lemmas.Bool.{and_parts}
 use Rattle.amber_rows.specs.Crew.{crew_of, first_worker_of, follower_of, keyed_receiver_of, op_of, reader_of, reads, receiver_of, receivers_of, senders_of, sends_to, what_at, worker_count}
@@ -30,11 +28,11 @@ sender-within flow worker k d less = sender-known flow worker (get_or (senders_o
 pub senders-within : (flow : List Operator) (worker : ℕ) → All (λ (n : ℕ). n < crew_of flow) (senders_of flow worker)
 senders-within flow worker k d less = sender-within flow worker k d less
 
--- one sender more has the next number
-pub sender-more : (ns : List ℕ) (place : ℕ) (ins : List Sender) (one : Sender) → place < length ns → map from_of ins ≡ take place ns → one.from ≡ get_or ns place 0
-    → map from_of (ins ++ one ∷ []) ≡ take (place + 1) ns
-sender-more ns place ins one less before from =
-    map-append from_of ins (one ∷ []) ∙ ap (λ l. l ++ one.from ∷ []) before ∙ ap (λ n. take place ns ++ n ∷ []) from ∙ sym (take-next ns place less)
+-- one more has the next number
+pub one-more : {A : Type 0} (number_of : A → ℕ) (ns : List ℕ) (place : ℕ) (made : List A) (one : A) → place < length ns → map number_of made ≡ take place ns
+    → number_of one ≡ get_or ns place 0 → map number_of (made ++ one ∷ []) ≡ take (place + 1) ns
+one-more number_of ns place made one less before own =
+    map-append number_of made (one ∷ []) ∙ ap (λ l. l ++ number_of one ∷ []) before ∙ ap (λ n. take place ns ++ n ∷ []) own ∙ sym (take-next ns place less)
     ∙ ap (λ n. take n ns) next
   where
     next : suc place ≡ place + 1

@@ -31,7 +31,9 @@ use Rattle.amber_link.specs.declared.receivers.Receiver.{Receiver}
 use Rattle.amber_link.proofs.Sides.{map-at, map-length}
 use Rattle.amber_worker.specs.Fields.{AreFew}
 use Rattle.amber_worker.specs.Links.{IsSoundRoute}
-use Rattle.amber_worker.specs.Made.{AreFreshSenders, IsFresh, IsFreshIn, IsFreshOut, IsOperatorStateOf, from_of, is_join, link_of, out_of, roomless, to_of}
+use Rattle.amber_worker.specs.Made.{AreFreshSenders, AreNumbered, IsFresh, IsFreshIn, IsFreshOut, IsOperatorStateOf, IsTaskOf, end_of, fresh_worker, from_of, is_join, link_of, out_of, roomless, to_of}
+use Rattle.amber_worker.specs.declared.making.WorkerEnds.{WorkerEnds}
+use Rattle.amber_worker.specs.declared.making.WorkerTask.{WorkerTask}
 use Rattle.amber_worker.specs.AtPosition.{HasShare, IsAtPosition, Placement, ReceiveAll, SendAll, Shows, first_orders, no_base, placement_of}
 use Rattle.amber_worker.specs.WorkerState.{WorkerState}
 use Rattle.amber_worker.specs.declared.operator_state.OperatorState.{OperatorState}
@@ -172,7 +174,7 @@ fresh-stands flow records size worker share w some shared has fresh = record {
 }
 
 -- what a new worker counts is within its steps
-pub few-fresh : (d : OperatorState) (kind : What) (share : Option (List Scanned)) (flow : List Operator) (ins : List Sender) (outs : List Receiver) (size : ℕ) (route : Route) (journal : List Entry)
+few-fresh : (d : OperatorState) (kind : What) (share : Option (List Scanned)) (flow : List Operator) (ins : List Sender) (outs : List Receiver) (size : ℕ) (route : Route) (journal : List Entry)
     → IsOperatorStateOf d kind → is_some share ≡ is_scan kind → (is_scan kind ≡ true → ins ≡ []) → AreFreshSenders flow kind ins
     → All (λ (one : Receiver). IsFreshOut size one.link) outs → IsSoundRoute route → journal ≡ [] → AreFew d (is_join kind) share 0 0 0 false ins outs route journal
 few-fresh d kind share flow ins outs size route journal is shared scans fresh out_ends routed none = record {
@@ -198,15 +200,15 @@ few-fresh d kind share flow ins outs size route journal is shared scans fresh ou
 -- ---- what is made
 
 -- what is said of the images of elements
-pub all-back : {A B : Type 0} (f : A → B) (P : B → Type 0) (xs : List A) → All P (map f xs) → All (λ x. P (f x)) xs
+all-back : {A B : Type 0} (f : A → B) (P : B → Type 0) (xs : List A) → All P (map f xs) → All (λ x. P (f x)) xs
 all-back f P xs h k d less = subst P (map-at f xs k d (f d) less) (h k (f d) (subst (λ n. k < n) (sym (map-length f xs)) less))
 
-pub roomless-fresh : (size : ℕ) (outs : List Receiver) → All (λ (one : Receiver). IsFreshOut size one.link) outs → All (λ (one : Receiver). IsFreshOut size one.link) (map without_room outs)
+roomless-fresh : (size : ℕ) (outs : List Receiver) → All (λ (one : Receiver). IsFreshOut size one.link) outs → All (λ (one : Receiver). IsFreshOut size one.link) (map without_room outs)
 roomless-fresh size outs fresh =
     all-roomless (λ (one : Receiver). IsFreshOut size one.link) outs
     (λ k d less. let own = fresh k d less in (own.0, ap (λ (o : Outgoing). record o { room = 0 }) own.1))
 
-pub roomless-numbers : (outs : List Receiver) → map to_of (map without_room outs) ≡ map to_of outs
+roomless-numbers : (outs : List Receiver) → map to_of (map without_room outs) ≡ map to_of outs
 roomless-numbers [] = refl
 roomless-numbers (one ∷ outs) = ap (λ l. one.to ∷ l) (roomless-numbers outs)
 
@@ -214,6 +216,46 @@ pub roomless-links : (outs : List Receiver) → map link_of (map without_room ou
 roomless-links [] = refl
 roomless-links (one ∷ outs) = ap (λ l. roomless one.link ∷ l) (roomless-links outs)
 
-pub no-sender : (flow : List Operator) (worker : ℕ) (ins : List Sender) → map from_of ins ≡ senders_of flow worker → is_scan (what_at flow (op_of flow worker)) ≡ true → ins ≡ []
+no-sender : (flow : List Operator) (worker : ℕ) (ins : List Sender) → map from_of ins ≡ senders_of flow worker → is_scan (what_at flow (op_of flow worker)) ≡ true → ins ≡ []
 no-sender flow worker [] is scans = refl
 no-sender flow worker (one ∷ ins) is scans = let none = is ∙ scan-senders flow worker scans in cc
+
+-- what is made of a task and of ends has done nothing
+pub made-fresh : (flow : List Operator) (worker size : ℕ) (share : Option (List Scanned)) (task : WorkerTask) (ends : WorkerEnds) → IsTaskOf flow worker task → AreNumbered flow worker ends
+    → All (IsFreshOut size) (map out_of ends.outs.items) → All IsFreshIn (map end_of ends.ins.items) → IsFresh flow worker size share (fresh_worker worker share task ends)
+made-fresh flow worker size share task ends is numbered outs ins = record {
+  op = is.op;
+  number = refl;
+  does = is.does;
+  columns = is.columns;
+  build_columns = is.build_columns;
+  building = is.building;
+  rest = refl;
+  pending = refl;
+  taken = refl;
+  emitted = refl;
+  batches = refl;
+  refused = refl;
+  kept = refl;
+  watch = refl;
+  hand = refl;
+  held = refl;
+  waved = refl;
+  paused = refl;
+  finished = refl;
+  senders = numbered.senders;
+  ins = numbered.fresh;
+  in_ends = all-back end_of IsFreshIn ends.ins.items ins;
+  receivers = roomless-numbers ends.outs.items ∙ numbered.receivers;
+  out_ends = roomless-fresh size ends.outs.items (all-back out_of (IsFreshOut size) ends.outs.items outs);
+  route = is.route;
+  journal = refl;
+}
+
+-- what it counts is within its steps
+pub few-made : (flow : List Operator) (worker size : ℕ) (share : Option (List Scanned)) (task : WorkerTask) (ends : WorkerEnds) → IsTaskOf flow worker task → AreNumbered flow worker ends
+    → All (IsFreshOut size) (map out_of ends.outs.items) → is_some share ≡ is_scan (what_at flow (op_of flow worker))
+    → AreFew task.operator_state task.building share 0 0 0 false ends.ins.items ends.outs.items task.route []
+few-made flow worker size share task ends is numbered outs shared =
+    rw is.building (few-fresh task.operator_state (what_at flow (op_of flow worker)) share flow ends.ins.items ends.outs.items size task.route [] is.does shared
+    (no-sender flow worker ends.ins.items numbered.senders) numbered.fresh (all-back out_of (IsFreshOut size) ends.outs.items outs) is.sound refl)

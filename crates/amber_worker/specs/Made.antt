@@ -15,9 +15,12 @@ use Rattle.amber_link.specs.declared.ends.Out.{Out}
 use Rattle.amber_link.specs.declared.ends.In.{In}
 use Rattle.amber_link.specs.declared.senders.Sender.{Sender}
 use Rattle.amber_link.specs.declared.receivers.Receiver.{Receiver}
-use Rattle.amber_worker.specs.Links.{number_to}
+use Rattle.amber_link.specs.Sides.{without_room}
+use Rattle.amber_worker.specs.Links.{IsSoundRoute, number_to}
 use Rattle.amber_worker.specs.Fields.{rest_in}
 use Rattle.amber_worker.specs.WorkerState.{WorkerState}
+use Rattle.amber_worker.specs.declared.making.WorkerEnds.{WorkerEnds}
+use Rattle.amber_worker.specs.declared.making.WorkerTask.{WorkerTask}
 use Rattle.amber_worker.specs.declared.operator_state.OperatorState.{OperatorState}
 use Rattle.amber_worker.specs.declared.operator_state.OperatorState.TheVariants as operator_state
 
@@ -121,3 +124,47 @@ pub record IsFresh (flow : List Operator) (worker size : ℕ) (share : Option (L
   pub out_ends : All (λ one. IsFreshOut size one.link) w.outs
   pub route : (row : List Value) → 0 < length (receivers_of flow worker) → number_to w.route row ≡ receiver_of flow worker row
   pub journal : w.journal ≡ []
+
+-- what a worker does before it was handed anything, and to whom its rows go
+pub record IsTaskOf (flow : List Operator) (worker : ℕ) (task : WorkerTask) : Type 0 where
+  pub op : task.op ≡ op_of flow worker
+  pub does : IsOperatorStateOf task.operator_state (what_at flow (op_of flow worker))
+  pub columns : task.columns ≡ columns_at flow (handing_operator (what_at flow (op_of flow worker)) (op_of flow worker))
+  pub build_columns : task.build_columns ≡ built_columns flow (what_at flow (op_of flow worker))
+  pub building : task.building ≡ is_join (what_at flow (op_of flow worker))
+  pub route : (row : List Value) → 0 < length (receivers_of flow worker) → number_to task.route row ≡ receiver_of flow worker row
+  pub sound : IsSoundRoute task.route
+
+-- its ends have the numbers of its senders and of its receivers, and of no sender anything was taken
+pub record AreNumbered (flow : List Operator) (worker : ℕ) (ends : WorkerEnds) : Type 0 where
+  pub senders : map from_of ends.ins.items ≡ senders_of flow worker
+  pub fresh : AreFreshSenders flow (what_at flow (op_of flow worker)) ends.ins.items
+  pub receivers : map to_of ends.outs.items ≡ receivers_of flow worker
+
+-- a worker of this number, share, task and ends that has done nothing
+abbrev pub fresh_worker : ℕ → Option (List Scanned) → WorkerTask → WorkerEnds → WorkerState
+fresh_worker number share task ends = record {
+  op = task.op;
+  number = number;
+  operator_state = task.operator_state;
+  columns = task.columns;
+  build_columns = task.build_columns;
+  building = task.building;
+  rest = rest_in share 0 [];
+  pending = [];
+  taken = 0;
+  emitted = 0;
+  batches = 0;
+  refused = [];
+  kept = [];
+  watch = None;
+  hand = 0;
+  held = false;
+  waved = false;
+  paused = false;
+  finished = false;
+  ins = ends.ins.items;
+  outs = map without_room ends.outs.items;
+  route = task.route;
+  journal = [];
+}

@@ -1,6 +1,7 @@
 -- What each single step of a worker changes.
 use Rattle.std.specs.Prelude.{◌≡◌, ℕ, ◌+◌, ◌^◌, ◌<◌, ◌≤◌, ◌-◌, ◌==◌, ◌&&◌, option_to_list, not, Bool, All, List, [], ◌∷◌, ◌++◌, length, map, Ok, Option, Some, None, true, false, if◌then◌else◌}
 use Rattle.amber_rows.specs.Cond.{holds_of}
+use Rattle.amber_rows.specs.Order.{sort_rows}
 use Rattle.amber_rows.specs.Operators.{first_keys, group_result, matches_of, pick_cells, refused_keys}
 use Rattle.amber_rows.specs.declared.value.Value.{Value}
 use Rattle.amber_rows.specs.declared.column.Column.{Column}
@@ -12,6 +13,8 @@ use Rattle.amber_log.specs.declared.entry.Entry.TheVariants as entry
 use Rattle.amber_meaning.specs.Task.{Arrival, row_in}
 use Rattle.amber_meaning.specs.Refused.{refusal_in}
 use Rattle.amber_rows.specs.Lists.{first_of}
+use Rattle.amber_meaning.specs.declared.answer.Refusal.{Refusal}
+use Rattle.amber_meaning.specs.declared.answer.Refusal.TheVariants as refusal
 use Rattle.amber_meaning.specs.declared.view.Extra.{Extra}
 use Rattle.amber_meaning.specs.declared.view.Extra.TheVariants as extra
 use Rattle.amber_meaning.specs.declared.view.Stand.TheVariants as stand
@@ -363,3 +366,9 @@ IsRefused operator_state.Sink keys = keys ≡ []
 abbrev pub AreKeysOf : Bool → OperatorState → List (List Value) → Type 0
 AreKeysOf true d keys = IsRefused d keys
 AreKeysOf false d keys = keys ≡ []
+
+-- keys such as these stand behind what was refused before, in their order
+pub record AreKeysBehind (op : ℕ) (before : List Refusal) (Keys : List (List Value) → Type 0) (after : List Refusal) : Type 0 where
+  pub keys : List (List Value)
+  pub are : Keys keys
+  pub behind : after ≡ before ++ map (refusal.Group op) (sort_rows keys)

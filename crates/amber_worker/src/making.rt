@@ -1,13 +1,13 @@
 //! What a new worker is given of its workflow.
 
 ghost use Rattle.std.specs.Prelude.{◌≡◌, ◌<◌, ◌≤◌, List, All, true, false, length, map, slice_index_or, IfOk, IfNone, IfSome};
-ghost use Rattle.amber_rows.specs.Crew.{crew_of, receiver_of, receivers_of, senders_of};
+ghost use Rattle.amber_rows.specs.Crew.{crew_of, op_of, receiver_of, receivers_of, senders_of, what_at};
 ghost use Rattle.amber_rows.specs.Kinds.{is_keyed, side_keys};
 ghost use Rattle.amber_rows.specs.Columns.{columns_at};
 ghost use Rattle.amber_rows.specs.declared.value.Value.{Value as Cell};
 ghost use Rattle.amber_meaning.specs.Plan.{built_columns};
 ghost use Rattle.amber_worker.specs.Links.{IsSoundRoute, number_to};
-ghost use Rattle.amber_worker.specs.Made.{AreFreshSenders, IsFreshIn, IsFreshSender, IsOperatorStateOf, builds_for, from_of, handing_operator, end_of, is_join, out_of, to_of};
+ghost use Rattle.amber_worker.specs.Made.{AreFreshSenders, AreNumbered, IsFreshIn, IsFreshSender, IsOperatorStateOf, IsTaskOf, builds_for, from_of, handing_operator, end_of, is_join, out_of, to_of};
 
 use crate::operator_state::OperatorState;
 use crate::route::Route;
@@ -19,7 +19,7 @@ use amber_rows::{Aggs, Cols, Cond, Flow, Schema, What};
 use std::alloc::{AllocError, Global};
 
 // What a worker of this kind does with a row.
-pub(crate) fn operator_state_of(alloc: Global, what: &What) -> Result<OperatorState, AllocError>
+fn operator_state_of(alloc: Global, what: &What) -> Result<OperatorState, AllocError>
     ensures { IfOk result (λ operator_state. IsOperatorStateOf operator_state what.now) }
 {
     match what {
@@ -73,12 +73,7 @@ fn schema_of(alloc: Global, flow: &Flow, op: u32) -> Result<Schema, AllocError>
 }
 
 // The columns of the rows that are handed to an operator of this kind, of a join on its probe side.
-pub(crate) fn columns_of(
-    alloc: Global,
-    flow: &Flow,
-    what: &What,
-    op: u32,
-) -> Result<Schema, AllocError>
+fn columns_of(alloc: Global, flow: &Flow, what: &What, op: u32) -> Result<Schema, AllocError>
     ensures { IfOk result (λ columns. columns
         ≡ columns_at flow.now (handing_operator what.now op)) }
 {
@@ -86,11 +81,7 @@ pub(crate) fn columns_of(
 }
 
 // The columns of the rows of a build side; none where there is none.
-pub(crate) fn build_columns_of(
-    alloc: Global,
-    flow: &Flow,
-    what: &What,
-) -> Result<Schema, AllocError>
+fn build_columns_of(alloc: Global, flow: &Flow, what: &What) -> Result<Schema, AllocError>
     ensures { IfOk result (λ columns. columns ≡ built_columns flow.now what.now) }
 {
     match what {
@@ -104,7 +95,7 @@ pub(crate) fn build_columns_of(
 }
 
 // Whether an operator of this kind has a build side.
-pub(crate) fn is_join(what: &What) -> bool
+fn is_join(what: &What) -> bool
     ensures { result ≡ is_join what.now }
 {
     matches!(what, What::Join { .. })
@@ -140,7 +131,7 @@ fn sender_at(flow: &Flow, what: &What, numbers: &[u32], place: usize, link: In) 
 }
 
 // The senders of a worker, each with its end, by rising numbers.
-pub(crate) fn senders_of(
+fn senders_of(
     alloc: Global,
     flow: &Flow,
     worker: u32,
@@ -165,8 +156,18 @@ pub(crate) fn senders_of(
     Ok(senders)
 }
 
+// The receiver with the number at this place.
+fn receiver_at(numbers: &[u32], place: usize, link: Out) -> Receiver
+    requires { place < length numbers.now }
+    ensures there { place < length numbers.now }
+    ensures to { result.to ≡ slice_index_or numbers.now place 0 }
+    ensures link { result.link ≡ link }
+{
+    Receiver::new(numbers[place], link)
+}
+
 // The receivers of a worker, each with its end, by rising numbers.
-pub(crate) fn receivers_of(
+fn receivers_of(
     alloc: Global,
     flow: &Flow,
     worker: u32,
@@ -182,7 +183,7 @@ pub(crate) fn receivers_of(
     let mut receivers = Vec::new(alloc);
     let mut place: usize = 0;
     for link in outs {
-        receivers.push(Receiver::new(numbers[place], link))?;
+        receivers.push(receiver_at(numbers, place, link))?;
         place += 1;
     }
     Ok(receivers)
@@ -207,7 +208,7 @@ fn keys_into(what: &What, op: u32) -> Option<&Cols>
 }
 
 // To whom the rows of a worker go.
-pub(crate) fn route_of(flow: &Flow, worker: u32) -> Result<Route, AllocError>
+fn route_of(flow: &Flow, worker: u32) -> Result<Route, AllocError>
     requires { worker < crew_of flow.now }
     ensures route { IfOk result (λ route. (row : List Cell)
         → 0 < length (receivers_of flow.now worker) → number_to route row
@@ -226,4 +227,75 @@ pub(crate) fn route_of(flow: &Flow, worker: u32) -> Result<Route, AllocError>
             workers: flow.worker_count(reader),
         }),
     }
+}
+
+// What a worker does before it was handed anything, and to whom its rows go.
+#[derive(Drop)]
+pub(crate) struct WorkerTask {
+    pub op: u32,
+    pub operator_state: OperatorState,
+    pub columns: Schema,
+    pub build_columns: Schema,
+    pub building: bool,
+    pub route: Route,
+}
+
+// The ends of the links of a worker.
+#[derive(Drop)]
+pub(crate) struct WorkerEnds {
+    pub ins: Vec<Sender>,
+    pub outs: Vec<Receiver>,
+}
+
+// What the operator of a worker is.
+fn what_of(flow: &Flow, worker: u32) -> &What
+    requires { worker < crew_of flow.now }
+    ensures { result.now ≡ what_at flow.now (op_of flow.now worker) }
+{
+    let operators = flow.get();
+    let op = flow.op_of(worker);
+    &operators[op as usize - 1].what
+}
+
+// What a worker of a workflow does, by its running number.
+pub(crate) fn task_of(alloc: Global, flow: &Flow, worker: u32) -> Result<WorkerTask, AllocError>
+    requires { worker < crew_of flow.now }
+    ensures { IfOk result (IsTaskOf flow.now worker) }
+{
+    let op = flow.op_of(worker);
+    let what = what_of(flow, worker);
+    let operator_state = operator_state_of(alloc, what)?;
+    let columns = columns_of(alloc, flow, what, op)?;
+    let build_columns = build_columns_of(alloc, flow, what)?;
+    let route = route_of(flow, worker)?;
+    Ok(WorkerTask {
+        op,
+        operator_state,
+        columns,
+        build_columns,
+        building: is_join(what),
+        route,
+    })
+}
+
+// The ends of a worker of a workflow, by the numbers of those that they lead to.
+pub(crate) fn ends_of(
+    alloc: Global,
+    flow: &Flow,
+    worker: u32,
+    outs: Vec<Out>,
+    ins: Vec<In>,
+) -> Result<WorkerEnds, AllocError>
+    requires there { worker < crew_of flow.now }
+    requires all_outs { length outs.items ≡ length (receivers_of flow.now worker) }
+    requires all_ins { length ins.items ≡ length (senders_of flow.now worker) }
+    requires fresh { All IsFreshIn ins.items }
+    ensures numbers { IfOk result (AreNumbered flow.now worker) }
+    ensures outs { IfOk result (λ ends. map out_of ends.outs.items ≡ outs.items) }
+    ensures ins { IfOk result (λ ends. map end_of ends.ins.items ≡ ins.items) }
+{
+    let what = what_of(flow, worker);
+    let ins = senders_of(alloc, flow, worker, what, ins)?;
+    let outs = receivers_of(alloc, flow, worker, outs)?;
+    Ok(WorkerEnds { ins, outs })
 }

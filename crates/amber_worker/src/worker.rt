@@ -11,16 +11,14 @@ ghost use Rattle.amber_link.specs.declared.receivers.Receiver.{Receiver as OneRe
 ghost use Rattle.amber_link.specs.declared.senders.Sender.{Sender as OneSender};
 ghost use Rattle.amber_worker.specs.WorkerState.{steps_made};
 ghost use Rattle.amber_worker.specs.Steps.{IsCalm};
-ghost use Rattle.amber_worker.specs.Made.{IsFresh, IsFreshIn, IsFreshOut, end_of, link_of, roomless};
+ghost use Rattle.amber_worker.specs.Made.{IsFreshIn, IsFreshOut, end_of, link_of, roomless};
 ghost use Rattle.amber_worker.specs.Changes.{ShowsSet, StandsAtLeg, StandsNew, wants_batch, with_leg, with_value};
 
+mod beginning;
 mod giving;
 mod linking;
 mod stepping;
 
-use crate::making::{
-    build_columns_of, columns_of, is_join, operator_state_of, receivers_of, route_of, senders_of,
-};
 use crate::operator_state::OperatorState;
 use crate::route::Route;
 use crate::setting::set_value;
@@ -33,7 +31,6 @@ use amber_rows::{Flow, Schema, Value};
 use amber_scan::Share;
 pub use linking::settle_workers;
 use std::alloc::{AllocError, Global};
-use std::collections::VecDeque;
 use std::marker::Model;
 use std::mem;
 
@@ -131,69 +128,6 @@ impl Worker {
         let _operators = flow.get();
         let made = Self::make(alloc, flow, worker, batch, share, outs, ins)?;
         Ok(made)
-    }
-
-    // A worker that has done nothing.
-    fn make(
-        alloc: Global,
-        flow: &Flow,
-        worker: u32,
-        batch: u32,
-        share: Option<Share>,
-        outs: Vec<Out>,
-        ins: Vec<In>,
-    ) -> Result<Worker, AllocError>
-        requires there { worker < crew_of flow.now }
-        requires some { 0 < batch }
-        requires shared { is_some share ≡ is_scan (what_at flow.now (op_of flow.now worker)) }
-        requires all_outs { length outs.items ≡ length (receivers_of flow.now worker) }
-        requires all_ins { length ins.items ≡ length (senders_of flow.now worker) }
-        requires fresh_outs { All (IsFreshOut batch) outs.items }
-        requires fresh_ins { All IsFreshIn ins.items }
-        ensures fresh { IfOk result (λ made. IsFresh flow.now worker batch share made) }
-        ensures journal { IfOk result (λ made. made.journal ≡ []) }
-        ensures outs { IfOk result (λ made. map link_of made.outs ≡ map roomless outs.items) }
-        ensures ins { IfOk result (λ made. map end_of made.ins ≡ ins.items) }
-    {
-        let operators = flow.get();
-        let op = flow.op_of(worker);
-        let what = &operators[op as usize - 1].what;
-        let operator_state = operator_state_of(alloc, what)?;
-        let columns = columns_of(alloc, flow, what, op)?;
-        let build_columns = build_columns_of(alloc, flow, what)?;
-        let building = is_join(what);
-        let route = route_of(flow, worker)?;
-        let ins = senders_of(alloc, flow, worker, what, ins)?;
-        let outs = receivers_of(alloc, flow, worker, outs)?;
-        let rest = Rest {
-            share,
-            from: 0,
-            rows: VecDeque::new(alloc),
-        };
-        let gains = Gains {
-            pending: VecDeque::new(alloc),
-            refused: Vec::new(alloc),
-            kept: Vec::new(alloc),
-        };
-        Ok(Worker {
-            alloc,
-            op,
-            number: worker,
-            operator_state,
-            columns,
-            build_columns,
-            building,
-            rest,
-            taken: 0,
-            emitted: 0,
-            batches: 0,
-            gains,
-            finished: false,
-            ins,
-            outs,
-            route,
-            journal: Vec::new(alloc),
-        })
     }
 
     /// How many steps the worker has made: rows and batches taken, rows emitted, and the end.

@@ -1,15 +1,17 @@
 //! What a worker shows, and what it gives for the answer.
 
 ghost use Rattle.std.specs.Prelude.{false, IfOk, ◌≡◌};
-ghost use Rattle.amber_worker.specs.Steps.{IsShown};
+ghost use Rattle.amber_rows.specs.Order.{sort_rows};
+ghost use Rattle.amber_worker.specs.Steps.{AreKeysBehind, AreKeysOf, IsShown};
 ghost use Rattle.amber_worker.specs.AtPosition.{IsGivenOf, IsViewOf};
 
 use super::Worker;
 use crate::given::{Given, final_keys, given_of, refusal_copies, row_copies};
+use crate::operator_state::OperatorState;
 use crate::shown::{extra_of, first_copy, stand_of};
 use crate::taking::Gains;
 use amber_meaning::WorkerView;
-use std::alloc::AllocError;
+use std::alloc::{AllocError, Global};
 
 impl Worker {
     /// What the worker shows.
@@ -61,9 +63,24 @@ impl Worker {
             finished,
             ..
         } = self;
-        let Gains { refused, kept, .. } = gains;
-        let keys = final_keys(alloc, finished, &operator_state)?;
-        let given = given_of(op, keys, refused, kept)?;
-        Ok(given)
+        gains_given(alloc, op, finished, &operator_state, gains)
     }
+}
+
+// What is given of what a worker has gained.
+fn gains_given(
+    alloc: Global,
+    op: u32,
+    finished: bool,
+    operator_state: &OperatorState,
+    gains: Gains,
+) -> Result<Given, AllocError>
+    ensures refused { IfOk result (λ given. AreKeysBehind op gains.refused.items
+        (AreKeysOf finished operator_state.now) given.refused) }
+    ensures rows { IfOk result (λ given. given.rows ≡ sort_rows gains.kept.items) }
+{
+    let keys = final_keys(alloc, finished, operator_state)?;
+    let Gains { refused, kept, .. } = gains;
+    let given = given_of(op, keys, refused, kept)?;
+    Ok(given)
 }
