@@ -185,6 +185,12 @@ pub record FeedsNext (found : Option (List Value)) (over : Bool) (old : Group) (
   pub closes : GivesGroups new over last
   pub pending_so : after ≡ pending ++ last
 
+-- the rows of the groups are pending too, once nothing more can come
+pub record AddsGroups (state : Group) (over : Bool) (pending after : List (List Value)) : Type 0 where
+  pub last : List (List Value)
+  pub closes : GivesGroups state over last
+  pub pending_so : after ≡ pending ++ last
+
 -- the first row was taken by a group
 pub record GroupsRow (rows : List (List Value)) (columns : List Column) (over : Bool) (old : Group) (pending later : List (List Value)) (new : Group)
     (after : List (List Value)) : Type 0 where

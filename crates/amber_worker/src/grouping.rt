@@ -3,7 +3,7 @@
 ghost use Rattle.std.specs.Prelude.{◌≡◌, ◌^◌, ◌<◌, Ok, true, IfOk, OnErr, OnOk};
 ghost use Rattle.amber_meaning.specs.Task.{row_in};
 ghost use Rattle.amber_link.specs.Links.{has_some};
-ghost use Rattle.amber_worker.specs.Steps.{Feeds, FeedsNext, GivesGroups, GroupsRow};
+ghost use Rattle.amber_worker.specs.Steps.{AddsGroups, Feeds, FeedsNext, GivesGroups, GroupsRow};
 
 use amber_group::GroupState;
 use amber_rows::{Row, Schema, suits};
@@ -31,6 +31,26 @@ pub(crate) fn rows_of_groups(alloc: Global, state: &GroupState) -> Result<VecDeq
     Ok(VecDeque::from_vec(group_result.rows.into_inner()))
 }
 
+// A copy that was fed a row, if it suits.
+fn fed_copy(state: &GroupState, columns: &Schema, row: &Row) -> Result<GroupState, AllocError>
+    requires few { state.now.fed < 2 ^ 40 }
+    ensures { IfOk result (Feeds (row_in columns.now (Ok row.now)) state.now) }
+{
+    let mut fed = state.clone()?;
+    feed(&mut fed, columns, row)?;
+    Ok(fed)
+}
+
+// The rows of the groups are pending too.
+fn add_groups(state: &GroupState, pending: &mut VecDeque<Row>) -> Result<(), AllocError>
+    ensures ok { OnOk result (AddsGroups state.now true pending.old.items pending.new.items) }
+    ensures err { OnErr result (pending.new.items ≡ pending.old.items) }
+{
+    let mut last = rows_of_groups(*pending.allocator(), state)?;
+    pending.append(&mut last)?;
+    Ok(())
+}
+
 // Feeds the last row: the rows of the groups are pending. What is fed is a copy, so that want of
 // memory changes nothing.
 fn feed_last(
@@ -45,10 +65,8 @@ fn feed_last(
     ensures state_on_err { OnErr result (state.new ≡ state.old) }
     ensures pending_on_err { OnErr result (pending.new.items ≡ pending.old.items) }
 {
-    let mut fed = state.clone()?;
-    feed(&mut fed, columns, row)?;
-    let mut last = rows_of_groups(*pending.allocator(), &fed)?;
-    pending.append(&mut last)?;
+    let fed = fed_copy(state, columns, row)?;
+    add_groups(&fed, pending)?;
     *state = fed;
     Ok(())
 }

@@ -264,10 +264,10 @@ pub(crate) fn task_of(alloc: Global, flow: &Flow, worker: u32) -> Result<WorkerT
 {
     let op = flow.op_of(worker);
     let what = what_of(flow, worker);
-    let operator_state = operator_state_of(alloc, what)?;
     let columns = columns_of(alloc, flow, what, op)?;
     let build_columns = build_columns_of(alloc, flow, what)?;
     let route = route_of(flow, worker)?;
+    let operator_state = operator_state_of(alloc, what)?;
     Ok(WorkerTask {
         op,
         operator_state,
