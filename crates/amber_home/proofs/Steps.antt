@@ -24,7 +24,7 @@ use Rattle.amber_worker.specs.declared.turn.Turn.TheVariants as turn
 use Rattle.amber_worker.proofs.Idle.{has_marked, has_marked-chunks_of, never_idle}
 use Rattle.amber_worker.proofs.PairFacts.{offers-all}
 use Rattle.amber_worker.proofs.Settling.{Shows-relinked}
-use Rattle.amber_worker.proofs.Takes.{receive_all-looked, sides-looked}
+use Rattle.amber_worker.proofs.Received.{receive_all-looked, sides-looked}
 use Rattle.amber_home.proofs.Linked.{pairwise-at}
 use Rattle.amber_home.proofs.Sending.{sending-in}
 use Rattle.amber_home.specs.AtWork.{AreAtWork, HaveFinished, IsCrew, placement_at, worker_state_at, steps_by}

@@ -5,12 +5,14 @@ pub mod Idle
 pub mod Journals
 pub mod KeptPosition
 pub mod Moves
+pub mod Emits
 pub mod Produced
 pub mod Seen
 pub mod Sent
 pub mod Settling
 pub mod Shares
 pub mod States
+pub mod Received
 pub mod Takes
 pub mod Turns
 pub mod Commands

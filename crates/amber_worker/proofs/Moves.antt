@@ -1,38 +1,32 @@
--- Each step of a worker leads on from where it stands.
+-- A worker that took a row stands where it leads.
 use Rattle.std.proofs.Common.{◌≡◌, ℕ, suc, ◌+◌, ◌-◌, ◌^◌, ◌<◌, ◌≤◌, eqb, ◌&&◌, ◌||◌, not, cond, List, [], ◌∷◌, ◌++◌, length, take, drop, All, Option, Some, None, Bool, true, false, if◌then◌else◌, refl, sym, ap, ◌∙◌, arith, append_assoc, length-append, length-drop, subst}
 use Rattle.std.specs.List.{filter_map}
 use Rattle.std.specs.Option.{option_to_list}
 use Rattle.std.proofs.lemmas.Bool.{and_parts, eqb-true}
 use Rattle.std.proofs.lemmas.Grind.{flat_map-append}
 use Rattle.std.proofs.lemmas.List.{append-nil, take_all}
-use Rattle.std.proofs.lemmas.List.Sums.{sum_by_push}
 use Rattle.amber_rows.specs.declared.value.Value.{Value}
 use Rattle.amber_rows.specs.declared.batch.Batch.{Batch}
 use Rattle.amber_rows.specs.declared.column.Column.{Column}
 use Rattle.amber_rows.specs.declared.flow.What.{What}
 use Rattle.amber_rows.specs.declared.flow.What.TheVariants as what
-use Rattle.amber_log.specs.declared.entry.Entry.TheVariants as entry
-use Rattle.amber_meaning.specs.Position.{Position, Taken, emitted_rows, all_arrivals, have_ended, is_complete, is_emitted, product}
-use Rattle.amber_meaning.specs.Rules.{IsFree, MayFinish, MayGo, Orders, is_watched, pass_by, product_with, produced_with, with_rows}
+use Rattle.amber_meaning.specs.Position.{Position, Taken, all_arrivals, have_ended, is_complete, product}
+use Rattle.amber_meaning.specs.Rules.{IsFree, MayGo, Orders, is_watched, produced_with, with_rows}
 use Rattle.amber_meaning.specs.Task.{Arrival, Role, Task, columns_from, is_builder, row_in, suiting, rows_in}
 use Rattle.amber_meaning.specs.Produce.{closing, produce, yields, yields_if}
 use Rattle.amber_meaning.specs.Kinds.{closing_rows, yields_row, kept_rows}
 use Rattle.amber_meaning.specs.Refused.{refusal_in, refused_in}
 use Rattle.amber_meaning.specs.Views.{taken_of}
-use Rattle.amber_link.specs.Sides.{AreEnded, have_all_ended}
-use Rattle.amber_worker.specs.Links.{IsHandedOn, number_to}
+use Rattle.amber_link.specs.Sides.{have_all_ended}
 use Rattle.amber_link.specs.declared.senders.Sender.{Sender}
-use Rattle.amber_link.specs.declared.receivers.Receiver.{Receiver}
 use Rattle.amber_worker.specs.Fields.{rows_moved}
-use Rattle.amber_worker.specs.AtPosition.{Base, DoesKind, KeepsRows, KeepsUnder, Placement, ReceiveAll, SendAll, Shows}
+use Rattle.amber_worker.specs.AtPosition.{Base, DoesKind, KeepsRows, KeepsUnder, Placement, ReceiveAll, Shows}
 use Rattle.amber_worker.specs.WorkerState.{WorkerState}
-use Rattle.amber_worker.specs.Steps.{Becomes, Closes, all_done, columns_at_hand, row_yield, gives_if, keeps, keeps_if, row_emitted, row_taken}
+use Rattle.amber_worker.specs.Steps.{Becomes, Closes, columns_at_hand, row_yield, gives_if, keeps, keeps_if, row_taken}
 use Rattle.amber_worker.specs.declared.operator_state.OperatorState.{OperatorState}
 use Rattle.amber_worker.specs.declared.operator_state.OperatorState.TheVariants as operator_state
-use Rattle.amber_meaning.proofs.Led.{Leads-push, no_batch}
-use Rattle.amber_worker.proofs.Journals.{AreEntries-push, AreEntries-with_go, Leads-go, first-passes}
-use Rattle.amber_worker.proofs.Sent.{send_all-end, send_all-row}
-use Rattle.amber_worker.proofs.Produced.{and-turned, kept-longer, kept-next, left-behind, left-next, left-nothing, left-within, not-complete, produce-next, product-is, product-open, same-test, take-next}
+use Rattle.amber_worker.proofs.Journals.{AreEntries-with_go, Leads-go}
+use Rattle.amber_worker.proofs.Produced.{and-turned, kept-longer, left-behind, left-next, left-nothing, left-within, not-complete, produce-next, product-is, product-open, same-test, take-next}
 use Rattle.amber_worker.proofs.States.{closing-is, does-more, has-more, rows-more}
 
 -- a worker that has not finished; it is neither paused nor held
@@ -246,10 +240,6 @@ both_true : (b : Bool) → (b && true) ≡ b
 both_true true = refl
 both_true false = refl
 
-both_false : (b : Bool) → (b && false) ≡ false
-both_false true = refl
-both_false false = refl
-
 same-hand : (b : Bool) (hand : ℕ) → hand ≡ cond b (hand - 0) hand
 same-hand true hand = omega arith
 same-hand false hand = refl
@@ -313,142 +303,5 @@ Keeps-row_taken w one later now last rest pending becomes closes works counted u
         leads = Leads-go placement.role orders start w.journal p 1 0 stands.leads (may-take_row placement orders w p base one later now last takes works (λ so. unit (sym armed ∙ so)));
         text = AreEntries-with_go w.journal 1 0 stands.text works.few refl;
         shows = shows-row_taken placement orders w p base one later now last takes;
-      },
-    )
-
--- ---- a row is emitted
-
--- nothing is at its end that works
-open-outs : (placement : Placement) (orders : Orders) (w : WorkerState) (p : Position) (base : Base) → Shows placement orders w p base → IsWorking w
-    → SendAll placement placement.receivers (emitted_rows placement.role p) false base.gave w.outs
-open-outs placement orders w p base shows works =
-    let open_still : p.finished ≡ false = sym shows.finished ∙ works.unfinished in
-    let P : Bool → Type 0 = λ ended. SendAll placement placement.receivers (emitted_rows placement.role p) ended base.gave w.outs in
-    subst P open_still shows.outs
-
-may-emit_row : (placement : Placement) (orders : Orders) (w : WorkerState) (p : Position) (base : Base) (row : List Value) (later : List (List Value))
-    → Shows placement orders w p base → w.pending ≡ row ∷ later → IsWorking w → HasUnit orders.counted w → lets_by w row ≡ true → MayGo placement.role orders p 0 1
-may-emit_row placement orders w p base row later shows pending works unit by_it =
-    let produced = left-within (length p.outcomes) (product placement.role p.taken p.constants) row later (sym shows.pending ∙ pending) in
-    let same : produced_with placement.role orders p 0 ≡ length (product placement.role p.taken p.constants) =
-    ap (λ (constants : List (List Value)). length (product placement.role p.taken constants)) (append-nil p.constants) in
-    let within = shows.within in
-    record {
-      free = free-shown placement orders w p base shows works;
-      within = omega arith;
-      produced = omega arith;
-      drained = λ none. absurd (omega arith);
-      in_hand = λ counted. let has = unit counted in omega (arith, has, shows.hand);
-      before_taking = λ counted none. absurd (omega arith);
-      no_stop =
-          let first : drop (length p.outcomes) (product_with placement.role orders p 0) ≡ row ∷ later =
-          ap (λ constants. drop (length p.outcomes) (product placement.role p.taken constants)) (append-nil p.constants) ∙ sym shows.pending ∙ pending in
-          let passed : pass_by orders.watch p.waved (row ∷ []) ≡ true =
-          first-passes orders.watch p.waved row (ap (λ waved. waved || not (is_watched orders.watch row)) (sym shows.waved) ∙ ap (λ watch. w.waved || not (is_watched watch row)) (sym shows.watch) ∙ by_it) in
-          subst (λ l. pass_by orders.watch p.waved (take 1 l) ≡ true) (sym first) passed;
-    }
-
-shows-row_emitted : (counted : Bool) (placement : Placement) (orders : Orders) (w : WorkerState) (p : Position) (base : Base) (row : List Value) (later : List (List Value)) (outs : List Receiver)
-    → orders.counted ≡ counted → Shows placement orders w p base → w.pending ≡ row ∷ later → IsHandedOn (number_to w.route row) row w.outs outs → IsWorking w
-    → Shows placement orders (row_emitted counted later outs w) (with_rows orders 0 1 p) base
-shows-row_emitted counted placement orders w p base row later outs armed shows pending handed works =
-    let left : drop (length p.outcomes) (product placement.role p.taken p.constants) ≡ row ∷ later = sym shows.pending ∙ pending in
-    let produced = left-within (length p.outcomes) (product placement.role p.taken p.constants) row later left in
-    let no_row : p.constants ++ [] ≡ p.constants = append-nil p.constants in
-    let more : length (p.outcomes ++ true ∷ []) ≡ length p.outcomes + 1 = omega (arith, length-append p.outcomes (true ∷ [])) in
-    let gone = sum_by_push (λ fate. if is_emitted fate then 1 else 0) p.outcomes true in
-    let open_still : p.finished ≡ false = sym shows.finished ∙ works.unfinished in
-    record {
-      op = shows.op;
-      number = shows.number;
-      operator_state = shows.operator_state;
-      state = rw no_row shows.state;
-      columns = shows.columns;
-      build_columns = shows.build_columns;
-      sides = shows.sides;
-      builders = shows.builders;
-      building = shows.building;
-      watch = shows.watch;
-      rest = rw no_row shows.rest;
-      pending = rw (no_row, more) (sym (left-next (length p.outcomes) (product placement.role p.taken p.constants) row later left));
-      taken = rw no_row shows.taken;
-      emitted = let before = shows.emitted in omega arith;
-      batches = shows.batches;
-      within = rw no_row shows.within;
-      produced = rw (no_row, more) produced;
-      refused = rw no_row shows.refused;
-      kept = rw no_row shows.kept;
-      hand = ap (λ hand. cond counted (hand - 1) hand) shows.hand ∙ ap (λ b. cond b (p.hand - 1) p.hand) (sym armed);
-      held = shows.held;
-      waved = sym (both_false p.waved);
-      paused = shows.paused;
-      finished = shows.finished;
-      ins = shows.ins;
-      outs = rw (no_row, open_still, kept-next (product placement.role p.taken p.constants) p.outcomes row later left)
-          (send_all-row placement placement.receivers (emitted_rows placement.role p) row base.gave w.outs outs (number_to w.route row) (shows.route row)
-          (open-outs placement orders w p base shows works) handed);
-      route = shows.route;
-    }
-
--- wherever a worker stood, it stands once it emitted a row
-pub Keeps-row_emitted : (counted : Bool) (w : WorkerState) (row : List Value) (later : List (List Value)) (outs : List Receiver) → w.pending ≡ row ∷ later
-    → IsHandedOn (number_to w.route row) row w.outs outs → IsWorking w → HasUnit counted w → lets_by w row ≡ true → KeepsUnder counted w (row_emitted counted later outs w)
-unfolding KeepsUnder
-Keeps-row_emitted counted w row later outs pending handed works unit by_it placement orders start p base armed stands = (
-  with_rows orders 0 1 p,
-  record {
-    leads = Leads-go placement.role orders start w.journal p 0 1 stands.leads (may-emit_row placement orders w p base row later stands.shows pending works (λ so. unit (sym armed ∙ so)) by_it);
-    text = AreEntries-with_go w.journal 0 1 stands.text works.few refl;
-    shows = shows-row_emitted counted placement orders w p base row later outs armed stands.shows pending handed works;
-  },
-)
-
--- ---- the end
-
--- wherever a worker stood, it stands once it finished
-pub Keeps-all_done : (counted : Bool) (w : WorkerState) (outs : List Receiver) → w.rest ≡ [] → w.pending ≡ [] → have_all_ended w.ins ≡ true → AreEnded w.outs outs → IsWorking w
-    → KeepsUnder counted w (all_done outs w)
-unfolding KeepsUnder
-Keeps-all_done counted w outs rest pending ended ends works placement orders start p base armed stands =
-    let shows = stands.shows in
-    let may : MayFinish placement.role p = record {
-      free = free-shown placement orders w p base shows works;
-      no_rest = sym shows.rest ∙ rest;
-      no_pending = sym shows.pending ∙ pending;
-      ended = sym (all-ended placement.role.senders base.had p.taken w.ins shows.ins) ∙ ended;
-    } in (
-      record p { finished = true },
-      record {
-        leads = Leads-push placement.role orders start w.journal p entry.Finish (record p { finished = true }) stands.leads (no_batch, may, refl);
-        text = AreEntries-push false w.journal entry.Finish stands.text tt refl;
-        shows = record {
-          op = shows.op;
-          number = shows.number;
-          operator_state = shows.operator_state;
-          state = shows.state;
-          columns = shows.columns;
-          build_columns = shows.build_columns;
-          sides = shows.sides;
-          builders = shows.builders;
-          building = shows.building;
-          watch = shows.watch;
-          rest = shows.rest;
-          pending = shows.pending;
-          taken = shows.taken;
-          emitted = shows.emitted;
-          batches = shows.batches;
-          within = shows.within;
-          produced = shows.produced;
-          refused = shows.refused;
-          kept = shows.kept;
-          hand = shows.hand;
-          held = shows.held;
-          waved = shows.waved;
-          paused = shows.paused;
-          finished = refl;
-          ins = shows.ins;
-          outs = send_all-end placement placement.receivers (emitted_rows placement.role p) base.gave w.outs outs (open-outs placement orders w p base shows works) ends;
-          route = shows.route;
-        };
       },
     )

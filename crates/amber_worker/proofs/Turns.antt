@@ -17,7 +17,8 @@ use Rattle.amber_worker.specs.WorkerState.{WorkerState, has_ready, next_turn}
 use Rattle.amber_worker.specs.Steps.{EmitsRow, Finishes, IsCalm, TakesBatch, TakesRow, batch_taken}
 use Rattle.amber_worker.specs.declared.turn.Turn.{Turn}
 use Rattle.amber_worker.specs.declared.turn.Turn.TheVariants as turn
-use Rattle.amber_worker.proofs.Moves.{HasUnit, IsWorking, Keeps-all_done, Keeps-row_emitted, Keeps-row_taken, lets_by}
+use Rattle.amber_worker.proofs.Emits.{Keeps-all_done, Keeps-row_emitted}
+use Rattle.amber_worker.proofs.Moves.{HasUnit, IsWorking, Keeps-row_taken, lets_by}
 use Rattle.amber_worker.proofs.KeptPosition.{Keeps-refl, Keeps-then}
 use Rattle.amber_worker.proofs.Takes.{Keeps-batch_taken, Keeps-looked}
 
