@@ -5,5 +5,6 @@ pub mod Made
 pub mod AtPosition
 pub mod WorkerState
 pub mod Steps
+pub mod RowsTaken
 pub mod Pairs
 pub mod Changes

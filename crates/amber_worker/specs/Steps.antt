@@ -1,5 +1,5 @@
 -- What each single step of a worker changes.
-use Rattle.std.specs.Prelude.{◌≡◌, ℕ, ◌+◌, ◌^◌, ◌<◌, ◌≤◌, ◌-◌, ◌==◌, ◌&&◌, option_to_list, not, Bool, All, List, [], ◌∷◌, ◌++◌, length, map, Ok, Option, Some, None, true, false, if◌then◌else◌}
+use Rattle.std.specs.Prelude.{◌≡◌, ℕ, ◌+◌, ◌^◌, ◌<◌, ◌≤◌, ◌-◌, ◌==◌, ◌&&◌, option_to_list, not, Bool, All, List, [], ◌∷◌, ◌++◌, length, map, Option, Some, None, true, false, if◌then◌else◌}
 use Rattle.amber_rows.specs.Cond.{holds_of}
 use Rattle.amber_rows.specs.Order.{sort_rows}
 use Rattle.amber_rows.specs.Operators.{first_keys, group_result, matches_of, pick_cells, refused_keys}
@@ -19,7 +19,6 @@ use Rattle.amber_meaning.specs.declared.view.Extra.{Extra}
 use Rattle.amber_meaning.specs.declared.view.Extra.TheVariants as extra
 use Rattle.amber_meaning.specs.declared.view.Stand.TheVariants as stand
 use Rattle.amber_meaning.specs.declared.view.WorkerView.{WorkerView}
-use Rattle.amber_scan.specs.declared.share.Scanned.{Scanned}
 use Rattle.amber_link.specs.Sides.{AreEnded, AreLooked, IsTaken, have_all_ended}
 use Rattle.amber_link.specs.declared.senders.Sender.{Sender}
 use Rattle.amber_link.specs.declared.receivers.Receiver.{Receiver}
@@ -29,7 +28,6 @@ use Rattle.amber_worker.specs.WorkerState.{WorkerState, has_ready}
 use Rattle.amber_worker.specs.declared.operator_state.OperatorState.{OperatorState}
 use Rattle.amber_worker.specs.declared.operator_state.OperatorState.TheVariants as operator_state
 use Rattle.amber_worker.specs.declared.taking.Fate.{Fate}
-use Rattle.amber_worker.specs.declared.taking.Gains.{Gains}
 use Rattle.amber_worker.specs.declared.taking.Fate.TheVariants as fate
 
 -- ---- rows
@@ -135,92 +133,6 @@ held_back_of fate.Dropped row = []
 held_back_of fate.Passed row = []
 held_back_of (fate.Made other) row = []
 held_back_of fate.Kept row = row ∷ []
-
--- the same lists
-pub record AreSame (old new : Gains) : Type 0 where
-  pub pending : new.pending.items ≡ old.pending.items
-  pub refused : new.refused.items ≡ old.refused.items
-  pub kept : new.kept.items ≡ old.kept.items
-
--- a record was taken of a share: what it gives is behind what was there
-pub record GainsRecord (share : List Scanned) (op : ℕ) (columns : List Column) (old : Gains) (later : List Scanned) (new : Gains) : Type 0 where
-  pub one : Scanned
-  pub first : share ≡ one ∷ later
-  pub pending : new.pending.items ≡ old.pending.items ++ gives_if operator_state.Scan false (row_in columns one.what)
-  pub refused : new.refused.items ≡ old.refused.items ++ refusal_in op one.number one.what
-  pub kept : new.kept.items ≡ old.kept.items
-
--- a row was taken of a batch
-pub record GainsRow (rows : List (List Value)) (d : OperatorState) (columns : List Column) (old : Gains) (later : List (List Value)) (new : Gains) : Type 0 where
-  pub row : List Value
-  pub first : rows ≡ row ∷ later
-  pub pending : new.pending.items ≡ old.pending.items ++ gives_if d false (row_in columns (Ok row))
-  pub refused : new.refused.items ≡ old.refused.items
-  pub kept : new.kept.items ≡ old.kept.items ++ keeps_if d (row_in columns (Ok row))
-
--- the first row was kept of the build side
-pub record Builds (rows : List (List Value)) (old : Join) (later : List (List Value)) (new : Join) : Type 0 where
-  pub row : List Value
-  pub first : rows ≡ row ∷ later
-  pub state : new ≡ record old { rows = old.rows ++ row ∷ [] }
-
--- the matches of the first row are pending
-pub record Probes (rows : List (List Value)) (state : Join) (pending later after : List (List Value)) : Type 0 where
-  pub row : List Value
-  pub first : rows ≡ row ∷ later
-  pub pending_so : after ≡ pending ++ matches_of state.build_keys state.probe_keys state.rows row
-
--- the first row was taken by a join
-pub record JoinsRow (rows : List (List Value)) (columns : List Column) (builds : Bool) (old : Join) (pending later : List (List Value)) (new : Join)
-    (after : List (List Value)) : Type 0 where
-  pub row : List Value
-  pub first : rows ≡ row ∷ later
-  pub state : new ≡ built_with builds (row_in columns (Ok row)) old
-  pub pending_so : after ≡ pending ++ gives_if (operator_state.Join old) builds (row_in columns (Ok row))
-
--- a group was fed a row, the last one where nothing more can come
-pub record FeedsNext (found : Option (List Value)) (over : Bool) (old : Group) (pending : List (List Value)) (new : Group) (after : List (List Value)) : Type 0 where
-  pub feeds : Feeds found old new
-  pub last : List (List Value)
-  pub closes : GivesGroups new over last
-  pub pending_so : after ≡ pending ++ last
-
--- the rows of the groups are pending too, once nothing more can come
-pub record AddsGroups (state : Group) (over : Bool) (pending after : List (List Value)) : Type 0 where
-  pub last : List (List Value)
-  pub closes : GivesGroups state over last
-  pub pending_so : after ≡ pending ++ last
-
--- the first row was taken by a group
-pub record GroupsRow (rows : List (List Value)) (columns : List Column) (over : Bool) (old : Group) (pending later : List (List Value)) (new : Group)
-    (after : List (List Value)) : Type 0 where
-  pub row : List Value
-  pub first : rows ≡ row ∷ later
-  pub fed : FeedsNext (row_in columns (Ok row)) over old pending new after
-
--- the first row of a batch was taken
-pub record GainsAny (rows : List (List Value)) (columns : List Column) (builds over : Bool) (d : OperatorState) (old : Gains) (later : List (List Value)) (now : OperatorState)
-    (new : Gains) : Type 0 where
-  pub row : List Value
-  pub first : rows ≡ row ∷ later
-  pub becomes : Becomes d builds (row_in columns (Ok row)) now
-  pub last : List (List Value)
-  pub closes : Closes now over last
-  pub pending : new.pending.items ≡ (old.pending.items ++ gives_if d builds (row_in columns (Ok row))) ++ last
-  pub refused : new.refused.items ≡ old.refused.items
-  pub kept : new.kept.items ≡ old.kept.items ++ keeps_if d (row_in columns (Ok row))
-
--- the next of what was handed was taken, the last one where nothing more can come
-pub record GainsNext (arrivals : List Arrival) (op : ℕ) (columns : List Column) (builds over : Bool) (d : OperatorState) (old : Gains) (later : List Arrival) (now : OperatorState)
-    (new : Gains) : Type 0 where
-  pub one : Arrival
-  pub first : arrivals ≡ one ∷ later
-  pub becomes : Becomes d builds (row_in columns one.what) now
-  pub last : List (List Value)
-  pub closes : Closes now over last
-  pub pending : new.pending.items ≡ (old.pending.items ++ gives_if d builds (row_in columns one.what)) ++ last
-  pub refused : new.refused.items ≡ old.refused.items ++ refusal_in op one.from one.what
-  pub kept : new.kept.items ≡ old.kept.items ++ keeps_if d (row_in columns one.what)
 
 -- ---- the journal
 

@@ -3,7 +3,8 @@
 ghost use Rattle.std.specs.Prelude.{◌≡◌, ◌^◌, ◌<◌, Ok, true, IfOk, OnErr, OnOk};
 ghost use Rattle.amber_meaning.specs.Task.{row_in};
 ghost use Rattle.amber_link.specs.Links.{has_some};
-ghost use Rattle.amber_worker.specs.Steps.{AddsGroups, Feeds, FeedsNext, GivesGroups, GroupsRow};
+ghost use Rattle.amber_worker.specs.RowsTaken.{AddsGroups, GroupsRow};
+ghost use Rattle.amber_worker.specs.Steps.{Feeds, GivesGroups};
 
 use amber_group::GroupState;
 use amber_rows::{Row, Schema, suits};
@@ -60,8 +61,8 @@ fn feed_last(
     pending: &mut VecDeque<Row>,
 ) -> Result<(), AllocError>
     requires few { state.old.fed < 2 ^ 40 }
-    ensures ok { OnOk result (FeedsNext (row_in columns.now (Ok row.now)) true state.old
-        pending.old.items state.new pending.new.items) }
+    ensures fed { OnOk result (Feeds (row_in columns.now (Ok row.now)) state.old state.new) }
+    ensures ok { OnOk result (AddsGroups state.new true pending.old.items pending.new.items) }
     ensures state_on_err { OnErr result (state.new ≡ state.old) }
     ensures pending_on_err { OnErr result (pending.new.items ≡ pending.old.items) }
 {
@@ -80,8 +81,8 @@ fn feed_next(
     pending: &mut VecDeque<Row>,
 ) -> Result<(), AllocError>
     requires few { state.old.fed < 2 ^ 40 }
-    ensures ok { OnOk result (FeedsNext (row_in columns.now (Ok row.now)) over state.old
-        pending.old.items state.new pending.new.items) }
+    ensures fed { OnOk result (Feeds (row_in columns.now (Ok row.now)) state.old state.new) }
+    ensures ok { OnOk result (AddsGroups state.new over pending.old.items pending.new.items) }
     ensures state_on_err { OnErr result (state.new ≡ state.old) }
     ensures pending_on_err { OnErr result (pending.new.items ≡ pending.old.items) }
 {
@@ -103,8 +104,9 @@ pub(crate) fn take_grouped(
 ) -> Result<(), AllocError>
     requires some { has_some rows.old.items ≡ true }
     requires few { state.old.fed < 2 ^ 40 }
-    ensures ok { OnOk result (GroupsRow rows.old.items columns.now over state.old pending.old.items
-        rows.new.items state.new pending.new.items) }
+    ensures ok { OnOk result (GroupsRow columns.now over
+        (record { rows = rows.old.items; state = state.old; pending = pending.old.items })
+        (record { rows = rows.new.items; state = state.new; pending = pending.new.items })) }
     ensures rows_on_err { OnErr result (rows.new.items ≡ rows.old.items) }
     ensures state_on_err { OnErr result (state.new ≡ state.old) }
     ensures pending_on_err { OnErr result (pending.new.items ≡ pending.old.items) }

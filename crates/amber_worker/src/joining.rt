@@ -2,7 +2,7 @@
 
 ghost use Rattle.std.specs.Prelude.{◌≡◌, not, true, false, OnErr, OnOk};
 ghost use Rattle.amber_link.specs.Links.{has_some};
-ghost use Rattle.amber_worker.specs.Steps.{Builds, JoinsRow, Probes};
+ghost use Rattle.amber_worker.specs.RowsTaken.{Builds, JoinsRow, Probes};
 
 use amber_join::JoinState;
 use amber_rows::{Row, Schema, suits};
@@ -36,8 +36,9 @@ fn probe_first(
 ) -> Result<(), AllocError>
     requires some { has_some rows.old.items ≡ true }
     requires sealed { state.now.sealed ≡ true }
-    ensures ok { OnOk result (Probes rows.old.items state.now pending.old.items rows.new.items
-        pending.new.items) }
+    ensures ok { OnOk result (Probes
+        (record { rows = rows.old.items; state = state.now; pending = pending.old.items })
+        (record { rows = rows.new.items; state = state.now; pending = pending.new.items })) }
     ensures rows_on_err { OnErr result (rows.new.items ≡ rows.old.items) }
     ensures pending_on_err { OnErr result (pending.new.items ≡ pending.old.items) }
 {
@@ -63,8 +64,9 @@ pub(crate) fn take_joined(
 ) -> Result<(), AllocError>
     requires some { has_some rows.old.items ≡ true }
     requires side { state.old.sealed ≡ not builds }
-    ensures ok { OnOk result (JoinsRow rows.old.items columns.now builds state.old pending.old.items
-        rows.new.items state.new pending.new.items) }
+    ensures ok { OnOk result (JoinsRow columns.now builds
+        (record { rows = rows.old.items; state = state.old; pending = pending.old.items })
+        (record { rows = rows.new.items; state = state.new; pending = pending.new.items })) }
     ensures rows_on_err { OnErr result (rows.new.items ≡ rows.old.items) }
     ensures state_on_err { OnErr result (state.new ≡ state.old) }
     ensures pending_on_err { OnErr result (pending.new.items ≡ pending.old.items) }

@@ -7,7 +7,8 @@ ghost use Rattle.amber_meaning.specs.Refused.{refusal_in};
 ghost use Rattle.amber_link.specs.Links.{has_some};
 ghost use Rattle.amber_link.specs.Sides.{have_all_ended};
 ghost use Rattle.amber_worker.specs.Fields.{arrivals_in};
-ghost use Rattle.amber_worker.specs.Steps.{AreSame, Closes, GainsAny, GainsNext, GainsRecord, GainsRow, MayTakeRow, gives_if, has_state, held_back_of, keeps_if, passed_of, turned_to};
+ghost use Rattle.amber_worker.specs.RowsTaken.{AreSame, GainsAny, GainsNext, GainsRecord, GainsRow};
+ghost use Rattle.amber_worker.specs.Steps.{Closes, MayTakeRow, gives_if, has_state, held_back_of, keeps_if, passed_of, turned_to};
 
 use crate::grouping::{rows_of_groups, take_grouped};
 use crate::joining::take_joined;
@@ -161,7 +162,9 @@ fn take_record(
     gains: &mut Gains,
 ) -> Result<(), AllocError>
     requires { has_some share.old ≡ true }
-    ensures ok { OnOk result (GainsRecord share.old op columns.now gains.old share.new gains.new) }
+    ensures ok { OnOk result (GainsRecord op columns.now
+        (record { left = share.old; gains = gains.old })
+        (record { left = share.new; gains = gains.new })) }
     ensures share_on_err { OnErr result (share.new ≡ share.old) }
     ensures gains_on_err { OnErr result (AreSame gains.old gains.new) }
 {
@@ -183,8 +186,9 @@ fn take_arrival(
 ) -> Result<(), AllocError>
     requires some { has_some rows.old.items ≡ true }
     requires plain { has_state operator_state.now ≡ false }
-    ensures ok { OnOk result (GainsRow rows.old.items operator_state.now columns.now gains.old
-        rows.new.items gains.new) }
+    ensures ok { OnOk result (GainsRow operator_state.now columns.now
+        (record { left = rows.old.items; gains = gains.old })
+        (record { left = rows.new.items; gains = gains.new })) }
     ensures rows_on_err { OnErr result (rows.new.items ≡ rows.old.items) }
     ensures gains_on_err { OnErr result (AreSame gains.old gains.new) }
 {
@@ -213,8 +217,10 @@ fn take_any(
 ) -> Result<(), AllocError>
     requires some { has_some rows.old.items ≡ true }
     requires may { MayTakeRow operator_state.old builds }
-    ensures ok { OnOk result (GainsAny rows.old.items columns.now builds over operator_state.old
-        gains.old rows.new.items operator_state.new gains.new) }
+    ensures ok { OnOk result
+        (GainsAny (record { columns = columns.now; builds = builds; over = over })
+        (record { left = rows.old.items; state = operator_state.old; gains = gains.old })
+        (record { left = rows.new.items; state = operator_state.new; gains = gains.new })) }
     ensures rows_on_err { OnErr result (rows.new.items ≡ rows.old.items) }
     ensures operator_state_on_err { OnErr result (operator_state.new ≡ operator_state.old) }
     ensures gains_on_err { OnErr result (AreSame gains.old gains.new) }
@@ -251,8 +257,10 @@ pub(crate) fn take_next(
     requires some { has_some (arrivals_in rest.old) ≡ true }
     requires scans { IfSome rest.old.share (λ _. operator_state.old ≡ OperatorState.Scan) }
     requires may { MayTakeRow operator_state.old builds }
-    ensures ok { OnOk result (GainsNext (arrivals_in rest.old) op columns.now builds over
-        operator_state.old gains.old (arrivals_in rest.new) operator_state.new gains.new) }
+    ensures ok { OnOk result
+        (GainsNext op (record { columns = columns.now; builds = builds; over = over })
+        (record { left = arrivals_in rest.old; state = operator_state.old; gains = gains.old })
+        (record { left = arrivals_in rest.new; state = operator_state.new; gains = gains.new })) }
     ensures shares { is_some rest.new.share ≡ is_some rest.old.share }
     ensures rest_on_err { OnErr result (arrivals_in rest.new ≡ arrivals_in rest.old) }
     ensures operator_state_on_err { OnErr result (operator_state.new ≡ operator_state.old) }
