@@ -17,7 +17,7 @@ use crate::opening::{begin_all, clear_for};
 use crate::parts::{is_last, leg_item, take_parts};
 use crate::phase::Phase;
 use crate::shown::inspect;
-use crate::stopping::{close_arms, run_leg, stops_of};
+use crate::stopping::{close_arms, have_finished, run_leg, stops_of};
 use amber_arms::InForce;
 use amber_log::{Close, Command, Item, Items, Leg, Log};
 use amber_meaning::{Answer, Inspected, Stops};
@@ -276,6 +276,14 @@ impl Home {
         ensures { result ≡ steps_in (state_of self.now) }
     {
         steps_of(self.crew.as_slice())
+    }
+
+    /// Whether all workers have finished.
+    pub fn have_finished(&self) -> bool
+        requires there { has_crew self.now.phase ≡ true }
+        ensures { result ≡ have_finished (state_of self.now) }
+    {
+        have_finished(self.crew.as_slice())
     }
 
     /// The log of the run so far.
