@@ -152,7 +152,8 @@ impl Home {
         requires unfinished { have_finished (state_of self.old) ≡ false }
         requires few { steps_in (state_of self.old) < self.old.most }
         ensures ok { OnOk result (StepsOn self.old self.new) }
-        ensures err { OnErr result (self.new ≡ record self.old { phase = Phase.Spent; parts = [] }) }
+        ensures err { OnErr result
+            (self.new ≡ record self.old { phase = Phase.Spent; parts = [] }) }
     {
         let phase = self.phase;
         self.phase = Phase::Spent;
@@ -167,7 +168,8 @@ impl Home {
         ensures ok { OnOk result (self.new ≡ record self.old { parts = self.new.parts }) }
         ensures closes { IfOk result (λ close. ClosesIn (runs_to_end self.old.phase)
             (query_of self.old) (state_of self.new) close) }
-        ensures err { OnErr result (self.new ≡ record self.old { phase = Phase.Spent; parts = [] }) }
+        ensures err { OnErr result
+            (self.new ≡ record self.old { phase = Phase.Spent; parts = [] }) }
     {
         let phase = self.phase;
         self.phase = Phase::Spent;
@@ -183,7 +185,8 @@ impl Home {
         requires closes { ClosesIn (runs_to_end self.old.phase) (query_of self.old)
             (state_of self.old) close }
         ensures ok { OnOk result (self.new ≡ with_leg self.old close) }
-        ensures err { OnErr result (self.new ≡ record self.old { phase = Phase.Spent; parts = [] }) }
+        ensures err { OnErr result
+            (self.new ≡ record self.old { phase = Phase.Spent; parts = [] }) }
     {
         let to_end = self.phase.runs_to_end();
         self.phase = Phase::Spent;

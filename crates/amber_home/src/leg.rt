@@ -92,7 +92,8 @@ fn is_done(flow: &Flow, arms: &InForce, crew: &[Worker], number: usize) -> bool
     requires few { steps_by crew.now ≤ 2 ^ 40 }
     requires there { number < length crew.now }
     ensures { result ≡ ((worker_state_at crew.now number).finished
-        || is_paused (record { flow = flow.now; arms = arms.now }) crew.now (op_of flow.now number)) }
+        || is_paused (record { flow = flow.now; arms = arms.now }) crew.now
+        (op_of flow.now number)) }
 {
     crew[number].is_finished() || is_paused(flow, arms, crew, flow.op_of(number as u32))
 }
@@ -116,7 +117,8 @@ fn drive(
     ensures left { IfOk result (λ left. steps_by crew.new + left ≡ steps_by crew.old + budget) }
     ensures only { OnOk result (MovesOnly crew.old crew.new number) }
     ensures stops { IfOk result (λ left. (worker_state_at crew.new number).finished ≡ false
-        → is_paused (record { flow = flow.now; arms = arms.now }) crew.new (op_of flow.now number) ≡ false
+        → is_paused (record { flow = flow.now; arms = arms.now }) crew.new
+        (op_of flow.now number) ≡ false
         → left ≡ 0) }
 {
     'steps: for made in 0..budget {
