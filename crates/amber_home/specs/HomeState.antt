@@ -15,7 +15,7 @@ use Rattle.amber_meaning.specs.Legal.{ClosesEnd, ClosesRun, Query, leg_start, qu
 use Rattle.amber_meaning.specs.Plain.{wrong_header}
 use Rattle.amber_meaning.specs.Position.{Position}
 use Rattle.amber_meaning.specs.Replay.{after_leg, state_after}
-use Rattle.amber_meaning.specs.State.{State, position_at, steps_in}
+use Rattle.amber_meaning.specs.State.{State, have_finished, position_at, steps_in}
 use Rattle.amber_home.specs.declared.error.HomeErr.{HomeErr}
 use Rattle.amber_home.specs.declared.error.HomeErr.TheVariants as home_err
 use Rattle.amber_home.specs.declared.error.LegErr.{LegErr}
@@ -137,6 +137,13 @@ leg_item false parts close = item.Run (record { parts = parts; close = close })
 abbrev pub ClosesIn : Bool → Query → State → Close → Type 0
 ClosesIn true query state close = ClosesEnd query state close
 ClosesIn false query state close = ClosesRun query state close
+
+-- what calls tell of such a leg: who has finished, what stops stand and how many steps were made
+abbrev pub MayClose : Bool → HomeState → Close → Type 0
+MayClose true e close.Cut = have_finished (state_of e) ≡ true
+MayClose true e close.Long = (steps_in (state_of e) ≡ e.most) × (have_finished (state_of e) ≡ false)
+MayClose false e close.Cut = stops_of_home e ≢ []
+MayClose false e close.Long = (steps_in (state_of e) ≡ e.most) × (stops_of_home e ≡ [])
 
 -- the leg that is open stands in the log, closed so
 abbrev pub with_leg : HomeState → Close → HomeState

@@ -6,7 +6,9 @@ ghost use Rattle.amber_meaning.specs.Legal.{IsLegal};
 ghost use Rattle.amber_meaning.specs.Plain.{scan_count};
 ghost use Rattle.amber_meaning.specs.State.{have_finished, steps_in};
 ghost use Rattle.amber_meaning.specs.Views.{answer_in, inspected_of};
-ghost use Rattle.amber_home.specs.HomeState.{BeginsOrNames, ClosesIn, Ends, StepsOn, has_crew, is_done_at_rest, is_open, query_of, runs_to_end, state_of, stops_of_home, with_item, with_leg};
+ghost use Rattle.amber_home.specs.HomeState.{BeginsOrNames, ClosesIn, Ends, MayClose, StepsOn, has_crew};
+ghost use Rattle.amber_home.specs.HomeState.{is_done_at_rest, is_open, query_of, runs_to_end, state_of};
+ghost use Rattle.amber_home.specs.HomeState.{stops_of_home, with_item, with_leg};
 
 use crate::answer::{gather, gather_all};
 use crate::applying::{copies_for, has_text, put_in_force};
@@ -179,11 +181,11 @@ impl Home {
         Ok(close)
     }
 
-    /// Closes the leg that is open. After want of memory the log is as before, and the run cannot go on.
+    /// Closes the leg that is open: as cut where a stop stands, or to the end all have finished; as long where that is not so,
+    /// and the run has made as many steps as it may. After want of memory the log is as before, and the run cannot go on.
     pub fn close_leg(&mut self, alloc: Global, close: Close) -> Result<(), AllocError>
         requires within { is_open self.old.phase ≡ true }
-        requires closes { ClosesIn (runs_to_end self.old.phase) (query_of self.old)
-            (state_of self.old) close }
+        requires closes { MayClose (runs_to_end self.old.phase) self.old close }
         ensures ok { OnOk result (self.new ≡ with_leg self.old close) }
         ensures err { OnErr result
             (self.new ≡ record self.old { phase = Phase.Spent; parts = [] }) }

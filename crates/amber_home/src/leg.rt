@@ -5,7 +5,8 @@ ghost use Rattle.std.specs.List.{list_all};
 ghost use Rattle.amber_rows.specs.Crew.{crew_of, op_of, workers_of};
 ghost use Rattle.amber_rows.specs.FlowRules.{IsFlow};
 ghost use Rattle.amber_worker.specs.WorkerState.{steps_made};
-ghost use Rattle.amber_home.specs.AtWork.{FirstGoesOn, GoesOn, GoOn, HaveFinished, IsCrew, MovesOnly, steps_by, worker_state_at};
+ghost use Rattle.amber_home.specs.AtWork.{FirstGoesOn, GoesOn, GoOn, HaveFinished, IsCrew, MovesOnly};
+ghost use Rattle.amber_home.specs.AtWork.{steps_by, worker_state_at};
 ghost use Rattle.amber_home.specs.Leg.{IsLegDone, NonePaused, emitted_at, is_paused};
 
 use crate::settling::{settle_inputs, settle_outputs};
