@@ -1,9 +1,14 @@
-//! Tests of the debugger: what a run to the end writes and replies, whatever the most steps are.
+//! Tests of the debugger: what a run to the end writes and replies, whatever the most steps are. And of the home below it,
+//! called by hand.
 //!
 //! They stand beside the tests of the crates below, so that both are proved side by side.
 #![tactic(auto)]
 
 #[cfg(test)]
 mod debug;
+#[cfg(test)]
+mod home;
+#[cfg(test)]
+mod home_calls;
 #[cfg(test)]
 mod query;

@@ -1,12 +1,14 @@
--- A home after its leg was closed.
-use Rattle.std.proofs.Common.{◌≡◌, refl, sym, ap, subst, ◌∙◌, ◌<◌, ◌^◌, List, [], length, map, true, arith}
+-- A leg of a home may be closed, and the home after that.
+use Rattle.std.proofs.Common.{◌≡◌, refl, sym, ap, subst, ◌∙◌, ◌<◌, ◌^◌, List, [], length, map, ◌≤◌, Bool, true, false, arith}
 use Rattle.std.proofs.lemmas.Bool.{false≢true}
 use Rattle.amber_log.specs.declared.leg.Close.{Close}
+use Rattle.amber_log.specs.declared.leg.Close.TheVariants as close
 use Rattle.amber_log.specs.declared.log.Log.{Log}
 use Rattle.amber_meaning.specs.declared.view.Stop.{Stop}
-use Rattle.amber_meaning.specs.State.{Arms, State}
+use Rattle.amber_meaning.specs.Legal.{IsSettled}
+use Rattle.amber_meaning.specs.State.{Arms, State, steps_in}
 use Rattle.amber_worker.specs.WorkerState.{WorkerState}
-use Rattle.amber_home.specs.HomeState.{ClosesIn, HomeState, is_open, leg_item, query_of, runs_to_end, state_of, with_item}
+use Rattle.amber_home.specs.HomeState.{ClosesIn, HomeState, MayClose, is_open, leg_item, leg_state, query_of, runs_to_end, state_of, stops_of_home, with_item}
 use Rattle.amber_home.specs.Kept.{IsHome}
 use Rattle.amber_home.specs.Leg.{Run, closed_arms, stops_by}
 use Rattle.amber_home.specs.Parts.{open_parts, parts_from, without_journal}
@@ -14,7 +16,7 @@ use Rattle.amber_home.specs.declared.phase.Phase.{Phase}
 use Rattle.amber_home.specs.declared.phase.Phase.TheVariants as phase
 use Rattle.amber_home.proofs.Closed.{legal-closed, rest-closed}
 use Rattle.amber_home.proofs.Cut.{closed-is}
-use Rattle.amber_home.proofs.Legs.{loose, start, state-here}
+use Rattle.amber_home.proofs.Legs.{few-here, loose, settled-here, start, state-here}
 use Rattle.amber_home.proofs.Paused.{crew-few}
 use Rattle.amber_home.proofs.Stopped.{stops-are}
 
@@ -55,3 +57,34 @@ module _ (e : HomeState) (crew : List WorkerState) (arms : List Arms) (stops : L
         legal = (legal-closed to_end here crew arms leg home.legal closed may).0;
         stands = rest;
       })
+
+  -- what calls tell is enough
+  pub closes-told : (now : Phase) → IsHome (record e { phase = now }) crew arms stops → is_open now ≡ true → (closed : Close)
+      → MayClose (runs_to_end now) (record e { phase = now; parts = open_parts now crew }) closed
+      → ClosesIn (runs_to_end now) (query_of e) (state_of (record e { phase = now; parts = open_parts now crew })) closed
+  unfolding state_of stops_of_home
+  closes-told phase.Resting home within closed told = absurd (false≢true within)
+  closes-told phase.Over home within closed told = absurd (false≢true within)
+  closes-told phase.Spent home within closed told = absurd (false≢true within)
+  closes-told (phase.Open to_end) home within closed told =
+      let here : HomeState = record e { phase = phase.Open to_end } in
+      by to_end closed (settled-here to_end here crew arms home.stands home.legal) (few-here to_end here crew arms home.stands home.legal) told
+    where
+      by : (to_end : Bool) (closed : Close) → IsSettled (query_of e) (leg_state e to_end (parts_from 0 crew)) → steps_in (leg_state e to_end (parts_from 0 crew)) ≤ e.most
+          → MayClose to_end (record e { phase = phase.Open to_end; parts = parts_from 0 crew }) closed → ClosesIn to_end (query_of e) (leg_state e to_end (parts_from 0 crew)) closed
+      by true close.Cut settled few told = (settled, few, told)
+      by true close.Long settled few told = (settled, told.0, told.1)
+      by false close.Cut settled few told = (settled, few, told)
+      by false close.Long settled few told = (settled, told.0, told.1)
+
+-- and it holds where the leg may be closed
+pub told-of : (e : HomeState) (now : Phase) → is_open now ≡ true → (closed : Close)
+    → ClosesIn (runs_to_end now) (query_of e) (state_of (record e { phase = now })) closed → MayClose (runs_to_end now) (record e { phase = now }) closed
+unfolding state_of stops_of_home
+told-of e phase.Resting within closed closes = absurd (false≢true within)
+told-of e phase.Over within closed closes = absurd (false≢true within)
+told-of e phase.Spent within closed closes = absurd (false≢true within)
+told-of e (phase.Open true) within close.Cut closes = closes.2
+told-of e (phase.Open true) within close.Long closes = (closes.1, closes.2)
+told-of e (phase.Open false) within close.Cut closes = closes.2
+told-of e (phase.Open false) within close.Long closes = (closes.1, closes.2)

@@ -2,12 +2,20 @@
 use Rattle.std.proofs.Common.{◌≡◌, refl, sym, ap, ◌∙◌, ℕ, ◌+◌, ◌<◌, List, length, get_or, true, inl, inr, arith}
 use Rattle.std.proofs.lemmas.Bool.Decides.{eqb_tells}
 use Rattle.amber_worker.specs.WorkerState.{WorkerState}
-use Rattle.amber_home.specs.AtWork.{GoOn, HaveFinished, IsCrew, MovesOnly, worker_state_at}
+use Rattle.amber_home.specs.AtWork.{FirstGoesOn, GoesOn, GoOn, HaveFinished, IsCrew, MovesOnly, worker_state_at}
 use Rattle.amber_home.proofs.Split.{read-at}
 
 pub on-refl : (crew : List WorkerState) → GoOn crew crew
 unfolding GoOn
 on-refl crew query start positions work = (positions, work)
+
+-- where one goes on, all do
+pub one-on : (old new : List WorkerState) (worker : ℕ) → GoesOn old new worker → GoOn old new
+unfolding GoesOn GoOn
+one-on old new worker on query start positions work = let next = on query start positions work in (next.0, next.1)
+
+pub first-on : (old new : List WorkerState) → FirstGoesOn old new → GoOn old new
+first-on old new first = one-on old new first.worker first.on
 
 pub on-then : (a b c : List WorkerState) → GoOn a b → GoOn b c → GoOn a c
 unfolding GoOn

@@ -3,9 +3,9 @@ use Rattle.std.proofs.Common.{◌≡◌, refl, sym, ap, subst, ◌∙◌, ℕ, �
 use Rattle.std.proofs.lemmas.List.{length-map}
 use Rattle.amber_rows.specs.Crew.{crew_of}
 use Rattle.amber_log.specs.declared.leg.Close.{Close}
-use Rattle.amber_meaning.specs.Legal.{IsLegal, leg_start}
+use Rattle.amber_meaning.specs.Legal.{IsLegal, IsSettled, leg_start}
 use Rattle.amber_meaning.specs.Position.{Position}
-use Rattle.amber_meaning.specs.State.{Arms, State, begin_last_leg, begin_leg, let_go, position_at, without_arms}
+use Rattle.amber_meaning.specs.State.{Arms, State, begin_last_leg, begin_leg, let_go, position_at, steps_in, without_arms}
 use Rattle.amber_meaning.proofs.OneState.{legal_logs_have_one_state}
 use Rattle.amber_meaning.proofs.Rest.{legal_logs_rest}
 use Rattle.amber_meaning.proofs.Senders.{flows_send_forward}
@@ -17,7 +17,7 @@ use Rattle.amber_home.specs.Leg.{IsLegDone, pause_at}
 use Rattle.amber_home.specs.Parts.{parts_from, state_reached}
 use Rattle.amber_home.proofs.Opened.{arms-map, position-start}
 use Rattle.amber_home.proofs.Stopped.{may-close}
-use Rattle.amber_home.proofs.Within.{after-is}
+use Rattle.amber_home.proofs.Within.{after-is, settled-reached, steps-reached}
 
 let_go-loose : (p : Position) → (let_go p).held ≡ false
 let_go-loose p = by p.held refl
@@ -66,6 +66,13 @@ module _ (to_end : Bool) (e : HomeState) (crew : List WorkerState) (arms : List 
   -- the state in which the home stands
   pub state-here : leg_state e to_end (parts_from 0 crew) ≡ state_reached (query_of e) start leg.positions
   state-here = after-is (query_of e) start crew leg.positions leg.at
+
+  -- there no hand holds a unit, and the steps are few enough
+  pub settled-here : IsSettled (query_of e) (leg_state e to_end (parts_from 0 crew))
+  settled-here = subst (IsSettled (query_of e)) (sym state-here) (settled-reached (query_of e) start crew leg.positions leg.at hands)
+
+  pub few-here : steps_in (leg_state e to_end (parts_from 0 crew)) ≤ e.most
+  few-here = rw (ap steps_in state-here ∙ steps-reached (query_of e) start crew leg.positions leg.at) leg.few
 
   -- as the workers are done, so may the leg be closed
   pub closes-here : (closed : Close) → IsLegDone closed (record { flow = e.flow; arms = arms }) e.most crew → ClosesIn to_end (query_of e) (leg_state e to_end (parts_from 0 crew)) closed

@@ -1,22 +1,27 @@
--- A leg goes on by one step.
-use Rattle.std.proofs.Common.{◌≡◌, refl, sym, ap, subst, ◌∙◌, ℕ, ◌+◌, ◌-◌, ◌<◌, ◌≤◌, List, ◌++◌, length, take, drop, Bool, true, false, arith}
+-- A leg goes on by one step, and none but the first that has not finished moves.
+use Rattle.std.proofs.Common.{◌≡◌, ◌≢◌, refl, sym, ap, subst, ◌∙◌, ℕ, ◌+◌, ◌-◌, ◌<◌, ◌≤◌, List, ◌++◌, length, take, drop, true, false, arith}
 use Rattle.std.specs.List.{list_all}
 use Rattle.std.proofs.lemmas.Bool.{false≢true}
+use Rattle.amber_rows.specs.Crew.{crew_of}
 use Rattle.amber_meaning.specs.declared.view.Stop.{Stop}
 use Rattle.amber_meaning.specs.Legal.{Query}
-use Rattle.amber_meaning.specs.State.{Arms, State, have_finished, steps_in}
+use Rattle.amber_meaning.specs.Position.{Position}
+use Rattle.amber_meaning.specs.Replay.{after_leg}
+use Rattle.amber_meaning.specs.State.{Arms, State, have_finished, position_at, steps_in}
 use Rattle.amber_worker.specs.WorkerState.{WorkerState}
-use Rattle.amber_home.specs.AtWork.{GoOn, IsCrew, steps_by}
-use Rattle.amber_home.specs.HomeState.{HomeState, StepsOn, has_crew, is_open, query_of, state_of}
+use Rattle.amber_home.specs.AtWork.{AreAtWork, FirstGoesOn, GoesOn, IsCrew, steps_by}
+use Rattle.amber_home.specs.HomeState.{HomeState, StepsOn, first_unfinished, has_crew, is_open, query_of, state_of}
 use Rattle.amber_home.specs.Kept.{IsHome}
-use Rattle.amber_home.specs.Parts.{open_parts}
+use Rattle.amber_home.specs.Parts.{open_parts, parts_from, state_reached}
 use Rattle.amber_home.specs.declared.phase.Phase.{Phase}
 use Rattle.amber_home.specs.declared.phase.Phase.TheVariants as phase
+use Rattle.amber_home.proofs.Going.{first-on}
 use Rattle.amber_home.proofs.Homes.{home-ran, written-back}
-use Rattle.amber_home.proofs.Saying.{StandsSomewhere, in_phase, stands-somewhere}
-use Rattle.amber_home.proofs.Stopped.{all-have}
+use Rattle.amber_home.proofs.Legs.{start, state-here}
+use Rattle.amber_home.proofs.Reached.{first-listed, listed-same}
+use Rattle.amber_home.proofs.Saying.{finished-state, in_phase, stands-somewhere}
 use Rattle.amber_home.proofs.Whole.{steps-are}
-use Rattle.amber_home.proofs.Within.{finished-reached}
+use Rattle.amber_home.proofs.Within.{after-is}
 
 open-there : (now : Phase) → is_open now ≡ true → has_crew now ≡ true
 open-there phase.Resting within = refl
@@ -24,36 +29,63 @@ open-there (phase.Open to_end) within = refl
 open-there phase.Over within = within
 open-there phase.Spent within = within
 
-some-left : (query : Query) (state : State) (crew : List WorkerState) (arms : List Arms) → StandsSomewhere query state crew arms → have_finished state ≡ false
-    → list_all (λ (w : WorkerState). w.finished) crew ≡ false
-some-left query state crew arms h not-yet = by (list_all (λ (w : WorkerState). w.finished) crew) refl
-  where
-    by : (b : Bool) → list_all (λ (w : WorkerState). w.finished) crew ≡ b → list_all (λ (w : WorkerState). w.finished) crew ≡ false
-    by false e = e
-    by true e =
-        absurd (false≢true (sym not-yet ∙ ap have_finished h.reached ∙ finished-reached query h.start crew h.positions h.at (all-have crew e)))
-
 module _ (e : HomeState) (crew : List WorkerState) (arms : List Arms) (stops : List Stop) (now : Phase)
     (home : IsHome (record e { phase = now }) crew arms stops) (within : is_open now ≡ true) where
   pub crew-open : IsCrew crew
   crew-open = let h = stands-somewhere e crew arms stops now home (open-there now within) in (query_of e, h.start, h.positions, h.at)
 
   pub left-open : have_finished (state_of (in_phase e crew now)) ≡ false → list_all (λ (w : WorkerState). w.finished) crew ≡ false
-  left-open = some-left (query_of e) (state_of (in_phase e crew now)) crew arms (stands-somewhere e crew arms stops now home (open-there now within))
+  left-open not-yet =
+      finished-state (query_of e) (state_of (in_phase e crew now)) crew arms (stands-somewhere e crew arms stops now home (open-there now within)) ∙ not-yet
 
   pub steps-open : steps_by crew ≡ steps_in (state_of (in_phase e crew now))
   steps-open = steps-are e crew arms stops now home (open-there now within)
+
+-- the first that has not finished is so in the state that they reach
+first-reached : (query : Query) (start : State) (crew after : List WorkerState) (positions : ℕ → Position) → AreAtWork query start crew positions → (on : FirstGoesOn crew after)
+    → first_unfinished (state_reached query start positions).positions ≡ on.worker
+first-reached query start crew after positions work on =
+    let all = work.at.at_positions.all in
+    let there = on.there in
+    first-listed positions (crew_of query.flow) on.worker (omega arith)
+    (λ k below. sym (work.at.at_positions.each k (omega arith)).shows.finished ∙ on.first k below)
+    (sym (work.at.at_positions.each on.worker (omega arith)).shows.finished ∙ on.unfinished)
+
+-- and the others stand there where they stood
+others-reached : (query : Query) (start : State) (crew after : List WorkerState) (old : ℕ → Position) → AreAtWork query start crew old → FirstGoesOn crew after
+    → (worker : ℕ) → worker ≢ first_unfinished (state_reached query start old).positions
+    → position_at (after_leg query start (parts_from 0 after)).positions worker ≡ position_at (state_reached query start old).positions worker
+unfolding GoesOn
+others-reached query start crew after old work on worker other =
+    let next = on.on query start old work in
+    ap (λ (s : State). position_at s.positions worker) (after-is query start after next.0 next.1)
+    ∙ listed-same old next.0 (crew_of query.flow) worker (next.2 worker (λ same. other (same ∙ sym (first-reached query start crew after old work on))))
+
+others-open : (e : HomeState) (crew after : List WorkerState) (arms : List Arms) (stops : List Stop) (now : Phase) → IsHome (record e { phase = now }) crew arms stops → is_open now ≡ true
+    → FirstGoesOn crew after → (worker : ℕ) → worker ≢ first_unfinished (state_of (in_phase e crew now)).positions
+    → position_at (state_of (record e { phase = now; parts = open_parts now after })).positions worker ≡ position_at (state_of (in_phase e crew now)).positions worker
+unfolding state_of
+others-open e crew after arms stops phase.Resting home within on worker other = absurd (false≢true within)
+others-open e crew after arms stops phase.Over home within on worker other = absurd (false≢true within)
+others-open e crew after arms stops phase.Spent home within on worker other = absurd (false≢true within)
+others-open e crew after arms stops (phase.Open to_end) home within on worker other =
+    let here : HomeState = record e { phase = phase.Open to_end } in
+    let leg = home.stands in
+    let reached = state-here to_end here crew arms leg home.legal in
+    others-reached (query_of e) (start to_end here crew arms leg home.legal) crew after leg.positions leg.at on worker
+    (λ same. other (same ∙ ap (λ (s : State). first_unfinished s.positions) (sym reached)))
+    ∙ ap (λ (s : State). position_at s.positions worker) (sym reached)
 
 -- as the code has it: the workers stand in a slice of a `Vec`
 module _ (e : HomeState) (crew lent after back : List WorkerState) (arms : List Arms) (stops : List Stop) (now : Phase) (n : ℕ)
     (home : IsHome (record e { phase = now }) crew arms stops) (within : is_open now ≡ true) (lent-is : lent ≡ crew)
     (long : length after ≡ length lent) (size : n ≡ length crew) (back-is : back ≡ take n (after ++ drop (length after) crew))
-    (few : steps_in (state_of (in_phase e crew now)) < e.most) (on : GoOn lent after) (one : steps_by after ≡ steps_by lent + 1) where
+    (few : steps_in (state_of (in_phase e crew now)) < e.most) (on : FirstGoesOn lent after) (one : steps_by after ≡ steps_by lent + 1) where
   within-most : steps_by after ≤ steps_by lent + (e.most - steps_by crew)
   within-most = let made = steps-open e crew arms stops now home within in let same = ap steps_by lent-is in omega arith
 
   pub home-stepped : IsHome (record e { phase = now; parts = open_parts now back }) back arms stops
-  home-stepped = home-ran e crew lent after back arms stops now n (steps_by crew) home within lent-is refl long size back-is on within-most
+  home-stepped = home-ran e crew lent after back arms stops now n (steps_by crew) home within lent-is refl long size back-is (first-on lent after on) within-most
 
   pub steps-stepped : steps_in (state_of (record e { phase = now; parts = open_parts now back })) ≡ steps_in (state_of (in_phase e crew now)) + 1
   steps-stepped =
@@ -62,5 +94,12 @@ module _ (e : HomeState) (crew lent after back : List WorkerState) (arms : List 
       sym (steps-open (record e { parts = open_parts now back }) back arms stops now home-stepped within)
       ∙ grown ∙ ap (λ m. m + 1) (steps-open e crew arms stops now home within)
 
-pub steps-on : (e old new : HomeState) → e ≡ old → new ≡ record e { parts = new.parts } → steps_in (state_of new) ≡ steps_in (state_of e) + 1 → StepsOn old new
-steps-on e old new same only one = subst (λ (h : HomeState). StepsOn h new) same (record { only = only; one = one })
+  pub others-stepped : (worker : ℕ) → worker ≢ first_unfinished (state_of (in_phase e crew now)).positions
+      → position_at (state_of (record e { phase = now; parts = open_parts now back })).positions worker ≡ position_at (state_of (in_phase e crew now)).positions worker
+  others-stepped worker other =
+      ap (λ xs. position_at (state_of (record e { phase = now; parts = open_parts now xs })).positions worker) (back-is ∙ written-back crew after n (long ∙ ap length lent-is) size)
+      ∙ others-open e crew after arms stops now home within (subst (λ xs. FirstGoesOn xs after) lent-is on) worker other
+
+pub steps-on : (e old new : HomeState) → e ≡ old → new ≡ record e { parts = new.parts } → steps_in (state_of new) ≡ steps_in (state_of e) + 1
+    → ((worker : ℕ) → worker ≢ first_unfinished (state_of e).positions → position_at (state_of new).positions worker ≡ position_at (state_of e).positions worker) → StepsOn old new
+steps-on e old new same only one others = subst (λ (h : HomeState). StepsOn h new) same (record { only = only; one = one; others = others })

@@ -1,22 +1,23 @@
 -- The state that workers reach at these positions.
-use Rattle.std.proofs.Common.{◌≡◌, refl, sym, ap, ◌∙◌, ℕ, zero, suc, ◌+◌, ◌<◌, ◌≤◌, List, [], ◌∷◌, ◌++◌, length, map, take, length-append, ◌&&◌, inl, inr, add-one, sum_by, Bool, true, false, arith}
+use Rattle.std.proofs.Common.{◌≡◌, refl, sym, ap, ◌∙◌, ℕ, zero, suc, ◌+◌, ◌<◌, ◌≤◌, List, [], ◌∷◌, ◌++◌, length, get_or, map, take, length-append, ◌&&◌, if◌then◌else◌, inl, inr, add-one, sum_by, Bool, true, false, arith}
 use Rattle.std.specs.List.{list_all}
-use Rattle.std.proofs.lemmas.Bool.{false≢true}
+use Rattle.std.proofs.lemmas.Bool.{cases_lt, false≢true}
 use Rattle.std.proofs.lemmas.Bool.Decides.{eqb_tells}
-use Rattle.std.proofs.lemmas.List.{map-append}
+use Rattle.std.proofs.lemmas.List.{get_or_past, map-append}
 use Rattle.std.proofs.lemmas.List.Sums.{sum_by-append}
 use Rattle.std.proofs.lemmas.Grind.{take_at_read}
 use Rattle.amber_rows.specs.Lists.{numbers_below}
 use Rattle.amber_log.specs.declared.entry.Entry.{Entry}
 use Rattle.amber_log.specs.declared.entry.Entry.TheVariants as entry
-use Rattle.amber_meaning.specs.Position.{Position, steps_of}
+use Rattle.amber_meaning.specs.Position.{Position, origin, steps_of}
 use Rattle.amber_meaning.specs.Rules.{Leads, Moves, Orders}
 use Rattle.amber_meaning.specs.State.{position_at}
 use Rattle.amber_meaning.specs.Task.{Role}
 use Rattle.amber_meaning.proofs.Lists.{list_all-at, list_all-below}
-use Rattle.amber_meaning.proofs.OneState.{position-before, position-last}
+use Rattle.amber_meaning.proofs.OneState.{position-before, position-get_or, position-last}
 use Rattle.amber_worker.specs.WorkerState.{WorkerState}
 use Rattle.amber_worker.specs.WorkerState as worker_state
+use Rattle.amber_home.specs.HomeState.{first_unfinished}
 use Rattle.amber_home.specs.AtWork.{no_worker_state, worker_state_at, steps_by}
 
 -- ---- positions by number
@@ -39,6 +40,18 @@ listed-at positions (suc n) k h =
       | inl same ↦ position-last (map positions (numbers_below n)) (positions n) k (length-listed positions n ∙ sym same.1) ∙ ap positions (sym same.1)
       | inr other ↦ let ne = other.1 in
           position-before (map positions (numbers_below n)) (positions n) k (rw (length-listed positions n) (omega arith)) ∙ listed-at positions n k (omega arith)
+    ]
+
+listed-past : (positions : ℕ → Position) (n k : ℕ) → n ≤ k → position_at (map positions (numbers_below n)) k ≡ origin
+listed-past positions n k past =
+    position-get_or (map positions (numbers_below n)) k ∙ get_or_past (map positions (numbers_below n)) k origin (rw (length-listed positions n) past)
+
+-- where one position is the same, so is what is listed there
+pub listed-same : (old new : ℕ → Position) (n k : ℕ) → new k ≡ old k → position_at (map new (numbers_below n)) k ≡ position_at (map old (numbers_below n)) k
+listed-same old new n k same =
+    elim (cases_lt k n) [
+      | inl below ↦ listed-at new n k below ∙ same ∙ sym (listed-at old n k below)
+      | inr past ↦ listed-past new n k past ∙ sym (listed-past old n k past)
     ]
 
 -- ---- no units
@@ -86,3 +99,23 @@ not-finished positions n k h not-yet = by (list_all (λ p. p.finished) (map posi
     by : (b : Bool) → list_all (λ p. p.finished) (map positions (numbers_below n)) ≡ b → b ≡ false
     by false e = refl
     by true e = absurd (false≢true (sym not-yet ∙ list_all-at (λ j. (positions j).finished) n k (sym (all-map (λ p. p.finished) positions (numbers_below n)) ∙ e) h))
+
+-- ---- the first that has not
+
+first-in : (positions : List Position) (n : ℕ) → ((k : ℕ) → k < n → (get_or positions k origin).finished ≡ true) → (get_or positions n origin).finished ≡ false
+    → first_unfinished positions ≡ n
+unfolding first_unfinished
+first-in [] zero done not-yet = refl
+first-in [] (suc n) done not-yet = absurd (false≢true (done 0 (omega arith)))
+first-in (p ∷ more) zero done not-yet = ap (λ b. if b then suc (first_unfinished more) else 0) not-yet
+first-in (p ∷ more) (suc n) done not-yet =
+    ap (λ b. if b then suc (first_unfinished more) else 0) (done 0 (omega arith)) ∙ ap suc (first-in more n (λ k less. done (suc k) (omega arith)) not-yet)
+
+pub first-listed : (positions : ℕ → Position) (n worker : ℕ) → worker < n → ((k : ℕ) → k < worker → (positions k).finished ≡ true) → (positions worker).finished ≡ false
+    → first_unfinished (map positions (numbers_below n)) ≡ worker
+first-listed positions n worker inside done not-yet =
+    first-in (map positions (numbers_below n)) worker
+    (λ k less. ap (λ (p : Position). p.finished) (read k (omega arith)) ∙ done k less) (ap (λ (p : Position). p.finished) (read worker inside) ∙ not-yet)
+  where
+    read : (k : ℕ) → k < n → get_or (map positions (numbers_below n)) k origin ≡ positions k
+    read k less = sym (position-get_or (map positions (numbers_below n)) k) ∙ listed-at positions n k less

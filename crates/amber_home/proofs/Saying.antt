@@ -1,5 +1,6 @@
 -- What is said of the workers is said of the state.
 use Rattle.std.proofs.Common.{◌≡◌, refl, sym, ap, ◌∙◌, ℕ, List, length, Bool, true, false, Result, Ok, Err, IfOk}
+use Rattle.std.specs.List.{list_all}
 use Rattle.std.specs.Result.{MatchResult}
 use Rattle.std.proofs.lemmas.Bool.{false≢true}
 use Rattle.amber_rows.specs.Crew.{crew_of}
@@ -24,7 +25,7 @@ use Rattle.amber_home.specs.declared.phase.Phase.{Phase}
 use Rattle.amber_home.specs.declared.phase.Phase.TheVariants as phase
 use Rattle.amber_home.proofs.Legs.{loose, start, state-here}
 use Rattle.amber_home.proofs.Opened.{listed-whole}
-use Rattle.amber_home.proofs.Stopped.{stops-are}
+use Rattle.amber_home.proofs.Stopped.{finished-are, stops-are}
 use Rattle.amber_home.proofs.Within.{unfinished-reached}
 
 -- the home in a phase, with the parts of its workers
@@ -76,6 +77,12 @@ ok-map (Err error) change h = tt
 pub ok-copy : {A E : Type 0} {P Q : A → Type 0} (R : E → Type 0) (result : Result A E) → ((x : A) → P x → Q x) → MatchResult result P R → IfOk result Q
 ok-copy R (Ok x) change h = change x h
 ok-copy R (Err error) change h = tt
+
+-- ---- who has finished
+
+pub finished-state : (query : Query) (state : State) (crew : List WorkerState) (arms : List Arms) → StandsSomewhere query state crew arms
+    → list_all (λ (w : WorkerState). w.finished) crew ≡ have_finished state
+finished-state query state crew arms h = sym (ap have_finished h.reached ∙ finished-are query h.start crew h.positions h.at)
 
 -- ---- what an operator shows
 

@@ -1,6 +1,7 @@
 -- A turn of one worker, and then its links settled again: all are at work.
-use Rattle.std.proofs.Common.{◌≡◌, ◌≢◌, refl, sym, ap, subst, ◌∙◌, ℕ, suc, ◌+◌, ◌<◌, List, [], ◌∷◌, length, get_or, set, nat_eq, Bool, true, false, arith, length-set}
+use Rattle.std.proofs.Common.{◌≡◌, ◌≢◌, refl, sym, ap, subst, ◌∙◌, ℕ, suc, ◌+◌, ◌<◌, List, [], ◌∷◌, length, get_or, set, nat_eq, Bool, true, false, if◌then◌else◌, arith, length-set}
 use Rattle.std.specs.List.{list_any}
+use Rattle.std.proofs.lemmas.Bool.{ne_eqb}
 use Rattle.amber_meaning.specs.Legal.{Query}
 use Rattle.amber_meaning.specs.Position.{Position}
 use Rattle.amber_meaning.specs.State.{State}
@@ -9,7 +10,7 @@ use Rattle.amber_worker.specs.Changes.{wants_batch}
 use Rattle.amber_worker.specs.Links.{HaveSentNothing}
 use Rattle.amber_worker.specs.WorkerState.{WorkerState, steps_made}
 use Rattle.amber_worker.specs.declared.turn.Turn.{Turn}
-use Rattle.amber_home.specs.AtWork.{AreAtWork, AreJoinedAt, GoOn, HaveFinished, IsCrew, IsJoinedCrew, MovesOnly, SendsTo, StayPut, steps_by, worker_state_at}
+use Rattle.amber_home.specs.AtWork.{AreAtWork, AreJoinedAt, GoesOn, HaveFinished, IsCrew, IsJoinedCrew, MovesOnly, SendsTo, StayPut, steps_by, worker_state_at}
 use Rattle.amber_home.specs.Passing.{AreSameBesides, Come, Settled, SettledStay}
 use Rattle.amber_home.proofs.Crews.{at-each, here-now, joined-turned, placed, there-still}
 use Rattle.amber_home.proofs.Linked.{come-turned, settled-same}
@@ -39,6 +40,10 @@ module _ (crew : List WorkerState) (number : ℕ) (now d : WorkerState) (inside 
 
   here : get_or crew number d ≡ worker_state_at crew number
   here = read-at crew number d inside
+
+  -- the other positions are as they were
+  elsewhere : (positions : ℕ → Position) (q : Position) (other : ℕ) → other ≢ number → placed positions number q other ≡ positions other
+  elsewhere positions q other apart = ap (λ b. if b then q else positions other) (ne_eqb other number apart)
 
   -- what a turn tells
   pub record IsTurn (done : Turn) : Type 0 where
@@ -92,8 +97,8 @@ module _ (crew : List WorkerState) (number : ℕ) (now d : WorkerState) (inside 
           from does one.before
 
       -- where nothing was looked at, the inputs are settled too
-      pub goes-on : wants_batch (get_or crew number d) ≡ false → GoOn crew after
-      unfolding GoOn StayPut
+      pub goes-on : wants_batch (get_or crew number d) ≡ false → GoesOn crew after number
+      unfolding GoesOn StayPut
       goes-on not-wanted query start positions work =
           let next = on query start positions work.at in
           let later = placed positions number next.0 in (
@@ -110,12 +115,13 @@ module _ (crew : List WorkerState) (number : ℕ) (now d : WorkerState) (inside 
                   (turn.unlooked not-wanted ∙ ap (λ (w : WorkerState). w.ins) here) (turn.ends.number ∙ ap (λ (w : WorkerState). w.number) here) (work.settled from number does))))
                   (λ to not-to does. settled-out query start positions work from to does not-to) to does;
             },
+            elsewhere positions next.0,
           )
 
       -- else they are settled behind that
       pub goes-on-settled : (last : List WorkerState) → StayPut after last → SettledStay after last
-          → ((from : ℕ) → list_any (λ one. nat_eq one.from from) (worker_state_at after number).ins ≡ true → Settled last from number) → GoOn crew last
-      unfolding GoOn StayPut
+          → ((from : ℕ) → list_any (λ one. nat_eq one.from from) (worker_state_at after number).ins ≡ true → Settled last from number) → GoesOn crew last number
+      unfolding GoesOn StayPut
       goes-on-settled last put-last stay-last ins query start positions work =
           let next = on query start positions work.at in
           let later = placed positions number next.0 in
@@ -128,6 +134,7 @@ module _ (crew : List WorkerState) (number : ℕ) (now d : WorkerState) (inside 
                   (λ to not-to does. let one = sending query start after later at-after from to does in
                   stay-last from to one.before one.there (settled-out query start positions work from to does not-to)) to does;
             },
+            elsewhere positions next.0,
           )
 
   -- none but this one has done anything

@@ -154,12 +154,15 @@ module _ (query : Query) (start : State) (crew : List WorkerState) (positions : 
       ap (λ b. held_stop (op_of query.flow worker) (worker - first_worker_of query.flow (op_of query.flow worker)) b
       (pending_rows (role_in query worker) (position_at reached.positions worker))) held)
 
-  ends-are : end_stop reached ≡ end_of crew
-  ends-are = ap (λ b. if b then stop.End ∷ [] else []) (by (list_all (λ (w : WorkerState). w.finished) crew) refl)
+  pub finished-are : have_finished reached ≡ list_all (λ (w : WorkerState). w.finished) crew
+  finished-are = by (list_all (λ (w : WorkerState). w.finished) crew) refl
     where
       by : (b : Bool) → list_all (λ (w : WorkerState). w.finished) crew ≡ b → have_finished reached ≡ b
       by true e = finished-reached query start crew positions work (all-have crew e)
       by false e = let one = some-has-not crew e in unfinished-reached query start crew positions work one.0 one.1 one.2
+
+  ends-are : end_stop reached ≡ end_of crew
+  ends-are = ap (λ b. if b then stop.End ∷ [] else []) finished-are
 
   pub stops-are : (run : Run) → run.flow ≡ query.flow → run.arms ≡ start.arms → ((worker : ℕ) → worker < crew_of query.flow → (position_at start.positions worker).held ≡ false)
       → stops_in query reached ≡ stops_by run crew

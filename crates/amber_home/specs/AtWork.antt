@@ -118,6 +118,11 @@ unfoldable pub GoOn : List WorkerState → List WorkerState → Type 0
 GoOn old new = (query : Query) (start : State) (positions : ℕ → Position) → AreAtWork query start old positions
     → (later : ℕ → Position) × AreAtWork query start new later
 
+-- one of them has moved on, and the others stand where they stood
+unfoldable pub GoesOn : List WorkerState → List WorkerState → ℕ → Type 0
+GoesOn old new worker = (query : Query) (start : State) (positions : ℕ → Position) → AreAtWork query start old positions
+    → (later : ℕ → Position) × AreAtWork query start new later × ((other : ℕ) → other ≢ worker → later other ≡ positions other)
+
 -- a worker has perhaps other batches at the ends of its links, and is as it was but for that
 abbrev pub IsSameBesides : WorkerState → WorkerState → Type 0
 IsSameBesides old new = new ≡ record old { ins = new.ins; outs = new.outs }
@@ -133,3 +138,11 @@ steps_by crew = sum_by steps_made crew
 -- the first workers have finished
 abbrev pub HaveFinished : ℕ → List WorkerState → Type 0
 HaveFinished workers crew = (worker : ℕ) → worker < workers → (worker_state_at crew worker).finished ≡ true
+
+-- the first that has not finished has moved on, and the others stand where they stood
+pub record FirstGoesOn (old new : List WorkerState) : Type 0 where
+  pub worker : ℕ
+  pub there : worker < length old
+  pub first : HaveFinished worker old
+  pub unfinished : (worker_state_at old worker).finished ≡ false
+  pub on : GoesOn old new worker

@@ -1,5 +1,5 @@
 -- What a home keeps, and what its calls change.
-use Rattle.std.specs.Prelude.{◌≡◌, ℕ, ◌+◌, List, [], ◌∷◌, ◌++◌, None, Some, Result, Ok, Err, ⊤, Bool, true, false}
+use Rattle.std.specs.Prelude.{◌≡◌, ◌≢◌, ℕ, suc, ◌+◌, List, [], ◌∷◌, ◌++◌, None, Some, Result, Ok, Err, ⊤, Bool, true, false, if◌then◌else◌}
 use Rattle.amber_rows.specs.declared.flow.Operator.{Operator}
 use Rattle.amber_lines.specs.KeptStops.{kept_stops}
 use Rattle.amber_log.specs.declared.command.Command.{Command}
@@ -13,8 +13,9 @@ use Rattle.amber_log.specs.declared.log.Log.{Log}
 use Rattle.amber_meaning.specs.declared.view.Stop.{Stop}
 use Rattle.amber_meaning.specs.Legal.{ClosesEnd, ClosesRun, Query, leg_start, query_over, stops_in}
 use Rattle.amber_meaning.specs.Plain.{wrong_header}
+use Rattle.amber_meaning.specs.Position.{Position}
 use Rattle.amber_meaning.specs.Replay.{after_leg, state_after}
-use Rattle.amber_meaning.specs.State.{State, steps_in}
+use Rattle.amber_meaning.specs.State.{State, have_finished, position_at, steps_in}
 use Rattle.amber_home.specs.declared.error.HomeErr.{HomeErr}
 use Rattle.amber_home.specs.declared.error.HomeErr.TheVariants as home_err
 use Rattle.amber_home.specs.declared.error.LegErr.{LegErr}
@@ -137,6 +138,13 @@ abbrev pub ClosesIn : Bool → Query → State → Close → Type 0
 ClosesIn true query state close = ClosesEnd query state close
 ClosesIn false query state close = ClosesRun query state close
 
+-- what calls tell of such a leg: who has finished, what stops stand and how many steps were made
+abbrev pub MayClose : Bool → HomeState → Close → Type 0
+MayClose true e close.Cut = have_finished (state_of e) ≡ true
+MayClose true e close.Long = (steps_in (state_of e) ≡ e.most) × (have_finished (state_of e) ≡ false)
+MayClose false e close.Cut = stops_of_home e ≢ []
+MayClose false e close.Long = (steps_in (state_of e) ≡ e.most) × (stops_of_home e ≡ [])
+
 -- the leg that is open stands in the log, closed so
 abbrev pub with_leg : HomeState → Close → HomeState
 with_leg e closed = record e { log = with_item e.log (leg_item (runs_to_end e.phase) e.parts closed); phase = phase.Resting; parts = [] }
@@ -154,7 +162,15 @@ Ends (Ok done) to_end old new = ClosesLeg to_end old new close.Cut
 Ends (Err leg_err.Long) to_end old new = ClosesLeg to_end old new close.Long
 Ends (Err leg_err.NoMemory) to_end old new = new ≡ record old { phase = phase.Spent; parts = [] }
 
--- a leg has gone on by one step, and nothing else has changed
+-- the number of the first worker that has not finished, of workers at these positions
+unfoldable pub first_unfinished : List Position → ℕ
+first_unfinished [] = 0
+first_unfinished (p ∷ more) = if p.finished then suc (first_unfinished more) else 0
+
+-- a leg has gone on by one step, and nothing else has changed: the step is that of the unfinished worker with the smallest number,
+-- since all the others stand where they stood
 pub record StepsOn (old new : HomeState) : Type 0 where
   pub only : new ≡ record old { parts = new.parts }
   pub one : steps_in (state_of new) ≡ steps_in (state_of old) + 1
+  pub others : (worker : ℕ) → worker ≢ first_unfinished (state_of old).positions
+      → position_at (state_of new).positions worker ≡ position_at (state_of old).positions worker

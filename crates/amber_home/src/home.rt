@@ -6,7 +6,9 @@ ghost use Rattle.amber_meaning.specs.Legal.{IsLegal};
 ghost use Rattle.amber_meaning.specs.Plain.{scan_count};
 ghost use Rattle.amber_meaning.specs.State.{have_finished, steps_in};
 ghost use Rattle.amber_meaning.specs.Views.{answer_in, inspected_of};
-ghost use Rattle.amber_home.specs.HomeState.{BeginsOrNames, ClosesIn, Ends, StepsOn, has_crew, is_done_at_rest, is_open, query_of, runs_to_end, state_of, stops_of_home, with_item, with_leg};
+ghost use Rattle.amber_home.specs.HomeState.{BeginsOrNames, ClosesIn, Ends, MayClose, StepsOn, has_crew};
+ghost use Rattle.amber_home.specs.HomeState.{is_done_at_rest, is_open, query_of, runs_to_end, state_of};
+ghost use Rattle.amber_home.specs.HomeState.{stops_of_home, with_item, with_leg};
 
 use crate::answer::{gather, gather_all};
 use crate::applying::{copies_for, has_text, put_in_force};
@@ -17,7 +19,7 @@ use crate::opening::{begin_all, clear_for};
 use crate::parts::{is_last, leg_item, take_parts};
 use crate::phase::Phase;
 use crate::shown::inspect;
-use crate::stopping::{close_arms, run_leg, stops_of};
+use crate::stopping::{close_arms, have_finished, run_leg, stops_of};
 use amber_arms::InForce;
 use amber_log::{Close, Command, Item, Items, Leg, Log};
 use amber_meaning::{Answer, Inspected, Stops};
@@ -152,7 +154,8 @@ impl Home {
         requires unfinished { have_finished (state_of self.old) ≡ false }
         requires few { steps_in (state_of self.old) < self.old.most }
         ensures ok { OnOk result (StepsOn self.old self.new) }
-        ensures err { OnErr result (self.new ≡ record self.old { phase = Phase.Spent; parts = [] }) }
+        ensures err { OnErr result
+            (self.new ≡ record self.old { phase = Phase.Spent; parts = [] }) }
     {
         let phase = self.phase;
         self.phase = Phase::Spent;
@@ -167,7 +170,8 @@ impl Home {
         ensures ok { OnOk result (self.new ≡ record self.old { parts = self.new.parts }) }
         ensures closes { IfOk result (λ close. ClosesIn (runs_to_end self.old.phase)
             (query_of self.old) (state_of self.new) close) }
-        ensures err { OnErr result (self.new ≡ record self.old { phase = Phase.Spent; parts = [] }) }
+        ensures err { OnErr result
+            (self.new ≡ record self.old { phase = Phase.Spent; parts = [] }) }
     {
         let phase = self.phase;
         self.phase = Phase::Spent;
@@ -177,13 +181,14 @@ impl Home {
         Ok(close)
     }
 
-    /// Closes the leg that is open. After want of memory the log is as before, and the run cannot go on.
+    /// Closes the leg that is open: as cut where a stop stands, or to the end all have finished; as long where that is not so,
+    /// and the run has made as many steps as it may. After want of memory the log is as before, and the run cannot go on.
     pub fn close_leg(&mut self, alloc: Global, close: Close) -> Result<(), AllocError>
         requires within { is_open self.old.phase ≡ true }
-        requires closes { ClosesIn (runs_to_end self.old.phase) (query_of self.old)
-            (state_of self.old) close }
+        requires closes { MayClose (runs_to_end self.old.phase) self.old close }
         ensures ok { OnOk result (self.new ≡ with_leg self.old close) }
-        ensures err { OnErr result (self.new ≡ record self.old { phase = Phase.Spent; parts = [] }) }
+        ensures err { OnErr result
+            (self.new ≡ record self.old { phase = Phase.Spent; parts = [] }) }
     {
         let to_end = self.phase.runs_to_end();
         self.phase = Phase::Spent;
@@ -276,6 +281,14 @@ impl Home {
         ensures { result ≡ steps_in (state_of self.now) }
     {
         steps_of(self.crew.as_slice())
+    }
+
+    /// Whether all workers have finished.
+    pub fn have_finished(&self) -> bool
+        requires there { has_crew self.now.phase ≡ true }
+        ensures { result ≡ have_finished (state_of self.now) }
+    {
+        have_finished(self.crew.as_slice())
     }
 
     /// The log of the run so far.

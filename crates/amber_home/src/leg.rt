@@ -5,7 +5,8 @@ ghost use Rattle.std.specs.List.{list_all};
 ghost use Rattle.amber_rows.specs.Crew.{crew_of, op_of, workers_of};
 ghost use Rattle.amber_rows.specs.FlowRules.{IsFlow};
 ghost use Rattle.amber_worker.specs.WorkerState.{steps_made};
-ghost use Rattle.amber_home.specs.AtWork.{GoOn, HaveFinished, IsCrew, MovesOnly, steps_by, worker_state_at};
+ghost use Rattle.amber_home.specs.AtWork.{FirstGoesOn, GoesOn, GoOn, HaveFinished, IsCrew, MovesOnly};
+ghost use Rattle.amber_home.specs.AtWork.{steps_by, worker_state_at};
 ghost use Rattle.amber_home.specs.Leg.{IsLegDone, NonePaused, emitted_at, is_paused};
 
 use crate::settling::{settle_inputs, settle_outputs};
@@ -22,7 +23,7 @@ pub(crate) fn step(crew: &mut [Worker], number: usize) -> Result<(), AllocError>
     requires first { HaveFinished number crew.old }
     requires unfinished { (worker_state_at crew.old number).finished ≡ false }
     requires few { steps_made (worker_state_at crew.old number) < 2 ^ 40 }
-    ensures on { OnOk result (GoOn crew.old crew.new) }
+    ensures on { OnOk result (GoesOn crew.old crew.new number) }
     ensures one { OnOk result (steps_by crew.new ≡ steps_by crew.old + 1) }
     ensures only { OnOk result (MovesOnly crew.old crew.new number) }
 {
@@ -41,7 +42,7 @@ pub(crate) fn step_first(crew: &mut [Worker]) -> Result<(), AllocError>
     requires crew { IsCrew crew.old }
     requires unfinished { list_all (λ w. w.finished) crew.old ≡ false }
     requires few { steps_by crew.old < 2 ^ 40 }
-    ensures on { OnOk result (GoOn crew.old crew.new) }
+    ensures on { OnOk result (FirstGoesOn crew.old crew.new) }
     ensures one { OnOk result (steps_by crew.new ≡ steps_by crew.old + 1) }
 {
     'workers: for number in 0..crew.len() {
@@ -92,7 +93,8 @@ fn is_done(flow: &Flow, arms: &InForce, crew: &[Worker], number: usize) -> bool
     requires few { steps_by crew.now ≤ 2 ^ 40 }
     requires there { number < length crew.now }
     ensures { result ≡ ((worker_state_at crew.now number).finished
-        || is_paused (record { flow = flow.now; arms = arms.now }) crew.now (op_of flow.now number)) }
+        || is_paused (record { flow = flow.now; arms = arms.now }) crew.now
+        (op_of flow.now number)) }
 {
     crew[number].is_finished() || is_paused(flow, arms, crew, flow.op_of(number as u32))
 }
@@ -116,7 +118,8 @@ fn drive(
     ensures left { IfOk result (λ left. steps_by crew.new + left ≡ steps_by crew.old + budget) }
     ensures only { OnOk result (MovesOnly crew.old crew.new number) }
     ensures stops { IfOk result (λ left. (worker_state_at crew.new number).finished ≡ false
-        → is_paused (record { flow = flow.now; arms = arms.now }) crew.new (op_of flow.now number) ≡ false
+        → is_paused (record { flow = flow.now; arms = arms.now }) crew.new
+        (op_of flow.now number) ≡ false
         → left ≡ 0) }
 {
     'steps: for made in 0..budget {

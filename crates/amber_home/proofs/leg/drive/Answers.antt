@@ -1,7 +1,7 @@
 -- Each turn is a step, and the workers stay at work.
 use Rattle.std.proofs.Common.{sym, add-zero, arith}
 use Rattle.amber_home.specs.AtWork.{steps_by}
-use Rattle.amber_home.proofs.Going.{crew-on, finished-on, on-refl, on-then, only-refl, only-then}
+use Rattle.amber_home.proofs.Going.{crew-on, finished-on, on-refl, on-then, one-on, only-refl, only-then}
 use Rattle.amber_home.proofs.Steps.{sum-member}
 use Rattle.amber_home.proofs.leg.drive.Goals as goal
 
@@ -28,7 +28,7 @@ step-requires-clause-few c =
 
 pub steps-preserved : goal.steps-preserved
 steps-preserved c = record {
-  on = on-then c.args.crew.now c.steps.crew c.step.new.crew c.steps.invariant.on c.in_ok-step.ensures.on;
+  on = on-then c.args.crew.now c.steps.crew c.step.new.crew c.steps.invariant.on (one-on c.steps.crew c.step.new.crew c.args.number c.in_ok-step.ensures.on);
   made = let one = c.in_ok-step.ensures.one in let made = c.steps.invariant.made in omega arith;
   only = only-then c.args.crew.now c.steps.crew c.step.new.crew c.args.number c.steps.invariant.only c.in_ok-step.ensures.only;
 }

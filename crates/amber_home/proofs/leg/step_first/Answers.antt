@@ -3,8 +3,9 @@ use Rattle.std.proofs.Common.{◌≡◌, refl, sym, ap, subst, ◌∙◌, ◌+�
 use Rattle.std.specs.List.{list_all}
 use Rattle.std.specs.Result.{OnOk}
 use Rattle.std.proofs.lemmas.Bool.{false≢true}
+use Rattle.std.proofs.lemmas.Result.{on_ok_weaker}
 use Rattle.amber_worker.specs.WorkerState.{WorkerState}
-use Rattle.amber_home.specs.AtWork.{GoOn, IsCrew, steps_by}
+use Rattle.amber_home.specs.AtWork.{FirstGoesOn, GoesOn, IsCrew, steps_by, worker_state_at}
 use Rattle.amber_home.proofs.Going.{finished-more}
 use Rattle.amber_home.proofs.Split.{read-at}
 use Rattle.amber_home.proofs.Steps.{sum-member}
@@ -30,7 +31,13 @@ step-requires-clause-few c =
     omega arith
 
 pub returns-then-not-is_finished-clause-on : goal.returns-then-not-is_finished-clause-on
-returns-then-not-is_finished-clause-on c = subst (λ xs. OnOk c.step.result (GoOn xs c.step.new.crew)) c.workers.invariant.same c.step.ensures.on
+returns-then-not-is_finished-clause-on c =
+    let not-yet : (worker_state_at c.workers.crew c.workers.number).finished ≡ false =
+    ap (λ (w : WorkerState). w.finished) (sym (read-at c.workers.crew c.workers.number c.index-crew-number.result (search rules)))
+    ∙ sym c.is_finished.ensures.over ∙ c.if-not-is_finished.true in
+    let first : GoesOn c.workers.crew c.step.new.crew c.workers.number → FirstGoesOn c.workers.crew c.step.new.crew =
+    λ on. record { worker = c.workers.number; there = search rules; first = c.workers.invariant.first; unfinished = not-yet; on = on } in
+    subst (λ xs. OnOk c.step.result (FirstGoesOn xs c.step.new.crew)) c.workers.invariant.same (on_ok_weaker c.step.result first c.step.ensures.on)
 
 pub returns-then-not-is_finished-clause-one : goal.returns-then-not-is_finished-clause-one
 returns-then-not-is_finished-clause-one c = subst (λ xs. OnOk c.step.result (steps_by c.step.new.crew ≡ steps_by xs + 1)) c.workers.invariant.same c.step.ensures.one

@@ -6,7 +6,7 @@ use Rattle.amber_worker.specs.WorkerState.{WorkerState}
 use Rattle.amber_home.specs.AtWork.{IsCrew, steps_by}
 use Rattle.amber_home.specs.HomeState.{HomeState, is_open, state_of}
 use Rattle.amber_home.specs.Parts.{open_parts}
-use Rattle.amber_home.proofs.OneMore.{crew-open, home-stepped, left-open, steps-on, steps-open, steps-stepped}
+use Rattle.amber_home.proofs.OneMore.{crew-open, home-stepped, left-open, others-stepped, steps-on, steps-open, steps-stepped}
 use Rattle.amber_home.proofs.home.Home.home_step.Goals as goal
 
 pub step_first-requires-clause-crew : goal.step_first-requires-clause-crew
@@ -47,5 +47,8 @@ returns-clause-ok c =
     let e : HomeState = record { flow = i.flow; files = i.files; most = i.most; log = i.log; phase = i.phase; parts = open_parts i.phase i.crew.items } in
     steps-on e _ _ c.self.view_is refl
     (steps-stepped e i.crew.items c.as_mut_slice.result.now c.step_first.new.crew _ i.arms i.stops i.phase i.crew.len c.self.invariant
+    (ap (λ (h : HomeState). is_open h.phase) c.self.view_is ∙ c.requires.within) c.as_mut_slice.ensures.value c.step_first.auto.crew i.crew.ok.0 refl
+    (subst (λ (h : HomeState). steps_in (state_of h) < h.most) (sym c.self.view_is) c.requires.few) c.in_ok-step_first.ensures.on c.in_ok-step_first.ensures.one)
+    (others-stepped e i.crew.items c.as_mut_slice.result.now c.step_first.new.crew _ i.arms i.stops i.phase i.crew.len c.self.invariant
     (ap (λ (h : HomeState). is_open h.phase) c.self.view_is ∙ c.requires.within) c.as_mut_slice.ensures.value c.step_first.auto.crew i.crew.ok.0 refl
     (subst (λ (h : HomeState). steps_in (state_of h) < h.most) (sym c.self.view_is) c.requires.few) c.in_ok-step_first.ensures.on c.in_ok-step_first.ensures.one)

@@ -1,9 +1,17 @@
 -- The leg was opened, gone through and closed.
-use Rattle.std.proofs.Common.{ap, subst, ◌∙◌}
+use Rattle.std.proofs.Common.{sym, ap, subst, ◌∙◌}
 use Rattle.amber_log.specs.declared.leg.Close.TheVariants as close
-use Rattle.amber_home.specs.HomeState.{ClosesIn, query_of, runs_to_end, state_of, with_leg}
+use Rattle.amber_home.specs.HomeState.{ClosesIn, HomeState, is_open, query_of, runs_to_end, state_of, with_leg}
+use Rattle.amber_home.proofs.Closings.{told-of}
 use Rattle.amber_home.proofs.Whole.{leg-closes}
 use Rattle.amber_home.proofs.home.Home.leg_home.Goals as goal
+
+pub close_leg-requires-clause-closes : goal.close_leg-requires-clause-closes
+close_leg-requires-clause-closes c =
+    let ran : HomeState = c.run_open.new.self in
+    let same = c.in_ok-close.ensures.ok in
+    told-of ran ran.phase (ap (λ (h : HomeState). is_open h.phase) (same ∙ ap (λ (h : HomeState). record h { parts = ran.parts }) c.open_leg.ensures)) c.in_ok-close.close
+    (subst (λ (h : HomeState). ClosesIn (runs_to_end h.phase) (query_of h) (state_of ran) c.in_ok-close.close) (sym same) c.in_ok-close.ensures.closes)
 
 pub returns-in-Cut : goal.returns-in-Cut
 returns-in-Cut c = record {

@@ -1,0 +1,168 @@
+// Calls of a home that are made where they may be, and what they tell as texts.
+ghost use Rattle.std.specs.Prelude.{◌≡◌, false, true};
+ghost use Rattle.amber_log.specs.Grammar.{ends_over};
+ghost use Rattle.amber_home.specs.HomeState.{has_crew, is_done_at_rest, is_open};
+
+use crate::query::query;
+use amber_home::{Home, NoMemory, Phase};
+use amber_log::{Close, Command, fits};
+use amber_meaning::Answer;
+use amber_report::{answer_lines, inspect_lines, stop_lines};
+use amber_rows::{Bytes, Files};
+use std::alloc::Global;
+use std::test::Fail;
+
+/// The home of the query over this file, with 400 rows in a batch and at most 30 steps.
+pub fn home_over(alloc: Global, file: &str) -> Result<Home, Fail> {
+    let flow = query(alloc)?;
+    let file = Bytes::new(Vec::from_slice(alloc, file.as_bytes())?);
+    let files = Files::new(vec![in alloc; file]?);
+    let home = Home::new(alloc, flow, files, 400, 30)?;
+    Ok(home)
+}
+
+// ---- whether a call may be made
+
+// Whether the workers are there.
+fn are_there(home: &Home) -> bool
+    ensures { result ≡ has_crew home.now.phase }
+{
+    matches!(home.phase(), Phase::Resting | Phase::Open { .. })
+}
+
+// Whether a leg is open.
+fn is_within(home: &Home) -> bool
+    ensures open { result ≡ is_open home.now.phase }
+    ensures there { result ≡ true → has_crew home.now.phase ≡ true }
+{
+    matches!(home.phase(), Phase::Open { .. })
+}
+
+// Whether a command or a leg may come.
+fn may_go_on(home: &Home) -> bool
+    ensures resting { result ≡ true → home.now.phase ≡ Phase.Resting }
+    ensures open { result ≡ true → ends_over false home.now.log.items ≡ false }
+{
+    matches!(home.phase(), Phase::Resting) && !home.closed()
+}
+
+// ---- the calls: whether they were made
+
+/// Does a command at rest.
+pub fn apply(alloc: Global, home: &mut Home, command: &Command) -> Result<bool, NoMemory>
+    requires { is_done_at_rest command.now ≡ true }
+{
+    if !may_go_on(home) || !fits(home.flow(), command) {
+        return Ok(false);
+    }
+    home.apply(alloc, command)?;
+    Ok(true)
+}
+
+/// Opens a leg up to a stop.
+pub fn open_leg(home: &mut Home) -> bool {
+    if !may_go_on(home) {
+        return false;
+    }
+    home.open_leg(false);
+    true
+}
+
+/// One step of the leg that is open.
+pub fn step(home: &mut Home) -> Result<bool, NoMemory> {
+    if !is_within(home) || home.have_finished() || home.most() <= home.steps() {
+        return Ok(false);
+    }
+    home.home_step()?;
+    Ok(true)
+}
+
+/// Closes the leg that is open, where a stop stands.
+pub fn close_leg(alloc: Global, home: &mut Home) -> Result<bool, NoMemory> {
+    match home.phase() {
+        Phase::Open { to_end: false } => {
+            let stops = home.stops(alloc)?;
+            if stops.get().is_empty() {
+                return Ok(false);
+            }
+            home.close_leg(alloc, Close::Cut)?;
+            Ok(true)
+        }
+        _ => Ok(false),
+    }
+}
+
+/// Runs a leg to the end.
+pub fn end(alloc: Global, home: &mut Home) -> Result<bool, Fail> {
+    if !may_go_on(home) {
+        return Ok(false);
+    }
+    home.leg_home(alloc, true)?;
+    Ok(true)
+}
+
+// ---- what is told
+
+/// The numbers of a home.
+pub fn numbers(alloc: Global, home: &Home) -> Result<String, NoMemory> {
+    if !are_there(home) {
+        return format!(in alloc; "no workers");
+    }
+    let operators = home.flow().get().len();
+    let files = home.files().get().len();
+    let items = home.log().items.get().len();
+    let most = home.most();
+    let steps = home.steps();
+    format!(in alloc; "operators {operators} files {files} items {items} most {most} steps {steps}")
+}
+
+/// The stops that are told.
+pub fn stops(alloc: Global, home: &Home) -> Result<Bytes, NoMemory> {
+    if !are_there(home) {
+        return Ok(Bytes::new(Vec::new(alloc)));
+    }
+    let stops = home.stops(alloc)?;
+    stop_lines(alloc, home.flow(), &stops)
+}
+
+/// What the filter shows.
+pub fn shown(alloc: Global, home: &Home) -> Result<Bytes, NoMemory> {
+    if !are_there(home) || home.flow().get().len() < 2 {
+        return Ok(Bytes::new(Vec::new(alloc)));
+    }
+    let shown = home.inspect(alloc, 2)?;
+    inspect_lines(alloc, home.flow(), &shown)
+}
+
+/// Whether all have finished.
+pub fn finished(home: &Home) -> bool {
+    are_there(home) && home.have_finished()
+}
+
+// An answer as it is printed.
+fn printed(alloc: Global, home: &Home, answer: &Answer) -> Result<Bytes, NoMemory> {
+    answer_lines(alloc, home.flow(), answer)
+}
+
+/// The answer; nothing where somebody has not finished.
+pub fn answer(alloc: Global, home: &Home) -> Result<Bytes, NoMemory> {
+    if !are_there(home) || !home.have_finished() {
+        return Ok(Bytes::new(Vec::new(alloc)));
+    }
+    let answer = home.answer(alloc)?;
+    printed(alloc, home, &answer)
+}
+
+/// The same, taken out of the home.
+pub fn take_answer(alloc: Global, home: &mut Home) -> Result<Bytes, NoMemory> {
+    match home.phase() {
+        Phase::Resting => {
+            if !home.have_finished() {
+                return Ok(Bytes::new(Vec::new(alloc)));
+            }
+            let answer = home.take_answer(alloc)?;
+            printed(alloc, home, &answer)
+        }
+        _ => Ok(Bytes::new(Vec::new(alloc))),
+    }
+}
