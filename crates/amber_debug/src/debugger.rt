@@ -13,8 +13,8 @@ ghost use Rattle.amber_debug.specs.Session.{Does, query_in};
 
 use crate::done::{DebugErr, Done, EndErr};
 use amber_home::{Home, HomeErr, LegErr};
-use amber_journal::{commands_have_text, write_command, write_item};
-use amber_log::{Command, Log};
+use amber_journal::{write_command, write_item};
+use amber_log::{Command, Log, commands_have_text};
 use amber_report::{answer_lines, inspect_lines, ok_line, stop_lines};
 use amber_rows::{Bytes, Files, Flow};
 use std::alloc::{AllocError, Global};

@@ -11,7 +11,7 @@ use Rattle.amber_rows.specs.declared.value.Value.{Value}
 use Rattle.amber_lines.specs.Moving.{orders_in}
 use Rattle.amber_lines.proofs.Kept.{commands_keep_stops}
 use Rattle.amber_log.specs.Fits.{fits_of, is_source, is_target, is_there, takes_constant}
-use Rattle.amber_log.specs.Grammar.{AreEntries, IsCommand, ends_over}
+use Rattle.amber_log.specs.Grammar.{AreEntries, IsCommand, IsKeptAsLine, ends_over}
 use Rattle.amber_log.specs.declared.command.Command.{Command}
 use Rattle.amber_log.specs.declared.command.Command.TheVariants as command
 use Rattle.amber_log.specs.declared.leg.Part.{Part}
@@ -44,6 +44,20 @@ use Rattle.amber_home.proofs.Homes.{at-rest}
 use Rattle.amber_home.proofs.Opened.{quiet-orders}
 use Rattle.amber_home.proofs.Paused.{crew-few}
 use Rattle.amber_home.proofs.Renewed.{HasItsEnds, renewed}
+
+-- ---- it has a line
+
+pub kept-as-line : (one : Command) → is_done_at_rest one ≡ true → IsKeptAsLine one
+kept-as-line command.Run is = absurd (false≢true is)
+kept-as-line command.End is = absurd (false≢true is)
+kept-as-line (command.Pause op n) is = tt
+kept-as-line (command.Count op n) is = tt
+kept-as-line (command.When op test) is = tt
+kept-as-line (command.Clear op) is = tt
+kept-as-line (command.Set op constant) is = tt
+kept-as-line (command.Drop op worker) is = tt
+kept-as-line (command.Inspect op) is = tt
+kept-as-line (command.Lose op worker) is = tt
 
 -- ---- the operator that it names is there
 

@@ -1,10 +1,7 @@
 //! A command that is done at rest: the copies that it wants, and what it changes.
 
 ghost use Rattle.std.specs.Prelude.{◌≡◌, ◌∷◌, ◌+◌, ◌<◌, ◌≤◌, ◌^◌, IfOk, [], length, map, replicate, true};
-ghost use Rattle.std.specs.Str.{is_utf8};
 ghost use Rattle.amber_rows.specs.Lists.{changed_at};
-ghost use Rattle.amber_rows.specs.Number.{fits_i64};
-ghost use Rattle.amber_log.specs.Grammar.{IsCommand, IsConstant};
 ghost use Rattle.amber_home.specs.Applied.{IsNumbered, NamesOneOf, arms_after, copies_wanted, crew_after, worker_set};
 ghost use Rattle.amber_home.specs.HomeState.{is_done_at_rest};
 
@@ -13,53 +10,6 @@ use amber_log::Command;
 use amber_rows::Value;
 use amber_worker::Worker;
 use std::alloc::{AllocError, Global};
-
-// ---- its text
-
-fn fits_32(number: u32)
-    ensures { number < 2 ^ 32 }
-{}
-
-fn fits_64(number: u64)
-    ensures { number < 2 ^ 64 }
-{}
-
-fn fits_signed(number: i64)
-    ensures { fits_i64 number ≡ true }
-{}
-
-fn is_text(text: &str)
-    ensures { is_utf8 text.now ≡ true }
-{}
-
-// A constant has a text.
-fn constant_has_text(constant: &Value)
-    ensures { IsConstant constant.now }
-{
-    match constant {
-        Value::Int(number) => fits_signed(*number),
-        Value::Text(text) => is_text(text.get()),
-    }
-}
-
-/// A command that is done at rest has a text, so it may stand in a log. It does nothing; its contract is the law.
-pub(crate) fn has_text(command: &Command)
-    requires { is_done_at_rest command.now ≡ true }
-    ensures { IsCommand command.now }
-{
-    match command {
-        Command::Pause { op, n } => {
-            fits_32(*op);
-            fits_64(*n);
-        }
-        Command::Clear { op } | Command::Inspect { op } => fits_32(*op),
-        Command::Set { op, value } => {
-            fits_32(*op);
-            constant_has_text(value);
-        }
-        _ => unreachable!(),
-    }
-}
 
 // ---- what it wants
 

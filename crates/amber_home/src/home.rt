@@ -11,7 +11,7 @@ ghost use Rattle.amber_home.specs.HomeState.{is_done_at_rest, is_open, query_of,
 ghost use Rattle.amber_home.specs.HomeState.{stops_of_home, with_item, with_leg};
 
 use crate::answer::{gather, gather_all};
-use crate::applying::{copies_for, has_text, put_in_force};
+use crate::applying::{copies_for, put_in_force};
 use crate::crew::start_crew;
 use crate::error::{HomeErr, LegErr};
 use crate::leg::{step_first, steps_of};
@@ -21,7 +21,7 @@ use crate::phase::Phase;
 use crate::shown::inspect;
 use crate::stopping::{close_arms, have_finished, run_leg, stops_of};
 use amber_arms::InForce;
-use amber_log::{Close, Command, Item, Items, Leg, Log};
+use amber_log::{Close, Command, Item, Items, Leg, Log, commands_have_text};
 use amber_meaning::{Answer, Inspected, Stops};
 use amber_rows::{Files, Flow};
 use amber_worker::Worker;
@@ -128,7 +128,7 @@ impl Home {
         }) }
         ensures err { OnErr result (self.new ≡ self.old) }
     {
-        has_text(command);
+        commands_have_text(command);
         let item = Item::Do(command.clone()?);
         let copies = copies_for(alloc, command, self.crew.len() + 1)?;
         self.log.items.push(item)?;

@@ -1,9 +1,7 @@
--- The text of a leg, part by part, and the commands that have a line.
+-- The text of a leg, part by part.
 use Rattle.std.specs.Prelude.{ℕ, List, ◌++◌}
 use Rattle.std.specs.List.{flat_map}
 use Rattle.amber_log.specs.LogText.{line_text}
-use Rattle.amber_log.specs.declared.command.Command.{Command}
-use Rattle.amber_log.specs.declared.command.Command.TheVariants as command
 use Rattle.amber_log.specs.declared.entry.Entry.{Entry}
 use Rattle.amber_log.specs.declared.leg.Leg.{Leg}
 use Rattle.amber_log.specs.declared.leg.Part.{Part}
@@ -19,16 +17,3 @@ part_text part = line_text (line.Worker part.worker) ++ flat_map entry_text part
 -- the workers' parts, then how the leg ended
 abbrev pub leg_text : Leg → List ℕ
 leg_text leg = flat_map part_text leg.parts ++ line_text (line.Close leg.close)
-
--- a command that a log keeps as a line. Those that run are kept as legs
-abbrev pub IsKeptAsLine : Command → Type 0
-IsKeptAsLine command.Run = ⊥
-IsKeptAsLine command.End = ⊥
-IsKeptAsLine (command.Pause op n) = Unit {0}
-IsKeptAsLine (command.Count op n) = Unit {0}
-IsKeptAsLine (command.When op test) = Unit {0}
-IsKeptAsLine (command.Clear op) = Unit {0}
-IsKeptAsLine (command.Set op constant) = Unit {0}
-IsKeptAsLine (command.Drop op worker) = Unit {0}
-IsKeptAsLine (command.Inspect op) = Unit {0}
-IsKeptAsLine (command.Lose op worker) = Unit {0}

@@ -8,7 +8,6 @@
 mod command_lines;
 mod commands;
 mod constants;
-mod laws;
 mod legs;
 mod lines;
 mod numbers;
@@ -19,7 +18,6 @@ mod whole;
 mod words;
 mod write;
 
-pub use laws::commands_have_text;
 pub use read::{LogErr, read_log};
 pub use std::alloc::AllocError as NoMemory;
 pub use whole::whole_items;

@@ -25,6 +25,19 @@ abbrev pub IsConstant : Value → Type 0
 IsConstant (value.Int n) = fits_i64 n ≡ true
 IsConstant (value.Text text) = is_utf8 text ≡ true
 
+-- a command that a log keeps as a line. Those that run are kept as legs
+abbrev pub IsKeptAsLine : Command → Type 0
+IsKeptAsLine command.Run = ⊥
+IsKeptAsLine command.End = ⊥
+IsKeptAsLine (command.Pause op n) = Unit {0}
+IsKeptAsLine (command.Count op n) = Unit {0}
+IsKeptAsLine (command.When op test) = Unit {0}
+IsKeptAsLine (command.Clear op) = Unit {0}
+IsKeptAsLine (command.Set op constant) = Unit {0}
+IsKeptAsLine (command.Drop op worker) = Unit {0}
+IsKeptAsLine (command.Inspect op) = Unit {0}
+IsKeptAsLine (command.Lose op worker) = Unit {0}
+
 -- a command other than those that run, whose numbers fit their types
 abbrev pub IsCommand : Command → Type 0
 IsCommand command.Run = ⊥

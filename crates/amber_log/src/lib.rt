@@ -9,6 +9,7 @@
 pub mod command;
 pub mod entry;
 pub mod fitting;
+pub mod kept;
 pub mod laws;
 pub mod leg;
 pub mod line;
@@ -19,6 +20,7 @@ mod signs;
 pub use command::{Command, Commands};
 pub use entry::{Entries, Entry};
 pub use fitting::{fits, is_source};
+pub use kept::commands_have_text;
 pub use leg::{Close, Leg, Part, Parts};
 pub use line::Line;
 pub use log::{Item, Items, Log};

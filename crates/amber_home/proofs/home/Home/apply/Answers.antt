@@ -6,9 +6,12 @@ use Rattle.amber_log.specs.declared.log.Item.TheVariants as item
 use Rattle.amber_home.specs.Applied.{crew_after}
 use Rattle.amber_home.specs.HomeState.{HomeState}
 use Rattle.amber_home.specs.Parts.{open_parts}
-use Rattle.amber_home.proofs.Commanded.{home-commanded, long-after, names-resting}
+use Rattle.amber_home.proofs.Commanded.{home-commanded, kept-as-line, long-after, names-resting}
 use Rattle.amber_home.proofs.Homes.{written-back}
 use Rattle.amber_home.proofs.home.Home.apply.Goals as goal
+
+pub commands_have_text-requires : goal.commands_have_text-requires
+commands_have_text-requires c = kept-as-line c.args.command.now c.requires.at_rest
 
 pub put_in_force-requires-clause-there : goal.put_in_force-requires-clause-there
 put_in_force-requires-clause-there c =
@@ -27,6 +30,6 @@ invariant_of-self-2 c =
     let back = written-back i.crew.items c.put_in_force.new.crew i.crew.len (ap length handed ∙ long-after one i.crew.items) i.crew.ok.0 ∙ handed in
     home-commanded e i.crew.items i.arms i.stops c.self.invariant (ap (λ (h : HomeState). h.phase) c.self.view_is ∙ c.requires.resting) one
     (ap (λ (h : HomeState). ends_over false h.log.items) c.self.view_is ∙ c.requires.open) (ap (λ (h : HomeState). fits_of h.flow one) c.self.view_is ∙ c.requires.fits)
-    c.requires.at_rest c.has_text.ensures (record { batch = i.log.batch; items = c.push.new.self }) c.put_in_force.new.arms _
+    c.requires.at_rest c.commands_have_text.ensures (record { batch = i.log.batch; items = c.push.new.self }) c.put_in_force.new.arms _
     (ap (λ items. record i.log { items = items }) (c.in_ok-push.ensures.ok ∙ ap (λ done. i.log.items ++ item.Do done ∷ []) same))
     c.put_in_force.ensures.arms back

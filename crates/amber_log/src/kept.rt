@@ -2,10 +2,9 @@
 ghost use Rattle.std.specs.Prelude.{◌≡◌, ◌<◌, ◌^◌, true};
 ghost use Rattle.std.specs.Str.{is_utf8};
 ghost use Rattle.amber_rows.specs.Number.{fits_i64};
-ghost use Rattle.amber_log.specs.Grammar.{IsCommand, IsConstant};
-ghost use Rattle.amber_journal.specs.Written.{IsKeptAsLine};
+ghost use Rattle.amber_log.specs.Grammar.{IsCommand, IsConstant, IsKeptAsLine};
 
-use amber_log::Command;
+use crate::command::Command;
 use amber_rows::Value;
 
 fn fits_32(number: u32)
@@ -34,7 +33,7 @@ fn constants_have_text(constant: &Value)
     }
 }
 
-/// A command has a text unless it runs, so `write_item` takes each of them that a workflow takes. It does nothing; its
+/// A command has a text unless it runs, so it may stand in a log. It does nothing; its
 /// contract is the law.
 pub fn commands_have_text(command: &Command)
     requires { IsKeptAsLine command.now }
