@@ -1,5 +1,5 @@
 -- The workers of a workflow. They have running numbers from 0: those of the first operator, then those of the second, and so on.
-use Rattle.std.specs.Prelude.{◌≡◌, ℕ, suc, ◌+◌, ◌-◌, ◌%◌, ◌==◌, ◌&&◌, ◌||◌, nat_lt, List, [], ◌∷◌, map, filter, take, sum_by, Option, Some, None, Bool, if◌then◌else◌, All}
+use Rattle.std.specs.Prelude.{ℕ, suc, ◌+◌, ◌-◌, ◌%◌, ◌==◌, ◌&&◌, ◌||◌, nat_lt, List, [], ◌∷◌, map, filter, take, sum_by, Option, Some, None, Bool, if◌then◌else◌}
 use Rattle.std.specs.List.{list_any}
 use Rattle.amber_rows.specs.Lists.{numbers_below, nth}
 use Rattle.amber_rows.specs.Kinds.{inputs_of, is_keyed, side_keys}
@@ -35,10 +35,6 @@ workers_of flow op = map (λ place. first_worker_of flow op + place) (numbers_be
 unfoldable pub op_of : List Operator → ℕ → ℕ
 op_of [] worker = 1
 op_of (operator ∷ more) worker = if nat_lt worker operator.workers then 1 else suc (op_of more (worker - operator.workers))
-
--- every operator has one worker
-abbrev pub AreAlone : List Operator → Type 0
-AreAlone flow = All (λ operator. operator.workers ≡ 1) flow
 
 -- ---- who sends to whom
 

@@ -8,8 +8,6 @@ use Rattle.amber_rows.specs.declared.column.Column.{Column}
 use Rattle.amber_rows.specs.declared.cond.Cmp.TheVariants as cmp
 use Rattle.amber_rows.specs.declared.flow.Operator.{Operator}
 use Rattle.amber_rows.specs.declared.flow.What.TheVariants as what
-use Rattle.amber_rows.specs.Crew.{crew_of, op_of, what_at, AreAlone}
-use Rattle.amber_rows.specs.Kinds.{is_scan}
 
 abbrev pub numbers : List Column
 numbers = record { name = codes "n"; kind = kind.Int } ∷ []
@@ -61,19 +59,3 @@ is_flow = record {
   read_once = once;
   few_workers = omega arith;
 }
-
--- ---- what its workers are
-
-pub crew : crew_of from_two ≡ 3
-unfolding crew_of
-crew = refl
-
-pub alone : AreAlone from_two
-alone zero d less = refl
-alone (suc zero) d less = refl
-alone (suc (suc zero)) d less = refl
-alone (suc (suc (suc k))) d less = absurd (omega arith)
-
-pub scans : (is_scan (what_at from_two (op_of from_two 0)) ≡ true) × (is_scan (what_at from_two (op_of from_two 1)) ≡ false) × (is_scan (what_at from_two (op_of from_two 2)) ≡ false)
-unfolding op_of
-scans = (refl, refl, refl)
