@@ -104,7 +104,14 @@ impl Outbox {
     /// Nothing was made for this receiver.
     pub(crate) fn new(alloc: Global, size: u32) -> Self
         requires { 0 < size }
-        ensures { result ≡ record { size = size; made = 0; ended = false; waiting = []; partial = []; room = 0 } }
+        ensures { result ≡ record {
+          size = size;
+          made = 0;
+          ended = false;
+          waiting = [];
+          partial = [];
+          room = 0;
+        } }
     {
         Outbox {
             alloc,

@@ -32,7 +32,13 @@ pub struct Found {
 impl Sender {
     /// Nothing was taken of this sender.
     pub fn new(from: u32, builds: bool, link: In) -> Self
-        ensures { result ≡ record { from = from; builds = builds; taken = 0; ended = false; link = link } }
+        ensures { result ≡ record {
+          from = from;
+          builds = builds;
+          taken = 0;
+          ended = false;
+          link = link;
+        } }
     {
         Sender {
             from,
@@ -66,8 +72,11 @@ impl Sender {
         requires waits { has_some (waiting self.old.link) ≡ true }
         requires few { self.old.taken + 1 < 2 ^ 64 }
         ensures gives { GivesBatches self.old.link (result ∷ []) self.new.link }
-        ensures is { self.new
-            ≡ record self.old { taken = self.old.taken + 1; ended = result.last; link = self.new.link } }
+        ensures is { self.new ≡ record self.old {
+          taken = self.old.taken + 1;
+          ended = result.last;
+          link = self.new.link;
+        } }
         ensures empty { starts_empty (waiting self.old.link) ≡ (length result.rows == 0) }
     {
         let batch = self.link.take_known();
