@@ -37,7 +37,7 @@ pub use record::{RowFault, read_int, type_record};
 pub use record_reader::RecordReader;
 pub use record_writer::{append_names, append_rows, row_text};
 pub use retyping::{pick_over, type_over};
-pub use routing::{key_bytes, route};
+pub use routing::{key_bytes, route, route_row};
 pub use row::{Row, Rows};
 pub use std::alloc::AllocError as NoMemory;
 pub use suiting::suits;

@@ -1,9 +1,9 @@
 //! Which worker gets a row, where rows with equal keys go to one worker.
 
-ghost use Rattle.std.specs.Prelude.{◌≡◌, ◌<◌, ◌++◌, ◌∷◌, [], IfOk, OnOk};
+ghost use Rattle.std.specs.Prelude.{◌≡◌, ◌<◌, ◌++◌, ◌∷◌, [], IfOk, OnOk, fold};
 ghost use Rattle.std.specs.List.{filter_map, flat_map};
 ghost use Rattle.amber_rows.specs.Lists.{nth};
-ghost use Rattle.amber_rows.specs.Routing.{fnv_of, key_bytes_of, key_piece, route_of};
+ghost use Rattle.amber_rows.specs.Routing.{fnv_step, key_bytes_of, key_piece, route_of};
 
 use crate::column::Cols;
 use crate::row::Row;
@@ -61,15 +61,52 @@ pub fn key_bytes(alloc: Global, row: &Row, keys: &Cols) -> Result<Vec<u8>, Alloc
     Ok(bytes)
 }
 
-// FNV-1a with 64 bits.
-fn fnv(bytes: &[u8]) -> u64
-    ensures { result ≡ fnv_of bytes.now }
+// The hash with a byte more.
+fn hash_byte(hash: u64, byte: u8) -> u64
+    ensures { result ≡ fnv_step hash byte }
 {
-    let mut hash = FNV_OFFSET;
+    (hash ^ u64::from(byte)).wrapping_mul(FNV_PRIME)
+}
+
+// The hash with these bytes more.
+fn hash_bytes(before: u64, bytes: &[u8]) -> u64
+    ensures { result ≡ fold fnv_step before bytes.now }
+{
+    let mut hash = before;
     for byte in bytes {
-        hash = (hash ^ u64::from(*byte)).wrapping_mul(FNV_PRIME);
+        hash = hash_byte(hash, *byte);
     }
     hash
+}
+
+// The hash with the bytes of a cell more.
+fn hash_piece(hash: u64, cell: &Value) -> u64
+    ensures { result ≡ fold fnv_step hash (key_piece cell.now) }
+{
+    let mut buffer = Buffer::new();
+    match cell {
+        Value::Int(number) => {
+            let begun = hash_byte(hash, b'i');
+            hash_byte(hash_bytes(begun, buffer.format(*number).as_bytes()), b';')
+        }
+        Value::Text(text) => {
+            let begun = hash_byte(hash, b't');
+            let counted = hash_bytes(begun, buffer.format(text.len()).as_bytes());
+            let parted = hash_byte(counted, b':');
+            hash_byte(hash_bytes(parted, text.get().as_bytes()), b';')
+        }
+    }
+}
+
+// The hash with the bytes of the cell of a column more, if there is one.
+fn hash_column(hash: u64, row: &Row, column: u32) -> u64
+    ensures { result
+        ≡ fold fnv_step hash (flat_map key_piece (filter_map (nth row.now) (column ∷ []))) }
+{
+    match row.cell(column) {
+        None => hash,
+        Some(cell) => hash_piece(hash, cell),
+    }
 }
 
 /// The worker, of so many, to which a key with these bytes goes.
@@ -77,5 +114,18 @@ pub fn route(key: &[u8], workers: u32) -> u32
     requires { 0 < workers }
     ensures { result ≡ route_of key.now workers }
 {
-    (fnv(key) % u64::from(workers)) as u32
+    (hash_bytes(FNV_OFFSET, key) % u64::from(workers)) as u32
+}
+
+/// The worker, of so many, to which a row goes by its key in these columns. The bytes of the key are not kept.
+pub fn route_row(row: &Row, keys: &Cols, workers: u32) -> u32
+    requires { 0 < workers }
+    ensures { result ≡ route_of (key_bytes_of keys.now row.now) workers }
+{
+    let mut hash = FNV_OFFSET;
+    let columns = keys.get();
+    for column in columns {
+        hash = hash_column(hash, row, *column);
+    }
+    (hash % u64::from(workers)) as u32
 }

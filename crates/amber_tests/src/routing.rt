@@ -1,7 +1,7 @@
 // Which worker gets a row, and who sends to whom.
 use crate::written::{cols, row};
 use amber_flow::read_flow;
-use amber_rows::{NoMemory, key_bytes, route};
+use amber_rows::{NoMemory, key_bytes, route, route_row};
 use std::test::Fail;
 
 // Bytes, and the worker that they give of so many. The bytes are vectors of FNV-1a with 64 bits, by two moduli that show its low and
@@ -107,10 +107,12 @@ fn keys_of_rows_go_to_their_workers(rt: HostRuntime) -> Result<(), Fail> {
     let alloc = rt.alloc();
     for case in KEYS {
         let columns = cols(alloc, case.columns)?;
-        let key = key_bytes(alloc, &row(alloc, case.row)?, &columns)?;
+        let row = row(alloc, case.row)?;
+        let key = key_bytes(alloc, &row, &columns)?;
         assert_eq!(rt; key.as_slice(), case.bytes.as_bytes());
         assert_eq!(rt; route(key.as_slice(), 16), case.of_16);
         assert_eq!(rt; route(key.as_slice(), 4), case.of_4);
+        assert_eq!(rt; route_row(&row, &columns, 16), case.of_16);
     }
     Ok(())
 }

@@ -11,12 +11,11 @@ use amber_link::{
     Receiver, Sender, end_all, place_of, place_to, push_at, reserve_at, reserve_ends, settle_at,
 };
 use amber_rows::Row;
-use std::alloc::{AllocError, Global};
+use std::alloc::AllocError;
 use std::collections::VecDeque;
 
 // Hands the first of these rows on to its receiver, if there is one.
 pub(crate) fn emit_first(
-    alloc: Global,
     route: &Route,
     pending: &mut VecDeque<Row>,
     outs: &mut [Receiver],
@@ -36,7 +35,7 @@ pub(crate) fn emit_first(
     let Some(next) = pending.front() else {
         unreachable!()
     };
-    let number = route.number_to(alloc, next)?;
+    let number = route.number_to(next);
     let Some(place) = place_to(outs, number) else {
         let Some(_row) = pending.pop_front() else {
             unreachable!()

@@ -76,7 +76,6 @@ impl Worker {
     {
         self.journal.reserve(1)?;
         emit_first(
-            self.alloc,
             &self.route,
             &mut self.gains.pending,
             self.outs.as_mut_slice(),

@@ -8,11 +8,11 @@ use Rattle.amber_worker.proofs.links.emit_first.Goals as goal
 pub returns-in_default-place_to-clause-ok : goal.returns-in_default-place_to-clause-ok
 returns-in_default-place_to-clause-ok c =
     let same = c.in-Some.ensures.lookup ∙ ap (λ l. get_or l 0 c.in-Some.next.now) c.in-Some-pop_front.ensures.items in
-    let number = c.in_ok-number.ensures ∙ ap (number_to c.args.route.now) same in
+    let number = c.number_to-number.ensures ∙ ap (number_to c.args.route.now) same in
     record {
       row = c.in-Some-pop_front._row;
       first = c.in-Some-pop_front.ensures.items;
-      handed = record { place = None; so = (rw (← number) (sym (same-receivers c.in_ok-number.number c.args.outs.now) ∙ c.in_default-place_to.ensures.none), refl) };
+      handed = record { place = None; so = (rw (← number) (sym (same-receivers c.number_to-number.result c.args.outs.now) ∙ c.in_default-place_to.ensures.none), refl) };
     }
 
 pub returns-in_err-reserve_at-clause-open : goal.returns-in_err-reserve_at-clause-open
@@ -24,7 +24,7 @@ push_at-requires-clause-open c = c.reserve_at.ensures.still_open _ c.requires.op
 pub returns-clause-ok : goal.returns-clause-ok
 returns-clause-ok c =
     let same = c.in-Some.ensures.lookup ∙ ap (λ l. get_or l 0 c.in-Some.next.now) c.in-Some-pop_front-2.ensures.items in
-    let number = c.in_ok-number.ensures ∙ ap (number_to c.args.route.now) same in
+    let number = c.number_to-number.ensures ∙ ap (number_to c.args.route.now) same in
     record {
       row = c.in-Some-pop_front-2.row;
       first = c.in-Some-pop_front-2.ensures.items;
@@ -32,7 +32,7 @@ returns-clause-ok c =
         place = Some c.in-Some-place_to.place;
         so = (
           subst (λ l. HandsOn c.in-Some-place_to.place c.in-Some-pop_front-2.row l (map without_room c.push_at.new.outs)) c.reserve_at.ensures.same c.push_at.ensures.hands_on,
-          rw (← number) (same-at c.args.outs.now c.in-Some-place_to.place c.in_ok-number.number c.in-Some-place_to.ensures.there c.in-Some-place_to.ensures.own),
+          rw (← number) (same-at c.args.outs.now c.in-Some-place_to.place c.number_to-number.result c.in-Some-place_to.ensures.there c.in-Some-place_to.ensures.own),
         );
       };
     }

@@ -7,4 +7,4 @@ pub overflow_add-result : goal.overflow_add-result
 unfolding route_of
 overflow_add-result c =
     let sound = rw c.in-ByKeys.is at c.requires in
-    omega (arith, sound.0, sound.1, c.route.ensures)
+    omega (arith, sound.0, sound.1, c.route_row.ensures)
