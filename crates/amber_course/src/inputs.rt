@@ -16,10 +16,8 @@ pub(crate) const MOST_TEXT: u64 = 1 << 20;
 fn unread(alloc: Global, name: &str) -> Failure
     ensures { IsMissing result name.now }
 {
-    match String::from_str(alloc, name) {
-        Ok(name) => Failure::ReadFault {
-            name: Text::new(name),
-        },
+    match Text::new(alloc, name) {
+        Ok(name) => Failure::ReadFault { name },
         Err(_) => Failure::NoMemory,
     }
 }
@@ -28,10 +26,8 @@ fn unread(alloc: Global, name: &str) -> Failure
 fn oversized(alloc: Global, name: &str) -> Failure
     ensures { IsOversized result name.now }
 {
-    match String::from_str(alloc, name) {
-        Ok(name) => Failure::TooLarge {
-            name: Text::new(name),
-        },
+    match Text::new(alloc, name) {
+        Ok(name) => Failure::TooLarge { name },
         Err(_) => Failure::NoMemory,
     }
 }

@@ -38,7 +38,7 @@ pub enum Words {
 fn copied(alloc: Global, word: &str) -> Result<Text, AllocError>
     ensures { IfOk result (λ text. text ≡ word.now) }
 {
-    Ok(Text::new(String::from_str(alloc, word)?))
+    Text::new(alloc, word)
 }
 
 // The words behind `plain`.

@@ -8,7 +8,7 @@ use std::alloc::Global;
 fn text(alloc: Global, written: &str) -> Result<Text, NoMemory>
     ensures { IfOk result (λ text. text ≡ written.now) }
 {
-    Ok(Text::new(String::from_str(alloc, written)?))
+    Text::new(alloc, written)
 }
 
 // One column of numbers.

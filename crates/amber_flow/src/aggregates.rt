@@ -110,7 +110,7 @@ fn column_of_agg(
         return Ok(None);
     };
     Ok(Some(Column {
-        name: Text::new(String::from_str(alloc, text)?),
+        name: Text::new(alloc, text)?,
         kind,
     }))
 }

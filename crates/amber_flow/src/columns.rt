@@ -33,7 +33,7 @@ fn read_column(alloc: Global, tree: &Value) -> Result<Result<Column, FlowWhy>, A
     let Some(kind) = column_kind(word) else {
         return Ok(Err(FlowWhy::Shape));
     };
-    let name = Text::new(String::from_str(alloc, name)?);
+    let name = Text::new(alloc, name)?;
     Ok(Ok(Column { name, kind }))
 }
 

@@ -26,7 +26,7 @@ fn read_constant(alloc: Global, kind: ColKind, tree: &Value) -> Result<Option<Ce
             None => Ok(None),
         },
         ColKind::Text => match tree.as_str() {
-            Some(text) => Ok(Some(Cell::Text(Text::new(String::from_str(alloc, text)?)))),
+            Some(text) => Ok(Some(Cell::Text(Text::new(alloc, text)?))),
             None => Ok(None),
         },
     }

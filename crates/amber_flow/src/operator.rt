@@ -47,7 +47,7 @@ pub fn read_operator(
         return Ok(Err(why));
     }
     Ok(Ok(Operator {
-        id: Text::new(String::from_str(alloc, id)?),
+        id: Text::new(alloc, id)?,
         what: parts.what,
         schema: parts.schema,
         workers: head.workers,

@@ -69,7 +69,7 @@ fn rename(alloc: Global, columns: &[Column], pair: &Value) -> Result<Option<Colu
         return Ok(None);
     };
     Ok(Some(Column {
-        name: Text::new(String::from_str(alloc, name)?),
+        name: Text::new(alloc, name)?,
         kind: column.kind,
     }))
 }

@@ -34,7 +34,7 @@ pub fn read_scan(alloc: Global, tree: &Value) -> Result<Result<Parts, FlowWhy>, 
     if file.is_empty() || 255 < file.len() {
         return Ok(Err(FlowWhy::Shape));
     }
-    let file = Text::new(String::from_str(alloc, file)?);
+    let file = Text::new(alloc, file)?;
     Ok(Ok(Parts {
         what: What::Scan { file },
         schema: Schema::new(columns),

@@ -38,7 +38,7 @@ fn text(alloc: Global, digits: &[u8]) -> Result<Option<Text>, AllocError>
     };
     let spelled = hex::encode(alloc, decoded.as_str().as_bytes())?;
     if spelled.as_bytes() == digits {
-        Ok(Some(Text::new(decoded)))
+        Ok(Some(Text::new(alloc, decoded.as_str())?))
     } else {
         Ok(None)
     }

@@ -17,4 +17,5 @@ pub mod Retyping
 pub mod Routing
 pub mod RowText
 pub mod Shares
+mod Stored
 pub mod Suits

@@ -22,6 +22,7 @@ pub mod record_writer;
 pub mod retyping;
 pub mod routing;
 pub mod row;
+mod short_text;
 pub mod suiting;
 pub mod text;
 pub mod value;

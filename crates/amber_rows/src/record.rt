@@ -71,7 +71,7 @@ fn type_cell(
             None => Ok(Err(RowFault::Int(number))),
         },
         ColKind::Text => match str::from_utf8(field) {
-            Ok(text) => Ok(Ok(Value::Text(Text::new(String::from_str(alloc, text)?)))),
+            Ok(text) => Ok(Ok(Value::Text(Text::new(alloc, text)?))),
             Err(_) => Ok(Err(RowFault::Utf8(number))),
         },
     }

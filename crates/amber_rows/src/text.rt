@@ -5,46 +5,67 @@ ghost use Rattle.std.specs.Cmp.Lexicographic.{nat_list_cmp_total, nat_list_eq_eq
 ghost use Rattle.std.proofs.Common.{rules};
 ghost use Rattle.std.specs.Cmp.Rules.{comparing};
 
-use std::alloc::AllocError;
+use crate::short_text::ShortText;
+use std::alloc::{AllocError, Global};
 use std::cmp::Ordering;
 use std::fmt;
 use std::marker::Model;
 
 /// A text, seen as the list of its UTF-8 bytes.
-#[derive(Debug, Drop)]
+#[derive(Drop)]
 pub struct Text {
-    inner: String,
+    stored: Stored,
+}
+
+// Where the bytes lie: those of a short text in the value itself, so that most cells own no memory.
+#[derive(Drop)]
+enum Stored {
+    Short(ShortText),
+    Long(Box<String>),
 }
 
 impl Model for Text {
-    ghost use Rattle.std.specs.Prelude.{List, string_bytes, ℕ};
+    ghost use Rattle.std.specs.Prelude.{List, ℕ};
+    ghost use Rattle.amber_rows.specs.Stored.{stored_bytes};
 
     ghost Value = { List ℕ };
 
-    ghost view = { λ a. string_bytes a.inner };
+    ghost view = { λ a. stored_bytes a.stored };
 }
 
 impl Text {
-    /// The text of a string.
-    pub fn new(inner: String) -> Self
-        ensures { result ≡ string_bytes inner }
+    /// A copy of std's text.
+    pub fn new(alloc: Global, text: &str) -> Result<Self, AllocError>
+        ensures { IfOk result (λ copy. copy ≡ text.now) }
     {
-        Text { inner }
+        let stored = match ShortText::of(text) {
+            Some(short) => Stored::Short(short),
+            None => Stored::Long(Box::new(alloc, String::from_str(alloc, text)?)?),
+        };
+        Ok(Text { stored })
     }
 
     /// The text as std's text.
     pub fn get(&self) -> &str
         ensures { result.now ≡ self.now }
     {
-        self.inner.as_str()
+        match &self.stored {
+            Stored::Short(short) => short.get(),
+            Stored::Long(long) => long.as_str(),
+        }
     }
 
     /// Makes it this text, in the room that it has where that is enough.
-    pub fn set(&mut self, text: &str) -> Result<(), AllocError>
+    pub fn set(&mut self, alloc: Global, text: &str) -> Result<(), AllocError>
         ensures { OnOk result (self.new ≡ text.now) }
     {
-        self.inner.clear();
-        self.inner.push_str(text)?;
+        match &mut self.stored {
+            Stored::Short(_) => *self = Text::new(alloc, text)?,
+            Stored::Long(room) => {
+                room.clear();
+                room.push_str(text)?;
+            }
+        }
         Ok(())
     }
 
@@ -52,7 +73,7 @@ impl Text {
     pub fn len(&self) -> usize
         ensures { result ≡ length self.now }
     {
-        self.inner.len()
+        self.get().len()
     }
 }
 
@@ -60,9 +81,20 @@ impl Clone for Text {
     ghost is_clone = { λ a copy. copy ≡ a };
 
     fn clone(&self) -> Result<Self, AllocError> {
-        Ok(Text {
-            inner: self.inner.clone()?,
-        })
+        let stored = match &self.stored {
+            Stored::Short(short) => Stored::Short(short.copy()),
+            Stored::Long(long) => match ShortText::of(long.as_str()) {
+                Some(short) => Stored::Short(short),
+                None => Stored::Long(long.clone()?),
+            },
+        };
+        Ok(Text { stored })
+    }
+}
+
+impl fmt::Debug for Text {
+    fn fmt<W: fmt::Write>(&self, f: &mut fmt::Formatter<W>) -> fmt::Result {
+        fmt::Debug::fmt(self.get(), f)
     }
 }
 

@@ -19,8 +19,8 @@ impl Value {
         ensures { OnOk result (self.new ≡ value.Text text.now) }
     {
         match self {
-            Value::Text(room) => room.set(text)?,
-            Value::Int(_) => *self = Value::Text(Text::new(String::from_str(alloc, text)?)),
+            Value::Text(room) => room.set(alloc, text)?,
+            Value::Int(_) => *self = Value::Text(Text::new(alloc, text)?),
         }
         Ok(())
     }

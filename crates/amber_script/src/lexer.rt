@@ -109,7 +109,7 @@ pub fn read_texts(alloc: Global, words: &[Bytes]) -> Result<Option<Vec<Text>>, A
     let mut texts = Vec::with_capacity(alloc, words.len())?;
     for word in words {
         match str::from_utf8(word.get()) {
-            Ok(text) => texts.push(Text::new(String::from_str(alloc, text)?))?,
+            Ok(text) => texts.push(Text::new(alloc, text)?)?,
             Err(_) => return Ok(None),
         }
     }

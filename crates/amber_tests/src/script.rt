@@ -12,7 +12,7 @@ const SCRIPT: &str =
     "# a comment\n\tpause \"f\" 2\r\nrun\n\nset f \"a \\\"b\\\"\"\ninspect f\nclear f\nrun";
 
 const READ: &str =
-    r#"[Pause { op: 2, n: 2 }, Run, Set { op: 2, value: Text(Text { inner: "a \"b\"" }) }, Inspect { op: 2 }, Clear { op: 2 }, Run]"#;
+    r#"[Pause { op: 2, n: 2 }, Run, Set { op: 2, value: Text("a \"b\"") }, Inspect { op: 2 }, Clear { op: 2 }, Run]"#;
 
 #[test]
 fn a_script_is_read(rt: HostRuntime) -> Result<(), Fail> {

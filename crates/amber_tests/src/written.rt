@@ -8,7 +8,7 @@ use std::test::Fail;
 pub fn text(alloc: Global, written: &str) -> Result<Text, NoMemory>
     ensures { IfOk result (λ text. text ≡ written.now) }
 {
-    Ok(Text::new(String::from_str(alloc, written)?))
+    Text::new(alloc, written)
 }
 
 /// A cell: a number, or a text behind a `'`.

@@ -14,7 +14,7 @@ pub returns-then-eq : goal.returns-then-eq
 returns-then-eq c =
     let same = (slice_eq-Decides Decides-eqb c.as_bytes-2.result.now c.args.digits.now c.eq.result c.eq.ensures).0 c.if-eq.true in
     let read = ap (λ v. v.items) c.in-Ok-from_utf8.ensures.ok in
-    let is : c.new.result ≡ c.as_bytes.result.now = c.new.ensures ∙ sym c.as_str.ensures.value ∙ sym c.as_bytes.ensures.value in
+    let is : c.in_ok-new.field-0 ≡ c.as_bytes.result.now = c.in_ok-new.ensures ∙ c.as_str-then-eq.ensures.value ∙ sym c.as_str.ensures.value ∙ sym c.as_bytes.ensures.value in
     ap (λ (t : List ℕ). Some t) is
     ∙ text-exact c.args.digits.now c.in-Ok.bytes.items c.as_bytes.result.now c.as_bytes-2.result.now c.in-Ok.ensures.ok
     (c.as_bytes.ensures.value ∙ c.as_str.ensures.value ∙ read) c.as_bytes.ensures.utf8 (c.as_bytes-2.ensures.value ∙ c.in_ok-spelled.ensures) same

@@ -4,11 +4,11 @@ use Rattle.std.proofs.lemmas.Bool.{false_from_ne_true}
 use Rattle.std.proofs.lemmas.Str.{IsUtf8-from_is_utf8, is_utf8-from_IsUtf8}
 use Rattle.amber_rows.proofs.record.type_cell.Goals as goal
 
-pub returns-in_ok-from_str-in-Ok : goal.returns-in_ok-from_str-in-Ok
-returns-in_ok-from_str-in-Ok c =
+pub returns-in_ok-new-in-Ok : goal.returns-in_ok-new-in-Ok
+returns-in_ok-new-in-Ok c =
     let same = c.in-Ok.ensures.cases.0 in
     let text = is_utf8-from_IsUtf8 c.args.field.now c.in-Ok.ensures.cases.1 in
-    rw (c.in-Text.is, text, c.new.ensures, c.in_ok-from_str-in-Ok.ensures.ok, same) refl
+    rw (c.in-Text.is, text, c.in_ok-new-in-Ok.ensures, same) refl
 
 pub returns-in-Err : goal.returns-in-Err
 returns-in-Err c =

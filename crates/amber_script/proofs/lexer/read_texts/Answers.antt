@@ -15,6 +15,6 @@ loop-word-preserved c =
     let utf8 : list_all is_utf8 (take (c.loop-word.word-index + 1) c.args.words.now) ≡ true =
     texts_more c.args.words.now c.loop-word.word-index c.word-item.result c.get.result.now c.loop-word-test.true c.word-item.is c.get.ensures c.in-Ok.ensures.cases.1 c.loop-word.invariant.utf8 in
     record {
-      texts = grind (arith, common_steps, c.loop-word.invariant.texts, c.word-item.is, c.get.ensures, c.in-Ok.ensures.cases.0, c.in_ok-from_str-in-Ok.ensures.ok, c.new.ensures, c.in_ok-push-in-Ok.ensures.items);
+      texts = grind (arith, common_steps, c.loop-word.invariant.texts, c.word-item.is, c.get.ensures, c.in-Ok.ensures.cases.0, c.in_ok-new-in-Ok.ensures, c.in_ok-push-in-Ok.ensures.items);
       utf8 = utf8;
     }
