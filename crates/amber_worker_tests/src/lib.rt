@@ -1,0 +1,8 @@
+//! Tests of a worker, made by hand: a filter that feeds a group of four, and a join whose senders, two a side, end in an order
+//! of their own, with batches of one row. No call above a worker shows them, since a home lets its workers work in one order.
+#![tactic(auto)]
+
+#[cfg(test)]
+mod ends;
+#[cfg(test)]
+mod workers;
