@@ -224,11 +224,6 @@ pub worked-script : (r : Result (Unit {0}) Failure) (t : RunTask) (script : List
 worked-script (Ok u) t script d shown flow all h = (d.log, h.way, has-answer t script d.log shown flow all h.way)
 worked-script (Err s) t script d shown flow all h = halts-failure s t shown flow h
 
--- the session of a run that begins
-pub at-begun : (t : RunTask) (d : Session) (threads : ℕ) (log : Log) (shown : Shown) → d ≡ record { flow = t.flow; files = t.inputs; most = most_steps; threads = threads; log = log; spent = false }
-    → IsUnderWay t t.commands log shown → IsAt t t.commands d shown
-at-begun t d threads log shown e h = rw e (record { session = record { flow = refl; inputs = refl; most = refl }; way = h })
-
 -- where the log was not made, the sink did not fail
 pub opens-counts : (s : Failure) (t : RunTask) (log : Log) (shown : Shown) (n : ℕ) → Opens {A = Unit {0}} (Err s) t log shown → Counts {A = Unit {0}} (Err s) n n
 opens-counts failure.OutFault t log shown n h = absurd h

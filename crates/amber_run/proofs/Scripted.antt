@@ -1,6 +1,7 @@
 -- From one command of a script to the next.
-use Rattle.std.proofs.Common.{◌≡◌, ◌≢◌, ℕ, zero, suc, ◌+◌, ◌<◌, ◌≤◌, List, [], ◌∷◌, ◌++◌, length, drop, get_or, Option, Ok, Bool, true, false, refl, sym, ap, subst, ◌∙◌, arith}
+use Rattle.std.proofs.Common.{◌≡◌, ◌≢◌, ℕ, zero, suc, ◌+◌, ◌<◌, ◌≤◌, List, [], ◌∷◌, ◌++◌, length, drop, get_or, Option, Result, Ok, Err, Bool, true, false, refl, sym, ap, subst, ◌∙◌, arith}
 use Rattle.std.specs.List.{list_all}
+use Rattle.std.specs.Result.{MatchResult}
 use Rattle.std.specs.Io.KnownBytes.{Appends}
 use Rattle.std.proofs.Math.Seq.{drop-cons}
 use Rattle.std.proofs.lemmas.List.Folds.{list_all_at}
@@ -15,9 +16,11 @@ use Rattle.amber_script.specs.Commands.{is_scripted}
 use Rattle.amber_debug.specs.Session.{Does, Grew, Session, command_of, is_long_item, query_in}
 use Rattle.amber_debug.specs.declared.done.Done.{Done}
 use Rattle.amber_run.specs.RunTask.{IsSession, RunTask}
-use Rattle.amber_run.specs.UnderWay.{IsAt}
+use Rattle.amber_run.specs.UnderWay.{Halts, IsAt}
 use Rattle.amber_run.specs.World.{showing}
-use Rattle.amber_run.proofs.Working.{done-next}
+use Rattle.amber_course.specs.Steps.{Sent, putting}
+use Rattle.amber_course.specs.declared.failure.Failure.{Failure}
+use Rattle.amber_run.proofs.Working.{done-next, done-send}
 
 -- ---- one command
 
@@ -32,6 +35,16 @@ at-next t left old new done told piece reply mid files written got h does legal 
   session = session-next t old new done does.0 h.session does.1;
   way = done-next t left old new done told piece reply mid files written got h.session h.way does legal is answer wrote sent;
 }
+
+-- the item was written, and the reply was put, or was not
+pub told-next : (r : Result (Unit {0}) Failure) (t : RunTask) (left : List Command) (old new : Session) (done : Command) (told : Done) (piece reply : List ℕ) (mid files : Option Named)
+    (written got : Option (List ℕ)) (a b : ℕ) → IsAt t (done ∷ left) old (showing mid written) → Does (Ok told) old new done → IsLegal (query_in new) new.log → piece ≡ told.item
+    → reply ≡ told.reply → files ≡ with_more mid t.name piece → Sent r (putting written got a b) reply
+    → MatchResult r (λ done. IsAt t left new (showing files got)) (Halts t (showing files got))
+told-next (Ok u) t left old new done told piece reply mid files written got a b h does legal is answer wrote sent =
+    at-next t left old new done told piece reply mid files written got h does legal is answer wrote sent.1
+told-next (Err s) t left old new done told piece reply mid files written got a b h does legal is answer wrote sent =
+    done-send s t left old new done told piece reply mid files written got a b h.session h.way does legal is answer wrote sent
 
 ends_over-push : (over : Bool) (items : List Item) (one : Item) → ends_over over (items ++ one ∷ []) ≡ is_last one
 ends_over-push over [] one = refl

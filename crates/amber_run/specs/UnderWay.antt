@@ -16,7 +16,7 @@ use Rattle.amber_meaning.specs.Total.{step_total}
 use Rattle.amber_meaning.specs.Transcript.{replies, reply_of, transcript_of}
 use Rattle.amber_debug.specs.Session.{Session, command_of}
 use Rattle.amber_run.specs.RunTask.{AlterNothing, IsSession, RunTask, ends_long, most_steps, query_at}
-use Rattle.amber_run.specs.World.{Shown}
+use Rattle.amber_run.specs.World.{Shown, showing}
 use Rattle.amber_course.specs.declared.failure.Failure.{Failure}
 use Rattle.amber_course.specs.declared.failure.Failure.TheVariants as failure
 
@@ -40,6 +40,12 @@ pub record IsUnderWay (t : RunTask) (left : List Command) (log : Log) (shown : S
 pub record IsAt (t : RunTask) (left : List Command) (d : Session) (shown : Shown) : Type 0 where
   pub session : IsSession t d
   pub way : IsUnderWay t left d.log shown
+
+-- a session that runs what the task asks for has done nothing, and outside all is as the task found it
+pub record Begins (t : RunTask) (d : Session) (shown : Shown) : Type 0 where
+  pub session : IsSession t d
+  pub log : d.log ≡ record { batch = t.batch; items = [] }
+  pub outside : shown ≡ showing t.told t.before
 
 -- where no item sets a constant or drops a row, the reply to the last item is the text of the sequential answer
 abbrev pub HasAnswer : RunTask → Log → Type 0

@@ -53,13 +53,13 @@ fn answer_text(
 // Prints the sequential answer.
 fn print_answer<O: Sink>(
     alloc: Global,
-    flow: &Flow,
-    files: &Files,
+    flow: Flow,
+    files: Files,
     out: &mut O,
     printed: &mut Printed,
 ) -> Result<(), Failure>
-    requires { AreInputs flow.now files.now }
-    ensures works { (told : Option Named) (loads : ℕ) → Works result (Job.Plain flow.now files.now)
+    requires { AreInputs flow files }
+    ensures works { (told : Option Named) (loads : ℕ) → Works result (Job.Plain flow files)
         (record {
           before = showing told (O.written out.old);
           now = showing told (O.written out.new);
@@ -70,7 +70,7 @@ fn print_answer<O: Sink>(
     ensures unlogged { IfErr result (λ failure. failure ≢ Failure.LogFault) }
     ensures still { (writes : ℕ) → CountsWrites result writes writes }
 {
-    let text = answer_text(alloc, flow, files, printed)?;
+    let text = answer_text(alloc, &flow, &files, printed)?;
     put_output(out, text.get())?;
     Ok(())
 }
@@ -98,7 +98,7 @@ pub(crate) fn do_job<F: Folder, O: Sink>(
     ensures unlogged { WritesNothing job → IfErr result (λ failure. failure ≢ Failure.LogFault) }
 {
     match job {
-        Job::Plain { flow, files } => print_answer(alloc, &flow, &files, out, printed),
+        Job::Plain { flow, files } => print_answer(alloc, flow, files, out, printed),
         Job::Run(run) => work(alloc, run, folder, out, printed),
     }
 }

@@ -1,20 +1,23 @@
-ghost use Rattle.std.specs.Prelude.{◌≡◌, ◌≢◌, ◌⊎◌, ◌∷◌, ◌++◌, [], List, Option, ℕ, IfErr, IfOk, MatchResult, false, true};
+ghost use Rattle.std.specs.Prelude.{◌≡◌, ◌≢◌, ◌⊎◌, ◌∷◌, ◌++◌, [], List, Option, ℕ, IfErr, IfOk, MatchResult, Ok, false, true};
 ghost use Rattle.std.specs.Io.KnownBytes.{Appends};
 ghost use Rattle.amber_io.specs.Folder.{IsThere};
+ghost use Rattle.amber_rows.specs.FlowRules.{IsFlow};
 ghost use Rattle.amber_log.specs.Fits.{fits_of};
 ghost use Rattle.amber_log.specs.Grammar.{IsBatch};
+ghost use Rattle.amber_meaning.specs.Legal.{IsLegal};
 ghost use Rattle.amber_script.specs.Commands.{is_scripted};
+ghost use Rattle.amber_debug.specs.Session.{Does, Session, query_in};
 ghost use Rattle.amber_course.specs.Ready.{AreInputs, AreOfScript, IsRunReady};
 ghost use Rattle.amber_course.specs.Words.{AreSizes};
 ghost use Rattle.amber_run.specs.Outcome.{Counts};
-ghost use Rattle.amber_run.specs.UnderWay.{Halts, IsAt, IsOpen, Opens, Worked};
+ghost use Rattle.amber_run.specs.UnderWay.{Begins, Halts, IsAt, IsOpen, Opens, Worked};
 ghost use Rattle.amber_run.specs.RunTask.{RunTask, end_alone, most_steps, run_task_of};
 ghost use Rattle.amber_run.specs.World.{showing};
 ghost use Rattle.amber_run.specs.Writing.{CountsWrites, Made, Wrote};
 
 use crate::printed::Printed;
 use amber_course::{Failure, RunJob, put_output};
-use amber_debug::{DebugErr, Debugger, HomeErr};
+use amber_debug::{DebugErr, Debugger, Done, HomeErr};
 use amber_io::{Folder, IoErr, Sink};
 use amber_journal::write_head;
 use amber_log::Command;
@@ -96,6 +99,30 @@ fn make_log<F: Folder>(alloc: Global, batch: u32, name: &str, folder: &mut F) ->
     Ok(())
 }
 
+// Writes the item of a command that was done behind the log, and then puts its reply.
+fn tell<F: Folder, O: Sink>(
+    done: &Done,
+    name: &str,
+    folder: &mut F,
+    out: &mut O,
+) -> Result<(), Failure>
+    requires { IsThere (F.files folder.old) name.now }
+    ensures told { (t : RunTask) (left : List Command) (old new : Session) (command : Command)
+        → t.name ≡ name.now
+        → IsAt t (command ∷ left) old (showing (F.files folder.old) (O.written out.old))
+        → Does (Ok done.now) old new command → IsLegal (query_in new) new.log
+        → MatchResult result
+        (λ done. IsAt t left new (showing (F.files folder.new) (O.written out.new)))
+        (Halts t (showing (F.files folder.new) (O.written out.new))) }
+    ensures there { IfOk result (λ done. IsThere (F.files folder.new) name.now) }
+    ensures writes { CountsWrites result (F.write_faults folder.old) (F.write_faults folder.new) }
+    ensures puts { Counts result (O.faults out.old) (O.faults out.new) }
+    ensures loads { F.load_faults folder.new ≡ F.load_faults folder.old }
+{
+    append_piece(name, done.item.get(), folder)?;
+    put_output(out, done.reply.get())
+}
+
 // Does a command: its item is written behind the log, and then its reply is put. A leg that was too long is in
 // the log before that is told.
 fn do_command<F: Folder, O: Sink>(
@@ -126,8 +153,7 @@ fn do_command<F: Folder, O: Sink>(
 {
     match debugger.command(alloc, command) {
         Ok(done) => {
-            append_piece(name, done.item.get(), folder)?;
-            put_output(out, done.reply.get())?;
+            tell(&done, name, folder, out)?;
             printed.keep(done.rows);
             Ok(())
         }
@@ -197,6 +223,32 @@ fn do_script<F: Folder, O: Sink>(
     do_command(alloc, debugger, &Command::End, name, folder, out, printed)
 }
 
+// Makes the log of a run that has done nothing, and does its commands.
+fn perform<F: Folder, O: Sink>(
+    alloc: Global,
+    debugger: &mut Debugger,
+    commands: &[Command],
+    name: &str,
+    folder: &mut F,
+    out: &mut O,
+    printed: &mut Printed,
+) -> Result<(), Failure>
+    requires script { AreOfScript debugger.old.flow commands.now }
+    requires fresh { debugger.old.log.items ≡ [] }
+    requires batch { IsBatch debugger.old.log.batch }
+    ensures worked { (t : RunTask)
+        → Begins t debugger.old (showing (F.files folder.old) (O.written out.old))
+        → t.name ≡ name.now → t.commands ≡ commands.now ++ end_alone → IsFlow t.flow
+        → Worked result t (showing (F.files folder.new) (O.written out.new)) }
+    ensures writes { CountsWrites result (F.write_faults folder.old) (F.write_faults folder.new) }
+    ensures puts { Counts result (O.faults out.old) (O.faults out.new) }
+    ensures loads { F.load_faults folder.new ≡ F.load_faults folder.old }
+{
+    let batch = debugger.log().batch;
+    make_log(alloc, batch, name, folder)?;
+    do_script(alloc, debugger, commands, name, folder, out, printed)
+}
+
 /// Does a run: the log is made with its head, and then come the commands of the script, and behind
 /// them the one to the end.
 pub(crate) fn work<F: Folder, O: Sink>(
@@ -222,14 +274,12 @@ pub(crate) fn work<F: Folder, O: Sink>(
         threads,
         batch,
     } = run;
-    let name = log.get();
     let mut debugger = begin(alloc, flow, files, threads, batch)?;
-    make_log(alloc, batch, name, folder)?;
-    do_script(
+    perform(
         alloc,
         &mut debugger,
         commands.get(),
-        name,
+        log.get(),
         folder,
         out,
         printed,

@@ -1,55 +1,38 @@
--- A command's item is written, and then its reply is put.
+-- What was done is told, or a leg that was too long is written.
 use Rattle.std.proofs.Common.{◌≡◌, ◌∷◌, Err, rules}
-use Rattle.amber_io.proofs.Told.{more_there}
-use Rattle.amber_run.proofs.Scripted.{at-next, open-next}
-use Rattle.amber_run.proofs.Working.{done-send, done-write, exit-memory, long-next, long-write}
+use Rattle.amber_run.proofs.Scripted.{open-next}
+use Rattle.amber_run.proofs.Working.{exit-memory, long-next, long-write}
 use Rattle.amber_run.proofs.work.do_command.Goals as goal
 
-pub returns-in_err-append_piece-in-Ok-clause-did : goal.returns-in_err-append_piece-in-Ok-clause-did
-returns-in_err-append_piece-in-Ok-clause-did g c =
+pub returns-in_err-tell-in-Ok-clause-did : goal.returns-in_err-tell-in-Ok-clause-did
+returns-in_err-tell-in-Ok-clause-did g c =
     λ t left same h.
-    let e : c.from_residual.result ≡ Err c.in_err-append_piece-in-Ok.field-0.0 = search rules in
-    rw e (done-write c.in_err-append_piece-in-Ok.field-0.0 t left c.args.debugger.now c.command.new.self c.args.command.now c.in-Ok.done c.get.result.now (g.F.Folder.files c.args.folder.now)
-    (g.F.Folder.files c.append_piece.new.folder) (g.O.Sink.written c.args.out.now) h.session h.way c.in-Ok.ensures.does c.in-Ok.ensures.legal c.get.ensures (rw (← same) at c.in_err-append_piece-in-Ok.ensures.wrote))
-
-pub returns-in_err-put_output-in-Ok-clause-did : goal.returns-in_err-put_output-in-Ok-clause-did
-returns-in_err-put_output-in-Ok-clause-did g c =
-    λ t left same h.
-    let e : c.from_residual-in_err-put_output-in-Ok.result ≡ Err c.in_err-put_output-in-Ok.field-0.0 = search rules in
-    rw e (done-send c.in_err-put_output-in-Ok.field-0.0 t left c.args.debugger.now c.command.new.self c.args.command.now c.in-Ok.done c.get.result.now c.get-in-Ok.result.now (g.F.Folder.files c.args.folder.now)
-    (g.F.Folder.files c.append_piece.new.folder) (g.O.Sink.written c.args.out.now) (g.O.Sink.written c.put_output.new.out) (g.O.Sink.faults c.args.out.now) (g.O.Sink.faults c.put_output.new.out) h.session h.way
-    c.in-Ok.ensures.does c.in-Ok.ensures.legal c.get.ensures c.get-in-Ok.ensures (rw (← same) at c.in_ok-append_piece-in-Ok.ensures.wrote) c.in_err-put_output-in-Ok.ensures)
+    let e : c.from_residual.result ≡ Err c.in_err-tell-in-Ok.field-0.0 = search rules in
+    rw e (c.in_err-tell-in-Ok.ensures.told t left c.args.debugger.now c.command.new.self c.args.command.now same h c.in-Ok.ensures.does c.in-Ok.ensures.legal)
 
 pub returns-in_err-append_piece-in-Err-Long-clause-did : goal.returns-in_err-append_piece-in-Err-Long-clause-did
 returns-in_err-append_piece-in-Err-Long-clause-did g c =
     λ t left same h.
     let e : c.from_residual-in_err-append_piece-in-Err-Long.result ≡ Err c.in_err-append_piece-in-Err-Long.field-0.0 = search rules in
-    rw e (long-write c.in_err-append_piece-in-Err-Long.field-0.0 t left c.args.debugger.now c.command.new.self c.args.command.now c.in-Err-Long.item c.get-in-Err-Long.result.now (g.F.Folder.files c.args.folder.now)
-    (g.F.Folder.files c.append_piece-in-Err-Long.new.folder) (g.O.Sink.written c.args.out.now) h.session h.way (rw c.in-Err-Long.field-0-is at c.in-Err-Long.ensures.does) c.in-Err-Long.ensures.legal c.get-in-Err-Long.ensures
+    rw e (long-write c.in_err-append_piece-in-Err-Long.field-0.0 t left c.args.debugger.now c.command.new.self c.args.command.now c.in-Err-Long.item c.get.result.now (g.F.Folder.files c.args.folder.now)
+    (g.F.Folder.files c.append_piece.new.folder) (g.O.Sink.written c.args.out.now) h.session h.way (rw c.in-Err-Long.field-0-is at c.in-Err-Long.ensures.does) c.in-Err-Long.ensures.legal c.get.ensures
     (rw (← same) at c.in_err-append_piece-in-Err-Long.ensures.wrote))
 
-pub returns-in_ok-put_output-in-Ok-clause-did : goal.returns-in_ok-put_output-in-Ok-clause-did
-returns-in_ok-put_output-in-Ok-clause-did g c =
-    λ t left same h.
-    at-next t left c.args.debugger.now c.command.new.self c.args.command.now c.in-Ok.done c.get.result.now c.get-in-Ok.result.now (g.F.Folder.files c.args.folder.now)
-    (g.F.Folder.files c.append_piece.new.folder) (g.O.Sink.written c.args.out.now) (g.O.Sink.written c.put_output.new.out) h
-    c.in-Ok.ensures.does c.in-Ok.ensures.legal c.get.ensures c.get-in-Ok.ensures (rw (← same) at c.in_ok-append_piece-in-Ok.ensures.wrote) c.in_ok-put_output-in-Ok.ensures.1
+pub returns-in_ok-tell-in-Ok-clause-did : goal.returns-in_ok-tell-in-Ok-clause-did
+returns-in_ok-tell-in-Ok-clause-did g c =
+    λ t left same h. c.in_ok-tell-in-Ok.ensures.told t left c.args.debugger.now c.command.new.self c.args.command.now same h c.in-Ok.ensures.does c.in-Ok.ensures.legal
 
 pub returns-in_ok-append_piece-in-Err-Long-clause-did : goal.returns-in_ok-append_piece-in-Err-Long-clause-did
 returns-in_ok-append_piece-in-Err-Long-clause-did g c =
     λ t left same h.
-    long-next t left c.args.debugger.now c.command.new.self c.args.command.now c.in-Err-Long.item c.get-in-Err-Long.result.now (g.F.Folder.files c.args.folder.now)
-    (g.F.Folder.files c.append_piece-in-Err-Long.new.folder) (g.O.Sink.written c.args.out.now) h.session h.way (rw c.in-Err-Long.field-0-is at c.in-Err-Long.ensures.does) c.in-Err-Long.ensures.legal c.get-in-Err-Long.ensures
+    long-next t left c.args.debugger.now c.command.new.self c.args.command.now c.in-Err-Long.item c.get.result.now (g.F.Folder.files c.args.folder.now)
+    (g.F.Folder.files c.append_piece.new.folder) (g.O.Sink.written c.args.out.now) h.session h.way (rw c.in-Err-Long.field-0-is at c.in-Err-Long.ensures.does) c.in-Err-Long.ensures.legal c.get.ensures
     (rw (← same) at c.in_ok-append_piece-in-Err-Long.ensures.wrote)
 
 pub returns-in-Err-Spent-clause-did : goal.returns-in-Err-Spent-clause-did
 returns-in-Err-Spent-clause-did g c =
     λ t left same h. exit-memory t (c.args.command.now ∷ left) c.args.debugger.now.log (g.F.Folder.files c.args.folder.now) (g.O.Sink.written c.args.out.now) h.way
 
-pub returns-in_ok-put_output-in-Ok-clause-open : goal.returns-in_ok-put_output-in-Ok-clause-open
-returns-in_ok-put_output-in-Ok-clause-open g c =
+pub returns-in_ok-tell-in-Ok-clause-open : goal.returns-in_ok-tell-in-Ok-clause-open
+returns-in_ok-tell-in-Ok-clause-open g c =
     λ other. open-next c.args.debugger.now c.command.new.self c.args.command.now c.in-Ok.done c.in-Ok.ensures.does other
-
-pub returns-in_ok-put_output-in-Ok-clause-there : goal.returns-in_ok-put_output-in-Ok-clause-there
-returns-in_ok-put_output-in-Ok-clause-there g c =
-    rw c.in_ok-append_piece-in-Ok.ensures.wrote (more_there (g.F.Folder.files c.args.folder.now) c.args.name.now c.get.result.now c.requires.there)
