@@ -33,7 +33,8 @@ settled-erased a b h = record {
 pub settles-there : (all : Bool) (outs : List Receiver) (j : ℕ) (ins : List Sender) (k : ℕ) (one : Receiver) (other : Sender) (out : Out) (into : In) → j < length outs → k < length ins
     → AreLinked out into → Forwards (get_or outs j one).link out → GivesBatches (get_or ins k other).link [] into → IsWhole (get_or outs j one).link (get_or ins k other).link
     → (all ≡ true → AreSettled out into)
-    → Settles all (map without_room outs) j ins k (map without_room (set outs j (record (get_or outs j one) { link = out }))) (set ins k (record (get_or ins k other) { link = into }))
+    → Settles all (record { from = j; to = k }) (record { outs = map without_room outs; ins = ins })
+    (record { outs = map without_room (set outs j (record (get_or outs j one) { link = out })); ins = set ins k (record (get_or ins k other) { link = into }) })
 settles-there all outs j ins k one other out into j_less k_less linked forwards gives whole settled =
     let now : Receiver = record (get_or outs j one) { link = erased out } in
     let then_in : Sender = record (get_or ins k other) { link = into } in

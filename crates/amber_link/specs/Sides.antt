@@ -79,16 +79,26 @@ AreEnded old new = Pairwise IsEnded old new
 
 -- ---- both
 
+-- the receivers of one worker and the senders of another
+pub record Ends : Type 0 where
+  pub outs : List Receiver
+  pub ins : List Sender
+
+-- from one worker to another, or from a place among the receivers to one among the senders
+pub record Way : Type 0 where
+  pub from : ℕ
+  pub to : ℕ
+
 -- all that was made for the receiver at one place is, where the call answers Ok, in the inbox of the sender at the other place
-pub record Settles (all : Bool) (outs : List Receiver) (j : ℕ) (ins : List Sender) (k : ℕ) (outs_after : List Receiver) (ins_after : List Sender) : Type 0 where
+pub record Settles (all : Bool) (places : Way) (old new : Ends) : Type 0 where
   pub out : Receiver
   pub into : Sender
-  pub outs_is : outs_after ≡ slice_set outs j (record (slice_index_or outs j out) { link = out.link })
-  pub ins_is : ins_after ≡ slice_set ins k (record (slice_index_or ins k into) { link = into.link })
+  pub outs_is : new.outs ≡ slice_set old.outs places.from (record (slice_index_or old.outs places.from out) { link = out.link })
+  pub ins_is : new.ins ≡ slice_set old.ins places.to (record (slice_index_or old.ins places.to into) { link = into.link })
   pub linked : AreLinked out.link into.link
-  pub forwards : Forwards (slice_index_or outs j out).link out.link
-  pub gives : GivesBatches (slice_index_or ins k into).link [] into.link
-  pub whole : IsWhole (slice_index_or outs j out).link (slice_index_or ins k into).link
+  pub forwards : Forwards (slice_index_or old.outs places.from out).link out.link
+  pub gives : GivesBatches (slice_index_or old.ins places.to into).link [] into.link
+  pub whole : IsWhole (slice_index_or old.outs places.from out).link (slice_index_or old.ins places.to into).link
   pub settled : all ≡ true → AreSettled out.link into.link
 
 -- the same ends of the same links, one by one

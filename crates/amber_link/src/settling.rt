@@ -23,8 +23,9 @@ pub fn settle_at(
     requires in_there { k < length ins.old }
     requires linked { (one : OneReceiver) (other : OneSender)
         → AreLinked (slice_index_or outs.old j one).link (slice_index_or ins.old k other).link }
-    ensures settles { Settles (is_ok result) (map without_room outs.old) j ins.old k
-        (map without_room outs.new) ins.new }
+    ensures settles { Settles (is_ok result) (record { from = j; to = k })
+        (record { outs = map without_room outs.old; ins = ins.old })
+        (record { outs = map without_room outs.new; ins = ins.new }) }
     ensures taken { (n : ℕ) → All (λ one. one.taken ≤ n) ins.old
         → All (λ one. one.taken ≤ n) ins.new }
     ensures built { have_builders_ended ins.new ≡ have_builders_ended ins.old }

@@ -1,5 +1,5 @@
 -- The workflow of the example: the numbers of a file that are 2 or more.
-use Rattle.std.proofs.Common.{◌≡◌, ◌<◌, ℕ, zero, suc, pos, List, [], ◌∷◌, codes, true, false, refl, arith}
+use Rattle.std.proofs.Common.{◌≡◌, ◌<◌, ℕ, zero, suc, pos, List, [], ◌∷◌, codes, refl, arith}
 use Rattle.amber_rows.specs.FlowRules.{AreNext, IsFlow, IsNext, ends_in_sink, reader_count}
 use Rattle.amber_rows.specs.Columns.{AreColumns, are_apart, is_id}
 use Rattle.amber_rows.specs.declared.value.Value.TheVariants as value

@@ -25,7 +25,7 @@ use Rattle.amber_worker.proofs.Settling.{IsAtPosition-passed_on, IsAtPosition-pa
 
 -- the ends of one link were settled, of these workers
 pub record Passed (all : Bool) (from to from_now to_now : WorkerState) : Type 0 where
-  pub passes : Passes all from.number to.number from.outs to.ins from_now.outs to_now.ins
+  pub passes : Passes all (record { from = from.number; to = to.number }) (record { outs = from.outs; ins = to.ins }) (record { outs = from_now.outs; ins = to_now.ins })
   pub from_only : from_now ≡ record from { outs = from_now.outs }
   pub to_only : to_now ≡ record to { ins = to_now.ins }
 
@@ -59,13 +59,13 @@ pub from-stays : (all : Bool) (from to from_now to_now : WorkerState) → Passed
 unfolding StaysAt
 from-stays all from to from_now to_now h placement orders start p base stands =
     subst (λ w. IsAtPosition placement orders w start p base) (sym h.from_only)
-    (IsAtPosition-passed_on all placement orders from to start p base from.number to.number from_now.outs to_now.ins h.passes stands)
+    (IsAtPosition-passed_on all placement orders from to start p base (record { from = from.number; to = to.number }) from_now.outs to_now.ins h.passes stands)
 
 pub to-stays : (all : Bool) (from to from_now to_now : WorkerState) → Passed all from to from_now to_now → StaysAt to to_now
 unfolding StaysAt
 to-stays all from to from_now to_now h placement orders start p base stands =
     subst (λ w. IsAtPosition placement orders w start p base) (sym h.to_only)
-    (IsAtPosition-passed_to all placement orders to from start p base from.number to.number from_now.outs to_now.ins h.passes stands)
+    (IsAtPosition-passed_to all placement orders to from start p base (record { from = from.number; to = to.number }) from_now.outs to_now.ins h.passes stands)
 
 -- ---- the same ends
 

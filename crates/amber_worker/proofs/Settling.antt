@@ -11,6 +11,7 @@ use Rattle.amber_meaning.specs.Task.{Task, is_builder}
 use Rattle.amber_link.specs.declared.senders.Sender.{Sender}
 use Rattle.amber_link.specs.declared.receivers.Receiver.{Receiver}
 use Rattle.amber_link.specs.Links.{GivesBatches}
+use Rattle.amber_link.specs.Sides.{Way}
 use Rattle.amber_link.proofs.LinkEnds.{taken-looked}
 use Rattle.amber_worker.specs.Links.{Passes}
 use Rattle.amber_worker.proofs.Sent.{send_all-sent, sends-to-all}
@@ -107,9 +108,9 @@ sides-passed task (one ∷ ins) (suc k) d into less sides =
     (sides-passed task ins k d into (omega arith) (λ j e below. sides (suc j) e (omega arith)))
 
 -- the sender stands where it stood
-pub IsAtPosition-passed_on : (all : Bool) (placement : Placement) (orders : Orders) (w other : WorkerState) (start p : Position) (base : Base) (from to : ℕ) (outs : List Receiver) (ins : List Sender)
-    → Passes all from to w.outs other.ins outs ins → IsAtPosition placement orders w start p base → IsAtPosition placement orders (record w { outs = outs }) start p base
-IsAtPosition-passed_on all placement orders w other start p base from to outs ins passes stands =
+pub IsAtPosition-passed_on : (all : Bool) (placement : Placement) (orders : Orders) (w other : WorkerState) (start p : Position) (base : Base) (way : Way) (outs : List Receiver) (ins : List Sender)
+    → Passes all way (record { outs = w.outs; ins = other.ins }) (record { outs = outs; ins = ins }) → IsAtPosition placement orders w start p base → IsAtPosition placement orders (record w { outs = outs }) start p base
+IsAtPosition-passed_on all placement orders w other start p base way outs ins passes stands =
     let s = passes.settles in
     record {
       leads = stands.leads;
@@ -120,9 +121,9 @@ IsAtPosition-passed_on all placement orders w other start p base from to outs in
     }
 
 -- and so does the receiver
-pub IsAtPosition-passed_to : (all : Bool) (placement : Placement) (orders : Orders) (w other : WorkerState) (start p : Position) (base : Base) (from to : ℕ) (outs : List Receiver) (ins : List Sender)
-    → Passes all from to other.outs w.ins outs ins → IsAtPosition placement orders w start p base → IsAtPosition placement orders (record w { ins = ins }) start p base
-IsAtPosition-passed_to all placement orders w other start p base from to outs ins passes stands =
+pub IsAtPosition-passed_to : (all : Bool) (placement : Placement) (orders : Orders) (w other : WorkerState) (start p : Position) (base : Base) (way : Way) (outs : List Receiver) (ins : List Sender)
+    → Passes all way (record { outs = other.outs; ins = w.ins }) (record { outs = outs; ins = ins }) → IsAtPosition placement orders w start p base → IsAtPosition placement orders (record w { ins = ins }) start p base
+IsAtPosition-passed_to all placement orders w other start p base way outs ins passes stands =
     let s = passes.settles in
     record {
       leads = stands.leads;

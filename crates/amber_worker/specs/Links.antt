@@ -4,7 +4,7 @@ use Rattle.std.specs.List.{list_any}
 use Rattle.amber_rows.specs.Routing.{key_bytes_of, route_of}
 use Rattle.amber_rows.specs.declared.value.Value.{Value}
 use Rattle.amber_link.specs.Links.{AreLinked}
-use Rattle.amber_link.specs.Sides.{HandsOn, Settles, have_builders_ended, may_come}
+use Rattle.amber_link.specs.Sides.{Ends, HandsOn, Settles, Way, have_builders_ended, may_come}
 use Rattle.amber_link.specs.declared.senders.Sender.{Sender}
 use Rattle.amber_link.specs.declared.receivers.Receiver.{Receiver}
 use Rattle.amber_worker.specs.declared.route.Route.{Route}
@@ -53,11 +53,11 @@ AreEndsOf from to outs ins = (j k : ℕ) (one : Receiver) (other : Sender) → j
     → AreLinked (slice_index_or outs j one).link (slice_index_or ins k other).link
 
 -- what was made for the receiver went on to it; nothing was taken
-pub record Passes (all : Bool) (from to : ℕ) (outs : List Receiver) (ins : List Sender) (outs_after : List Receiver) (ins_after : List Sender) : Type 0 where
+pub record Passes (all : Bool) (way : Way) (old new : Ends) : Type 0 where
   pub j : ℕ
   pub k : ℕ
-  pub j_within : j < length outs
-  pub k_within : k < length ins
-  pub to_is : (one : Receiver) → (slice_index_or outs j one).to ≡ to
-  pub from_is : (one : Sender) → (slice_index_or ins k one).from ≡ from
-  pub settles : Settles all outs j ins k outs_after ins_after
+  pub j_within : j < length old.outs
+  pub k_within : k < length old.ins
+  pub to_is : (one : Receiver) → (slice_index_or old.outs j one).to ≡ way.to
+  pub from_is : (one : Sender) → (slice_index_or old.ins k one).from ≡ way.from
+  pub settles : Settles all (record { from = j; to = k }) old new

@@ -74,8 +74,9 @@ pub(crate) fn settle_into(
     requires sends { list_any (λ one. one.to == to) outs.old ≡ true }
     requires receives { list_any (λ one. one.from == from) ins.old ≡ true }
     requires joined { AreEndsOf from to outs.old ins.old }
-    ensures passes { Passes (is_ok result) from to (map without_room outs.old) ins.old (map
-        without_room outs.new) ins.new }
+    ensures passes { Passes (is_ok result) (record { from = from; to = to })
+        (record { outs = map without_room outs.old; ins = ins.old })
+        (record { outs = map without_room outs.new; ins = ins.new }) }
     ensures taken { (n : ℕ) → All (λ one. one.taken ≤ n) ins.old → All
         (λ one. one.taken ≤ n) ins.new }
     ensures built { have_builders_ended ins.new ≡ have_builders_ended ins.old }

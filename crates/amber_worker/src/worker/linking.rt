@@ -15,8 +15,10 @@ fn pass_batches(from: &mut Worker, to: &mut Worker) -> Result<(), AllocError>
     requires sends { list_any (λ one. one.to == to.old.number) from.old.outs ≡ true }
     requires receives { list_any (λ one. one.from == from.old.number) to.old.ins ≡ true }
     requires joined { AreJoined from.old to.old }
-    ensures passes { Passes (is_ok result) from.old.number to.old.number from.old.outs to.old.ins
-        from.new.outs to.new.ins }
+    ensures passes { Passes (is_ok result)
+        (record { from = from.old.number; to = to.old.number })
+        (record { outs = from.old.outs; ins = to.old.ins })
+        (record { outs = from.new.outs; ins = to.new.ins }) }
     ensures from { from.new ≡ record from.old { outs = from.new.outs } }
     ensures to { to.new ≡ record to.old { ins = to.new.ins } }
 {
