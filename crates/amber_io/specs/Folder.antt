@@ -62,8 +62,13 @@ Creates (Err Failed) old new name = (new ≡ old) ⊎ (new ≡ without_file old 
 abbrev pub Starts : Option Named → Option Named → List ℕ → List ℕ → Type 0
 Starts old new name piece = (part : List ℕ) × (rest : List ℕ) × (part ++ rest ≡ piece) × (new ≡ with_more old name part)
 
--- the piece stands behind the old end of the file of this name, or nothing for want of memory, or a front part at a failure
-abbrev pub Extends : {A : Type 0} → Result A IoErr → Option Named → Option Named → List ℕ → List ℕ → Type 0
-Extends (Ok x) old new name piece = new ≡ with_more old name piece
-Extends (Err NoMemory) old new name piece = new ≡ old
-Extends (Err Failed) old new name piece = Starts old new name piece
+-- bytes for the file of this name
+pub record Piece : Type 0 where
+  pub name : List ℕ
+  pub bytes : List ℕ
+
+-- the piece stands behind the old end of its file, or nothing for want of memory, or a front part at a failure
+abbrev pub Extends : {A : Type 0} → Result A IoErr → Option Named → Option Named → Piece → Type 0
+Extends (Ok x) old new piece = new ≡ with_more old piece.name piece.bytes
+Extends (Err NoMemory) old new piece = new ≡ old
+Extends (Err Failed) old new piece = Starts old new piece.name piece.bytes

@@ -36,4 +36,5 @@ pub record IsWrite {A : Type 0} (result : Result A IoErr) (before after : MemFol
   pub plan : folder_plan after ≡ folder_plan before
   pub loads : loads_made after ≡ loads_made before
   pub number : writes_made after ≡ next_number (writes_made before)
-  pub planned : IsPlanned result ⊥ (is_listed (folder_plan before).writes (writes_made after)) (failed_writes before) (failed_writes after)
+  pub planned : IsPlanned result ⊥
+      (record { listed = is_listed (folder_plan before).writes (writes_made after); before = failed_writes before; now = failed_writes after })

@@ -6,7 +6,7 @@ use Rattle.std.specs.Cmp.Lexicographic.{slice_cmp}
 use Rattle.std.specs.FinMap as finmap
 use Rattle.std.specs.declared.alloc.Global.{Global}
 use Rattle.amber_io.specs.Counts.{next_number}
-use Rattle.amber_io.specs.Folder.{Named, with_file, with_more}
+use Rattle.amber_io.specs.Folder.{Named, with_file}
 use Rattle.amber_io.specs.declared.error.IoErr.{IoErr}
 use Rattle.amber_io.specs.declared.error.IoErr.TheVariants.{Failed, NoMemory}
 
@@ -18,29 +18,27 @@ entry_bytes e = (string_bytes e.0, e.1.items)
 abbrev pub is_listed : List ℕ → ℕ → Bool
 is_listed numbers number = list_any (λ n. n == number) numbers
 
+-- whether a call is one that fails, and how many had failed before it and have failed now
+pub record Planned : Type 0 where
+  pub listed : Bool
+  pub before : ℕ
+  pub now : ℕ
+
 -- a call succeeds only where it is not listed, and fails only where `free` holds or it is listed; then its count goes up by one, to `u64::MAX` at most
-abbrev pub IsPlanned : {A : Type 0} → Result A IoErr → Type 0 → Bool → ℕ → ℕ → Type 0
-IsPlanned (Ok x) free listed old new = listed ≡ false
-IsPlanned (Err NoMemory) free listed old new = ⊤
-IsPlanned (Err Failed) free listed old new = free ⊎ ((listed ≡ true) × (new ≡ next_number old))
+abbrev pub IsPlanned : {A : Type 0} → Result A IoErr → Type 0 → Planned → Type 0
+IsPlanned (Ok x) free call = call.listed ≡ false
+IsPlanned (Err NoMemory) free call = ⊤
+IsPlanned (Err Failed) free call = free ⊎ ((call.listed ≡ true) × (call.now ≡ next_number call.before))
 
--- a put that failed has appended this part of its piece
-abbrev pub KeepsPart : {A : Type 0} → Result A IoErr → List ℕ → List ℕ → List ℕ → Type 0
-KeepsPart (Ok x) old new part = ⊤
-KeepsPart (Err NoMemory) old new part = ⊤
-KeepsPart (Err Failed) old new part = new ≡ old ++ part
+-- what there is now, where the call failed
+abbrev pub FailsTo : {A X : Type 0} → Result A IoErr → X → X → Type 0
+FailsTo (Ok x) now left = ⊤
+FailsTo (Err NoMemory) now left = ⊤
+FailsTo (Err Failed) now left = now ≡ left
 
--- a create that failed has left the files as they were where the plan keeps no byte, and else the file is empty
-abbrev pub EmptiesIf : {A : Type 0} → Result A IoErr → Option Named → Option Named → List ℕ → ℕ → Type 0
-EmptiesIf (Ok x) old new name keep = ⊤
-EmptiesIf (Err NoMemory) old new name keep = ⊤
-EmptiesIf (Err Failed) old new name keep = new ≡ (if keep == 0 then old else with_file old name [])
-
--- an append that failed has appended this part of its piece
-abbrev pub ExtendsBy : {A : Type 0} → Result A IoErr → Option Named → Option Named → List ℕ → List ℕ → Type 0
-ExtendsBy (Ok x) old new name part = ⊤
-ExtendsBy (Err NoMemory) old new name part = ⊤
-ExtendsBy (Err Failed) old new name part = new ≡ with_more old name part
+-- a file that is empty, but where no byte is kept
+abbrev pub left_empty : Option Named → List ℕ → ℕ → Option Named
+left_empty told name keep = if keep == 0 then told else with_file told name []
 
 -- no file of a list has this name
 abbrev pub lacks_name : List ℕ → List (List ℕ × List ℕ) → Type 0

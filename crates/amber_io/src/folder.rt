@@ -50,7 +50,8 @@ pub trait Folder {
     /// then a front part of the piece stands behind the old end, perhaps nothing or all of it.
     fn append(&mut self, name: &str, bytes: &[u8]) -> Result<(), IoErr>
         requires { IsThere (files self.old) name.now }
-        ensures extends { Extends result (files self.old) (files self.new) name.now bytes.now }
+        ensures extends { Extends result (files self.old) (files self.new)
+            (record { name = name.now; bytes = bytes.now }) }
         ensures cause { HasCause result ⊥ (write_faults self.old) (write_faults self.new) }
         ensures loads { load_faults self.new ≡ load_faults self.old };
 }

@@ -1,8 +1,8 @@
 ghost use Rattle.std.specs.Prelude.{◌≡◌, ℕ, ◌≤◌, Option, Some, IsErr, IfOk, take, vec_len, option_map};
 ghost use Rattle.std.specs.FinMap as finmap;
 ghost use Rattle.amber_io.specs.Counts.{HasCause, next_number};
-ghost use Rattle.amber_io.specs.Folder.{Named, Lacks, Gives, Creates, Extends, IsThere, files_of};
-ghost use Rattle.amber_io.specs.Memory.{IsPlanned, EmptiesIf, ExtendsBy, is_listed};
+ghost use Rattle.amber_io.specs.Folder.{Named, Lacks, Gives, Creates, Extends, IsThere, files_of, with_more};
+ghost use Rattle.amber_io.specs.Memory.{FailsTo, IsPlanned, left_empty, is_listed};
 ghost use Rattle.amber_io.specs.MemFolder.{IsWrite, held_files, folder_plan, loads_made, writes_made, failed_loads, failed_writes};
 ghost use Rattle.amber_io.specs.Real.{IsCounted};
 
@@ -52,8 +52,8 @@ impl MemFolder {
         ensures fails { IsErr result }
         ensures cause { HasCause result ⊥ (failed_writes self.old) (failed_writes self.new) }
         ensures counted { IsCounted result (failed_writes self.old) (failed_writes self.new) }
-        ensures kept { EmptiesIf result (Some (held_files self.old)) (Some (held_files self.new))
-            name.now (folder_plan self.old).keep }
+        ensures kept { FailsTo result (Some (held_files self.new))
+            (left_empty (Some (held_files self.old)) name.now (folder_plan self.old).keep) }
         ensures memory { result ≡ Err IoErr.NoMemory → held_files self.new ≡ held_files self.old }
         ensures loads { failed_loads self.new ≡ failed_loads self.old }
         ensures plan { folder_plan self.new ≡ folder_plan self.old }
@@ -103,8 +103,11 @@ impl Folder for MemFolder {
         ensures plan { folder_plan self.new ≡ folder_plan self.old }
         ensures made { loads_made self.new ≡ next_number (loads_made self.old) }
         ensures planned { IsPlanned result (Lacks (Some (held_files self.old)) name.now)
-            (is_listed (folder_plan self.old).loads (loads_made self.new)) (failed_loads self.old)
-            (failed_loads self.new) }
+            (record {
+              listed = is_listed (folder_plan self.old).loads (loads_made self.new);
+              before = failed_loads self.old;
+              now = failed_loads self.new;
+            }) }
     {
         self.loads_made = self.loads_made.saturating_add(1);
         let Some(bytes) = self.files.find(name) else {
@@ -129,8 +132,8 @@ impl Folder for MemFolder {
         ensures cause { HasCause result ⊥ (failed_writes self.old) (failed_writes self.new) }
         ensures loads { failed_loads self.new ≡ failed_loads self.old }
         ensures write { IsWrite result self.old self.new }
-        ensures kept { EmptiesIf result (Some (held_files self.old)) (Some (held_files self.new))
-            name.now (folder_plan self.old).keep }
+        ensures kept { FailsTo result (Some (held_files self.new))
+            (left_empty (Some (held_files self.old)) name.now (folder_plan self.old).keep) }
     {
         self.writes_made = self.writes_made.saturating_add(1);
         if self.fails.writes.contains(self.writes_made) {
@@ -148,14 +151,14 @@ impl Folder for MemFolder {
     fn append(&mut self, name: &str, bytes: &[u8]) -> Result<(), IoErr>
         requires { IsThere (Some (held_files self.old)) name.now }
         ensures extends { Extends result (Some (held_files self.old)) (Some (held_files self.new))
-            name.now bytes.now }
+            (record { name = name.now; bytes = bytes.now }) }
         ensures cause { HasCause result ⊥ (failed_writes self.old) (failed_writes self.new) }
         ensures loads { failed_loads self.new ≡ failed_loads self.old }
         ensures write { IsWrite result self.old self.new }
         ensures counted { IsCounted result (failed_writes self.old) (failed_writes self.new) }
-        ensures kept { ExtendsBy result (Some (held_files self.old)) (Some (held_files self.new))
-            name.now
-            (take (folder_plan self.old).keep bytes.now) }
+        ensures kept { FailsTo result (Some (held_files self.new))
+            (with_more (Some (held_files self.old)) name.now
+            (take (folder_plan self.old).keep bytes.now)) }
     {
         self.writes_made = self.writes_made.saturating_add(1);
         let part = first_bytes(bytes, self.fails.keep);

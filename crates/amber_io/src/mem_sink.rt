@@ -1,7 +1,7 @@
 ghost use Rattle.std.specs.Prelude.{◌≡◌, ◌++◌, [], Some, IfOk, take};
 ghost use Rattle.amber_io.specs.Counts.{HasCause, next_number};
 ghost use Rattle.amber_io.specs.Sink.{LeavesPiece};
-ghost use Rattle.amber_io.specs.Memory.{IsPlanned, KeepsPart, is_listed};
+ghost use Rattle.amber_io.specs.Memory.{FailsTo, IsPlanned, is_listed};
 ghost use Rattle.amber_io.specs.MemSink.{written_bytes, sink_plan, puts_made, failed_puts};
 
 use crate::error::IoErr;
@@ -56,10 +56,13 @@ impl Sink for MemSink {
         ensures plan { sink_plan self.new ≡ sink_plan self.old }
         ensures made { puts_made self.new ≡ next_number (puts_made self.old) }
         ensures planned { IsPlanned result ⊥
-            (is_listed (sink_plan self.old).puts (puts_made self.new))
-            (failed_puts self.old) (failed_puts self.new) }
-        ensures kept { KeepsPart result (written_bytes self.old) (written_bytes self.new)
-            (take (sink_plan self.old).keep bytes.now) }
+            (record {
+              listed = is_listed (sink_plan self.old).puts (puts_made self.new);
+              before = failed_puts self.old;
+              now = failed_puts self.new;
+            }) }
+        ensures kept { FailsTo result (written_bytes self.new)
+            (written_bytes self.old ++ take (sink_plan self.old).keep bytes.now) }
     {
         self.puts_made = self.puts_made.saturating_add(1);
         if !self.fails.puts.contains(self.puts_made) {

@@ -151,7 +151,7 @@ impl<R: Files> Folder for RealFolder<'_, R> {
     #[tactic(auto, unfolding(crate::specs::Folder::with_more))]
     fn append(&mut self, name: &str, bytes: &[u8]) -> Result<(), IoErr>
         requires { IsThere None name.now }
-        ensures extends { Extends result None None name.now bytes.now }
+        ensures extends { Extends result None None (record { name = name.now; bytes = bytes.now }) }
         ensures cause { HasCause result ⊥ (failed_writes self.old) (failed_writes self.new) }
         ensures loads { failed_loads self.new ≡ failed_loads self.old }
         ensures memory { result ≢ Err IoErr.NoMemory }

@@ -80,7 +80,7 @@ AreEnded old new = Pairwise IsEnded old new
 -- ---- both
 
 -- the receivers of one worker and the senders of another
-pub record Ends : Type 0 where
+pub record LinkSides : Type 0 where
   pub outs : List Receiver
   pub ins : List Sender
 
@@ -90,7 +90,7 @@ pub record Way : Type 0 where
   pub to : ℕ
 
 -- all that was made for the receiver at one place is, where the call answers Ok, in the inbox of the sender at the other place
-pub record Settles (all : Bool) (places : Way) (old new : Ends) : Type 0 where
+pub record Settles (all : Bool) (places : Way) (old new : LinkSides) : Type 0 where
   pub out : Receiver
   pub into : Sender
   pub outs_is : new.outs ≡ slice_set old.outs places.from (record (slice_index_or old.outs places.from out) { link = out.link })

@@ -10,7 +10,7 @@ use Rattle.amber_meaning.specs.Total.{step_total}
 use Rattle.amber_run.specs.Answering.{BreaksOff, Fulfils, IsUntouched}
 use Rattle.amber_course.specs.Course.{IsReached, course_of, job_of, most_rows}
 use Rattle.amber_run.specs.RunTask.{AlterNothing, ends_long, most_steps}
-use Rattle.amber_run.specs.World.{Change, World, change_of}
+use Rattle.amber_run.specs.World.{Change, World, change_between}
 use Rattle.amber_course.specs.Words.{call_words_of}
 use Rattle.amber_course.specs.declared.job.Job.{Job}
 use Rattle.amber_course.specs.declared.job.Job.TheVariants as job
@@ -76,8 +76,8 @@ AsksFor words files job = (read : Words) × (call_words_of words ≡ Some read) 
 -- ---- `Long`
 
 -- a file reads as this log, and all others are as before
-abbrev pub Holds : Option Named → Option Named → List ℕ → Log → Type 0
-Holds told now name log = (bytes : List ℕ) × (now ≡ with_file told name bytes) × IsReadAs bytes log
+abbrev pub HasLog : Option Named → Option Named → List ℕ → Log → Type 0
+HasLog told now name log = (bytes : List ℕ) × (now ≡ with_file told name bytes) × IsReadAs bytes log
 
 -- the status is `Long` where this holds, and only there, but for want of memory
 abbrev pub IsLongWhere : Status → Type 0 → Type 0
@@ -86,7 +86,7 @@ IsLongWhere result P = (result ≡ status.NoMemory) ⊎ ((result ≡ status.Long
 -- LOG reads as a log, and the status is `Long` where the last leg of it closes with `long`, and only there
 abbrev pub RunsLong : Status → Option Named → Option Named → List ℕ → Type 0
 RunsLong result told now name =
-    (result ≡ status.NoMemory) ⊎ ((log : Log) × Holds told now name log × ((result ≡ status.Long) ↔ (ends_long false log.items ≡ true)))
+    (result ≡ status.NoMemory) ⊎ ((log : Log) × HasLog told now name log × ((result ≡ status.Long) ↔ (ends_long false log.items ≡ true)))
 
 -- when a job is too long: `plain` where the operators give more rows than they may, a run where its log says so
 abbrev pub TellsLong : Job → Status → Option Named → Option Named → Type 0
@@ -97,7 +97,7 @@ TellsLong (job.Run run) result told now = RunsLong result told now run.log
 
 -- the course has a job, and it is done
 abbrev pub Succeeds : List (List ℕ) → Named → World → World → Type 0
-Succeeds words files before after = (job : Job) × (course_of words files ≡ Ok job) × Fulfils job (change_of before after)
+Succeeds words files before after = (job : Job) × (course_of words files ≡ Ok job) × Fulfils job (change_between before after)
 
 -- the course has a job, and it was broken off
 abbrev pub Breaks : List (List ℕ) → Failure → List ℕ → Change → Type 0
@@ -132,7 +132,7 @@ pub record Ended (words : List (List ℕ)) (result : Status) (old new : World) :
   pub rest : List ℕ
   pub split : line ++ rest ≡ error_line_of cause
   pub whole : result ≢ status.NoMemory → new.puts ≡ old.puts → old.puts < 2 ^ 64 - 1 → line ≡ error_line_of cause
-  pub left : Stops words cause line (change_of old new)
+  pub left : Stops words cause line (change_between old new)
   pub named : Told old.files (λ files. Names cause (IsReached words files))
 
 -- ---- the whole of it

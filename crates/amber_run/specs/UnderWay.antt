@@ -23,8 +23,8 @@ use Rattle.amber_course.specs.declared.failure.Failure.TheVariants as failure
 -- ---- between two commands
 
 -- more may follow: the log's last item is none that nothing follows
-abbrev pub IsOpen : Log → Type 0
-IsOpen log = ends_over false log.items ≡ false
+abbrev pub MayFollow : Log → Type 0
+MayFollow log = ends_over false log.items ≡ false
 
 -- the log's file holds the text of a legal log, all other files are as before, and the sink got the log's transcript; `left` are
 -- the commands that are still to be done
@@ -42,7 +42,7 @@ pub record IsAt (t : RunTask) (left : List Command) (d : Session) (shown : Shown
   pub way : IsUnderWay t left d.log shown
 
 -- a session that runs what the task asks for has done nothing, and outside all is as the task found it
-pub record Begins (t : RunTask) (d : Session) (shown : Shown) : Type 0 where
+pub record IsAtStart (t : RunTask) (d : Session) (shown : Shown) : Type 0 where
   pub session : IsSession t d
   pub log : d.log ≡ record { batch = t.batch; items = [] }
   pub outside : shown ≡ showing t.told t.before

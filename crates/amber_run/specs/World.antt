@@ -29,5 +29,5 @@ abbrev pub shown_in : World → Shown
 shown_in world = showing world.files world.got
 
 -- from one to the other
-abbrev pub change_of : World → World → Change
-change_of old new = record { before = shown_in old; now = shown_in new; loads = old.loads; loads_now = new.loads }
+abbrev pub change_between : World → World → Change
+change_between old new = record { before = shown_in old; now = shown_in new; loads = old.loads; loads_now = new.loads }

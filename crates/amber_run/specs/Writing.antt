@@ -1,7 +1,7 @@
 -- What is written into the log, and what is counted.
 use Rattle.std.specs.Prelude.{◌≡◌, ℕ, ◌≤◌, ◌⊎◌, List, [], Option, Result, Ok, Err}
 use Rattle.amber_io.specs.Counts.{Rose}
-use Rattle.amber_io.specs.Folder.{Named, Starts, with_file, with_more, without_file}
+use Rattle.amber_io.specs.Folder.{Named, Piece, Starts, with_file, with_more, without_file}
 use Rattle.amber_course.specs.declared.failure.Failure.{Failure}
 use Rattle.amber_course.specs.declared.failure.Failure.TheVariants as failure
 
@@ -11,11 +11,6 @@ Made (Ok x) old new name = new ≡ with_file old name []
 Made (Err failure.LogFault) old new name = (new ≡ old) ⊎ (new ≡ without_file old name) ⊎ (new ≡ with_file old name [])
 Made (Err failure.NoMemory) old new name = new ≡ old
 Made (Err other) old new name = ⊥
-
--- bytes for the file of this name
-pub record Piece : Type 0 where
-  pub name : List ℕ
-  pub bytes : List ℕ
 
 -- a piece was written behind its file
 abbrev pub Wrote : {A : Type 0} → Result A Failure → Option Named → Option Named → Piece → Type 0

@@ -10,7 +10,7 @@ ghost use Rattle.amber_debug.specs.Session.{Does, Session, query_in};
 ghost use Rattle.amber_course.specs.Ready.{AreInputs, AreOfScript, IsRunReady};
 ghost use Rattle.amber_course.specs.Words.{AreSizes};
 ghost use Rattle.amber_run.specs.Outcome.{Counts};
-ghost use Rattle.amber_run.specs.UnderWay.{Begins, Halts, IsAt, IsOpen, Opens, Worked};
+ghost use Rattle.amber_run.specs.UnderWay.{IsAtStart, Halts, IsAt, MayFollow, Opens, Worked};
 ghost use Rattle.amber_run.specs.RunTask.{RunTask, end_alone, most_steps, run_task_of};
 ghost use Rattle.amber_run.specs.World.{showing};
 ghost use Rattle.amber_run.specs.Writing.{CountsWrites, Made, Wrote};
@@ -136,7 +136,7 @@ fn do_command<F: Folder, O: Sink>(
 ) -> Result<(), Failure>
     requires fits { fits_of debugger.old.flow command.now ≡ true }
     requires scripted { (is_scripted command.now ≡ true) ⊎ (command.now ≡ Command.End) }
-    requires open { IsOpen debugger.old.log }
+    requires open { MayFollow debugger.old.log }
     requires there { IsThere (F.files folder.old) name.now }
     ensures did { (t : RunTask) (left : List Command) → t.name ≡ name.now
         → IsAt t (command.now ∷ left) debugger.old
@@ -145,7 +145,7 @@ fn do_command<F: Folder, O: Sink>(
         (λ done. IsAt t left debugger.new (showing (F.files folder.new) (O.written out.new)))
         (Halts t (showing (F.files folder.new) (O.written out.new))) }
     ensures flow { IfOk result (λ done. debugger.new.flow ≡ debugger.old.flow) }
-    ensures open { IfOk result (λ done. command.now ≢ Command.End → IsOpen debugger.new.log) }
+    ensures open { IfOk result (λ done. command.now ≢ Command.End → MayFollow debugger.new.log) }
     ensures there { IfOk result (λ done. IsThere (F.files folder.new) name.now) }
     ensures writes { CountsWrites result (F.write_faults folder.old) (F.write_faults folder.new) }
     ensures puts { Counts result (O.faults out.old) (O.faults out.new) }
@@ -176,7 +176,7 @@ fn do_all<F: Folder, O: Sink>(
     printed: &mut Printed,
 ) -> Result<(), Failure>
     requires script { AreOfScript debugger.old.flow commands.now }
-    requires open { IsOpen debugger.old.log }
+    requires open { MayFollow debugger.old.log }
     requires there { IsThere (F.files folder.old) name.now }
     ensures did { (t : RunTask) (left : List Command) → t.name ≡ name.now
         → IsAt t (commands.now ++ left) debugger.old
@@ -184,7 +184,7 @@ fn do_all<F: Folder, O: Sink>(
         → MatchResult result
         (λ done. IsAt t left debugger.new (showing (F.files folder.new) (O.written out.new)))
         (Halts t (showing (F.files folder.new) (O.written out.new))) }
-    ensures open { IfOk result (λ done. IsOpen debugger.new.log) }
+    ensures open { IfOk result (λ done. MayFollow debugger.new.log) }
     ensures there { IfOk result (λ done. IsThere (F.files folder.new) name.now) }
     ensures writes { CountsWrites result (F.write_faults folder.old) (F.write_faults folder.new) }
     ensures puts { Counts result (O.faults out.old) (O.faults out.new) }
@@ -207,7 +207,7 @@ fn do_script<F: Folder, O: Sink>(
     printed: &mut Printed,
 ) -> Result<(), Failure>
     requires script { AreOfScript debugger.old.flow commands.now }
-    requires open { IsOpen debugger.old.log }
+    requires open { MayFollow debugger.old.log }
     requires there { IsThere (F.files folder.old) name.now }
     ensures did { (t : RunTask) → t.name ≡ name.now
         → IsAt t (commands.now ++ end_alone) debugger.old
@@ -237,7 +237,7 @@ fn perform<F: Folder, O: Sink>(
     requires fresh { debugger.old.log.items ≡ [] }
     requires batch { IsBatch debugger.old.log.batch }
     ensures worked { (t : RunTask)
-        → Begins t debugger.old (showing (F.files folder.old) (O.written out.old))
+        → IsAtStart t debugger.old (showing (F.files folder.old) (O.written out.old))
         → t.name ≡ name.now → t.commands ≡ commands.now ++ end_alone → IsFlow t.flow
         → Worked result t (showing (F.files folder.new) (O.written out.new)) }
     ensures writes { CountsWrites result (F.write_faults folder.old) (F.write_faults folder.new) }

@@ -4,7 +4,7 @@ use Rattle.std.specs.List.{list_any}
 use Rattle.amber_rows.specs.Routing.{key_bytes_of, route_of}
 use Rattle.amber_rows.specs.declared.value.Value.{Value}
 use Rattle.amber_link.specs.Links.{AreLinked}
-use Rattle.amber_link.specs.Sides.{Ends, HandsOn, Settles, Way, have_builders_ended, may_come}
+use Rattle.amber_link.specs.Sides.{HandsOn, LinkSides, Settles, Way, have_builders_ended, may_come}
 use Rattle.amber_link.specs.declared.senders.Sender.{Sender}
 use Rattle.amber_link.specs.declared.receivers.Receiver.{Receiver}
 use Rattle.amber_worker.specs.declared.route.Route.{Route}
@@ -53,7 +53,7 @@ AreEndsOf from to outs ins = (j k : ℕ) (one : Receiver) (other : Sender) → j
     → AreLinked (slice_index_or outs j one).link (slice_index_or ins k other).link
 
 -- what was made for the receiver went on to it; nothing was taken
-pub record Passes (all : Bool) (way : Way) (old new : Ends) : Type 0 where
+pub record Passes (all : Bool) (way : Way) (old new : LinkSides) : Type 0 where
   pub j : ℕ
   pub k : ℕ
   pub j_within : j < length old.outs
