@@ -1,6 +1,9 @@
 -- A leg of a home may be closed, and the home after that.
 use Rattle.std.proofs.Common.{◌≡◌, refl, sym, ap, subst, ◌∙◌, ◌<◌, ◌^◌, List, [], length, map, ◌≤◌, Bool, true, false, arith}
 use Rattle.std.proofs.lemmas.Bool.{false≢true}
+use Rattle.amber_rows.specs.Crew.{crew_of}
+use Rattle.amber_rows.specs.FlowRules.{IsFlow}
+use Rattle.amber_rows.specs.declared.flow.Operator.{Operator}
 use Rattle.amber_log.specs.declared.leg.Close.{Close}
 use Rattle.amber_log.specs.declared.leg.Close.TheVariants as close
 use Rattle.amber_log.specs.declared.log.Log.{Log}
@@ -8,6 +11,7 @@ use Rattle.amber_meaning.specs.declared.view.Stop.{Stop}
 use Rattle.amber_meaning.specs.Legal.{IsSettled}
 use Rattle.amber_meaning.specs.State.{Arms, State, steps_in}
 use Rattle.amber_worker.specs.WorkerState.{WorkerState}
+use Rattle.amber_home.specs.AtWork.{steps_by}
 use Rattle.amber_home.specs.HomeState.{ClosesIn, HomeState, MayClose, is_open, leg_item, leg_state, query_of, runs_to_end, state_of, stops_of_home, with_item}
 use Rattle.amber_home.specs.Kept.{IsHome}
 use Rattle.amber_home.specs.Leg.{Run, closed_arms, stops_by}
@@ -16,20 +20,36 @@ use Rattle.amber_home.specs.declared.phase.Phase.{Phase}
 use Rattle.amber_home.specs.declared.phase.Phase.TheVariants as phase
 use Rattle.amber_home.proofs.Closed.{legal-closed, rest-closed}
 use Rattle.amber_home.proofs.Cut.{closed-is}
-use Rattle.amber_home.proofs.Legs.{few-here, loose, settled-here, start, state-here}
+use Rattle.amber_home.proofs.Legs.{arms-long, few-here, loose, settled-here, start, state-here}
 use Rattle.amber_home.proofs.Paused.{crew-few}
 use Rattle.amber_home.proofs.Stopped.{stops-are}
 
+-- what is known of the workers within a leg
+pub record AreWithin (flow : List Operator) (arms : List Arms) (crew : List WorkerState) : Type 0 where
+  pub ok : IsFlow flow
+  pub long : length arms ≡ length flow
+  pub all : length crew ≡ crew_of flow
+  pub small : length crew < 2 ^ 32
+  pub few : steps_by crew ≤ 2 ^ 40
+
 module _ (e : HomeState) (crew : List WorkerState) (arms : List Arms) (stops : List Stop) where
-  pub small-open : (now : Phase) → IsHome (record e { phase = now }) crew arms stops → is_open now ≡ true → length crew < 2 ^ 32
-  small-open phase.Resting home within = absurd (false≢true within)
-  small-open phase.Over home within = absurd (false≢true within)
-  small-open phase.Spent home within = absurd (false≢true within)
-  small-open (phase.Open to_end) home within =
+  pub are-within : (now : Phase) → IsHome (record e { phase = now }) crew arms stops → is_open now ≡ true → AreWithin e.flow arms crew
+  are-within phase.Resting home within = absurd (false≢true within)
+  are-within phase.Over home within = absurd (false≢true within)
+  are-within phase.Spent home within = absurd (false≢true within)
+  are-within (phase.Open to_end) home within =
       let leg = home.stands in
       let few = crew-few e.flow leg.at.at.flow in
       let all = leg.at.at.at_positions.all in
-      omega arith
+      let made = leg.few in
+      let most = home.few in
+      record {
+        ok = leg.at.at.flow;
+        long = arms-long to_end (record e { phase = phase.Open to_end }) crew arms leg home.legal;
+        all = all;
+        small = omega arith;
+        few = omega arith;
+      }
 
   pub home-closed : (now : Phase) → IsHome (record e { phase = now }) crew arms stops → is_open now ≡ true → (closed : Close) (log : Log) (later : List Arms) (kept : List Stop)
       → ClosesIn (runs_to_end now) (query_of e) (state_of (record e { phase = now; parts = open_parts now crew })) closed

@@ -1,7 +1,8 @@
 -- The records of the scans are dealt, operator by operator.
-use Rattle.std.proofs.Common.{◌≡◌, refl, sym, ap, subst, ◌∙◌, ℕ, zero, suc, ◌+◌, ◌-◌, ◌<◌, ◌≤◌, ◌^◌, List, [], ◌∷◌, ◌++◌, length, take, drop, get_or, Bool, true, false, if◌then◌else◌, inl, inr, Option, Some, None, is_some, Result, sum_by, arith}
+use Rattle.std.proofs.Common.{◌≡◌, refl, sym, ap, subst, ◌∙◌, ℕ, zero, suc, ◌+◌, ◌-◌, ◌<◌, ◌≤◌, ◌^◌, List, [], ◌∷◌, ◌++◌, length, take, drop, get_or, set, replicate, Bool, true, false, if◌then◌else◌, inl, inr, Option, Some, None, is_some, Result, sum_by, length-set, get_or-set_other, arith}
 use Rattle.std.proofs.lemmas.Bool.{cases_lt}
-use Rattle.std.proofs.lemmas.List.{take_more}
+use Rattle.std.proofs.lemmas.Bool.Decides.{eqb_tells}
+use Rattle.std.proofs.lemmas.List.{get_or-append-add, get_or-replicate, get_or-set_same, get_or_append_left, get_or_push, length-append, length-replicate, length_push, take_more}
 use Rattle.std.proofs.lemmas.List.Sums.{sum_by-append}
 use Rattle.amber_rows.specs.Crew.{crew_of, first_worker_of, kind_at, op_of, what_at, worker_count, workers_in}
 use Rattle.amber_rows.specs.FlowRules.{IsFlow}
@@ -19,7 +20,7 @@ use Rattle.amber_meaning.specs.ScanFiles.{files_left, is_headed, records_at}
 use Rattle.amber_meaning.proofs.Crews.{within-workers, worker-op}
 use Rattle.amber_meaning.proofs.Lists.{numbered_or}
 use Rattle.amber_meaning.proofs.Operators.{nth-here, records-here, wrong_header-here, wrong_header-more}
-use Rattle.amber_scan.specs.Shares.{scanned_number, scanned_record}
+use Rattle.amber_scan.specs.Shares.{scanned_number, scanned_record, scanned_records}
 use Rattle.amber_scan.specs.declared.share.Scanned.{Scanned}
 use Rattle.amber_worker.specs.AtPosition.{HasShare}
 use Rattle.amber_worker.proofs.Shares.{share-dealt}
@@ -34,6 +35,82 @@ Records = List (List (Result (List Value) RowFault))
 -- a worker was given what it should be
 abbrev pub IsDealt : List Operator → Records → ℕ → Option (List Scanned) → Type 0
 IsDealt flow records worker share = (is_some share ≡ is_scan (what_at flow (op_of flow worker))) × HasShare share (role_of flow records worker)
+
+-- ---- the shares of one operator
+
+-- the last of these shares were placed, each at its own place behind the first ones
+pub record ArePlaced (old : List (Option (List Scanned))) (dealt : List (List Scanned)) (first : ℕ) (shares : List (Option (List Scanned))) (left : List (List Scanned)) : Type 0 where
+  pub all : length shares ≡ length old
+  pub few : length left ≤ length dealt
+  pub same : (k : ℕ) → k < length left → get_or left k [] ≡ get_or dealt k []
+  pub before : (k : ℕ) → k < first → share_at shares k ≡ share_at old k
+  pub placed : (place : ℕ) → length left ≤ place → place < length dealt → share_at shares (first + place) ≡ Some (get_or dealt place [])
+
+pub placed-none : (old : List (Option (List Scanned))) (dealt : List (List Scanned)) (first : ℕ) → ArePlaced old dealt first old dealt
+placed-none old dealt first = record {
+  all = refl;
+  few = omega arith;
+  same = λ k less. refl;
+  before = λ k less. refl;
+  placed = λ place above below. absurd (omega arith);
+}
+
+pub placed-more : (old shares : List (Option (List Scanned))) (dealt left rest : List (List Scanned)) (share : List Scanned) (first : ℕ) → first + length dealt ≡ length old
+    → ArePlaced old dealt first shares left → left ≡ rest ++ share ∷ [] → ArePlaced old dealt first (set shares (first + length rest) (Some share)) rest
+placed-more old shares dealt left rest share first room are is =
+    let n = length rest in
+    let long : length left ≡ n + 1 = ap length is ∙ length_push rest share in
+    let few = are.few in
+    let all = are.all in
+    record {
+      all = length-set shares (first + n) (Some share) ∙ all;
+      few = omega arith;
+      same = λ k less. sym (get_or_append_left rest (share ∷ []) [] k less) ∙ ap (λ xs. get_or xs k []) (sym is) ∙ are.same k (omega arith);
+      before = λ k less. get_or-set_other shares (first + n) k (Some share) None (λ e. omega arith) ∙ are.before k less;
+      placed = λ place above below.
+          elim (eqb_tells place n) [
+            | inl here ↦
+                let own : share ≡ get_or dealt n [] = sym (get_or_push rest share [] n refl) ∙ ap (λ xs. get_or xs n []) (sym is) ∙ are.same n (omega arith) in
+                ap (λ k. share_at (set shares (first + n) (Some share)) (first + k)) here.1 ∙ get_or-set_same shares (first + n) (Some share) None (omega arith)
+                ∙ ap Some (own ∙ ap (λ k. get_or dealt k []) (sym here.1))
+            | inr other ↦
+                let ne = other.1 in
+                get_or-set_other shares (first + n) (first + place) (Some share) None (λ e. omega arith) ∙ are.placed place (omega arith) below
+          ];
+    }
+
+-- the operator's workers come behind the others, each with its share
+module _ (o : Operator) (file : List ℕ) (old grown : List (Option (List Scanned))) (grown-is : grown ≡ old ++ replicate o.workers None) where
+  abbrev pub Dealt : List (Option (List Scanned)) → Type 0
+  Dealt shares = (length shares ≡ length old + o.workers) × ((k : ℕ) → k < length old → share_at shares k ≡ share_at old k)
+      × ((place : ℕ) → place < o.workers → share_at shares (length old + place) ≡ dealt_share o file place)
+
+  pub grown-long : length grown ≡ length old + o.workers
+  grown-long = ap length grown-is ∙ length-append old (replicate o.workers None) ∙ ap (λ n. length old + n) (length-replicate o.workers None)
+
+  grown-before : (k : ℕ) → k < length old → share_at grown k ≡ share_at old k
+  grown-before k less = ap (λ xs. share_at xs k) grown-is ∙ get_or_append_left old (replicate o.workers None) None k less
+
+  pub dealt-scan : (shares : List (Option (List Scanned))) (dealt : List (List Scanned)) → length dealt ≡ o.workers → length shares ≡ length grown
+      → ((k : ℕ) → k < length old → share_at shares k ≡ share_at grown k)
+      → ((place : ℕ) → place < length dealt → share_at shares (length old + place) ≡ Some (get_or dealt place []))
+      → ((place : ℕ) → place < o.workers → get_or dealt place [] ≡ share_of scanned_number o.workers place (scanned_records o.schema file))
+      → is_scan o.what ≡ true → Dealt shares
+  dealt-scan shares dealt each all before placed are scan = (
+    all ∙ grown-long,
+    λ k less. before k less ∙ grown-before k less,
+    λ place less. placed place (omega arith) ∙ ap Some (are place less)
+        ∙ ap (λ b. if b then Some (share_of scanned_number o.workers place (scanned_records o.schema file)) else None) (sym scan),
+  )
+
+  pub dealt-other : is_scan o.what ≡ false → Dealt grown
+  dealt-other scan = (
+    grown-long,
+    grown-before,
+    λ place less. ap (λ xs. share_at xs (length old + place)) grown-is ∙ get_or-append-add old (replicate o.workers None) place None
+        ∙ get_or-replicate o.workers place None None less
+        ∙ ap (λ b. if b then Some (share_of scanned_number o.workers place (scanned_records o.schema file)) else None) (sym scan),
+  )
 
 -- ---- how many workers
 

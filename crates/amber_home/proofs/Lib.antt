@@ -16,6 +16,7 @@ pub mod Legs
 pub mod Linked
 pub mod Links
 pub mod Listed
+pub mod Mapped
 pub mod Numbers
 pub mod OneMore
 pub mod OnePlace

@@ -1,12 +1,13 @@
 //! A command that is done at rest: the copies that it wants, and what it changes.
 
-ghost use Rattle.std.specs.Prelude.{◌≡◌, ◌∷◌, ◌+◌, ◌<◌, ◌≤◌, ◌^◌, IfOk, [], length, map, replicate, true};
+ghost use Rattle.std.specs.Prelude.{◌≡◌, ◌∷◌, ◌++◌, ◌+◌, ◌<◌, ◌≤◌, ◌^◌, IfOk, OnErr, OnOk, [], length, map, replicate, true};
+ghost use Rattle.amber_log.specs.declared.log.Item.TheVariants as item;
 ghost use Rattle.amber_rows.specs.Lists.{changed_at};
 ghost use Rattle.amber_home.specs.Applied.{IsNumbered, NamesOneOf, arms_after, copies_wanted, crew_after, worker_set};
 ghost use Rattle.amber_home.specs.HomeState.{is_done_at_rest};
 
 use amber_arms::InForce;
-use amber_log::Command;
+use amber_log::{Command, Item, Items};
 use amber_rows::Value;
 use amber_worker::Worker;
 use std::alloc::{AllocError, Global};
@@ -36,6 +37,17 @@ pub(crate) fn copies_for(
         Command::Set { value, .. } => copies_of(alloc, value, count),
         _ => Ok(Vec::new(alloc)),
     }
+}
+
+// ---- that it was done
+
+/// Puts a command behind the items.
+pub(crate) fn push_command(command: &Command, items: &mut Items) -> Result<(), AllocError>
+    ensures ok { OnOk result (items.new ≡ items.old ++ item.Do command.now ∷ []) }
+    ensures err { OnErr result (items.new ≡ items.old) }
+{
+    items.push(Item::Do(command.clone()?))?;
+    Ok(())
 }
 
 // ---- what it changes

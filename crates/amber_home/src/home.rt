@@ -11,12 +11,12 @@ ghost use Rattle.amber_home.specs.HomeState.{is_done_at_rest, is_open, query_of,
 ghost use Rattle.amber_home.specs.HomeState.{stops_of_home, with_item, with_leg};
 
 use crate::answer::{gather, gather_all};
-use crate::applying::{copies_for, put_in_force};
+use crate::applying::{copies_for, push_command, put_in_force};
 use crate::crew::start_crew;
 use crate::error::{HomeErr, LegErr};
 use crate::leg::{step_first, steps_of};
 use crate::opening::{begin_all, clear_for};
-use crate::parts::{is_last, leg_item, take_parts};
+use crate::parts::{is_last, push_leg};
 use crate::phase::Phase;
 use crate::shown::inspect;
 use crate::stopping::{close_arms, have_finished, run_leg, stops_of};
@@ -129,9 +129,8 @@ impl Home {
         ensures err { OnErr result (self.new ≡ self.old) }
     {
         commands_have_text(command);
-        let item = Item::Do(command.clone()?);
         let copies = copies_for(alloc, command, self.crew.len() + 1)?;
-        self.log.items.push(item)?;
+        push_command(command, &mut self.log.items)?;
         put_in_force(command, copies, &mut self.arms, self.crew.as_mut_slice());
         Ok(())
     }
@@ -193,6 +192,7 @@ impl Home {
         let to_end = self.phase.runs_to_end();
         self.phase = Phase::Spent;
         let stops = stops_of(alloc, &self.flow, &self.arms, self.crew.as_slice())?;
+        self.stops = stops;
         close_arms(
             to_end,
             close,
@@ -200,9 +200,13 @@ impl Home {
             &mut self.arms,
             self.crew.as_slice(),
         );
-        let parts = take_parts(alloc, self.crew.as_mut_slice())?;
-        self.log.items.push(leg_item(to_end, parts, close))?;
-        self.stops = stops;
+        push_leg(
+            alloc,
+            to_end,
+            close,
+            &mut self.log.items,
+            self.crew.as_mut_slice(),
+        )?;
         self.phase = Phase::Resting;
         Ok(())
     }

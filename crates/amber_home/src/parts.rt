@@ -1,10 +1,10 @@
 //! What the workers have done in a leg.
-ghost use Rattle.std.specs.Prelude.{◌≡◌, ◌++◌, ◌<◌, ◌^◌, length, map, IfOk, OnOk};
+ghost use Rattle.std.specs.Prelude.{◌≡◌, ◌∷◌, ◌++◌, ◌<◌, ◌^◌, [], length, map, IfOk, OnErr, OnOk};
 ghost use Rattle.amber_log.specs.Grammar.{is_last};
 ghost use Rattle.amber_home.specs.HomeState.{leg_item};
 ghost use Rattle.amber_home.specs.Parts.{part_if_any, parts_from, without_journal};
 
-use amber_log::{Close, Entries, Item, Leg, Part, Parts};
+use amber_log::{Close, Entries, Item, Items, Leg, Part, Parts};
 use amber_worker::Worker;
 use std::alloc::{AllocError, Global};
 
@@ -19,8 +19,8 @@ fn push_part(parts: &mut Vec<Part>, worker: u32, entries: Entries) -> Result<(),
     Ok(())
 }
 
-/// Takes what the workers have done, as the parts of a leg.
-pub(crate) fn take_parts(alloc: Global, crew: &mut [Worker]) -> Result<Parts, AllocError>
+// Takes what the workers have done, as the parts of a leg.
+fn take_parts(alloc: Global, crew: &mut [Worker]) -> Result<Parts, AllocError>
     requires { length crew.old < 2 ^ 32 }
     ensures parts { IfOk result (λ parts. parts ≡ parts_from 0 crew.old) }
     ensures crew { OnOk result (crew.new ≡ map without_journal crew.old) }
@@ -33,8 +33,8 @@ pub(crate) fn take_parts(alloc: Global, crew: &mut [Worker]) -> Result<Parts, Al
     Ok(Parts::new(parts))
 }
 
-/// A leg as an item, up to a stop or to the end.
-pub(crate) fn leg_item(to_end: bool, parts: Parts, close: Close) -> Item
+// A leg as an item, up to a stop or to the end.
+fn leg_item(to_end: bool, parts: Parts, close: Close) -> Item
     ensures { result ≡ leg_item to_end parts close }
 {
     let leg = Leg { parts, close };
@@ -43,6 +43,25 @@ pub(crate) fn leg_item(to_end: bool, parts: Parts, close: Close) -> Item
     } else {
         Item::Run(leg)
     }
+}
+
+/// Puts a leg behind the items, with what the workers have done, which they hand out.
+pub(crate) fn push_leg(
+    alloc: Global,
+    to_end: bool,
+    close: Close,
+    items: &mut Items,
+    crew: &mut [Worker],
+) -> Result<(), AllocError>
+    requires { length crew.old < 2 ^ 32 }
+    ensures items { OnOk result
+        (items.new ≡ items.old ++ leg_item to_end (parts_from 0 crew.old) close ∷ []) }
+    ensures crew { OnOk result (crew.new ≡ map without_journal crew.old) }
+    ensures err { OnErr result (items.new ≡ items.old) }
+{
+    let parts = take_parts(alloc, crew)?;
+    items.push(leg_item(to_end, parts, close))?;
+    Ok(())
 }
 
 /// Whether nothing may follow an item: a leg to the end, or one that was closed as too long.

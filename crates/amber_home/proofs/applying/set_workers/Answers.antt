@@ -1,8 +1,9 @@
 -- One worker more was set.
-use Rattle.std.proofs.Common.{rules, ◌≡◌, ◌-◌, ◌+◌, ◌<◌, ap, sym, ◌∙◌, length, replicate, arith, vec_len}
+use Rattle.std.proofs.Common.{rules, ◌≡◌, refl, ◌-◌, ◌+◌, ◌<◌, ap, sym, ◌∙◌, length, replicate, arith, vec_len}
 use Rattle.amber_arms.proofs.Changed.{write-left}
 use Rattle.amber_home.specs.Applied.{worker_set}
 use Rattle.amber_home.proofs.Copies.{copies-left, copy-is, has-one}
+use Rattle.amber_home.proofs.Mapped.{map-whole}
 use Rattle.amber_home.proofs.applying.set_workers.Goals as goal
 use Rattle.amber_home.proofs.applying.set_workers.Goals.{in-Some, in_default}
 
@@ -30,3 +31,11 @@ loop-worker-preserved c =
           }
       | in_default w ↦ absurd (w.in_default.not-Some _ (c.pop.ensures.value value there))
     ]
+
+pub returns : goal.returns
+returns c = map-whole (worker_set c.args.op c.args.value.now) c.args.crew.now c.loop-worker.crew c.loop-worker.worker-index c.loop-worker-test.false c.loop-worker.invariant.crew
+
+pub loop-worker-init : goal.loop-worker-init
+loop-worker-init c =
+    let all : length c.args.crew.now ≡ length c.args.crew.now - 0 = omega arith in
+    record { crew = refl; copies = c.requires ∙ ap (λ n. replicate n c.args.value.now) all }

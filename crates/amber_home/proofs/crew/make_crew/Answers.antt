@@ -1,11 +1,19 @@
 -- One worker more is made.
-use Rattle.std.proofs.Common.{◌≡◌, ◌∙◌, ◌<◌, [], ap, map, ◌+◌, length, length-set, None, rules, arith}
+use Rattle.std.proofs.Common.{◌≡◌, ◌∙◌, ◌<◌, [], All, ap, map, sym, subst, ◌+◌, length, length-set, is_some, None, rules, arith}
 use Rattle.std.proofs.lemmas.List.{get_or_default, length_push}
 use Rattle.amber_rows.specs.Crew.{crew_of, receivers_of, senders_of}
-use Rattle.amber_worker.specs.Made.{roomless}
+use Rattle.amber_worker.specs.Made.{IsFreshIn, IsFreshOut, roomless}
 use Rattle.amber_home.specs.Start.{ends_at, share_at}
 use Rattle.amber_home.proofs.Begun.{left-put, new-more}
 use Rattle.amber_home.proofs.crew.make_crew.Goals as goal
+
+pub new-requires-in-workers-2-clause-shared : goal.new-requires-in-workers-2-clause-shared
+new-requires-in-workers-2-clause-shared c =
+    let below : c.workers.worker < crew_of c.args.flow.now = search rules in
+    let own_share : c.replace-share.result ≡ share_at c.workers.shares.items c.workers.worker =
+    c.replace-share.ensures.value ∙ c.index_mut.ensures.value
+    ∙ get_or_default c.workers.shares.items c.workers.worker _ None (omega (arith, below, c.workers.invariant.shares_all, c.requires.all)) in
+    ap (λ share. is_some share) (own_share ∙ c.workers.invariant.shares c.workers.worker (omega arith)) ∙ c.requires.dealt c.workers.worker below
 
 pub new-requires-in-workers-2-clause-all_outs : goal.new-requires-in-workers-2-clause-all_outs
 unfolding receivers_of
@@ -24,6 +32,22 @@ new-requires-in-workers-2-clause-all_ins c =
     c.into_inner-own_ins.ensures ∙ c.replace-in-workers.ensures.value ∙ c.index_mut-in-workers-2.ensures.value
     ∙ get_or_default c.workers.ins.items c.workers.worker _ [] (omega (arith, below, c.workers.invariant.ins_all, c.requires.ends.all_ins)) in
     ap length (own ∙ c.workers.invariant.ins c.workers.worker (omega arith)) ∙ c.requires.ends.ins c.workers.worker below
+
+pub new-requires-in-workers-2-clause-fresh_outs : goal.new-requires-in-workers-2-clause-fresh_outs
+new-requires-in-workers-2-clause-fresh_outs c =
+    let below : c.workers.worker < crew_of c.args.flow.now = search rules in
+    let own : c.into_inner-own_outs.result.items ≡ ends_at c.workers.outs.items c.workers.worker =
+    c.into_inner-own_outs.ensures ∙ c.replace.ensures.value ∙ c.index_mut-in-workers.ensures.value
+    ∙ get_or_default c.workers.outs.items c.workers.worker _ [] (omega (arith, below, c.workers.invariant.outs_all, c.requires.ends.all_outs)) in
+    subst (All (IsFreshOut c.args.batch)) (sym (own ∙ c.workers.invariant.outs c.workers.worker (omega arith))) (c.requires.ends.fresh_outs c.workers.worker below)
+
+pub new-requires-in-workers-2-clause-fresh_ins : goal.new-requires-in-workers-2-clause-fresh_ins
+new-requires-in-workers-2-clause-fresh_ins c =
+    let below : c.workers.worker < crew_of c.args.flow.now = search rules in
+    let own : c.into_inner-own_ins.result.items ≡ ends_at c.workers.ins.items c.workers.worker =
+    c.into_inner-own_ins.ensures ∙ c.replace-in-workers.ensures.value ∙ c.index_mut-in-workers-2.ensures.value
+    ∙ get_or_default c.workers.ins.items c.workers.worker _ [] (omega (arith, below, c.workers.invariant.ins_all, c.requires.ends.all_ins)) in
+    subst (All IsFreshIn) (sym (own ∙ c.workers.invariant.ins c.workers.worker (omega arith))) (c.requires.ends.fresh_ins c.workers.worker below)
 
 pub workers-preserved : goal.workers-preserved
 workers-preserved c =

@@ -1,8 +1,7 @@
 -- The command stands in the log, and what it changes is in force.
-use Rattle.std.proofs.Common.{rules, ◌≡◌, ap, ◌∙◌, length, [], ◌∷◌, ◌++◌, false}
+use Rattle.std.proofs.Common.{◌≡◌, ap, ◌∙◌, length, false}
 use Rattle.amber_log.specs.Fits.{fits_of}
 use Rattle.amber_log.specs.Grammar.{ends_over}
-use Rattle.amber_log.specs.declared.log.Item.TheVariants as item
 use Rattle.amber_home.specs.Applied.{crew_after}
 use Rattle.amber_home.specs.HomeState.{HomeState}
 use Rattle.amber_home.specs.Parts.{open_parts}
@@ -25,11 +24,9 @@ invariant_of-self-2 c =
     let i = c.self.inside in
     let e : HomeState = record { flow = i.flow; files = i.files; most = i.most; log = i.log; phase = i.phase; parts = open_parts i.phase i.crew.items } in
     let one = c.args.command.now in
-    let same : c.in_ok-clone.field-0 ≡ one = search rules in
     let handed : c.put_in_force.new.crew ≡ crew_after one i.crew.items = c.put_in_force.ensures.crew ∙ ap (crew_after one) c.as_mut_slice.ensures.value in
     let back = written-back i.crew.items c.put_in_force.new.crew i.crew.len (ap length handed ∙ long-after one i.crew.items) i.crew.ok.0 ∙ handed in
     home-commanded e i.crew.items i.arms i.stops c.self.invariant (ap (λ (h : HomeState). h.phase) c.self.view_is ∙ c.requires.resting) one
     (ap (λ (h : HomeState). ends_over false h.log.items) c.self.view_is ∙ c.requires.open) (ap (λ (h : HomeState). fits_of h.flow one) c.self.view_is ∙ c.requires.fits)
-    c.requires.at_rest c.commands_have_text.ensures (record { batch = i.log.batch; items = c.push.new.self }) c.put_in_force.new.arms _
-    (ap (λ items. record i.log { items = items }) (c.in_ok-push.ensures.ok ∙ ap (λ done. i.log.items ++ item.Do done ∷ []) same))
-    c.put_in_force.ensures.arms back
+    c.requires.at_rest c.commands_have_text.ensures (record { batch = i.log.batch; items = c.push_command.new.items }) c.put_in_force.new.arms _
+    (ap (λ items. record i.log { items = items }) c.in_ok-push_command.ensures.ok) c.put_in_force.ensures.arms back
