@@ -28,7 +28,7 @@ use Rattle.amber_meaning.specs.Views.{answer_in, inspected_of}
 use Rattle.amber_meaning.proofs.Fronts.{legal_logs_grow, transcripts_grow}
 use Rattle.amber_lines.proofs.Kept.{kept_stops_were_replied}
 use Rattle.amber_report.specs.Replies.{done_text}
-use Rattle.amber_home.specs.HomeState.{ClosesLeg, HomeState, is_done_at_rest, leg_item, query_of, rest_state, state_of, stops_of_home, with_item}
+use Rattle.amber_home.specs.HomeState.{ClosesLeg, HomeState, is_done_at_rest, item_of_leg, query_of, rest_state, state_of, stops_of_home, with_item}
 use Rattle.amber_home.specs.declared.phase.Phase.TheVariants as phase
 use Rattle.amber_debug.specs.declared.done.Done.{Done}
 use Rattle.amber_debug.specs.declared.done.EndErr.TheVariants as end_err
@@ -69,9 +69,9 @@ has-leg to_end old new closed leg = record {
 }
 
 leg-text : (to_end : Bool) (old new : HomeState) (closed : Close) (text : List ℕ) → (leg : ClosesLeg to_end old new closed) → IsLastText new.log text
-    → text ≡ item_text (leg_item to_end leg.parts closed)
+    → text ≡ item_text (item_of_leg to_end leg.parts closed)
 unfolding IsLastText
-leg-text to_end old new closed text leg last = last old.log.items (leg_item to_end leg.parts closed) (ap (λ (e : HomeState). e.log.items) leg.is)
+leg-text to_end old new closed text leg last = last old.log.items (item_of_leg to_end leg.parts closed) (ap (λ (e : HomeState). e.log.items) leg.is)
 
 -- a leg that was too long
 pub runs-long : (to_end : Bool) (old new : HomeState) (text : List ℕ) → ClosesLeg to_end old new close.Long → IsLastText new.log text → RunsAs (Err (end_err.Long text)) to_end old new
@@ -80,7 +80,7 @@ runs-long to_end old new text leg last = (has-leg to_end old new close.Long leg,
 -- ---- up to a stop
 
 stops-replied : (old new : HomeState) → (leg : ClosesLeg false old new close.Cut)
-    → stops_text new.flow (stops_of_home new) ≡ reply_of (query_of old) (rest_state old) (leg_item false leg.parts close.Cut)
+    → stops_text new.flow (stops_of_home new) ≡ reply_of (query_of old) (rest_state old) (item_of_leg false leg.parts close.Cut)
 unfolding stops_of_home
 stops-replied old new leg = rw leg.is (sym (kept_stops_were_replied (query_of old) old.log.items leg.parts))
 
@@ -94,16 +94,16 @@ runs-stop old new done flow stops leg last same are reply = (
 
 -- ---- to the end
 
-state-after : (old new : HomeState) → (leg : ClosesLeg true old new close.Cut) → state_of new ≡ after_item (query_of old) (rest_state old) (leg_item true leg.parts close.Cut)
+state-after : (old new : HomeState) → (leg : ClosesLeg true old new close.Cut) → state_of new ≡ after_item (query_of old) (rest_state old) (item_of_leg true leg.parts close.Cut)
 unfolding state_of
-state-after old new leg = rw leg.is (transcripts_grow (query_of old) old.log.items (leg_item true leg.parts close.Cut)).1
+state-after old new leg = rw leg.is (transcripts_grow (query_of old) old.log.items (item_of_leg true leg.parts close.Cut)).1
 
 pub all-finished : (old new : HomeState) → ClosesLeg true old new close.Cut → have_finished (state_of new) ≡ true
 unfolding after_item
 all-finished old new leg = ap have_finished (state-after old new leg) ∙ leg.so.2
 
 answer-replied : (old new : HomeState) → (leg : ClosesLeg true old new close.Cut)
-    → answer_text new.flow (answer_in (query_of new) (state_of new)) ≡ reply_of (query_of old) (rest_state old) (leg_item true leg.parts close.Cut)
+    → answer_text new.flow (answer_in (query_of new) (state_of new)) ≡ reply_of (query_of old) (rest_state old) (item_of_leg true leg.parts close.Cut)
 unfolding reply_of after_item
 answer-replied old new leg =
     let query : query_of new ≡ query_of old = ap query_of leg.is in
@@ -200,7 +200,7 @@ over-push over [] one = refl
 over-push over (x ∷ items) one = over-push (is_last x) items one
 
 -- behind a leg to the end, and one that was too long, nothing follows
-last-is : (to_end : Bool) (parts : List Part) (closed : Close) → (to_end ≡ true) ⊎ (closed ≡ close.Long) → is_last (leg_item to_end parts closed) ≡ true
+last-is : (to_end : Bool) (parts : List Part) (closed : Close) → (to_end ≡ true) ⊎ (closed ≡ close.Long) → is_last (item_of_leg to_end parts closed) ≡ true
 last-is true parts closed h = refl
 last-is false parts closed (inl e) = absurd (let never : false ≡ true = e in cc)
 last-is false parts closed (inr e) = rw e refl
@@ -210,6 +210,6 @@ pub kept-over : (to_end : Bool) (old new : HomeState) (closed : Close) (spent : 
 kept-over to_end old new closed spent leg h legal = record {
   legal = legal;
   rests = λ unspent more.
-      absurd (let never : false ≡ true = sym more ∙ ap (λ log. ends_over false log.items) leg.kept.log ∙ over-push false old.log.items (leg_item to_end leg.parts closed)
+      absurd (let never : false ≡ true = sym more ∙ ap (λ log. ends_over false log.items) leg.kept.log ∙ over-push false old.log.items (item_of_leg to_end leg.parts closed)
       ∙ last-is to_end leg.parts closed h in cc);
 }

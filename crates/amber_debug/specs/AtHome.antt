@@ -9,7 +9,7 @@ use Rattle.amber_log.specs.declared.log.Item.{Item}
 use Rattle.amber_log.specs.declared.log.Item.TheVariants as item
 use Rattle.amber_log.specs.declared.log.Log.{Log}
 use Rattle.amber_meaning.specs.Transcript.{reply_of}
-use Rattle.amber_home.specs.HomeState.{HomeState, leg_item, query_of, rest_state, with_item}
+use Rattle.amber_home.specs.HomeState.{HomeState, item_of_leg, query_of, rest_state, with_item}
 use Rattle.amber_debug.specs.declared.done.EndErr.{EndErr}
 use Rattle.amber_debug.specs.declared.done.EndErr.TheVariants as end_err
 use Rattle.amber_debug.specs.declared.done.Done.{Done}
@@ -28,15 +28,15 @@ pub record HasLog (old new : HomeState) (grown : Log) : Type 0 where
 -- the log has a leg more, up to a stop or to the end, closed so
 pub record HasLeg (to_end : Bool) (old new : HomeState) (closed : Close) : Type 0 where
   pub parts : List Part
-  pub kept : HasLog old new (with_item old.log (leg_item to_end parts closed))
+  pub kept : HasLog old new (with_item old.log (item_of_leg to_end parts closed))
 
 -- the leg stands in the log, with its text and the reply to it; or it was too long, and stands there; or memory ran out before or
 -- behind that
 abbrev pub RunsAs : Result Done EndErr → Bool → HomeState → HomeState → Type 0
 RunsAs (Ok done) to_end old new =
-    (leg : HasLeg to_end old new close.Cut) × (done.item ≡ item_text (leg_item to_end leg.parts close.Cut))
-    × (done.reply ≡ reply_of (query_of old) (rest_state old) (leg_item to_end leg.parts close.Cut))
-RunsAs (Err (end_err.Long text)) to_end old new = (leg : HasLeg to_end old new close.Long) × (text ≡ item_text (leg_item to_end leg.parts close.Long))
+    (leg : HasLeg to_end old new close.Cut) × (done.item ≡ item_text (item_of_leg to_end leg.parts close.Cut))
+    × (done.reply ≡ reply_of (query_of old) (rest_state old) (item_of_leg to_end leg.parts close.Cut))
+RunsAs (Err (end_err.Long text)) to_end old new = (leg : HasLeg to_end old new close.Long) × (text ≡ item_text (item_of_leg to_end leg.parts close.Long))
 RunsAs (Err end_err.NoMemory) to_end old new = HasLog old new old.log ⊎ ((closed : Close) × HasLeg to_end old new closed)
 
 -- a command that is no leg has its item in the log, with its text and the reply to it

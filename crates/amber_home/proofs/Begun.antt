@@ -32,7 +32,7 @@ use Rattle.amber_worker.specs.Pairs.{AreJoined, AreSettledAt, IsLinkAt}
 use Rattle.amber_worker.specs.WorkerState.{WorkerState}
 use Rattle.amber_worker.proofs.PairFacts.{joined-made}
 use Rattle.amber_home.specs.AtWork.{AreAtWork, AreJoinedAt, IsQuiet, SendsTo, no_worker_state, worker_state_at}
-use Rattle.amber_home.specs.Start.{AreDealt, AreEnds, AreNew, IsNew, Parts, ends_at, from_whom, share_at, to_whom, web_of}
+use Rattle.amber_home.specs.Start.{AreSharesDealt, AreEnds, AreNew, IsNew, Parts, ends_at, from_whom, share_of_worker, to_whom, web_of}
 use Rattle.amber_home.proofs.OnePlace.{in-place, no_receiver, no_sender, out-place}
 use Rattle.amber_home.proofs.Sending.{sending}
 
@@ -107,14 +107,14 @@ none-behind (x ∷ xs) ys e = absurd (let long = ap length e in omega arith)
 -- ---- all of them
 
 module _ (flow : List Operator) (files : List (List ℕ)) (parts : Parts) (crew : List WorkerState) (flow_is : parts.flow ≡ flow) (ok : IsFlow flow)
-    (dealt : AreDealt flow (records_of files flow) parts.shares) (ends : AreEnds (web_of flow parts.size) parts.outs parts.ins) (new : AreNew parts crew) where
+    (dealt : AreSharesDealt flow (records_of files flow) parts.shares) (ends : AreEnds (web_of flow parts.size) parts.outs parts.ins) (new : AreNew parts crew) where
   within : (worker : ℕ) → worker < crew_of flow → worker < crew_of parts.flow
   within worker below = subst (λ f. worker < crew_of f) (sym flow_is) below
 
   stands : (worker : ℕ) → worker < crew_of flow
       → IsAtPosition (placement_of flow (records_of files flow) parts.size worker) (first_orders flow worker) (worker_state_at crew worker) origin origin no_base
   unfolding StandsNew
-  stands worker below = subst (λ f. StandsNew f worker parts.size (share_at parts.shares worker) (worker_state_at crew worker)) flow_is (new.each worker (within worker below)).stands (records_of files flow) (dealt.dealt worker below)
+  stands worker below = subst (λ f. StandsNew f worker parts.size (share_of_worker parts.shares worker) (worker_state_at crew worker)) flow_is (new.each worker (within worker below)).stands (records_of files flow) (dealt.dealt worker below)
 
   number-is : (worker : ℕ) → worker < crew_of flow → (worker_state_at crew worker).number ≡ worker
   unfolding placement_of

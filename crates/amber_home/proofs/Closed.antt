@@ -27,7 +27,7 @@ use Rattle.amber_worker.specs.AtPosition.{no_base}
 use Rattle.amber_worker.specs.WorkerState.{WorkerState}
 use Rattle.amber_worker.proofs.Settling.{IsAtPosition-without_journal}
 use Rattle.amber_home.specs.AtWork.{AreAtWork, IsQuiet, placement_at, worker_state_at}
-use Rattle.amber_home.specs.HomeState.{ClosesIn, HomeState, leg_item, query_of, rest_state, with_item}
+use Rattle.amber_home.specs.HomeState.{ClosesIn, HomeState, item_of_leg, query_of, rest_state, with_item}
 use Rattle.amber_home.specs.Kept.{IsAtRest, IsWithinLeg}
 use Rattle.amber_home.specs.Parts.{parts_from, state_reached, without_journal}
 use Rattle.amber_home.specs.declared.phase.Phase.TheVariants as phase
@@ -143,7 +143,7 @@ ends-handed crew k = rw (handed-at crew k) (record { number = refl; ins = refl; 
 -- ---- the leg
 
 close-of : (to_end : Bool) (query : Query) (log : Log) (parts : List Part) (closed : Close) (leg : IsOpen query log to_end parts) → ClosesIn to_end query leg.now closed
-    → (more : IsLegal query (with_item log (leg_item to_end parts closed))) × (more.after ≡ closed_state to_end query leg.now closed)
+    → (more : IsLegal query (with_item log (item_of_leg to_end parts closed))) × (more.after ≡ closed_state to_end query leg.now closed)
 close-of true query log parts closed leg closes = ends_close query log parts closed leg closes
 close-of false query log parts closed leg closes = runs_close query log parts closed leg closes
 
@@ -173,26 +173,26 @@ module _ (to_end : Bool) (e : HomeState) (crew : List WorkerState) (arms : List 
 
   -- with it the log is legal
   pub legal-closed : (closed : Close) → ClosesIn to_end query reached closed
-      → (more : IsLegal query (with_item e.log (leg_item to_end (parts_from 0 crew) closed))) × (more.after ≡ closed_state to_end query reached closed)
+      → (more : IsLegal query (with_item e.log (item_of_leg to_end (parts_from 0 crew) closed))) × (more.after ≡ closed_state to_end query reached closed)
   unfolding is-open
   legal-closed closed closes = close-of to_end query e.log (parts_from 0 crew) closed is-open closes
 
-  kept-closed : (closed : Close) → kept_stops query (e.log.items ++ leg_item to_end (parts_from 0 crew) closed ∷ []) ≡ stops_in query reached
+  kept-closed : (closed : Close) → kept_stops query (e.log.items ++ item_of_leg to_end (parts_from 0 crew) closed ∷ []) ≡ stops_in query reached
   unfolding is-open
   kept-closed closed =
       ap (λ item. kept_stops query (e.log.items ++ item ∷ [])) (same-item to_end)
       ∙ legs_keep_their_stops query e.log to_end (parts_from 0 crew) closed reached (flows_send_forward query.flow leg.at.at.flow) legal is-open.worked
     where
-      same-item : (b : Bool) → leg_item b (parts_from 0 crew) closed ≡ leg_of b (parts_from 0 crew) closed
+      same-item : (b : Bool) → item_of_leg b (parts_from 0 crew) closed ≡ leg_of b (parts_from 0 crew) closed
       same-item true = refl
       same-item false = refl
 
   -- and at rest they stand where it says
   pub rest-closed : (closed : Close) → ClosesIn to_end query reached closed → (later : HomeState) (now : List Arms) (stops : List Stop)
-      → later ≡ record e { log = with_item e.log (leg_item to_end (parts_from 0 crew) closed); phase = phase.Resting; parts = [] }
+      → later ≡ record e { log = with_item e.log (item_of_leg to_end (parts_from 0 crew) closed); phase = phase.Resting; parts = [] }
       → now ≡ (closed_state to_end query reached closed).arms → stops ≡ stops_in query reached → IsAtRest later (map without_journal crew) now stops
   rest-closed closed closes later now stops later-is now-is stops-are =
-      let log = with_item e.log (leg_item to_end (parts_from 0 crew) closed) in
+      let log = with_item e.log (item_of_leg to_end (parts_from 0 crew) closed) in
       let more = legal-closed closed closes in
       let after = closed_state to_end query reached closed in
       let rest : state_after query log.items ≡ after = legal_logs_have_one_state query log (flows_send_forward query.flow leg.at.at.flow) more.0 ∙ more.1 in

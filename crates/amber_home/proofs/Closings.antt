@@ -12,7 +12,7 @@ use Rattle.amber_meaning.specs.Legal.{IsSettled}
 use Rattle.amber_meaning.specs.State.{Arms, State, steps_in}
 use Rattle.amber_worker.specs.WorkerState.{WorkerState}
 use Rattle.amber_home.specs.AtWork.{steps_by}
-use Rattle.amber_home.specs.HomeState.{ClosesIn, HomeState, MayClose, is_open, leg_item, leg_state, query_of, runs_to_end, state_of, stops_of_home, with_item}
+use Rattle.amber_home.specs.HomeState.{ClosesIn, HomeState, MayClose, is_open, item_of_leg, leg_state, query_of, runs_to_end, state_of, stops_of_home, with_item}
 use Rattle.amber_home.specs.Kept.{IsHome}
 use Rattle.amber_home.specs.Leg.{Run, closed_arms, stops_by}
 use Rattle.amber_home.specs.Parts.{open_parts, parts_from, without_journal}
@@ -53,7 +53,7 @@ module _ (e : HomeState) (crew : List WorkerState) (arms : List Arms) (stops : L
 
   pub home-closed : (now : Phase) → IsHome (record e { phase = now }) crew arms stops → is_open now ≡ true → (closed : Close) (log : Log) (later : List Arms) (kept : List Stop)
       → ClosesIn (runs_to_end now) (query_of e) (state_of (record e { phase = now; parts = open_parts now crew })) closed
-      → log ≡ with_item e.log (leg_item (runs_to_end now) (parts_from 0 crew) closed)
+      → log ≡ with_item e.log (item_of_leg (runs_to_end now) (parts_from 0 crew) closed)
       → later ≡ closed_arms (runs_to_end now) closed (record { flow = e.flow; arms = arms }) crew
       → kept ≡ stops_by (record { flow = e.flow; arms = arms }) crew
       → IsHome (record e { log = log; phase = phase.Resting; parts = [] }) (map without_journal crew) later kept
@@ -68,7 +68,7 @@ module _ (e : HomeState) (crew : List WorkerState) (arms : List Arms) (stops : L
       let begin = start to_end here crew arms leg home.legal in
       let run : Run = record { flow = e.flow; arms = arms } in
       let rest = rest-closed to_end here crew arms leg home.legal closed may
-      (record e { log = with_item e.log (leg_item to_end (parts_from 0 crew) closed); phase = phase.Resting; parts = [] }) later kept refl
+      (record e { log = with_item e.log (item_of_leg to_end (parts_from 0 crew) closed); phase = phase.Resting; parts = [] }) later kept refl
       (later-is ∙ ap (λ a. closed_arms to_end closed (record { flow = e.flow; arms = a }) crew) leg.arms_are
       ∙ sym (closed-is (query_of e) begin crew leg.positions leg.at to_end closed))
       (kept-is ∙ sym (stops-are (query_of e) begin crew leg.positions leg.at run refl leg.arms_are (loose to_end here crew arms leg home.legal))) in

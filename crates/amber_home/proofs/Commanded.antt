@@ -32,7 +32,7 @@ use Rattle.amber_worker.specs.AtPosition.{Base, IsAtPosition, Placement, no_base
 use Rattle.amber_worker.specs.Changes.{ShowsSet, with_value}
 use Rattle.amber_worker.specs.WorkerState.{WorkerState}
 use Rattle.amber_worker.proofs.Commands.{shows-set}
-use Rattle.amber_home.specs.Applied.{IsNumbered, NamesOneOf, arms_after, crew_after, worker_set}
+use Rattle.amber_home.specs.Applied.{HasOperator, NamesOneOf, arms_after, crew_after, worker_set}
 use Rattle.amber_home.specs.AtWork.{AreAtWork, IsQuiet, placement_at, worker_state_at}
 use Rattle.amber_home.specs.HomeState.{HomeState, is_done_at_rest, query_of, rest_state, with_item}
 use Rattle.amber_home.specs.Kept.{IsAtRest, IsHome, StandsIn}
@@ -66,21 +66,21 @@ get-within [] i x is = absurd (let never : None ≡ Some x = is in cc)
 get-within (y ∷ ys) zero x is = omega arith
 get-within (y ∷ ys) (suc i) x is = let less = get-within ys i x is in omega arith
 
-nth-within : {A : Type 0} (xs : List A) (op : ℕ) (x : A) → nth xs op ≡ Some x → IsNumbered op (length xs)
+nth-within : {A : Type 0} (xs : List A) (op : ℕ) (x : A) → nth xs op ≡ Some x → HasOperator op (length xs)
 nth-within xs zero x is = absurd (let never : None ≡ Some x = is in cc)
 nth-within xs (suc i) x is =
     let less = get-within xs i x (sym (nth-next xs i) ∙ ap (nth xs) (add-one i) ∙ is) in (omega arith, omega arith)
 
 module _ (flow : List Operator) (op : ℕ) where
-  source-there : (found : Option Operator) → nth flow op ≡ found → is_source found ≡ true → IsNumbered op (length flow)
+  source-there : (found : Option Operator) → nth flow op ≡ found → is_source found ≡ true → HasOperator op (length flow)
   source-there None is e = absurd (false≢true e)
   source-there (Some o) is e = nth-within flow op o is
 
-  operator-there : (found : Option Operator) → nth flow op ≡ found → is_there found ≡ true → IsNumbered op (length flow)
+  operator-there : (found : Option Operator) → nth flow op ≡ found → is_there found ≡ true → HasOperator op (length flow)
   operator-there None is e = absurd (false≢true e)
   operator-there (Some o) is e = nth-within flow op o is
 
-  filter-there : (value : Value) (found : Option Operator) → nth flow op ≡ found → takes_constant found value ≡ true → IsNumbered op (length flow)
+  filter-there : (value : Value) (found : Option Operator) → nth flow op ≡ found → takes_constant found value ≡ true → HasOperator op (length flow)
   filter-there value None is e = absurd (false≢true e)
   filter-there value (Some o) is e = nth-within flow op o is
 
@@ -169,7 +169,7 @@ module _ (change : Arms → Arms) where
         by true = refl
         by false = get-orders leaves op 1 arms quiet-places (k - 1)
 
-  arms-here : (op : ℕ) (arms : List Arms) → IsNumbered op (length arms) → unwrap_or (nth (changed_at change op arms) op) no_arms ≡ change (unwrap_or (nth arms op) no_arms)
+  arms-here : (op : ℕ) (arms : List Arms) → HasOperator op (length arms) → unwrap_or (nth (changed_at change op arms) op) no_arms ≡ change (unwrap_or (nth arms op) no_arms)
   arms-here op arms there =
       ap (λ found. unwrap_or found no_arms) (nth-here change op arms there.0 ∙ ap (option_map change) (nth-some arms op there.0 there.1))
 
@@ -276,7 +276,7 @@ module _ (query : Query) (state : State) (crew : List WorkerState) (work : AreAt
   stands-same orders worker inside same = rw same (work.at.at_positions.each worker inside)
 
   -- another constant at its own operator, and at another one
-  orders-here : (op : ℕ) (value : Value) → IsNumbered op (length query.flow) → (worker : ℕ) → op_of query.flow worker ≡ op
+  orders-here : (op : ℕ) (value : Value) → HasOperator op (length query.flow) → (worker : ℕ) → op_of query.flow worker ≡ op
       → orders_in query (after_command query.flow (command.Set op value) state) worker ≡ record (orders_in query state worker) { constants = value ∷ [] }
   unfolding after_command
   orders-here op value there worker same =

@@ -25,7 +25,7 @@ use Rattle.amber_scan.specs.declared.share.Scanned.{Scanned}
 use Rattle.amber_worker.specs.AtPosition.{HasShare}
 use Rattle.amber_worker.proofs.Shares.{share-dealt}
 use Rattle.amber_home.specs.HomeState.{NamesScan}
-use Rattle.amber_home.specs.Start.{AreDealt, NamesOperator, dealt_share, share_at}
+use Rattle.amber_home.specs.Start.{AreSharesDealt, NamesOperator, dealt_share, share_of_worker}
 use Rattle.amber_home.specs.declared.error.HomeErr.{HomeErr}
 use Rattle.amber_home.specs.declared.error.HomeErr.TheVariants as home_err
 
@@ -43,8 +43,8 @@ pub record ArePlaced (old : List (Option (List Scanned))) (dealt : List (List Sc
   pub all : length shares ≡ length old
   pub few : length left ≤ length dealt
   pub same : (k : ℕ) → k < length left → get_or left k [] ≡ get_or dealt k []
-  pub before : (k : ℕ) → k < first → share_at shares k ≡ share_at old k
-  pub placed : (place : ℕ) → length left ≤ place → place < length dealt → share_at shares (first + place) ≡ Some (get_or dealt place [])
+  pub before : (k : ℕ) → k < first → share_of_worker shares k ≡ share_of_worker old k
+  pub placed : (place : ℕ) → length left ≤ place → place < length dealt → share_of_worker shares (first + place) ≡ Some (get_or dealt place [])
 
 pub placed-none : (old : List (Option (List Scanned))) (dealt : List (List Scanned)) (first : ℕ) → ArePlaced old dealt first old dealt
 placed-none old dealt first = record {
@@ -71,7 +71,7 @@ placed-more old shares dealt left rest share first room are is =
           elim (eqb_tells place n) [
             | inl here ↦
                 let own : share ≡ get_or dealt n [] = sym (get_or_push rest share [] n refl) ∙ ap (λ xs. get_or xs n []) (sym is) ∙ are.same n (omega arith) in
-                ap (λ k. share_at (set shares (first + n) (Some share)) (first + k)) here.1 ∙ get_or-set_same shares (first + n) (Some share) None (omega arith)
+                ap (λ k. share_of_worker (set shares (first + n) (Some share)) (first + k)) here.1 ∙ get_or-set_same shares (first + n) (Some share) None (omega arith)
                 ∙ ap Some (own ∙ ap (λ k. get_or dealt k []) (sym here.1))
             | inr other ↦
                 let ne = other.1 in
@@ -82,18 +82,18 @@ placed-more old shares dealt left rest share first room are is =
 -- the operator's workers come behind the others, each with its share
 module _ (o : Operator) (file : List ℕ) (old grown : List (Option (List Scanned))) (grown-is : grown ≡ old ++ replicate o.workers None) where
   abbrev pub Dealt : List (Option (List Scanned)) → Type 0
-  Dealt shares = (length shares ≡ length old + o.workers) × ((k : ℕ) → k < length old → share_at shares k ≡ share_at old k)
-      × ((place : ℕ) → place < o.workers → share_at shares (length old + place) ≡ dealt_share o file place)
+  Dealt shares = (length shares ≡ length old + o.workers) × ((k : ℕ) → k < length old → share_of_worker shares k ≡ share_of_worker old k)
+      × ((place : ℕ) → place < o.workers → share_of_worker shares (length old + place) ≡ dealt_share o file place)
 
   pub grown-long : length grown ≡ length old + o.workers
   grown-long = ap length grown-is ∙ length-append old (replicate o.workers None) ∙ ap (λ n. length old + n) (length-replicate o.workers None)
 
-  grown-before : (k : ℕ) → k < length old → share_at grown k ≡ share_at old k
-  grown-before k less = ap (λ xs. share_at xs k) grown-is ∙ get_or_append_left old (replicate o.workers None) None k less
+  grown-before : (k : ℕ) → k < length old → share_of_worker grown k ≡ share_of_worker old k
+  grown-before k less = ap (λ xs. share_of_worker xs k) grown-is ∙ get_or_append_left old (replicate o.workers None) None k less
 
   pub dealt-scan : (shares : List (Option (List Scanned))) (dealt : List (List Scanned)) → length dealt ≡ o.workers → length shares ≡ length grown
-      → ((k : ℕ) → k < length old → share_at shares k ≡ share_at grown k)
-      → ((place : ℕ) → place < length dealt → share_at shares (length old + place) ≡ Some (get_or dealt place []))
+      → ((k : ℕ) → k < length old → share_of_worker shares k ≡ share_of_worker grown k)
+      → ((place : ℕ) → place < length dealt → share_of_worker shares (length old + place) ≡ Some (get_or dealt place []))
       → ((place : ℕ) → place < o.workers → get_or dealt place [] ≡ share_of scanned_number o.workers place (scanned_records o.schema file))
       → is_scan o.what ≡ true → Dealt shares
   dealt-scan shares dealt each all before placed are scan = (
@@ -107,7 +107,7 @@ module _ (o : Operator) (file : List ℕ) (old grown : List (Option (List Scanne
   dealt-other scan = (
     grown-long,
     grown-before,
-    λ place less. ap (λ xs. share_at xs (length old + place)) grown-is ∙ get_or-append-add old (replicate o.workers None) place None
+    λ place less. ap (λ xs. share_of_worker xs (length old + place)) grown-is ∙ get_or-append-add old (replicate o.workers None) place None
         ∙ get_or-replicate o.workers place None None less
         ∙ ap (λ b. if b then Some (share_of scanned_number o.workers place (scanned_records o.schema file)) else None) (sym scan),
   )
@@ -196,9 +196,9 @@ module _ (flow : List Operator) (files : List (List ℕ)) (i : ℕ) (o : Operato
 
   -- its workers come behind the others
   pub dealt-more : (old new : List (Option (List Scanned))) → length old ≡ crew_of (take i flow) → length new ≡ length old + o.workers
-      → ((k : ℕ) → k < length old → share_at new k ≡ share_at old k) → ((place : ℕ) → place < o.workers → share_at new (length old + place) ≡ dealt_share o file place)
-      → ((k : ℕ) → k < crew_of (take i flow) → IsDealt flow (records_of files flow) k (share_at old k))
-      → (length new ≡ crew_of (take (i + 1) flow)) × ((k : ℕ) → k < crew_of (take (i + 1) flow) → IsDealt flow (records_of files flow) k (share_at new k))
+      → ((k : ℕ) → k < length old → share_of_worker new k ≡ share_of_worker old k) → ((place : ℕ) → place < o.workers → share_of_worker new (length old + place) ≡ dealt_share o file place)
+      → ((k : ℕ) → k < crew_of (take i flow) → IsDealt flow (records_of files flow) k (share_of_worker old k))
+      → (length new ≡ crew_of (take (i + 1) flow)) × ((k : ℕ) → k < crew_of (take (i + 1) flow) → IsDealt flow (records_of files flow) k (share_of_worker new k))
   unfolding worker
   dealt-more old new long longer same dealt before = (
     omega (arith, long, longer, crew-next),
@@ -208,7 +208,7 @@ module _ (flow : List Operator) (files : List (List ℕ)) (i : ℕ) (o : Operato
           let less : k - length old < o.workers = omega arith in
           let place : crew_of (take i flow) + (k - length old) ≡ k = omega arith in
           let place_too : length old + (k - length old) ≡ k = omega arith in
-          subst (IsDealt flow (records_of files flow) k) (sym (ap (share_at new) (sym place_too) ∙ dealt (k - length old) less))
+          subst (IsDealt flow (records_of files flow) k) (sym (ap (share_of_worker new) (sym place_too) ∙ dealt (k - length old) less))
           (subst (λ n. IsDealt flow (records_of files flow) n (dealt_share o file (k - length old))) place (dealt-here (k - length old) less)))
     ],
   )
@@ -220,7 +220,7 @@ take-whole (x ∷ xs) zero h = absurd (omega arith)
 take-whole (x ∷ xs) (suc n) h = ap (λ rest. x ∷ rest) (take-whole xs n (omega arith))
 
 pub all-dealt : (flow : List Operator) (records : Records) (n : ℕ) (shares : List (Option (List Scanned))) → length flow ≤ n → length shares ≡ crew_of (take n flow)
-    → ((k : ℕ) → k < crew_of (take n flow) → IsDealt flow records k (share_at shares k)) → AreDealt flow records shares
+    → ((k : ℕ) → k < crew_of (take n flow) → IsDealt flow records k (share_of_worker shares k)) → AreSharesDealt flow records shares
 all-dealt flow records n shares all long dealt =
     let whole : crew_of (take n flow) ≡ crew_of flow = ap crew_of (take-whole flow n all) in
     record {

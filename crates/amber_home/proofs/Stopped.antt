@@ -26,7 +26,7 @@ use Rattle.amber_lines.specs.Moving.{orders_in}
 use Rattle.amber_worker.specs.WorkerState.{WorkerState}
 use Rattle.amber_home.specs.AtWork.{AreAtWork, HaveFinished, steps_by, worker_state_at}
 use Rattle.amber_home.specs.HomeState.{ClosesIn}
-use Rattle.amber_home.specs.Leg.{IsLegDone, NonePaused, Run, emitted_at, end_of, is_paused, pause_at, paused_stop, pauses_of, stands_after, stops_by}
+use Rattle.amber_home.specs.Leg.{IsLegDone, NonePaused, Run, emitted_at, stop_at_end, is_paused, pause_at, paused_stop, pauses_of, stands_after, stops_by}
 use Rattle.amber_home.specs.Parts.{state_reached}
 use Rattle.amber_home.proofs.Within.{finished-reached, leads-at, position-here, settled-reached, steps-reached, unfinished-reached}
 
@@ -161,7 +161,7 @@ module _ (query : Query) (start : State) (crew : List WorkerState) (positions : 
       by true e = finished-reached query start crew positions work (all-have crew e)
       by false e = let one = some-has-not crew e in unfinished-reached query start crew positions work one.0 one.1 one.2
 
-  ends-are : end_stop reached ≡ end_of crew
+  ends-are : end_stop reached ≡ stop_at_end crew
   ends-are = ap (λ b. if b then stop.End ∷ [] else []) finished-are
 
   pub stops-are : (run : Run) → run.flow ≡ query.flow → run.arms ≡ start.arms → ((worker : ℕ) → worker < crew_of query.flow → (position_at start.positions worker).held ≡ false)
@@ -226,8 +226,8 @@ stops-none run crew none unfinished = rw (pauses-none run crew none, unfinished)
 
 stops-some : (run : Run) (crew : List WorkerState) → length run.arms ≡ length run.flow
     → ((op : ℕ) × (is_paused run crew op ≡ true)) ⊎ (list_all (λ (w : WorkerState). w.finished) crew ≡ true) → stops_by run crew ≢ []
-stops-some run crew long (inl paused) none = pauses-some run crew paused.0 long paused.1 (both-none (pauses_of run crew) (end_of crew) none).0
-stops-some run crew long (inr finished) none = end-nil (sym (ap (λ b. if b then stop.End ∷ [] else []) finished) ∙ (both-none (pauses_of run crew) (end_of crew) none).1)
+stops-some run crew long (inl paused) none = pauses-some run crew paused.0 long paused.1 (both-none (pauses_of run crew) (stop_at_end crew) none).0
+stops-some run crew long (inr finished) none = end-nil (sym (ap (λ b. if b then stop.End ∷ [] else []) finished) ∙ (both-none (pauses_of run crew) (stop_at_end crew) none).1)
   where
     end-nil : stop.End ∷ [] ≡ [] → ⊥
     end-nil e = cc

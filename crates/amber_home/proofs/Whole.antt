@@ -12,7 +12,7 @@ use Rattle.amber_meaning.proofs.Rest.{legal_logs_rest}
 use Rattle.amber_meaning.proofs.Senders.{flows_send_forward}
 use Rattle.amber_worker.specs.WorkerState.{WorkerState}
 use Rattle.amber_home.specs.AtWork.{steps_by}
-use Rattle.amber_home.specs.HomeState.{ClosesIn, ClosesLeg, HomeState, has_crew, query_of, rest_state, runs_to_end, state_of, with_leg}
+use Rattle.amber_home.specs.HomeState.{ClosesIn, ClosesLeg, HomeState, has_crew, query_of, rest_state, runs_to_end, state_of, with_closed_leg}
 use Rattle.amber_home.specs.Kept.{IsHome}
 use Rattle.amber_home.specs.Parts.{open_parts}
 use Rattle.amber_home.specs.declared.phase.Phase.{Phase}
@@ -23,7 +23,7 @@ use Rattle.amber_home.proofs.Within.{steps-reached}
 
 -- opened, gone through and closed
 pub leg-closes : (to_end : Bool) (old begun ran now : HomeState) (closed : Close) → begun ≡ record old { phase = phase.Open to_end; parts = [] } → ran ≡ record begun { parts = ran.parts }
-    → ClosesIn (runs_to_end begun.phase) (query_of begun) (state_of ran) closed → now ≡ with_leg ran closed → ClosesLeg to_end old now closed
+    → ClosesIn (runs_to_end begun.phase) (query_of begun) (state_of ran) closed → now ≡ with_closed_leg ran closed → ClosesLeg to_end old now closed
 unfolding state_of
 leg-closes to_end old begun ran now closed begun-is ran-is closes now-is =
     let whole : ran ≡ record old { phase = phase.Open to_end; parts = ran.parts } = ran-is ∙ ap (λ (h : HomeState). record h { parts = ran.parts }) begun-is in
@@ -31,7 +31,7 @@ leg-closes to_end old begun ran now closed begun-is ran-is closes now-is =
       parts = ran.parts;
       so = subst (λ (h : HomeState). ClosesIn to_end (query_of old) (state_of h) closed) whole
           (subst (λ (h : HomeState). ClosesIn (runs_to_end h.phase) (query_of h) (state_of ran) closed) begun-is closes);
-      is = now-is ∙ ap (λ (h : HomeState). with_leg h closed) whole;
+      is = now-is ∙ ap (λ (h : HomeState). with_closed_leg h closed) whole;
     }
 
 -- ---- steps

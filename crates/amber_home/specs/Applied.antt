@@ -9,18 +9,18 @@ use Rattle.amber_worker.specs.Changes.{with_value}
 use Rattle.amber_worker.specs.WorkerState.{WorkerState}
 
 -- an operator with this number is there
-abbrev pub IsNumbered : ℕ → ℕ → Type 0
-IsNumbered op count = (0 < op) × (op ≤ count)
+abbrev pub HasOperator : ℕ → ℕ → Type 0
+HasOperator op count = (0 < op) × (op ≤ count)
 
 -- so it is with the operator at which a command changes what is in force
 abbrev pub NamesOneOf : Command → ℕ → Type 0
 NamesOneOf command.Run count = Unit {0}
 NamesOneOf command.End count = Unit {0}
-NamesOneOf (command.Pause op n) count = IsNumbered op count
+NamesOneOf (command.Pause op n) count = HasOperator op count
 NamesOneOf (command.Count op n) count = Unit {0}
 NamesOneOf (command.When op cond) count = Unit {0}
-NamesOneOf (command.Clear op) count = IsNumbered op count
-NamesOneOf (command.Set op value) count = IsNumbered op count
+NamesOneOf (command.Clear op) count = HasOperator op count
+NamesOneOf (command.Set op value) count = HasOperator op count
 NamesOneOf (command.Drop op worker) count = Unit {0}
 NamesOneOf (command.Inspect op) count = Unit {0}
 NamesOneOf (command.Lose op worker) count = Unit {0}

@@ -129,9 +129,9 @@ is_done_at_rest (command.Inspect op) = true
 is_done_at_rest (command.Lose op worker) = false
 
 -- a leg as an item, up to a stop or to the end
-abbrev pub leg_item : Bool → List Part → Close → Item
-leg_item true parts close = item.End (record { parts = parts; close = close })
-leg_item false parts close = item.Run (record { parts = parts; close = close })
+abbrev pub item_of_leg : Bool → List Part → Close → Item
+item_of_leg true parts close = item.End (record { parts = parts; close = close })
+item_of_leg false parts close = item.Run (record { parts = parts; close = close })
 
 -- how a leg may be closed in a state
 abbrev pub ClosesIn : Bool → Query → State → Close → Type 0
@@ -146,14 +146,14 @@ MayClose false e close.Cut = stops_of_home e ≢ []
 MayClose false e close.Long = (steps_in (state_of e) ≡ e.most) × (stops_of_home e ≡ [])
 
 -- the leg that is open stands in the log, closed so
-abbrev pub with_leg : HomeState → Close → HomeState
-with_leg e closed = record e { log = with_item e.log (leg_item (runs_to_end e.phase) e.parts closed); phase = phase.Resting; parts = [] }
+abbrev pub with_closed_leg : HomeState → Close → HomeState
+with_closed_leg e closed = record e { log = with_item e.log (item_of_leg (runs_to_end e.phase) e.parts closed); phase = phase.Resting; parts = [] }
 
 -- the leg stands in the log, closed so, and nothing else has changed
 pub record ClosesLeg (to_end : Bool) (old new : HomeState) (closed : Close) : Type 0 where
   pub parts : List Part
   pub so : ClosesIn to_end (query_of old) (leg_state old to_end parts) closed
-  pub is : new ≡ record old { log = with_item old.log (leg_item to_end parts closed); phase = phase.Resting; parts = [] }
+  pub is : new ≡ record old { log = with_item old.log (item_of_leg to_end parts closed); phase = phase.Resting; parts = [] }
 
 -- what a leg leaves: a stop stands, to the end all have finished; or the steps are as many as may be, and that is not so; or only
 -- memory was wanting

@@ -48,11 +48,11 @@ paused_stop op (Some n) rows = if nat_le n rows then stop.Pause op n rows ∷ []
 abbrev pub pauses_of : Run → List WorkerState → List Stop
 pauses_of run crew = flat_map (λ op. paused_stop op (pause_at run.arms op) (emitted_at crew (workers_of run.flow op))) (op_numbers run.flow)
 
-abbrev pub end_of : List WorkerState → List Stop
-end_of crew = if list_all (λ w. w.finished) crew then stop.End ∷ [] else []
+abbrev pub stop_at_end : List WorkerState → List Stop
+stop_at_end crew = if list_all (λ w. w.finished) crew then stop.End ∷ [] else []
 
 abbrev pub stops_by : Run → List WorkerState → List Stop
-stops_by run crew = pauses_of run crew ++ end_of crew
+stops_by run crew = pauses_of run crew ++ stop_at_end crew
 
 -- what is in force at an operator once its pause was taken away where it stands
 abbrev pub cut_at : Run → List WorkerState → ℕ → Arms

@@ -101,8 +101,8 @@ web_of flow size = record { sends = sends_to flow; size = size; senders = crew_o
 -- ---- the shares
 
 -- what a worker was given; none where it was given nothing
-abbrev pub share_at : List (Option (List Scanned)) → ℕ → Option (List Scanned)
-share_at shares worker = slice_index_or shares worker None
+abbrev pub share_of_worker : List (Option (List Scanned)) → ℕ → Option (List Scanned)
+share_of_worker shares worker = slice_index_or shares worker None
 
 -- what a worker of an operator is given of a file, by its place among the operator's workers
 abbrev pub dealt_share : Operator → List ℕ → ℕ → Option (List Scanned)
@@ -120,10 +120,10 @@ HasHeader (Ok made) operator file op = is_headed operator.what operator.schema f
 HasHeader (Err error) operator file op = NamesOperator error operator file op
 
 -- each of a scan's workers was given its share of the scan's records, and nobody else was given one
-pub record AreDealt (flow : List Operator) (records : List (List (Result (List Value) RowFault))) (shares : List (Option (List Scanned))) : Type 0 where
+pub record AreSharesDealt (flow : List Operator) (records : List (List (Result (List Value) RowFault))) (shares : List (Option (List Scanned))) : Type 0 where
   pub all : length shares ≡ crew_of flow
-  pub scans : (worker : ℕ) → worker < crew_of flow → is_some (share_at shares worker) ≡ is_scan (what_at flow (op_of flow worker))
-  pub dealt : (worker : ℕ) → worker < crew_of flow → HasShare (share_at shares worker) (role_of flow records worker)
+  pub scans : (worker : ℕ) → worker < crew_of flow → is_some (share_of_worker shares worker) ≡ is_scan (what_at flow (op_of flow worker))
+  pub dealt : (worker : ℕ) → worker < crew_of flow → HasShare (share_of_worker shares worker) (role_of flow records worker)
 
 -- ---- the workers
 
@@ -137,7 +137,7 @@ pub record Parts : Type 0 where
 
 -- a worker that was made of its parts, and has done nothing
 pub record IsNew (parts : Parts) (worker : ℕ) (made : WorkerState) : Type 0 where
-  pub stands : StandsNew parts.flow worker parts.size (share_at parts.shares worker) made
+  pub stands : StandsNew parts.flow worker parts.size (share_of_worker parts.shares worker) made
   pub outs : map link_of made.outs ≡ map roomless (ends_at parts.outs worker)
   pub ins : map end_of made.ins ≡ ends_at parts.ins worker
   pub journal : made.journal ≡ []

@@ -3,7 +3,7 @@
 ghost use Rattle.std.specs.Prelude.{◌≡◌, ◌∷◌, ◌++◌, ◌+◌, ◌<◌, ◌≤◌, ◌^◌, IfOk, OnErr, OnOk, [], length, map, replicate, true};
 ghost use Rattle.amber_log.specs.declared.log.Item.TheVariants as item;
 ghost use Rattle.amber_rows.specs.Lists.{changed_at};
-ghost use Rattle.amber_home.specs.Applied.{IsNumbered, NamesOneOf, arms_after, copies_wanted, crew_after, worker_set};
+ghost use Rattle.amber_home.specs.Applied.{HasOperator, NamesOneOf, arms_after, copies_wanted, crew_after, worker_set};
 ghost use Rattle.amber_home.specs.HomeState.{is_done_at_rest};
 
 use amber_arms::InForce;
@@ -75,7 +75,7 @@ fn set_workers(op: u32, value: &Value, mut copies: Vec<Value>, crew: &mut [Worke
 
 // Puts a value in force at an operator, and in place of its workers' constant.
 fn set_all(op: u32, value: &Value, mut copies: Vec<Value>, arms: &mut InForce, crew: &mut [Worker])
-    requires there { IsNumbered op (length arms.old) }
+    requires there { HasOperator op (length arms.old) }
     requires copies { copies.items ≡ replicate (length crew.old + 1) value.now }
     ensures arms { arms.new
         ≡ changed_at (λ one. record one { constants = value.now ∷ [] }) op arms.old }

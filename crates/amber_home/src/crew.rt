@@ -7,7 +7,7 @@ ghost use Rattle.amber_home.specs.AtWork.{AreAtWork, worker_state_at};
 ghost use Rattle.amber_home.specs.HomeState.{BeginsOrNames};
 ghost use Rattle.amber_rows.specs.Crew.{crew_of, op_of, what_at};
 ghost use Rattle.amber_rows.specs.Kinds.{is_scan};
-ghost use Rattle.amber_home.specs.Start.{AreEnds, AreNew, share_at, web_of};
+ghost use Rattle.amber_home.specs.Start.{AreEnds, AreNew, share_of_worker, web_of};
 
 use crate::error::HomeErr;
 use crate::linking::{Ins, Outs, link_crew};
@@ -31,7 +31,7 @@ fn make_crew(
     requires few { batch ≤ 65536 }
     requires all { length shares.items ≡ crew_of flow.now }
     requires dealt { (worker : ℕ) → worker < crew_of flow.now
-        → is_some (share_at shares.items worker)
+        → is_some (share_of_worker shares.items worker)
         ≡ is_scan (what_at flow.now (op_of flow.now worker)) }
     requires ends { AreEnds (web_of flow.now batch) outs.items ins.items }
     ensures { IfOk result (λ crew. AreNew (record {

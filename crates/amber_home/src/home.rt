@@ -8,7 +8,7 @@ ghost use Rattle.amber_meaning.specs.State.{have_finished, steps_in};
 ghost use Rattle.amber_meaning.specs.Views.{answer_in, inspected_of};
 ghost use Rattle.amber_home.specs.HomeState.{BeginsOrNames, ClosesIn, Ends, MayClose, StepsOn, has_crew};
 ghost use Rattle.amber_home.specs.HomeState.{is_done_at_rest, is_open, query_of, runs_to_end, state_of};
-ghost use Rattle.amber_home.specs.HomeState.{stops_of_home, with_item, with_leg};
+ghost use Rattle.amber_home.specs.HomeState.{stops_of_home, with_item, with_closed_leg};
 
 use crate::answer::{gather, gather_all};
 use crate::applying::{copies_for, push_command, put_in_force};
@@ -185,7 +185,7 @@ impl Home {
     pub fn close_leg(&mut self, alloc: Global, close: Close) -> Result<(), AllocError>
         requires within { is_open self.old.phase ≡ true }
         requires closes { MayClose (runs_to_end self.old.phase) self.old close }
-        ensures ok { OnOk result (self.new ≡ with_leg self.old close) }
+        ensures ok { OnOk result (self.new ≡ with_closed_leg self.old close) }
         ensures err { OnErr result
             (self.new ≡ record self.old { phase = Phase.Spent; parts = [] }) }
     {

@@ -1,7 +1,7 @@
 //! What the workers have done in a leg.
 ghost use Rattle.std.specs.Prelude.{◌≡◌, ◌∷◌, ◌++◌, ◌<◌, ◌^◌, [], length, map, IfOk, OnErr, OnOk};
 ghost use Rattle.amber_log.specs.Grammar.{is_last};
-ghost use Rattle.amber_home.specs.HomeState.{leg_item};
+ghost use Rattle.amber_home.specs.HomeState.{item_of_leg};
 ghost use Rattle.amber_home.specs.Parts.{part_if_any, parts_from, without_journal};
 
 use amber_log::{Close, Entries, Item, Items, Leg, Part, Parts};
@@ -34,8 +34,8 @@ fn take_parts(alloc: Global, crew: &mut [Worker]) -> Result<Parts, AllocError>
 }
 
 // A leg as an item, up to a stop or to the end.
-fn leg_item(to_end: bool, parts: Parts, close: Close) -> Item
-    ensures { result ≡ leg_item to_end parts close }
+fn item_of_leg(to_end: bool, parts: Parts, close: Close) -> Item
+    ensures { result ≡ item_of_leg to_end parts close }
 {
     let leg = Leg { parts, close };
     if to_end {
@@ -55,12 +55,12 @@ pub(crate) fn push_leg(
 ) -> Result<(), AllocError>
     requires { length crew.old < 2 ^ 32 }
     ensures items { OnOk result
-        (items.new ≡ items.old ++ leg_item to_end (parts_from 0 crew.old) close ∷ []) }
+        (items.new ≡ items.old ++ item_of_leg to_end (parts_from 0 crew.old) close ∷ []) }
     ensures crew { OnOk result (crew.new ≡ map without_journal crew.old) }
     ensures err { OnErr result (items.new ≡ items.old) }
 {
     let parts = take_parts(alloc, crew)?;
-    items.push(leg_item(to_end, parts, close))?;
+    items.push(item_of_leg(to_end, parts, close))?;
     Ok(())
 }
 

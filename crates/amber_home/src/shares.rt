@@ -3,7 +3,7 @@ ghost use Rattle.std.specs.Prelude.{◌≡◌, ◌+◌, ◌++◌, ◌<◌, ◌�
 ghost use Rattle.std.specs.Prelude.{IfOk, OnOk, length, replicate, slice_index_or};
 ghost use Rattle.amber_meaning.specs.Plain.{records_of};
 ghost use Rattle.amber_home.specs.HomeState.{BeginsOrNames};
-ghost use Rattle.amber_home.specs.Start.{AreDealt, HasHeader, dealt_share, share_at};
+ghost use Rattle.amber_home.specs.Start.{AreSharesDealt, HasHeader, dealt_share, share_of_worker};
 
 use crate::error::HomeErr;
 use amber_meaning::file_behind;
@@ -26,9 +26,9 @@ fn place_shares(mut dealt: Vec<Share>, first: usize, shares: &mut Vec<Option<Sha
     requires room { first + length dealt.items ≡ length shares.old.items }
     ensures all { length shares.new.items ≡ length shares.old.items }
     ensures before { (k : ℕ) → k < first
-        → share_at shares.new.items k ≡ share_at shares.old.items k }
+        → share_of_worker shares.new.items k ≡ share_of_worker shares.old.items k }
     ensures placed { (place : ℕ) → place < length dealt.items
-        → share_at shares.new.items (first + place)
+        → share_of_worker shares.new.items (first + place)
         ≡ Some (slice_index_or dealt.items place []) }
 {
     'dealt: while let Some(share) = dealt.pop() {
@@ -53,9 +53,9 @@ fn deal_operator(
     ensures all { OnOk result
         (length shares.new.items ≡ length shares.old.items + operator.now.workers) }
     ensures before { OnOk result ((k : ℕ) → k < length shares.old.items
-        → share_at shares.new.items k ≡ share_at shares.old.items k) }
+        → share_of_worker shares.new.items k ≡ share_of_worker shares.old.items k) }
     ensures dealt { OnOk result ((place : ℕ) → place < operator.now.workers
-        → share_at shares.new.items (length shares.old.items + place)
+        → share_of_worker shares.new.items (length shares.old.items + place)
         ≡ dealt_share operator.now file.now place) }
 {
     let first = shares.len();
@@ -80,7 +80,7 @@ pub(crate) fn deal_all(
 ) -> Result<Vec<Option<Share>>, HomeErr>
     ensures header { BeginsOrNames result flow.now files.now }
     ensures shares { IfOk result (λ shares.
-        AreDealt flow.now (records_of files.now flow.now) shares.items) }
+        AreSharesDealt flow.now (records_of files.now flow.now) shares.items) }
 {
     let operators = flow.get();
     let mut shares = Vec::new(alloc);

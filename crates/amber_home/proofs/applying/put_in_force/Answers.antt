@@ -1,6 +1,6 @@
 -- What a command asks for, by its kind.
 use Rattle.std.proofs.Common.{◌∙◌, ◌+◌, ap, sym, subst, length}
-use Rattle.amber_home.specs.Applied.{IsNumbered, NamesOneOf, arms_after, copies_wanted, crew_after}
+use Rattle.amber_home.specs.Applied.{HasOperator, NamesOneOf, arms_after, copies_wanted, crew_after}
 use Rattle.amber_home.proofs.applying.put_in_force.Goals as goal
 
 pub set_all-requires : goal.set_all-requires
@@ -11,12 +11,12 @@ set_all-requires c = record {
 
 pub pause-requires : goal.pause-requires
 pause-requires c =
-    let there : IsNumbered c.in-Pause.op (length c.args.arms.now) = subst (λ one. NamesOneOf one (length c.args.arms.now)) c.in-Pause.is c.requires.there in
+    let there : HasOperator c.in-Pause.op (length c.args.arms.now) = subst (λ one. NamesOneOf one (length c.args.arms.now)) c.in-Pause.is c.requires.there in
     record { some = there.0; there = there.1 }
 
 pub clear-requires : goal.clear-requires
 clear-requires c =
-    let there : IsNumbered c.in-Clear.op (length c.args.arms.now) = subst (λ one. NamesOneOf one (length c.args.arms.now)) c.in-Clear.is c.requires.there in
+    let there : HasOperator c.in-Clear.op (length c.args.arms.now) = subst (λ one. NamesOneOf one (length c.args.arms.now)) c.in-Clear.is c.requires.there in
     record { some = there.0; there = there.1 }
 
 pub returns-in-Pause : goal.returns-in-Pause

@@ -3,14 +3,14 @@ use Rattle.std.proofs.Common.{◌≡◌, ◌∙◌, ◌<◌, [], All, ap, map, s
 use Rattle.std.proofs.lemmas.List.{get_or_default, length_push}
 use Rattle.amber_rows.specs.Crew.{crew_of, receivers_of, senders_of}
 use Rattle.amber_worker.specs.Made.{IsFreshIn, IsFreshOut, roomless}
-use Rattle.amber_home.specs.Start.{ends_at, share_at}
+use Rattle.amber_home.specs.Start.{ends_at, share_of_worker}
 use Rattle.amber_home.proofs.Begun.{left-put, new-more}
 use Rattle.amber_home.proofs.crew.make_crew.Goals as goal
 
 pub new-requires-in-workers-2-clause-shared : goal.new-requires-in-workers-2-clause-shared
 new-requires-in-workers-2-clause-shared c =
     let below : c.workers.worker < crew_of c.args.flow.now = search rules in
-    let own_share : c.replace-share.result ≡ share_at c.workers.shares.items c.workers.worker =
+    let own_share : c.replace-share.result ≡ share_of_worker c.workers.shares.items c.workers.worker =
     c.replace-share.ensures.value ∙ c.index_mut.ensures.value
     ∙ get_or_default c.workers.shares.items c.workers.worker _ None (omega (arith, below, c.workers.invariant.shares_all, c.requires.all)) in
     ap (λ share. is_some share) (own_share ∙ c.workers.invariant.shares c.workers.worker (omega arith)) ∙ c.requires.dealt c.workers.worker below
@@ -52,7 +52,7 @@ new-requires-in-workers-2-clause-fresh_ins c =
 pub workers-preserved : goal.workers-preserved
 workers-preserved c =
     let below : c.workers.worker < crew_of c.args.flow.now = search rules in
-    let own_share : c.replace-share.result ≡ share_at c.workers.shares.items c.workers.worker =
+    let own_share : c.replace-share.result ≡ share_of_worker c.workers.shares.items c.workers.worker =
     c.replace-share.ensures.value ∙ c.index_mut.ensures.value
     ∙ get_or_default c.workers.shares.items c.workers.worker _ None (omega (arith, below, c.workers.invariant.shares_all, c.requires.all)) in
     let own_outs : c.into_inner-own_outs.result.items ≡ ends_at c.workers.outs.items c.workers.worker =

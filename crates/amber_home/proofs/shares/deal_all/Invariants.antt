@@ -3,7 +3,7 @@ use Rattle.std.proofs.Common.{◌≡◌, ◌+◌, ◌<◌, ℕ, drop, take, leng
 use Rattle.amber_rows.specs.Crew.{crew_of}
 use Rattle.amber_meaning.specs.Plain.{records_of, wrong_header}
 use Rattle.amber_meaning.specs.ScanFiles.{files_left}
-use Rattle.amber_home.specs.Start.{share_at}
+use Rattle.amber_home.specs.Start.{share_of_worker}
 use Rattle.amber_home.proofs.Dealing.{IsDealt}
 use Rattle.amber_home.proofs.shares.deal_all.Given as goal
 
@@ -11,5 +11,5 @@ abbrev pub invariant-operators : goal.invariant-operators
 invariant-operators l = record {
   header : wrong_header 1 l.files l.flow ≡ wrong_header (l.before + 1) (files_left l.files (take l.before l.flow)) (drop l.before l.flow);
   all : length l.shares.items ≡ crew_of (take l.before l.flow);
-  dealt : (k : ℕ) → k < crew_of (take l.before l.flow) → IsDealt l.flow (records_of l.files l.flow) k (share_at l.shares.items k);
+  dealt : (k : ℕ) → k < crew_of (take l.before l.flow) → IsDealt l.flow (records_of l.files l.flow) k (share_of_worker l.shares.items k);
 }

@@ -1,7 +1,7 @@
 -- The leg stands in the log, and the workers rest.
 use Rattle.std.proofs.Common.{◌≡◌, sym, ap, subst, ◌∙◌, length, map, [], ◌∷◌, ◌++◌, ◌<◌, ◌^◌, true}
 use Rattle.std.proofs.lemmas.List.{length-map}
-use Rattle.amber_home.specs.HomeState.{HomeState, MayClose, is_open, leg_item, runs_to_end}
+use Rattle.amber_home.specs.HomeState.{HomeState, MayClose, is_open, item_of_leg, runs_to_end}
 use Rattle.amber_home.specs.Kept.{IsHome}
 use Rattle.amber_home.specs.Leg.{closed_arms, stops_by}
 use Rattle.amber_home.specs.Parts.{open_parts, parts_from, without_journal}
@@ -49,8 +49,8 @@ invariant_of-self-2 c =
     (home-closed e i.crew.items i.arms i.stops i.phase c.self.invariant within c.args.close
     (record { batch = i.log.batch; items = c.push_leg.new.items }) c.close_arms.new.arms c.in_ok-stops.stops closes
     (ap (λ items. record i.log { items = items }) (c.in_ok-push_leg.ensures.items
-    ∙ ap (λ b. i.log.items ++ leg_item b (parts_from 0 c.as_mut_slice.result.now) c.args.close ∷ []) to_end
-    ∙ ap (λ xs. i.log.items ++ leg_item (runs_to_end i.phase) (parts_from 0 xs) c.args.close ∷ []) lent))
+    ∙ ap (λ b. i.log.items ++ item_of_leg b (parts_from 0 c.as_mut_slice.result.now) c.args.close ∷ []) to_end
+    ∙ ap (λ xs. i.log.items ++ item_of_leg (runs_to_end i.phase) (parts_from 0 xs) c.args.close ∷ []) lent))
     (c.close_arms.ensures ∙ ap (λ b. closed_arms b c.args.close (record { flow = i.flow; arms = i.arms }) c.as_slice-2.result.now) to_end
     ∙ ap (closed_arms (runs_to_end i.phase) c.args.close (record { flow = i.flow; arms = i.arms })) c.as_slice-2.ensures.value)
     (c.in_ok-stops.ensures ∙ ap (stops_by (record { flow = i.flow; arms = i.arms })) c.as_slice.ensures.value))
