@@ -1,6 +1,11 @@
--- Copies of a value, taken one after the other from the end.
-use Rattle.std.proofs.Common.{◌≡◌, ap, ◌∙◌, ℕ, ◌-◌, ◌<◌, List, length, replicate, take, get_or, Some, unwrap_or, arith}
-use Rattle.std.proofs.lemmas.List.{get_or-replicate, length-replicate, take-replicate}
+-- Copies of a value, made one after the other, and taken one after the other from the end.
+use Rattle.std.proofs.Common.{◌≡◌, ap, ◌∙◌, ℕ, ◌+◌, ◌-◌, ◌<◌, List, [], ◌∷◌, ◌++◌, length, replicate, take, get_or, Some, unwrap_or, arith}
+use Rattle.std.proofs.lemmas.List.{get_or-replicate, length-replicate, replicate-append-replicate, take-replicate}
+
+-- one copy more
+pub copies-more : {A : Type 0} (n : ℕ) (value one : A) (old new : List A) → old ≡ replicate n value → one ≡ value → new ≡ old ++ one ∷ [] → new ≡ replicate (n + 1) value
+copies-more n value one old new are same is =
+    is ∙ ap (λ xs. xs ++ one ∷ []) are ∙ ap (λ x. replicate n value ++ x ∷ []) same ∙ replicate-append-replicate n 1 value
 
 module _ {A : Type 0} (n many : ℕ) (value : A) (old : List A) (are : old ≡ replicate n value) (count : many ≡ length old) where
   all : many ≡ n
