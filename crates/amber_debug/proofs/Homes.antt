@@ -81,7 +81,7 @@ runs-long to_end old new text leg last = (has-leg to_end old new close.Long leg,
 -- the log has an item
 pub leg-there : (to_end : Bool) (old new : HomeState) (closed : Close) → ClosesLeg to_end old new closed → 0 < length new.log.items
 leg-there to_end old new closed leg =
-    let long : length new.log.items ≡ length old.log.items + 1 = ap (λ (e : HomeState). length e.log.items) leg.is ∙ length_push old.log.items (leg_item to_end leg.parts closed) in
+    let long : length new.log.items ≡ length old.log.items + 1 = ap (λ (e : HomeState). length e.log.items) leg.is ∙ length_push old.log.items (item_of_leg to_end leg.parts closed) in
     omega arith
 
 -- memory ran out behind a leg, or within it

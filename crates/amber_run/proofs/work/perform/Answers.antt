@@ -1,7 +1,7 @@
 -- The log is made, and then come the commands.
-use Rattle.std.proofs.Common.{◌≡◌, ◌++◌, [], Err, ap, sym, subst, ◌∙◌, refl, rules}
+use Rattle.std.proofs.Common.{◌≡◌, [], Err, ap, sym, subst, ◌∙◌, refl, rules}
 use Rattle.std.specs.Io.KnownBytes.{Appends}
-use Rattle.amber_run.specs.RunTask.{RunTask, end_alone}
+use Rattle.amber_run.specs.RunTask.{RunTask}
 use Rattle.amber_run.specs.UnderWay.{IsUnderWay}
 use Rattle.amber_run.specs.World.{showing}
 use Rattle.amber_run.proofs.Finishing.{opens-counts, opens-failure, worked-script}

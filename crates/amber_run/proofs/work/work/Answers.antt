@@ -1,5 +1,5 @@
 -- The run begins, and is performed.
-use Rattle.std.proofs.Common.{◌≡◌, ◌++◌, ap, sym, refl, rules}
+use Rattle.std.proofs.Common.{◌≡◌, ◌++◌, ap, refl, rules}
 use Rattle.amber_run.specs.RunTask.{IsSession, end_alone, run_task_of}
 use Rattle.amber_run.specs.World.{showing}
 use Rattle.amber_run.proofs.work.work.Goals as goal
