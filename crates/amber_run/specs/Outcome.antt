@@ -76,8 +76,8 @@ AsksFor words files job = (read : Words) × (call_words_of words ≡ Some read) 
 -- ---- `Long`
 
 -- a file reads as this log, and all others are as before
-abbrev pub HasLog : Option Named → Option Named → List ℕ → Log → Type 0
-HasLog told now name log = (bytes : List ℕ) × (now ≡ with_file told name bytes) × IsReadAs bytes log
+abbrev pub HoldsLog : Option Named → Option Named → List ℕ → Log → Type 0
+HoldsLog told now name log = (bytes : List ℕ) × (now ≡ with_file told name bytes) × IsReadAs bytes log
 
 -- the status is `Long` where this holds, and only there, but for want of memory
 abbrev pub IsLongWhere : Status → Type 0 → Type 0
@@ -86,7 +86,7 @@ IsLongWhere result P = (result ≡ status.NoMemory) ⊎ ((result ≡ status.Long
 -- LOG reads as a log, and the status is `Long` where the last leg of it closes with `long`, and only there
 abbrev pub RunsLong : Status → Option Named → Option Named → List ℕ → Type 0
 RunsLong result told now name =
-    (result ≡ status.NoMemory) ⊎ ((log : Log) × HasLog told now name log × ((result ≡ status.Long) ↔ (ends_long false log.items ≡ true)))
+    (result ≡ status.NoMemory) ⊎ ((log : Log) × HoldsLog told now name log × ((result ≡ status.Long) ↔ (ends_long false log.items ≡ true)))
 
 -- when a job is too long: `plain` where the operators give more rows than they may, a run where its log says so
 abbrev pub TellsLong : Job → Status → Option Named → Option Named → Type 0
