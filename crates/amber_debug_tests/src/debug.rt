@@ -1,90 +1,81 @@
 // A debugger whose runs are short: the numbers of a file that are 2 or more.
-ghost use Rattle.std.specs.Prelude.{◌≡◌, ◌<◌, ◌≤◌, ◌^◌, [], length, IfOk};
-ghost use Rattle.amber_meaning.specs.Plain.{scan_count};
+ghost use Rattle.std.specs.Prelude.{◌≡◌, ◌≤◌, ◌^◌, [], IfOk};
 
-use crate::query::query;
-use amber_debug::{DebugErr, Debugger, HomeErr, NoMemory};
+use crate::expected::expect_text;
+use crate::query::{files_of, query};
+use amber_debug::{DebugErr, Debugger, Done, HomeErr, NoMemory};
 use amber_log::Command;
-use amber_rows::{Bytes, Files, Flow};
 use std::alloc::Global;
 use std::test::Fail;
 
-fn bytes(alloc: Global, file: &str) -> Result<Bytes, NoMemory> {
-    Ok(Bytes::new(Vec::from_slice(alloc, file.as_bytes())?))
-}
-
-fn started(
-    alloc: Global,
-    flow: Flow,
-    files: Files,
-    batch: u32,
-    most: u64,
-) -> Result<Debugger, HomeErr>
-    requires one_each { length files ≡ scan_count flow }
-    requires some { 0 < batch }
-    requires few { batch ≤ 65536 }
-    requires steps { most ≤ 2 ^ 40 }
+// A debugger of the query over this file, with 400 rows in a batch and at most so many steps.
+fn started(alloc: Global, file: &str, most: u64) -> Result<Debugger, HomeErr>
+    requires { most ≤ 2 ^ 40 }
     ensures { IfOk result (λ d. d.log.items ≡ []) }
 {
-    Debugger::start(alloc, flow, files, batch, 1, most)
+    let flow = query(alloc)?;
+    let files = files_of(alloc, file)?;
+    Debugger::start(alloc, flow, files, 400, 1, most)
 }
 
-// What a run to the end over these files writes and replies.
-#[tactic(auto, unfolding(amber_log::specs::Fits::fits_of))]
-fn told_of(alloc: Global, flow: Flow, files: Files, batch: u32, most: u64) -> Result<String, Fail>
-    requires one_each { length files ≡ scan_count flow }
-    requires some { 0 < batch }
-    requires few { batch ≤ 65536 }
-    requires steps { most ≤ 2 ^ 40 }
-{
-    let mut debugger = match started(alloc, flow, files, batch, most) {
-        Ok(debugger) => debugger,
-        Err(HomeErr::Header(op)) => return Ok(format!(in alloc; "header {op}")?),
-        Err(HomeErr::NoMemory) => return Ok(format!(in alloc; "no memory")?),
-    };
-    let (bytes, reply) = match debugger.command(alloc, &Command::End) {
-        Ok(done) => (done.item, done.reply),
-        Err(DebugErr::Long { item }) => (item, Bytes::new(Vec::new(alloc))),
-        Err(DebugErr::Spent) => return Ok(format!(in alloc; "spent")?),
-        Err(DebugErr::NoMemory) => return Ok(format!(in alloc; "no memory")?),
-    };
-    let mut all = String::from_utf8_lossy(alloc, bytes.get())?;
-    all.push_str(String::from_utf8_lossy(alloc, reply.get())?.as_str())?;
+// What a command wrote and replied.
+fn done_text(alloc: Global, done: &Done) -> Result<String, NoMemory> {
+    let mut all = String::from_utf8_lossy(alloc, done.item.get())?;
+    let reply = String::from_utf8_lossy(alloc, done.reply.get())?;
+    all.push_str(reply.as_str())?;
     Ok(all)
 }
 
-// Of the numbers that are 2 or more.
-fn told(alloc: Global, file: &str, batch: u32, most: u64) -> Result<String, Fail>
-    requires some { 0 < batch }
-    requires few { batch ≤ 65536 }
-    requires steps { most ≤ 2 ^ 40 }
-{
-    let flow = query(alloc)?;
-    let file = bytes(alloc, file)?;
-    let files = Files::new(vec![in alloc; file]?);
-    told_of(alloc, flow, files, batch, most)
+// What a command that was not done wrote, or why it was not done.
+fn undone_text(alloc: Global, error: &DebugErr) -> Result<String, NoMemory> {
+    match error {
+        DebugErr::Long { item } => String::from_utf8_lossy(alloc, item.get()),
+        DebugErr::Spent => String::from_str(alloc, "spent"),
+        DebugErr::NoMemory => String::from_str(alloc, "no memory"),
+    }
 }
+
+// What a run to the end writes and replies.
+#[tactic(auto, unfolding(amber_log::specs::Fits::fits_of))]
+fn end_text(alloc: Global, debugger: &mut Debugger) -> Result<String, NoMemory>
+    requires { debugger.old.log.items ≡ [] }
+{
+    match debugger.command(alloc, &Command::End) {
+        Ok(done) => done_text(alloc, &done),
+        Err(error) => undone_text(alloc, &error),
+    }
+}
+
+// Why a run cannot begin.
+fn refusal(alloc: Global, error: HomeErr) -> Result<String, NoMemory> {
+    match error {
+        HomeErr::Header(op) => format!(in alloc; "header {op}"),
+        HomeErr::NoMemory => String::from_str(alloc, "no memory"),
+    }
+}
+
+// What a run to the end over this file writes and replies, or why it cannot begin.
+fn told(alloc: Global, file: &str, most: u32) -> Result<String, NoMemory> {
+    match started(alloc, file, u64::from(most)) {
+        Ok(mut debugger) => end_text(alloc, &mut debugger),
+        Err(error) => refusal(alloc, error),
+    }
+}
+
+const NUMBERS: &str = "n\n2\n3\n4\n5\n6\n";
 
 #[test]
 fn a_run_is_as_long_as_its_steps(rt: HostRuntime) -> Result<(), Fail> {
-    for (most, want) in [
-        (
-            30,
-            "end\nw 0\ng 5 5\nf\nw 1\nt 0 0\ng 5 5\nf\nw 2\nt 1 0\ng 5 0\nf\ncut\nrows 5\nn\n2\n3\n4\n5\n6\n",
-        ),
-        (
-            29,
-            "end\nw 0\ng 5 5\nf\nw 1\nt 0 0\ng 5 5\nf\nw 2\nt 1 0\ng 5 0\nlong\n",
-        ),
-        (3, "end\nw 0\ng 2 1\nlong\n"),
-        (0, "end\nlong\n"),
-    ] {
-        assert_eq!(rt;
-            told(rt.alloc(), "n\n2\n3\n4\n5\n6\n", 400, most)?.as_str(),
-            want,
-            "{most}"
-        );
-    }
-    assert_eq!(rt; told(rt.alloc(), "m\n3\n", 400, 9)?.as_str(), "header 1");
-    Ok(())
+    let alloc = rt.alloc();
+    expect_text(
+        told(alloc, NUMBERS, 30)?,
+        "end\nw 0\ng 5 5\nf\nw 1\nt 0 0\ng 5 5\nf\nw 2\nt 1 0\ng 5 0\nf\ncut\nrows 5\nn\n2\n3\n4\n5\n6\n",
+    )?;
+    expect_text(
+        told(alloc, NUMBERS, 29)?,
+        "end\nw 0\ng 5 5\nf\nw 1\nt 0 0\ng 5 5\nf\nw 2\nt 1 0\ng 5 0\nlong\n",
+    )?;
+    expect_text(told(alloc, NUMBERS, 3)?, "end\nw 0\ng 2 1\nlong\n")?;
+    expect_text(told(alloc, NUMBERS, 0)?, "end\nlong\n")?;
+    expect_text(told(alloc, "m\n3\n", 9)?, "header 1")
 }

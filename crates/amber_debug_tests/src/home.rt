@@ -1,4 +1,5 @@
 // A home called by hand: a leg step by step, commands at rest, and a leg to the end.
+use crate::expected::expect_text;
 use crate::home_calls::{
     answer, apply, close_leg, end, finished, home_over, numbers, open_leg, shown, step, stops,
     take_answer,
@@ -11,98 +12,111 @@ use std::test::Fail;
 
 // ---- a leg step by step
 
-// A home within a leg that stops once the filter has emitted a row.
-fn within_a_leg(alloc: Global) -> Result<Home, Fail> {
-    let mut home = home_over(alloc, "n\n2\n1\n3\n")?;
+// Opens a leg that stops once the filter has emitted a row. Whether it is open.
+fn begin_leg(alloc: Global, home: &mut Home) -> Result<bool, NoMemory> {
     let pause = Command::Pause { op: 2, n: 1 };
-    if apply(alloc, &mut home, &pause)? && open_leg(&mut home) {
-        return Ok(home);
-    }
-    Err(Fail::new("no leg was opened"))
+    Ok(apply(alloc, home, &pause)? && open_leg(home))
+}
+
+// Whether a stop stands.
+fn has_stopped(alloc: Global, home: &Home) -> Result<bool, NoMemory> {
+    Ok(!stops(alloc, home)?.is_empty())
 }
 
 // Steps of the leg that is open until a stop stands. How many were made.
 fn steps_to_a_stop(alloc: Global, home: &mut Home) -> Result<u32, NoMemory> {
     for made in 0..30 {
-        if !stops(alloc, home)?.get().is_empty() || !step(home)? {
+        if has_stopped(alloc, home)? || !step(home)? {
             return Ok(made);
         }
     }
     Ok(30)
 }
 
+// What a leg tells of itself: whether it was opened, how many steps were made, and whether it was closed.
+fn leg_text(alloc: Global, home: &mut Home) -> Result<String, NoMemory> {
+    let opened = begin_leg(alloc, home)?;
+    let made = steps_to_a_stop(alloc, home)?;
+    let closed = close_leg(alloc, home)?;
+    format!(in alloc; "opened {opened} steps {made} closed {closed}")
+}
+
+// The same, with the stops and the numbers of the home behind it.
+fn stopped_text(alloc: Global, home: &mut Home) -> Result<String, NoMemory> {
+    let leg = leg_text(alloc, home)?;
+    let stops = stops(alloc, home)?;
+    let numbers = numbers(alloc, home)?;
+    format!(in alloc; "{leg}\n{stops}{numbers}")
+}
+
 // The scan takes and emits three rows and finishes; the filter takes the batch and the first row, and emits it.
 #[test]
 fn a_leg_is_run_step_by_step(rt: HostRuntime) -> Result<(), Fail> {
-    let alloc = rt.alloc();
-    let mut home = within_a_leg(alloc)?;
-    assert_eq!(rt; steps_to_a_stop(alloc, &mut home)?, 10);
-    assert!(rt; close_leg(alloc, &mut home)?);
-    assert_eq!(rt;
-        stops(alloc, &home)?.get(),
-        b"stop pause big 1 1\n".as_slice()
-    );
-    assert_eq!(rt;
-        numbers(alloc, &home)?.as_str(),
-        "operators 3 files 1 items 2 most 30 steps 10"
-    );
-    Ok(())
+    let mut home = home_over(rt.alloc(), "n\n2\n1\n3\n")?;
+    expect_text(
+        stopped_text(rt.alloc(), &mut home)?,
+        "opened true steps 10 closed true\nstop pause big 1 1\noperators 3 files 1 items 2 most 30 steps 10",
+    )
 }
 
 // ---- commands at rest
 
-// A home of which the filter is to pause after a row and has another constant.
-fn asked(alloc: Global) -> Result<Home, Fail> {
-    let mut home = home_over(alloc, "n\n2\n1\n3\n4\n")?;
+// Asks the filter to pause after a row, and gives it another constant. Whether both was done.
+fn ask(alloc: Global, home: &mut Home) -> Result<bool, NoMemory> {
     let pause = Command::Pause { op: 2, n: 1 };
     let value = Value::Int(3);
     let set = Command::Set { op: 2, value };
-    if apply(alloc, &mut home, &pause)? && apply(alloc, &mut home, &set)? {
-        return Ok(home);
-    }
-    Err(Fail::new("a command was not done"))
+    Ok(apply(alloc, home, &pause)? && apply(alloc, home, &set)?)
+}
+
+// What the filter shows once it was asked, and once that was taken back.
+fn asked_text(alloc: Global, home: &mut Home) -> Result<String, NoMemory> {
+    let asked = ask(alloc, home)?;
+    let before = shown(alloc, home)?;
+    let cleared = apply(alloc, home, &Command::Clear { op: 2 })?;
+    let after = shown(alloc, home)?;
+    format!(in alloc; "asked {asked}\n{before}cleared {cleared}\n{after}")
 }
 
 #[test]
 fn a_filter_shows_what_was_asked_of_it(rt: HostRuntime) -> Result<(), Fail> {
-    let alloc = rt.alloc();
-    let mut home = asked(alloc)?;
-    assert_eq!(rt;
-        shown(alloc, &home)?.get(),
-        b"inspect big filter\nconstant 3\npause 1\nworker 0 taken 0 rest 0 out 0 pending 0 ready\n".as_slice()
-    );
-    assert!(rt; apply(alloc, &mut home, &Command::Clear { op: 2 })?);
-    assert_eq!(rt;
-        shown(alloc, &home)?.get(),
-        b"inspect big filter\nconstant 3\nworker 0 taken 0 rest 0 out 0 pending 0 ready\n".as_slice()
-    );
-    Ok(())
+    let mut home = home_over(rt.alloc(), "n\n2\n1\n3\n4\n")?;
+    expect_text(
+        asked_text(rt.alloc(), &mut home)?,
+        "asked true\ninspect big filter\nconstant 3\npause 1\nworker 0 taken 0 rest 0 out 0 pending 0 ready\ncleared true\ninspect big filter\nconstant 3\nworker 0 taken 0 rest 0 out 0 pending 0 ready\n",
+    )
 }
 
 // ---- a leg to the end
 
-// A home at its end, after a look at the filter.
-fn at_its_end(alloc: Global) -> Result<Home, Fail> {
-    let mut home = asked(alloc)?;
-    if apply(alloc, &mut home, &Command::Inspect { op: 2 })? && end(alloc, &mut home)? {
-        return Ok(home);
-    }
-    Err(Fail::new("a call was not made"))
+// Brings a home to its end, after a look at the filter. Whether each call was made.
+fn come_to_the_end(alloc: Global, home: &mut Home) -> Result<bool, Fail> {
+    let look = Command::Inspect { op: 2 };
+    Ok(ask(alloc, home)? && apply(alloc, home, &look)? && end(alloc, home)?)
+}
+
+// The answer, as it is told and as it is taken out, and whether the home is over then.
+fn answers_text(alloc: Global, home: &mut Home) -> Result<String, NoMemory> {
+    let told = answer(alloc, home)?;
+    let taken = take_answer(alloc, home)?;
+    let over = home.phase() == Phase::Over;
+    format!(in alloc; "{told}{taken}over {over}")
+}
+
+// Whether a home comes to its end, with all finished and the log closed; and its answers.
+fn end_text(alloc: Global, home: &mut Home) -> Result<String, Fail> {
+    let ended = come_to_the_end(alloc, home)?;
+    let finished = finished(home);
+    let closed = home.closed();
+    let answers = answers_text(alloc, home)?;
+    Ok(format!(in alloc; "ended {ended} finished {finished} closed {closed}\n{answers}")?)
 }
 
 #[test]
 fn the_answer_is_told_and_taken_out(rt: HostRuntime) -> Result<(), Fail> {
-    let alloc = rt.alloc();
-    let mut home = at_its_end(alloc)?;
-    assert!(rt; finished(&home) && home.closed());
-    assert_eq!(rt;
-        answer(alloc, &home)?.get(),
-        b"rows 2\nn\n3\n4\n".as_slice()
-    );
-    assert_eq!(rt;
-        take_answer(alloc, &mut home)?.get(),
-        b"rows 2\nn\n3\n4\n".as_slice()
-    );
-    assert!(rt; home.phase() == Phase::Over);
-    Ok(())
+    let mut home = home_over(rt.alloc(), "n\n2\n1\n3\n4\n")?;
+    expect_text(
+        end_text(rt.alloc(), &mut home)?,
+        "ended true finished true closed true\nrows 2\nn\n3\n4\nrows 2\nn\n3\n4\nover true",
+    )
 }

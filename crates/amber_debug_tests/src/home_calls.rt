@@ -3,20 +3,19 @@ ghost use Rattle.std.specs.Prelude.{◌≡◌, false, true};
 ghost use Rattle.amber_log.specs.Grammar.{ends_over};
 ghost use Rattle.amber_home.specs.HomeState.{has_crew, is_done_at_rest, is_open};
 
-use crate::query::query;
+use crate::query::{files_of, query};
 use amber_home::{Home, NoMemory, Phase};
 use amber_log::{Close, Command, fits};
 use amber_meaning::Answer;
 use amber_report::{answer_lines, inspect_lines, stop_lines};
-use amber_rows::{Bytes, Files};
+use amber_rows::Bytes;
 use std::alloc::Global;
 use std::test::Fail;
 
 /// The home of the query over this file, with 400 rows in a batch and at most 30 steps.
 pub fn home_over(alloc: Global, file: &str) -> Result<Home, Fail> {
     let flow = query(alloc)?;
-    let file = Bytes::new(Vec::from_slice(alloc, file.as_bytes())?);
-    let files = Files::new(vec![in alloc; file]?);
+    let files = files_of(alloc, file)?;
     let home = Home::new(alloc, flow, files, 400, 30)?;
     Ok(home)
 }
@@ -116,22 +115,29 @@ pub fn numbers(alloc: Global, home: &Home) -> Result<String, NoMemory> {
     format!(in alloc; "operators {operators} files {files} items {items} most {most} steps {steps}")
 }
 
+// Lines as a text.
+fn text_of(alloc: Global, lines: &Bytes) -> Result<String, NoMemory> {
+    String::from_utf8_lossy(alloc, lines.get())
+}
+
 /// The stops that are told.
-pub fn stops(alloc: Global, home: &Home) -> Result<Bytes, NoMemory> {
+pub fn stops(alloc: Global, home: &Home) -> Result<String, NoMemory> {
     if !are_there(home) {
-        return Ok(Bytes::new(Vec::new(alloc)));
+        return Ok(String::new(alloc));
     }
     let stops = home.stops(alloc)?;
-    stop_lines(alloc, home.flow(), &stops)
+    let lines = stop_lines(alloc, home.flow(), &stops)?;
+    text_of(alloc, &lines)
 }
 
 /// What the filter shows.
-pub fn shown(alloc: Global, home: &Home) -> Result<Bytes, NoMemory> {
+pub fn shown(alloc: Global, home: &Home) -> Result<String, NoMemory> {
     if !are_there(home) || home.flow().get().len() < 2 {
-        return Ok(Bytes::new(Vec::new(alloc)));
+        return Ok(String::new(alloc));
     }
     let shown = home.inspect(alloc, 2)?;
-    inspect_lines(alloc, home.flow(), &shown)
+    let lines = inspect_lines(alloc, home.flow(), &shown)?;
+    text_of(alloc, &lines)
 }
 
 /// Whether all have finished.
@@ -140,29 +146,30 @@ pub fn finished(home: &Home) -> bool {
 }
 
 // An answer as it is printed.
-fn printed(alloc: Global, home: &Home, answer: &Answer) -> Result<Bytes, NoMemory> {
-    answer_lines(alloc, home.flow(), answer)
+fn printed(alloc: Global, home: &Home, answer: &Answer) -> Result<String, NoMemory> {
+    let lines = answer_lines(alloc, home.flow(), answer)?;
+    text_of(alloc, &lines)
 }
 
 /// The answer; nothing where somebody has not finished.
-pub fn answer(alloc: Global, home: &Home) -> Result<Bytes, NoMemory> {
+pub fn answer(alloc: Global, home: &Home) -> Result<String, NoMemory> {
     if !are_there(home) || !home.have_finished() {
-        return Ok(Bytes::new(Vec::new(alloc)));
+        return Ok(String::new(alloc));
     }
     let answer = home.answer(alloc)?;
     printed(alloc, home, &answer)
 }
 
 /// The same, taken out of the home.
-pub fn take_answer(alloc: Global, home: &mut Home) -> Result<Bytes, NoMemory> {
+pub fn take_answer(alloc: Global, home: &mut Home) -> Result<String, NoMemory> {
     match home.phase() {
         Phase::Resting => {
             if !home.have_finished() {
-                return Ok(Bytes::new(Vec::new(alloc)));
+                return Ok(String::new(alloc));
             }
             let answer = home.take_answer(alloc)?;
             printed(alloc, home, &answer)
         }
-        _ => Ok(Bytes::new(Vec::new(alloc))),
+        _ => Ok(String::new(alloc)),
     }
 }

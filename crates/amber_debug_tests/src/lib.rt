@@ -7,6 +7,8 @@
 #[cfg(test)]
 mod debug;
 #[cfg(test)]
+mod expected;
+#[cfg(test)]
 mod home;
 #[cfg(test)]
 mod home_calls;

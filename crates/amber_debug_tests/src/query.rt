@@ -1,8 +1,10 @@
-// One query, the numbers of a file that are 2 or more: a scan, a filter and a sink.
-ghost use Rattle.std.specs.Prelude.{◌≡◌, ◌++◌, ◌∷◌, [], codes, IfOk, OnOk};
+// One query, the numbers of a file that are 2 or more: a scan, a filter and a sink; and its file.
+ghost use Rattle.std.specs.Prelude.{◌≡◌, ◌++◌, ◌∷◌, [], codes, length, IfOk, OnOk};
 ghost use Rattle.amber_meaning.specs.Plain.{scan_count};
 
-use amber_rows::{Cmp, ColKind, Column, Cond, Flow, NoMemory, Operator, Schema, Text, Value, What};
+use amber_rows::{
+    Bytes, Cmp, ColKind, Column, Cond, Files, Flow, NoMemory, Operator, Schema, Text, Value, What,
+};
 use std::alloc::Global;
 
 fn text(alloc: Global, written: &str) -> Result<Text, NoMemory>
@@ -61,4 +63,12 @@ pub fn query(alloc: Global) -> Result<Flow, NoMemory>
     )?;
     add(alloc, &mut operators, "out", What::Sink { input: 2 })?;
     Ok(Flow::new(operators))
+}
+
+/// The one file of the workflow.
+pub fn files_of(alloc: Global, file: &str) -> Result<Files, NoMemory>
+    ensures { IfOk result (λ files. length files ≡ 1) }
+{
+    let file = Bytes::new(Vec::from_slice(alloc, file.as_bytes())?);
+    Ok(Files::new(vec![in alloc; file]?))
 }

@@ -1,5 +1,6 @@
 // Files of cases that are broken.
-use amber_case_text::Reader;
+use crate::expected::expect_text;
+use amber_case_text::{Broken, Case, Reader};
 use std::alloc::{AllocError, Global};
 use std::test::Fail;
 
@@ -39,23 +40,31 @@ fn file_text(alloc: Global, written: &str) -> Result<String, AllocError> {
     Ok(text)
 }
 
-// How many cases a file has, or which line is refused.
-fn told(alloc: Global, text: &str) -> Result<String, AllocError> {
-    match Reader::new(alloc).read(text) {
-        Ok(cases) => {
-            let count = cases.len();
-            format!(in alloc; "{count} cases")
-        }
+// How many cases were read, or which line is refused.
+fn shown(alloc: Global, found: &Result<Vec<Case>, Broken>) -> Result<String, AllocError> {
+    match found {
+        Ok(cases) => format!(in alloc; "{} cases", cases.len()),
         Err(broken) => format!(in alloc; "{broken}"),
     }
+}
+
+// The same of a file.
+fn told(alloc: Global, text: &str) -> Result<String, AllocError> {
+    let found = Reader::new(alloc).read(text);
+    shown(alloc, &found)
+}
+
+// Expects of a file what stands behind it.
+fn expect_told(alloc: Global, line: &str) -> Result<(), Fail> {
+    let (written, want) = line.split_once(" => ").unwrap_or((line, ""));
+    let text = file_text(alloc, written)?;
+    expect_text(told(alloc, &text)?, want)
 }
 
 #[test]
 fn a_broken_file_is_told_with_its_line(rt: HostRuntime) -> Result<(), Fail> {
     for line in FILES.lines() {
-        let (written, want) = line.split_once(" => ").unwrap_or((line, ""));
-        let text = file_text(rt.alloc(), written)?;
-        assert_eq!(rt; told(rt.alloc(), text.as_str())?.as_str(), want, "{line}");
+        expect_told(rt.alloc(), line)?;
     }
     Ok(())
 }

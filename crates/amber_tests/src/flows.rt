@@ -1,5 +1,8 @@
 // A workflow that is read.
+use crate::expected::expect_text;
 use amber_flow::{FlowErr, FlowWhy, read_flow};
+use amber_rows::Flow;
+use std::alloc::{AllocError, Global};
 use std::test::Fail;
 
 // A workflow of all kinds.
@@ -22,13 +25,18 @@ Some(Operator { id: "j", what: Join { build: 1, probe: 4, build_keys: Cols { inn
 Some(Operator { id: "g", what: Group { input: 5, keys: Cols { inner: [4, 2] }, aggs: Aggs { inner: [Max(3), Count, Sum(1), Min(1)] } }, schema: Schema { inner: [Column { name: "price", kind: Int }, Column { name: "thing", kind: Text }, Column { name: "max:name", kind: Text }, Column { name: "count", kind: Int }, Column { name: "sum:n", kind: Int }, Column { name: "min:n", kind: Int }] }, workers: 1 })
 Some(Operator { id: "s", what: Sink { input: 6 }, schema: Schema { inner: [Column { name: "price", kind: Int }, Column { name: "thing", kind: Text }, Column { name: "max:name", kind: Text }, Column { name: "count", kind: Int }, Column { name: "sum:n", kind: Int }, Column { name: "min:n", kind: Int }] }, workers: 1 })"#;
 
+// An operator.
+fn shown(alloc: Global, flow: &Flow, op: u32) -> Result<String, AllocError> {
+    let operator = flow.operator(op);
+    format!(in alloc; "{operator:?}")
+}
+
 #[test]
 fn each_kind_is_read_whole(rt: HostRuntime) -> Result<(), Fail> {
     let flow = read_flow(rt.alloc(), WORKFLOW.as_bytes())?;
-    let mut op = 1;
+    let mut op: u32 = 1;
     for wanted in READ.lines() {
-        let operator = flow.operator(op);
-        assert_eq!(rt; format!(in rt.alloc(); "{operator:?}")?.as_str(), wanted);
+        expect_text(shown(rt.alloc(), &flow, op)?, wanted)?;
         op = op.saturating_add(1);
     }
     Ok(())
@@ -40,7 +48,5 @@ fn errors_are_shown(rt: HostRuntime) -> Result<(), Fail> {
         op: 3,
         why: FlowWhy::SinkPlace,
     };
-    let text = error.to_string(rt.alloc())?;
-    assert_eq!(rt; text.as_str(), "operator 3: SinkPlace");
-    Ok(())
+    expect_text(error.to_string(rt.alloc())?, "operator 3: SinkPlace")
 }

@@ -1,8 +1,9 @@
 // The states of groups.
+use crate::expected::{expect_number, expect_rows};
 use crate::written::{cols, rows};
 use amber_group::GroupState;
 use amber_rows::{Agg, Aggs, Row, Value};
-use std::alloc::Global;
+use std::alloc::{AllocError, Global};
 use std::test::Fail;
 
 // An aggregate as the tables write it: `count`, or a word and a column.
@@ -28,20 +29,25 @@ fn aggs(alloc: Global, written: &str) -> Result<Aggs, Fail> {
     Ok(Aggs::new(all))
 }
 
-// Feeds a group rows, of which it takes fewer than 2^40.
+// Feeds a group a row, of which it takes fewer than 2^40.
+fn feed(state: &mut GroupState, row: &Row) -> Result<(), AllocError> {
+    if state.fed() < 1 << 40 {
+        state.feed(row)?;
+    }
+    Ok(())
+}
+
+// Feeds a group rows.
 fn feed_all(alloc: Global, state: &mut GroupState, written: &str) -> Result<(), Fail> {
     for row in rows(alloc, written)? {
-        if state.fed() < 1 << 40 {
-            state.feed(&row)?;
-        }
+        feed(state, &row)?;
     }
     Ok(())
 }
 
 // A group, and what it gives.
-#[derive(Clone, Copy)]
+#[derive(Drop)]
 struct Case {
-    name: &'static str,
     keys: &'static str,
     aggs: &'static str,
     fed: &'static str,
@@ -53,8 +59,8 @@ struct Case {
 
 // `amber_group` has more groups in `proofs/Examples.antt`, computed from the definition.
 const GROUPS: [Case; 4] = [
+    // Groups stand where their keys came first.
     Case {
-        name: "groups stand where their keys came first",
         keys: "1",
         aggs: "count sum2 min3 max3 min2 max2",
         fed: "'b 5 'x / 'a 1 'y / 'b -7 'w / 'b 0 'wa /",
@@ -62,8 +68,8 @@ const GROUPS: [Case; 4] = [
         refused: "",
         groups: 2,
     },
+    // Texts add nothing.
     Case {
-        name: "texts add nothing",
         keys: "1",
         aggs: "sum2",
         fed: "'a 'x / 'a 3 / 'b 'y /",
@@ -71,8 +77,8 @@ const GROUPS: [Case; 4] = [
         refused: "",
         groups: 2,
     },
+    // No such column.
     Case {
-        name: "no such column",
         keys: "1",
         aggs: "min3",
         fed: "'a 1 / 'b 2 9 /",
@@ -80,8 +86,8 @@ const GROUPS: [Case; 4] = [
         refused: "'a /",
         groups: 2,
     },
+    // A number against a text.
     Case {
-        name: "a number against a text",
         keys: "1",
         aggs: "count",
         fed: "1 / '1 / 1 /",
@@ -91,32 +97,39 @@ const GROUPS: [Case; 4] = [
     },
 ];
 
-// A copy of the state of a group of rows.
-fn fed(alloc: Global, keys: &str, wanted: &str, written: &str) -> Result<GroupState, Fail> {
-    let mut state = GroupState::new(alloc, cols(alloc, keys)?, aggs(alloc, wanted)?);
-    feed_all(alloc, &mut state, written)?;
+// The state of a group.
+fn fed(alloc: Global, case: &Case) -> Result<GroupState, Fail> {
+    let keys = cols(alloc, case.keys)?;
+    let aggs = aggs(alloc, case.aggs)?;
+    let mut state = GroupState::new(alloc, keys, aggs);
+    feed_all(alloc, &mut state, case.fed)?;
+    Ok(state)
+}
+
+// A copy of the state of a group.
+fn copied(alloc: Global, case: &Case) -> Result<GroupState, Fail> {
+    let state = fed(alloc, case)?;
     Ok(state.clone()?)
 }
 
-// Whether a group gives these rows, and refuses these keys.
-fn gives(alloc: Global, state: &GroupState, want: &str, refused: &str) -> Result<bool, Fail> {
+// Expects of a group its rows, and the keys that it refuses.
+fn expect_rows_of(alloc: Global, state: &GroupState, case: &Case) -> Result<(), Fail> {
     let found = state.finish(alloc)?;
-    let want = rows(alloc, want)?;
-    let refused = rows(alloc, refused)?;
-    Ok(found.rows.get() == want.as_slice() && found.refused.get() == refused.as_slice())
+    expect_rows(alloc, found.rows.get(), case.rows)?;
+    expect_rows(alloc, found.refused.get(), case.refused)
+}
+
+// The same, and how many groups there are.
+fn expect_group(alloc: Global, state: &GroupState, case: &Case) -> Result<(), Fail> {
+    expect_rows_of(alloc, state, case)?;
+    expect_number(state.groups(), case.groups)
 }
 
 #[test]
 fn a_group_gives_its_rows_and_refuses_keys(rt: HostRuntime) -> Result<(), Fail> {
-    let alloc = rt.alloc();
-    for case in GROUPS {
-        let name = case.name;
-        let state = fed(alloc, case.keys, case.aggs, case.fed)?;
-        assert!(rt;
-            gives(alloc, &state, case.rows, case.refused)?,
-            "rows of {name}"
-        );
-        assert_eq!(rt; state.groups(), case.groups, "groups of {name}");
+    for case in &GROUPS {
+        let state = copied(rt.alloc(), case)?;
+        expect_group(rt.alloc(), &state, case)?;
     }
     Ok(())
 }

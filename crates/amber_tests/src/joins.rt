@@ -1,10 +1,11 @@
 // The states of joins.
 ghost use Rattle.std.specs.Prelude.{◌≡◌, false, true, IfOk};
 
+use crate::expected::{expect_number, expect_rows};
 use crate::written::{cols, rows};
 use amber_join::{JoinState, NoMemory};
 use amber_rows::{Row, Value};
-use std::alloc::Global;
+use std::alloc::{AllocError, Global};
 use std::test::Fail;
 
 // Feeds a join build rows.
@@ -20,23 +21,30 @@ fn build_all(alloc: Global, state: &mut JoinState, written: &str) -> Result<(), 
     Ok(())
 }
 
+// Puts what a join gives of a probe row behind the rest.
+fn probe(alloc: Global, state: &JoinState, row: &Row, made: &mut Vec<Row>) -> Result<(), AllocError>
+    requires { state.now.sealed ≡ true }
+{
+    for found in state.probe(alloc, row)?.into_inner() {
+        made.push(found)?;
+    }
+    Ok(())
+}
+
 // What a join gives of probe rows.
 fn probed(alloc: Global, state: &JoinState, written: &str) -> Result<Vec<Row>, Fail>
     requires { state.now.sealed ≡ true }
 {
     let mut made = Vec::new(alloc);
     for row in rows(alloc, written)? {
-        for found in state.probe(alloc, &row)?.into_inner() {
-            made.push(found)?;
-        }
+        probe(alloc, state, &row, &mut made)?;
     }
     Ok(made)
 }
 
 // A join, and what it gives.
-#[derive(Clone, Copy)]
+#[derive(Drop)]
 struct Case {
-    name: &'static str,
     build_keys: &'static str,
     probe_keys: &'static str,
     build: &'static str,
@@ -49,8 +57,8 @@ struct Case {
 
 // `amber_join` has more joins in `proofs/Examples.antt`, computed from the definition.
 const JOINS: [Case; 3] = [
+    // Matches stand in the order of the build rows.
     Case {
-        name: "matches stand in the order of the build rows",
         build_keys: "1",
         probe_keys: "1",
         build: "7 'x / 8 'y / 7 'z / 7 'x /",
@@ -59,8 +67,8 @@ const JOINS: [Case; 3] = [
         keys: 2,
         rows: 4,
     },
+    // No key column.
     Case {
-        name: "no key column",
         build_keys: "",
         probe_keys: "",
         build: "1 / 2 /",
@@ -69,8 +77,8 @@ const JOINS: [Case; 3] = [
         keys: 1,
         rows: 2,
     },
+    // A number against a text.
     Case {
-        name: "a number against a text",
         build_keys: "2",
         probe_keys: "1",
         build: "'number 1 / 'text '1 /",
@@ -81,43 +89,47 @@ const JOINS: [Case; 3] = [
     },
 ];
 
-// A sealed copy of the state of a join of build rows.
-fn built(
-    alloc: Global,
-    build_keys: &str,
-    probe_keys: &str,
-    written: &str,
-) -> Result<JoinState, Fail>
+// A join of the build rows.
+fn built(alloc: Global, case: &Case) -> Result<JoinState, Fail> {
+    let build_keys = cols(alloc, case.build_keys)?;
+    let probe_keys = cols(alloc, case.probe_keys)?;
+    let mut state = JoinState::new(alloc, build_keys, probe_keys);
+    build_all(alloc, &mut state, case.build)?;
+    Ok(state)
+}
+
+// A sealed copy of it.
+fn sealed(alloc: Global, case: &Case) -> Result<JoinState, Fail>
     ensures { IfOk result (λ state. state.sealed ≡ true) }
 {
-    let mut state = JoinState::new(alloc, cols(alloc, build_keys)?, cols(alloc, probe_keys)?);
-    build_all(alloc, &mut state, written)?;
+    let state = built(alloc, case)?;
     let mut copy = state.clone()?;
     copy.seal();
     Ok(copy)
 }
 
-// Whether a join gives these rows of these probe rows.
-fn gives(alloc: Global, state: &JoinState, probe: &str, want: &str) -> Result<bool, Fail>
+// Expects of a join the matches of the probe rows.
+fn expect_matches(alloc: Global, state: &JoinState, case: &Case) -> Result<(), Fail>
     requires { state.now.sealed ≡ true }
 {
-    let found = probed(alloc, state, probe)?;
-    let want = rows(alloc, want)?;
-    Ok(found.as_slice() == want.as_slice())
+    let found = probed(alloc, state, case.probe)?;
+    expect_rows(alloc, &found, case.matches)
+}
+
+// The same, and how many keys and build rows there are.
+fn expect_join(alloc: Global, state: &JoinState, case: &Case) -> Result<(), Fail>
+    requires { state.now.sealed ≡ true }
+{
+    expect_matches(alloc, state, case)?;
+    expect_number(state.keys(), case.keys)?;
+    expect_number(state.rows(), case.rows)
 }
 
 #[test]
 fn a_probe_row_stands_before_each_build_row_with_its_key(rt: HostRuntime) -> Result<(), Fail> {
-    let alloc = rt.alloc();
-    for case in JOINS {
-        let name = case.name;
-        let state = built(alloc, case.build_keys, case.probe_keys, case.build)?;
-        assert!(rt;
-            gives(alloc, &state, case.probe, case.matches)?,
-            "matches of {name}"
-        );
-        assert_eq!(rt; state.keys(), case.keys, "keys of {name}");
-        assert_eq!(rt; state.rows(), case.rows, "rows of {name}");
+    for case in &JOINS {
+        let state = sealed(rt.alloc(), case)?;
+        expect_join(rt.alloc(), &state, case)?;
     }
     Ok(())
 }

@@ -7,6 +7,8 @@
 #[cfg(test)]
 mod cases;
 #[cfg(test)]
+mod expected;
+#[cfg(test)]
 mod flows;
 #[cfg(test)]
 mod folders;

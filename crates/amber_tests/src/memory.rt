@@ -1,5 +1,6 @@
 // A folder and a sink in memory. What they do where a call fails is shown by the cases of `amber_cases`.
-use crate::folders::loaded;
+use crate::expected::expect_text;
+use crate::folders::expect_loaded;
 use amber_io::{Fails, Folder, IoErr, MemFolder, MemSink, NamedFiles, Numbers, Sink};
 use std::alloc::{AllocError, Global};
 use std::test::Fail;
@@ -38,13 +39,12 @@ fn write(folder: &mut MemFolder) -> Result<(), IoErr> {
 fn a_folder_in_memory_loads_and_writes(rt: HostRuntime) -> Result<(), Fail> {
     let alloc = rt.alloc();
     let mut folder = folder(alloc)?;
-    assert!(rt; loaded(alloc, &mut folder, "o.csv", 2)?.as_str() == "id");
-    assert!(rt; loaded(alloc, &mut folder, "o.csv", 2)?.as_str() == "failed");
-    assert!(rt; loaded(alloc, &mut folder, "O.csv", 2)?.as_str() == "failed");
-    assert!(rt; loaded(alloc, &mut folder, "o.csv", 9)?.as_str() == "id,qty");
+    expect_loaded(alloc, &mut folder, "o.csv", 2, "id")?;
+    expect_loaded(alloc, &mut folder, "o.csv", 2, "failed")?;
+    expect_loaded(alloc, &mut folder, "O.csv", 2, "failed")?;
+    expect_loaded(alloc, &mut folder, "o.csv", 9, "id,qty")?;
     write(&mut folder)?;
-    assert!(rt; loaded(alloc, &mut folder, "log", 9)?.as_str() == "head+tail");
-    Ok(())
+    expect_loaded(alloc, &mut folder, "log", 9, "head+tail")
 }
 
 #[test]
@@ -58,9 +58,10 @@ fn a_sink_in_memory_keeps_its_pieces(rt: HostRuntime) -> Result<(), Fail> {
 
 #[test]
 fn an_error_prints_what_it_is(rt: HostRuntime) -> Result<(), Fail> {
-    let text = IoErr::Failed.to_string(rt.alloc())?;
-    assert!(rt; text.as_str() == "the folder or the sink failed");
-    let text = IoErr::NoMemory.to_string(rt.alloc())?;
-    assert!(rt; text.as_str() == "out of memory");
-    Ok(())
+    let alloc = rt.alloc();
+    expect_text(
+        IoErr::Failed.to_string(alloc)?,
+        "the folder or the sink failed",
+    )?;
+    expect_text(IoErr::NoMemory.to_string(alloc)?, "out of memory")
 }

@@ -1,6 +1,7 @@
 // The states of filters, projections and sinks.
 ghost use Rattle.std.specs.Prelude.{◌≡◌, OnOk};
 
+use crate::expected::{expect_row, expect_rows};
 use crate::written::{cols, row, rows};
 use amber_ops::{FilterState, NoMemory, ProjectState, SinkState};
 use amber_rows::{Cmp, Cond, Row, Value};
@@ -20,33 +21,40 @@ fn given(alloc: Global, filter: &mut FilterState, written: &str) -> Result<Vec<R
     Ok(all)
 }
 
+// Expects of a filter these of the same rows.
+fn expect_given(alloc: Global, filter: &mut FilterState, want: &str) -> Result<(), Fail>
+    ensures { OnOk result (filter.new ≡ filter.old) }
+{
+    let found = given(alloc, filter, "'a 3 / 'b 1 / 'a 3 / 'c 2 / 'd")?;
+    expect_rows(alloc, &found, want)
+}
+
 #[test]
 fn a_filter_gives_the_rows_that_hold_under_the_constant_in_force(
     rt: HostRuntime,
 ) -> Result<(), Fail> {
-    let alloc = rt.alloc();
     let mut filter = FilterState::new(Cond {
         column: 2,
         op: Cmp::Ge,
         constant: Value::Int(2),
     });
-    let fed = "'a 3 / 'b 1 / 'a 3 / 'c 2 / 'd";
-    let under_two = given(alloc, &mut filter, fed)?;
+    expect_given(rt.alloc(), &mut filter, "'a 3 / 'a 3 / 'c 2")?;
     let mut copy = filter.clone()?;
     filter.set(Value::Int(3));
-    let cases = [
-        (under_two, "'a 3 / 'a 3 / 'c 2"),
-        (given(alloc, &mut filter, fed)?, "'a 3 / 'a 3"),
-        (given(alloc, &mut copy, fed)?, "'a 3 / 'a 3 / 'c 2"),
-    ];
-    for (found, want) in &cases {
-        assert_eq!(rt;
-            found.as_slice(),
-            rows(alloc, want)?.as_slice(),
-            "not {want}"
-        );
-    }
-    Ok(())
+    expect_given(rt.alloc(), &mut filter, "'a 3 / 'a 3")?;
+    expect_given(rt.alloc(), &mut copy, "'a 3 / 'a 3 / 'c 2")
+}
+
+// Expects of a projection a row of another one.
+fn expect_projected(
+    alloc: Global,
+    project: &mut ProjectState,
+    fed: &str,
+    want: &str,
+) -> Result<(), Fail> {
+    let row = row(alloc, fed)?;
+    let found = project.feed(&row)?;
+    expect_row(alloc, &found, want)
 }
 
 #[test]
@@ -54,16 +62,10 @@ fn a_projection_gives_the_cells_in_the_order_of_its_columns(rt: HostRuntime) -> 
     let alloc = rt.alloc();
     let mut project = ProjectState::new(alloc, cols(alloc, "3 1 3")?);
     let mut copy = project.clone()?;
-    for (fed, want) in [("7 'pear 12", "12 7 12"), ("'x 0 'y 1", "'y 'x 'y")] {
-        let want = row(alloc, want)?;
-        assert_eq!(rt; project.feed(&row(alloc, fed)?)?, want, "of {fed}");
-        assert_eq!(rt;
-            copy.feed(&row(alloc, fed)?)?,
-            want,
-            "of {fed}, by the copy"
-        );
-    }
-    Ok(())
+    expect_projected(alloc, &mut project, "7 'pear 12", "12 7 12")?;
+    expect_projected(alloc, &mut copy, "7 'pear 12", "12 7 12")?;
+    expect_projected(alloc, &mut project, "'x 0 'y 1", "'y 'x 'y")?;
+    expect_projected(alloc, &mut copy, "'x 0 'y 1", "'y 'x 'y")
 }
 
 // Feeds a sink rows.
@@ -76,21 +78,21 @@ fn feed_all(alloc: Global, sink: &mut SinkState, written: &str) -> Result<(), Fa
     Ok(())
 }
 
+// Expects of a sink its rows in their order.
+fn expect_sorted(alloc: Global, sink: &SinkState, want: &str) -> Result<(), Fail> {
+    let found = sink.sorted(alloc)?;
+    expect_rows(alloc, found.get(), want)
+}
+
 #[test]
 fn a_sink_sorts_its_rows_and_keeps_equal_ones(rt: HostRuntime) -> Result<(), Fail> {
     let alloc = rt.alloc();
     let mut sink = SinkState::new(alloc);
-    assert!(rt; sink.sorted(alloc)?.is_empty());
+    expect_sorted(alloc, &sink, "")?;
     feed_all(alloc, &mut sink, "2 'b / 'a / 2 'b / -7")?;
     let copy = sink.clone()?;
     feed_all(alloc, &mut sink, "'a / 2")?;
-    let cases = [
-        (sink.sorted(alloc)?, "-7 / 2 / 2 'b / 2 'b / 'a / 'a"),
-        (copy.sorted(alloc)?, "-7 / 2 'b / 2 'b / 'a"),
-        (sink.sorted(alloc)?, "-7 / 2 / 2 'b / 2 'b / 'a / 'a"),
-    ];
-    for (found, want) in &cases {
-        assert_eq!(rt; found.get(), rows(alloc, want)?.as_slice(), "not {want}");
-    }
-    Ok(())
+    expect_sorted(alloc, &sink, "-7 / 2 / 2 'b / 2 'b / 'a / 'a")?;
+    expect_sorted(alloc, &copy, "-7 / 2 'b / 2 'b / 'a")?;
+    expect_sorted(alloc, &sink, "-7 / 2 / 2 'b / 2 'b / 'a / 'a")
 }

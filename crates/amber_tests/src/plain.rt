@@ -2,8 +2,9 @@
 ghost use Rattle.std.specs.Prelude.{◌≡◌};
 ghost use Rattle.amber_meaning.specs.Plain.{scan_count};
 
+use crate::expected::expect_text;
 use amber_flow::read_flow;
-use amber_meaning::PlainErr;
+use amber_meaning::{Answer, PlainErr};
 use amber_plain::plain;
 use amber_rows::{Bytes, Files, Flow};
 use std::alloc::{AllocError, Global};
@@ -34,32 +35,44 @@ fn scans_of(flow: &Flow) -> usize
         .count()
 }
 
-// How many rows the answer has, over these prices and the orders.
-fn told(alloc: Global, prices: &str, most: u64) -> Result<String, Fail> {
-    let flow = read_flow(alloc, PRICED.as_bytes())?;
+// The files of the prices and of the orders.
+fn files(alloc: Global, prices: &str) -> Result<Files, AllocError> {
     let prices = bytes(alloc, prices)?;
     let orders = bytes(alloc, ORDERS)?;
-    let files = Files::new(vec![in alloc; prices, orders]?);
-    if files.get().len() != scans_of(&flow) {
-        return Ok(format!(in alloc; "not a file for each scan")?);
+    Ok(Files::new(vec![in alloc; prices, orders]?))
+}
+
+// How many rows an answer has, or why there is none.
+fn shown(alloc: Global, found: &Result<Answer, PlainErr>) -> Result<String, AllocError> {
+    match found {
+        Ok(answer) => format!(in alloc; "{} rows", answer.rows.get().len()),
+        Err(PlainErr::Header(op)) => format!(in alloc; "header {op}"),
+        Err(PlainErr::Long) => String::from_str(alloc, "long"),
+        Err(PlainErr::NoMemory) => String::from_str(alloc, "no memory"),
     }
-    match plain(alloc, &flow, &files, most) {
-        Ok(answer) => Ok(format!(in alloc; "{} rows", answer.rows.get().len())?),
-        Err(PlainErr::Header(op)) => Ok(format!(in alloc; "header {op}")?),
-        Err(PlainErr::Long) => Ok(format!(in alloc; "long")?),
-        Err(PlainErr::NoMemory) => Ok(format!(in alloc; "no memory")?),
+}
+
+// The same of the answer over these files.
+fn told_of(alloc: Global, flow: &Flow, files: &Files, most: u64) -> Result<String, AllocError> {
+    if files.get().len() != scans_of(flow) {
+        return String::from_str(alloc, "not a file for each scan");
     }
+    let found = plain(alloc, flow, files, most);
+    shown(alloc, &found)
+}
+
+// The same over these prices and the orders.
+fn told(alloc: Global, prices: &str, most: u64) -> Result<String, Fail> {
+    let flow = read_flow(alloc, PRICED.as_bytes())?;
+    let files = files(alloc, prices)?;
+    Ok(told_of(alloc, &flow, &files, most)?)
 }
 
 #[test]
 fn all_operators_rows_are_counted(rt: HostRuntime) -> Result<(), Fail> {
-    for (prices, most, want) in [
-        (PRICES, 20, "6 rows"),
-        (PRICES, 19, "long"),
-        (PRICES, 0, "long"),
-        ("name\nnut\n", 20, "header 1"),
-    ] {
-        assert_eq!(rt; told(rt.alloc(), prices, most)?.as_str(), want, "{most}");
-    }
-    Ok(())
+    let alloc = rt.alloc();
+    expect_text(told(alloc, PRICES, 20)?, "6 rows")?;
+    expect_text(told(alloc, PRICES, 19)?, "long")?;
+    expect_text(told(alloc, PRICES, 0)?, "long")?;
+    expect_text(told(alloc, "name\nnut\n", 20)?, "header 1")
 }

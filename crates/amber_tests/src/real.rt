@@ -1,6 +1,7 @@
 // The system's files and its standard output.
-use crate::folders::loaded;
+use crate::folders::{expect_loaded, loaded};
 use amber_io::{Folder, IoErr, RealFolder, RealSink, Sink};
+use std::alloc::{AllocError, Global};
 use std::os::unix::fs::symlink;
 use std::rt::{Env, Files};
 use std::test::Fail;
@@ -18,12 +19,12 @@ fn real_folder_loads_what_a_file_holds(rt: HostRuntime) -> Result<(), Fail> {
     let name = path.as_str();
     fs::write(&rt, name, "pausable")?;
     let mut folder = RealFolder::new(rt.alloc(), &rt);
-    assert!(rt; loaded(rt.alloc(), &mut folder, name, 0)?.as_str() == "");
-    assert!(rt; loaded(rt.alloc(), &mut folder, name, 5)?.as_str() == "pausa");
-    assert!(rt; loaded(rt.alloc(), &mut folder, name, 8)?.as_str() == "pausable");
-    assert!(rt; loaded(rt.alloc(), &mut folder, name, u64::MAX)?.as_str() == "pausable");
+    expect_loaded(rt.alloc(), &mut folder, name, 0, "")?;
+    expect_loaded(rt.alloc(), &mut folder, name, 5, "pausa")?;
+    expect_loaded(rt.alloc(), &mut folder, name, 8, "pausable")?;
+    expect_loaded(rt.alloc(), &mut folder, name, u64::MAX, "pausable")?;
     fs::remove_file(&rt, name)?;
-    assert!(rt; loaded(rt.alloc(), &mut folder, name, 5)?.as_str() == "failed");
+    expect_loaded(rt.alloc(), &mut folder, name, 5, "failed")?;
     Ok(())
 }
 
@@ -36,22 +37,40 @@ fn real_folder_writes_behind_what_it_made(rt: HostRuntime) -> Result<(), Fail> {
     folder.create(name)?;
     folder.append(name, b"head")?;
     folder.append(name, b"+tail")?;
-    assert!(rt; loaded(rt.alloc(), &mut folder, name, 99)?.as_str() == "head+tail");
+    expect_loaded(rt.alloc(), &mut folder, name, 99, "head+tail")?;
     fs::remove_file(&rt, name)?;
     assert!(rt; folder.append(name, b"x") == Err(IoErr::Failed));
     Ok(())
 }
 
-// Makes a file, a link to it and a second name of it.
-fn make_names<R: Files + AllocGlobal + Clone + Drop>(
-    rt: &R,
-    path: &str,
-    link: &str,
-    second: &str,
-) -> io::Result<()> {
-    fs::write(rt, path, "input")?;
-    symlink(rt, path, link)?;
-    fs::hard_link(rt, path, second)
+// The names of a file: the one by which it is made, another spelling of it, a link to it and a second name of it.
+#[derive(Drop)]
+struct Names {
+    path: String,
+    spelled: String,
+    link: String,
+    second: String,
+}
+
+// Four names in the system's temporary folder.
+fn temporary_names<R: Env + AllocGlobal>(rt: &R) -> io::Result<Names> {
+    let path = temporary(rt, "amber_io_real_input")?;
+    let spelled = temporary(rt, "./amber_io_real_input")?;
+    let link = temporary(rt, "amber_io_real_link")?;
+    let second = temporary(rt, "amber_io_real_second")?;
+    Ok(Names {
+        path,
+        spelled,
+        link,
+        second,
+    })
+}
+
+// Makes the file, the link and the second name.
+fn make<R: Files + AllocGlobal + Clone + Drop>(rt: &R, names: &Names) -> io::Result<()> {
+    fs::write(rt, &names.path, "input")?;
+    symlink(rt, &names.path, &names.link)?;
+    fs::hard_link(rt, &names.path, &names.second)
 }
 
 // Removes a file, where it is there.
@@ -59,27 +78,40 @@ fn clear<R: Files + AllocGlobal + Clone + Drop>(rt: &R, path: &str) {
     let _ = fs::remove_file(rt, path);
 }
 
+// Removes the link and the second name, where they are there.
+fn clear_links<R: Files + AllocGlobal + Clone + Drop>(rt: &R, names: &Names) {
+    clear(rt, &names.second);
+    clear(rt, &names.link);
+}
+
 fn refuses<F: Folder>(folder: &mut F, name: &str) -> bool {
     folder.create(name) == Err(IoErr::Failed)
 }
 
+fn refuses_all<F: Folder>(folder: &mut F, names: &Names) -> bool {
+    refuses(folder, &names.path)
+        && refuses(folder, &names.spelled)
+        && refuses(folder, &names.link)
+        && refuses(folder, &names.second)
+}
+
+// Whether a folder makes no file of any of the names, and loads before and after what the file holds.
+fn keeps<F: Folder>(alloc: Global, folder: &mut F, names: &Names) -> Result<bool, AllocError> {
+    let before = loaded(alloc, folder, &names.path, 9)?;
+    let refused = refuses_all(folder, names);
+    let after = loaded(alloc, folder, &names.path, 9)?;
+    Ok(refused && before == after)
+}
+
 #[test]
 fn real_folder_keeps_a_loaded_file_under_each_of_its_names(rt: HostRuntime) -> Result<(), Fail> {
-    let path = temporary(&rt, "amber_io_real_input")?;
-    let spelled = temporary(&rt, "./amber_io_real_input")?;
-    let link = temporary(&rt, "amber_io_real_link")?;
-    let second = temporary(&rt, "amber_io_real_second")?;
-    clear(&rt, &link);
-    clear(&rt, &second);
-    make_names(&rt, &path, &link, &second)?;
+    let names = temporary_names(&rt)?;
+    clear_links(&rt, &names);
+    make(&rt, &names)?;
     let mut folder = RealFolder::new(rt.alloc(), &rt);
-    let before = loaded(rt.alloc(), &mut folder, &path, 9)?;
-    assert!(rt; refuses(&mut folder, &path) && refuses(&mut folder, &spelled));
-    assert!(rt; refuses(&mut folder, &link) && refuses(&mut folder, &second));
-    assert!(rt; before == loaded(rt.alloc(), &mut folder, &path, 9)?);
-    clear(&rt, &second);
-    clear(&rt, &link);
-    clear(&rt, &path);
+    assert!(rt; keeps(rt.alloc(), &mut folder, &names)?);
+    clear_links(&rt, &names);
+    clear(&rt, &names.path);
     Ok(())
 }
 

@@ -1,4 +1,5 @@
 // Records of files: read, typed and written.
+use crate::expected::expect_bytes;
 use crate::written::{row, rows, two_columns};
 use amber_rows::{
     RecordReader, Row, RowFault, append_names, append_rows, are_names, has_header, read_int,
@@ -23,28 +24,43 @@ fn typed(alloc: Global, fields: &[&[u8]]) -> Result<Result<Row, RowFault>, Alloc
 
 #[test]
 fn a_record_without_a_field_has_another_width(rt: HostRuntime) -> Result<(), Fail> {
-    let alloc = rt.alloc();
-    match typed(alloc, &[])? {
-        Ok(_) => assert!(rt; false),
-        Err(fault) => assert!(rt; fault == RowFault::Width),
-    }
-    match typed(alloc, &[b"-12", b"\xC3\xA9"])? {
-        Ok(typed) => assert!(rt; typed == row(alloc, "-12 'é")?),
-        Err(_) => assert!(rt; false),
-    }
+    let want = row(rt.alloc(), "-12 'é")?;
+    assert!(rt; typed(rt.alloc(), &[])? == Err(RowFault::Width));
+    assert!(rt; typed(rt.alloc(), &[b"-12", b"\xC3\xA9"])? == Ok(want));
     Ok(())
+}
+
+// The names of the columns and rows, behind a text.
+fn table(alloc: Global, rows: &[Row]) -> Result<Vec<u8>, AllocError> {
+    let schema = two_columns(alloc)?;
+    let before = Vec::from_slice(alloc, b"# ")?;
+    let names = append_names(alloc, before, &schema)?;
+    append_rows(alloc, names, rows)
 }
 
 #[test]
 fn rows_of_any_width_are_written_behind_a_text(rt: HostRuntime) -> Result<(), Fail> {
-    let alloc = rt.alloc();
-    let rows = rows(alloc, "-1 'a,b / 20 ' / '")?;
-    let names = append_names(alloc, Vec::from_slice(alloc, b"# ")?, &two_columns(alloc)?)?;
-    let text = append_rows(alloc, names, rows.as_slice())?;
-    assert!(rt; text.as_slice() == b"# number,word\n-1,\"a,b\"\n20,\n\"\"\n".as_slice());
-    assert_eq!(rt; rows.len(), 3);
-    assert!(rt; row_text(alloc, &rows[0])?.as_slice() == b"-1,\"a,b\"\n".as_slice());
-    Ok(())
+    let rows = rows(rt.alloc(), "-1 'a,b / 20 ' / '")?;
+    let text = table(rt.alloc(), &rows)?;
+    expect_bytes(rt.alloc(), &text, "# number,word\n-1,\"a,b\"\n20,\n\"\"\n")
+}
+
+#[test]
+fn a_row_is_written(rt: HostRuntime) -> Result<(), Fail> {
+    let row = row(rt.alloc(), "-1 'a,b")?;
+    let text = row_text(rt.alloc(), &row)?;
+    expect_bytes(rt.alloc(), &text, "-1,\"a,b\"\n")
+}
+
+// Whether the next record has these fields.
+fn gives(
+    alloc: Global,
+    reader: &mut RecordReader,
+    fields: &mut ByteRecord,
+    want: &[&[u8]],
+) -> Result<bool, Fail> {
+    let want = ByteRecord::from_fields(alloc, want)?;
+    Ok(reader.next(fields)? && *fields == want)
 }
 
 #[test]
@@ -52,21 +68,24 @@ fn a_file_is_read_record_by_record(rt: HostRuntime) -> Result<(), Fail> {
     let alloc = rt.alloc();
     let mut reader = RecordReader::open(alloc, b"a,\"b,b\"\r\n\n1\n");
     let mut fields = ByteRecord::new(alloc);
-    let records: [&[&[u8]]; 2] = [&[b"a", b"b,b"], &[b"1"]];
-    for record in records {
-        assert!(rt; reader.next(&mut fields)?);
-        assert!(rt; fields == ByteRecord::from_fields(alloc, record)?);
-    }
+    assert!(rt; gives(alloc, &mut reader, &mut fields, &[b"a", b"b,b"])?);
+    assert!(rt; gives(alloc, &mut reader, &mut fields, &[b"1"])?);
     assert!(rt; !reader.next(&mut fields)?);
     Ok(())
+}
+
+// Whether a file begins with the names of the columns `number` and `word`.
+fn begins(alloc: Global, file: &[u8]) -> Result<bool, AllocError> {
+    let schema = two_columns(alloc)?;
+    has_header(alloc, &schema, file)
 }
 
 #[test]
 fn a_header_has_the_names_of_the_columns(rt: HostRuntime) -> Result<(), Fail> {
     let alloc = rt.alloc();
+    assert!(rt; begins(alloc, b"number,word\n1,x\n")?);
+    assert!(rt; !begins(alloc, b"number\n")?);
     let schema = two_columns(alloc)?;
-    assert!(rt; has_header(alloc, &schema, b"number,word\n1,x\n")?);
-    assert!(rt; !has_header(alloc, &schema, b"number\n")?);
     let fields = ByteRecord::from_fields(alloc, &[b"number".as_slice(), b"word".as_slice()])?;
     assert!(rt; are_names(&fields, &schema));
     Ok(())

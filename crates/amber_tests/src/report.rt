@@ -1,5 +1,6 @@
 // The texts of replies, each call once.
-use crate::written::text;
+use crate::expected::expect_bytes;
+use crate::written::{rows, text};
 use amber_flow::read_flow;
 use amber_log::Command;
 use amber_meaning::{Answer, Extra, Inspected, Refusals, Stand, Stop, Stops, Views, WorkerView};
@@ -38,50 +39,86 @@ fn seen(alloc: Global) -> Result<Inspected, AllocError> {
     })
 }
 
-fn shown(alloc: Global, text: &Bytes) -> Result<String, AllocError> {
-    String::from_utf8_lossy(alloc, text.get())
+// The reply to a pause.
+fn pause_reply(alloc: Global, flow: &Flow) -> Result<Bytes, AllocError> {
+    ok_line(alloc, flow, &Command::Pause { op: 2, n: 2 }, None)
 }
 
-fn replies(alloc: Global, flow: &Flow) -> Result<String, AllocError> {
-    let pause = Command::Pause { op: 2, n: 2 };
-    let mut all = shown(alloc, &ok_line(alloc, flow, &pause, None)?)?;
-    let drop = Command::Drop { op: 2, worker: 0 };
+// The reply to a drop of a row.
+fn drop_reply(alloc: Global, flow: &Flow) -> Result<Bytes, AllocError> {
     let dropped = row(alloc, 4)?;
-    all.push_str(shown(alloc, &ok_line(alloc, flow, &drop, Some(&dropped))?)?.as_str())?;
+    ok_line(
+        alloc,
+        flow,
+        &Command::Drop { op: 2, worker: 0 },
+        Some(&dropped),
+    )
+}
+
+// The reply to a run up to that pause.
+fn run_reply(alloc: Global, flow: &Flow) -> Result<Bytes, AllocError> {
     let stop = Stop::Pause {
         op: 2,
         n: 2,
         emitted: 2,
     };
     let stops = Stops::new(vec![in alloc; stop]?);
-    all.push_str(shown(alloc, &stop_lines(alloc, flow, &stops)?)?.as_str())?;
-    all.push_str(shown(alloc, &inspect_lines(alloc, flow, &seen(alloc)?)?)?.as_str())?;
-    Ok(all)
+    stop_lines(alloc, flow, &stops)
+}
+
+// The reply to a look at the filter.
+fn inspect_reply(alloc: Global, flow: &Flow) -> Result<Bytes, AllocError> {
+    let seen = seen(alloc)?;
+    inspect_lines(alloc, flow, &seen)
+}
+
+// Expects a reply.
+fn expect(alloc: Global, found: Result<Bytes, AllocError>, want: &str) -> Result<(), Fail> {
+    expect_bytes(alloc, found?.get(), want)
 }
 
 #[test]
 fn replies_have_their_texts(rt: HostRuntime) -> Result<(), Fail> {
-    let flow = read_flow(rt.alloc(), KEPT.as_bytes())?;
-    assert_eq!(rt;
-        replies(rt.alloc(), &flow)?.as_str(),
-        "ok pause f 2\nok drop f 0 4\nstop pause f 2 2\ninspect f filter\nconstant -1\npause 2\nworker 0 taken 3 rest 2 out 2 pending 1 ready\nnext 4\n"
-    );
-    Ok(())
+    let alloc = rt.alloc();
+    let flow = read_flow(alloc, KEPT.as_bytes())?;
+    expect(alloc, pause_reply(alloc, &flow), "ok pause f 2\n")?;
+    expect(alloc, drop_reply(alloc, &flow), "ok drop f 0 4\n")?;
+    expect(alloc, run_reply(alloc, &flow), "stop pause f 2 2\n")?;
+    expect(
+        alloc,
+        inspect_reply(alloc, &flow),
+        "inspect f filter\nconstant -1\npause 2\nworker 0 taken 3 rest 2 out 2 pending 1 ready\nnext 4\n",
+    )
+}
+
+// The column of an answer.
+fn columns(alloc: Global) -> Result<Schema, AllocError> {
+    let name = text(alloc, "id")?;
+    let kind = ColKind::Int;
+    Ok(Schema::new(vec![in alloc; Column { name, kind }]?))
+}
+
+// An answer of two rows.
+fn answer(alloc: Global) -> Result<Answer, Fail> {
+    let columns = columns(alloc)?;
+    let rows = Rows::new(rows(alloc, "4 / 5")?);
+    Ok(Answer {
+        refused: Refusals::new(Vec::new(alloc)),
+        columns,
+        rows,
+    })
+}
+
+// An answer as it is printed.
+fn printed(alloc: Global, answer: &Answer) -> Result<Bytes, Fail> {
+    let flow = read_flow(alloc, KEPT.as_bytes())?;
+    Ok(answer_lines(alloc, &flow, answer)?)
 }
 
 #[test]
 fn an_answer_has_its_text(rt: HostRuntime) -> Result<(), Fail> {
-    let flow = read_flow(rt.alloc(), KEPT.as_bytes())?;
-    let id = Column {
-        name: text(rt.alloc(), "id")?,
-        kind: ColKind::Int,
-    };
-    let answer = Answer {
-        refused: Refusals::new(Vec::new(rt.alloc())),
-        columns: Schema::new(vec![in rt.alloc(); id]?),
-        rows: Rows::new(vec![in rt.alloc(); row(rt.alloc(), 4)?, row(rt.alloc(), 5)?]?),
-    };
-    let text = answer_lines(rt.alloc(), &flow, &answer)?;
-    assert_eq!(rt; shown(rt.alloc(), &text)?.as_str(), "rows 2\nid\n4\n5\n");
-    Ok(())
+    let alloc = rt.alloc();
+    let answer = answer(alloc)?;
+    let text = printed(alloc, &answer)?;
+    expect_bytes(alloc, text.get(), "rows 2\nid\n4\n5\n")
 }

@@ -1,7 +1,8 @@
 // Rows and keys made in the room of others.
+use crate::expected::expect_row;
 use crate::written::{cols, row, two_columns};
 use amber_keys::Key;
-use amber_rows::{NoMemory, RowFault, pick_over, type_over};
+use amber_rows::{Cols, Row, RowFault, Value, pick_over, type_over};
 use csv::ByteRecord;
 use std::alloc::Global;
 use std::test::Fail;
@@ -16,45 +17,59 @@ fn record(alloc: Global, number: &str, word: &str) -> Result<ByteRecord, Fail> {
     Ok(fields)
 }
 
+// The cells of a row that is done with.
+fn room(alloc: Global, written: &str) -> Result<Vec<Value>, Fail> {
+    Ok(row(alloc, written)?.into_inner())
+}
+
+// A record typed in the room of a row.
+fn typed(alloc: Global, done: &str, number: &str) -> Result<Result<Row, RowFault>, Fail> {
+    let schema = two_columns(alloc)?;
+    let record = record(alloc, number, "washer")?;
+    let room = room(alloc, done)?;
+    Ok(type_over(alloc, room, &record, &schema)?)
+}
+
+// Whether a record is typed in the room of a row, and another one is refused there.
+fn is_typed_over(alloc: Global, done: &str) -> Result<bool, Fail> {
+    let want = row(alloc, "-12 'washer")?;
+    let typed_well = typed(alloc, done, "-12")? == Ok(want);
+    Ok(typed_well && typed(alloc, done, "1x")? == Err(RowFault::Int(1)))
+}
+
 #[test]
 fn a_record_is_typed_in_any_room(rt: HostRuntime) -> Result<(), Fail> {
-    let alloc = rt.alloc();
-    let schema = two_columns(alloc)?;
-    for written in DONE {
-        let room = row(alloc, written)?.into_inner();
-        let Ok(typed) = type_over(alloc, room, &record(alloc, "-12", "washer")?, &schema)? else {
-            return Err(Fail::from(NoMemory));
-        };
-        assert_eq!(rt; typed, row(alloc, "-12 'washer")?, "{written}");
-        let room = row(alloc, written)?.into_inner();
-        let Err(fault) = type_over(alloc, room, &record(alloc, "1x", "nut")?, &schema)? else {
-            return Err(Fail::from(NoMemory));
-        };
-        assert_eq!(rt; fault, RowFault::Int(1), "{written}");
+    for done in DONE {
+        assert!(rt; is_typed_over(rt.alloc(), done)?, "{done}");
     }
     Ok(())
+}
+
+// Expects of these columns a row, picked in the room of another one.
+fn expect_picked(alloc: Global, done: &str, columns: &Cols, want: &str) -> Result<(), Fail> {
+    let whole = row(alloc, "-12 'washer 5")?;
+    let room = room(alloc, done)?;
+    let picked = pick_over(alloc, room, &whole, columns)?;
+    expect_row(alloc, &picked, want)
+}
+
+// Expects of these columns a key, made in the room of another one.
+fn expect_key(alloc: Global, done: &str, columns: &Cols, want: &str) -> Result<(), Fail> {
+    let whole = row(alloc, "-12 'washer 5")?;
+    let room = room(alloc, done)?;
+    let key = Key::over(alloc, room, &whole, columns)?;
+    expect_row(alloc, key.row(), want)?;
+    expect_row(alloc, &Row::new(key.into_cells()), want)
 }
 
 #[test]
 fn columns_are_picked_in_any_room(rt: HostRuntime) -> Result<(), Fail> {
     let alloc = rt.alloc();
-    let whole = row(alloc, "-12 'washer 5")?;
     let columns = cols(alloc, "2 3")?;
-    let want = row(alloc, "'washer 5")?;
-    for written in DONE {
-        let room = row(alloc, written)?.into_inner();
-        assert_eq!(rt;
-            pick_over(alloc, room, &whole, &columns)?,
-            want,
-            "{written}"
-        );
-        let room = row(alloc, written)?.into_inner();
-        let key = Key::over(alloc, room, &whole, &columns)?;
-        assert_eq!(rt; *key.row(), want, "{written}");
-        assert_eq!(rt; key.into_cells().as_slice(), want.get(), "{written}");
+    for done in DONE {
+        expect_picked(alloc, done, &columns, "'washer 5")?;
+        expect_key(alloc, done, &columns, "'washer 5")?;
     }
-    let room = row(alloc, "'nut 7")?.into_inner();
-    let missing = pick_over(alloc, room, &whole, &cols(alloc, "4 1")?)?;
-    assert_eq!(rt; missing, row(alloc, "-12")?);
-    Ok(())
+    let missing = cols(alloc, "4 1")?;
+    expect_picked(alloc, "'nut 7", &missing, "-12")
 }

@@ -1,120 +1,47 @@
 // Which worker gets a row, and who sends to whom.
+use crate::expected::expect_text;
 use crate::written::{cols, row};
 use amber_flow::read_flow;
-use amber_rows::{NoMemory, key_bytes, route, route_row};
+use amber_rows::{Flow, key_bytes, route, route_row};
+use std::alloc::{AllocError, Global};
 use std::test::Fail;
 
-// Bytes, and the worker that they give of so many. The bytes are vectors of FNV-1a with 64 bits, by two moduli that show its low and
-// its high half.
-#[derive(Drop)]
-struct HashCase {
-    bytes: &'static str,
-    workers: u32,
-    worker: u32,
-}
-
-const HASHES: [HashCase; 6] = [
-    HashCase {
-        bytes: "",
-        workers: 2_147_483_648,
-        worker: 69_346_085,
-    },
-    HashCase {
-        bytes: "",
-        workers: 4_294_967_295,
-        worker: 1_343_537_162,
-    },
-    HashCase {
-        bytes: "a",
-        workers: 2_147_483_648,
-        worker: 100_789_388,
-    },
-    HashCase {
-        bytes: "a",
-        workers: 4_294_967_295,
-        worker: 895_863_001,
-    },
-    HashCase {
-        bytes: "foobar",
-        workers: 2_147_483_648,
-        worker: 2_000_250_856,
-    },
-    HashCase {
-        bytes: "foobar",
-        workers: 4_294_967_295,
-        worker: 2_093_853_018,
-    },
-];
-
+// The bytes are vectors of FNV-1a with 64 bits, by two moduli that show its low and its high half.
 #[test]
-fn hashes_are_those_of_the_published_vectors(rt: HostRuntime) -> Result<(), Fail> {
-    for case in HASHES {
-        assert_eq!(rt; route(case.bytes.as_bytes(), case.workers), case.worker);
-    }
-    Ok(())
+fn hashes_are_those_of_the_published_vectors(rt: HostRuntime) {
+    assert!(rt; route(b"", 2_147_483_648) == 69_346_085);
+    assert!(rt; route(b"", 4_294_967_295) == 1_343_537_162);
+    assert!(rt; route(b"a", 2_147_483_648) == 100_789_388);
+    assert!(rt; route(b"a", 4_294_967_295) == 895_863_001);
+    assert!(rt; route(b"foobar", 2_147_483_648) == 2_000_250_856);
+    assert!(rt; route(b"foobar", 4_294_967_295) == 2_093_853_018);
 }
 
-// A row, the columns of its key, the key's bytes, and its worker of 16 and of 4.
-#[derive(Drop)]
-struct KeyCase {
-    row: &'static str,
-    columns: &'static str,
-    bytes: &'static str,
-    of_16: u32,
-    of_4: u32,
+// The bytes of a key, then its worker of 16 and of 4.
+fn worker_text(alloc: Global, key: &[u8]) -> Result<String, AllocError> {
+    let mut text = String::from_utf8_lossy(alloc, key)?;
+    let workers = format!(in alloc; " {} {}", route(key, 16), route(key, 4))?;
+    text.push_str(&workers)?;
+    Ok(text)
 }
 
-const KEYS: [KeyCase; 5] = [
-    KeyCase {
-        row: "'nut",
-        columns: "1",
-        bytes: "t3:nut;",
-        of_16: 14,
-        of_4: 2,
-    },
-    KeyCase {
-        row: "7 'bolt",
-        columns: "2",
-        bytes: "t4:bolt;",
-        of_16: 15,
-        of_4: 3,
-    },
-    KeyCase {
-        row: "'cog 3",
-        columns: "1",
-        bytes: "t3:cog;",
-        of_16: 2,
-        of_4: 2,
-    },
-    KeyCase {
-        row: "' -7",
-        columns: "2 1",
-        bytes: "i-7;t0:;",
-        of_16: 14,
-        of_4: 2,
-    },
-    KeyCase {
-        row: "1",
-        columns: "",
-        bytes: "",
-        of_16: 5,
-        of_4: 1,
-    },
-];
+// The same of the key of a row in these columns, then the row's worker of 16.
+fn routed(alloc: Global, written: &str, columns: &str) -> Result<String, Fail> {
+    let columns = cols(alloc, columns)?;
+    let row = row(alloc, written)?;
+    let key = key_bytes(alloc, &row, &columns)?;
+    let text = worker_text(alloc, &key)?;
+    Ok(format!(in alloc; "{text} {}", route_row(&row, &columns, 16))?)
+}
 
 #[test]
 fn keys_of_rows_go_to_their_workers(rt: HostRuntime) -> Result<(), Fail> {
     let alloc = rt.alloc();
-    for case in KEYS {
-        let columns = cols(alloc, case.columns)?;
-        let row = row(alloc, case.row)?;
-        let key = key_bytes(alloc, &row, &columns)?;
-        assert_eq!(rt; key.as_slice(), case.bytes.as_bytes());
-        assert_eq!(rt; route(key.as_slice(), 16), case.of_16);
-        assert_eq!(rt; route(key.as_slice(), 4), case.of_4);
-        assert_eq!(rt; route_row(&row, &columns, 16), case.of_16);
-    }
-    Ok(())
+    expect_text(routed(alloc, "'nut", "1")?, "t3:nut; 14 2 14")?;
+    expect_text(routed(alloc, "7 'bolt", "2")?, "t4:bolt; 15 3 15")?;
+    expect_text(routed(alloc, "'cog 3", "1")?, "t3:cog; 2 2 2")?;
+    expect_text(routed(alloc, "' -7", "2 1")?, "i-7;t0:; 14 2 14")?;
+    expect_text(routed(alloc, "1", "")?, " 5 1 5")
 }
 
 const WORKFLOW: &str = r#"{"operators":[
@@ -124,54 +51,31 @@ const WORKFLOW: &str = r#"{"operators":[
 {"id":"j","kind":"join","build":"p","probe":"f","build_keys":["name"],"probe_keys":["item"]},
 {"id":"s","kind":"sink","input":"j"}]}"#;
 
-// Of each worker, those that send to it and those to which it sends.
-#[derive(Drop)]
-struct LinkCase {
+// Whether these workers send to a worker, and it to those.
+fn has_links(
+    alloc: Global,
+    flow: &Flow,
     worker: u32,
-    senders: &'static str,
-    receivers: &'static str,
+    senders: &str,
+    receivers: &str,
+) -> Result<bool, Fail> {
+    if worker >= flow.workers() {
+        return Ok(false);
+    }
+    let senders = cols(alloc, senders)?;
+    let receivers = cols(alloc, receivers)?;
+    let sends = flow.senders(alloc, worker)?.get() == senders.get();
+    Ok(sends && flow.receivers(alloc, worker)?.get() == receivers.get())
 }
-
-const LINKS: [LinkCase; 5] = [
-    LinkCase {
-        worker: 0,
-        senders: "",
-        receivers: "3",
-    },
-    LinkCase {
-        worker: 1,
-        senders: "",
-        receivers: "2",
-    },
-    LinkCase {
-        worker: 2,
-        senders: "1",
-        receivers: "3",
-    },
-    LinkCase {
-        worker: 3,
-        senders: "0 2",
-        receivers: "4",
-    },
-    LinkCase {
-        worker: 4,
-        senders: "3",
-        receivers: "",
-    },
-];
 
 #[test]
 fn workers_know_their_senders_and_receivers(rt: HostRuntime) -> Result<(), Fail> {
     let alloc = rt.alloc();
     let flow = read_flow(alloc, WORKFLOW.as_bytes())?;
-    for case in LINKS {
-        if case.worker >= flow.workers() {
-            return Err(NoMemory.into());
-        }
-        let senders = flow.senders(alloc, case.worker)?;
-        assert_eq!(rt; senders.get(), cols(alloc, case.senders)?.get());
-        let receivers = flow.receivers(alloc, case.worker)?;
-        assert_eq!(rt; receivers.get(), cols(alloc, case.receivers)?.get());
-    }
+    assert!(rt; has_links(alloc, &flow, 0, "", "3")?);
+    assert!(rt; has_links(alloc, &flow, 1, "", "2")?);
+    assert!(rt; has_links(alloc, &flow, 2, "1", "3")?);
+    assert!(rt; has_links(alloc, &flow, 3, "0 2", "4")?);
+    assert!(rt; has_links(alloc, &flow, 4, "3", "")?);
     Ok(())
 }

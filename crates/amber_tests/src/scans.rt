@@ -1,52 +1,85 @@
 // Scans dealt to workers.
 ghost use Rattle.std.specs.Prelude.{◌≤◌};
 
+use crate::expected::expect_text;
 use crate::written::two_columns;
+use amber_rows::{Row, RowFault, Value};
 use amber_scan::{NoMemory, ScanErr, Scanned, Share, deal};
 use std::alloc::Global;
 use std::test::Fail;
 
-// A record's number, and its cells or its fault.
-fn written(alloc: Global, one: &Scanned) -> Result<String, Fail> {
-    let mut text = format!(in alloc; "{}:", one.number)?;
-    match &one.what {
-        Ok(row) => {
-            for cell in row.get() {
-                text.push_str(&format!(in alloc; " {cell}")?)?;
-            }
-        }
-        Err(fault) => text.push_str(&format!(in alloc; " {fault:?}")?)?,
+// A cell behind a blank.
+fn append_cell(alloc: Global, text: &mut String, cell: &Value) -> Result<(), NoMemory> {
+    let cell = format!(in alloc; " {cell}")?;
+    text.push_str(&cell)
+}
+
+// The cells of a row.
+fn append_row(alloc: Global, text: &mut String, row: &Row) -> Result<(), NoMemory> {
+    for cell in row.get() {
+        append_cell(alloc, text, cell)?;
     }
-    text.push_str("; ")?;
-    Ok(text)
+    Ok(())
+}
+
+// A record's number, and its cells or its fault.
+fn append_record(alloc: Global, text: &mut String, one: &Scanned) -> Result<(), NoMemory> {
+    let number = format!(in alloc; "{}:", one.number)?;
+    text.push_str(&number)?;
+    match &one.what {
+        Ok(row) => append_row(alloc, text, row)?,
+        Err(fault) => append_fault(alloc, text, *fault)?,
+    }
+    text.push_str("; ")
+}
+
+// A fault behind a blank.
+fn append_fault(alloc: Global, text: &mut String, fault: RowFault) -> Result<(), NoMemory> {
+    let fault = format!(in alloc; " {fault:?}")?;
+    text.push_str(&fault)
+}
+
+// The next record of a share.
+fn append_next(alloc: Global, text: &mut String, share: &mut Share) -> Result<(), NoMemory> {
+    match share.next() {
+        Some(one) => append_record(alloc, text, &one),
+        None => text.push_str("none; "),
+    }
 }
 
 // Takes all that is left of a share.
-fn taken(alloc: Global, share: &mut Share) -> Result<String, Fail> {
+fn taken(alloc: Global, share: &mut Share) -> Result<String, NoMemory> {
     let mut text = String::new(alloc);
     for _ in 0..share.left() {
-        match share.next() {
-            Some(one) => text.push_str(&written(alloc, &one)?)?,
-            None => text.push_str("none; ")?,
-        }
+        append_next(alloc, &mut text, share)?;
     }
     Ok(text)
 }
 
+// All that is left of a share, and where it ends.
+fn append_share(alloc: Global, text: &mut String, share: &mut Share) -> Result<(), NoMemory> {
+    let taken = taken(alloc, share)?;
+    text.push_str(&taken)?;
+    text.push_str("| ")
+}
+
+// All that is left of these shares.
+fn append_shares(alloc: Global, text: &mut String, shares: Vec<Share>) -> Result<(), NoMemory> {
+    for mut share in shares {
+        append_share(alloc, text, &mut share)?;
+    }
+    Ok(())
+}
+
 // The shares of a file.
-fn dealt(alloc: Global, file: &str, workers: u32) -> Result<String, Fail>
+fn dealt(alloc: Global, file: &str, workers: u32) -> Result<String, NoMemory>
     requires some { 1 ≤ workers }
     requires few { workers ≤ 16 }
 {
     let schema = two_columns(alloc)?;
     let mut text = String::new(alloc);
     match deal(alloc, file.as_bytes(), &schema, workers) {
-        Ok(shares) => {
-            for mut share in shares {
-                text.push_str(&taken(alloc, &mut share)?)?;
-                text.push_str("| ")?;
-            }
-        }
+        Ok(shares) => append_shares(alloc, &mut text, shares)?,
         Err(ScanErr::Header) => text.push_str("header")?,
         Err(ScanErr::NoMemory) => text.push_str("no memory")?,
     }
@@ -58,21 +91,32 @@ const SEVEN: &str = "number,word\r\n1,a\r\nx,b\r\n3,c\r\n4\r\n5,\"e,e\"\r\n6,f\r
 #[test]
 fn workers_take_turns_at_rows_and_faults(rt: HostRuntime) -> Result<(), Fail> {
     let alloc = rt.alloc();
-    assert_eq!(rt;
-        dealt(alloc, SEVEN, 3)?.as_str(),
-        "1: 1 a; 4: Width; 7: 7 g; | 2: Int(1); 5: 5 e,e; | 3: 3 c; 6: 6 f; | "
-    );
-    assert_eq!(rt;
-        dealt(alloc, SEVEN, 1)?.as_str(),
-        "1: 1 a; 2: Int(1); 3: 3 c; 4: Width; 5: 5 e,e; 6: 6 f; 7: 7 g; | "
-    );
-    assert_eq!(rt;
-        dealt(alloc, "number,word\n8,z", 2)?.as_str(),
-        "1: 8 z; | | "
-    );
-    assert_eq!(rt; dealt(alloc, "number,word\r\n", 4)?.as_str(), "| | | | ");
-    assert_eq!(rt; dealt(alloc, "1,a\n", 2)?.as_str(), "header");
-    Ok(())
+    expect_text(
+        dealt(alloc, SEVEN, 3)?,
+        "1: 1 a; 4: Width; 7: 7 g; | 2: Int(1); 5: 5 e,e; | 3: 3 c; 6: 6 f; | ",
+    )?;
+    expect_text(
+        dealt(alloc, SEVEN, 1)?,
+        "1: 1 a; 2: Int(1); 3: 3 c; 4: Width; 5: 5 e,e; 6: 6 f; 7: 7 g; | ",
+    )?;
+    expect_text(dealt(alloc, "number,word\n8,z", 2)?, "1: 8 z; | | ")?;
+    expect_text(dealt(alloc, "number,word\r\n", 4)?, "| | | | ")?;
+    expect_text(dealt(alloc, "1,a\n", 2)?, "header")
+}
+
+// Whether a copy of a share has what is left of it.
+fn copies(alloc: Global, share: &mut Share) -> Result<bool, NoMemory> {
+    let mut copy = share.clone()?;
+    let same = copy.left() == share.left();
+    let text = taken(alloc, &mut copy)?;
+    let of_share = taken(alloc, share)?;
+    Ok(same && text == of_share && share.next().is_none() && copy.left() == 0)
+}
+
+// Takes the next record of a share. Whether one less is left.
+fn takes_one(share: &mut Share) -> bool {
+    let before = share.left();
+    share.next().is_some() && share.left() + 1 == before
 }
 
 #[test]
@@ -83,17 +127,8 @@ fn a_copy_has_what_is_left(rt: HostRuntime) -> Result<(), Fail> {
         return Err(Fail::from(NoMemory));
     };
     for mut share in shares {
-        let before = share.left();
-        assert!(rt; share.next().is_some());
-        let mut copy = share.clone()?;
-        assert_eq!(rt; share.left() + 1, before);
-        assert_eq!(rt; copy.left(), share.left());
-        assert_eq!(rt;
-            taken(alloc, &mut copy)?.as_str(),
-            taken(alloc, &mut share)?.as_str()
-        );
-        assert!(rt; share.next().is_none());
-        assert_eq!(rt; copy.left(), 0);
+        assert!(rt; takes_one(&mut share));
+        assert!(rt; copies(alloc, &mut share)?);
     }
     Ok(())
 }

@@ -1,6 +1,9 @@
 // A script that is read, and one whose third line is bad.
+use crate::expected::expect_text;
 use amber_flow::read_flow;
-use amber_script::read_script;
+use amber_log::Commands;
+use amber_script::{ScriptErr, read_script};
+use std::alloc::{AllocError, Global};
 use std::test::Fail;
 
 const WORKFLOW: &str = r#"{"operators":[
@@ -14,24 +17,27 @@ const SCRIPT: &str =
 const READ: &str =
     r#"[Pause { op: 2, n: 2 }, Run, Set { op: 2, value: Text("a \"b\"") }, Inspect { op: 2 }, Clear { op: 2 }, Run]"#;
 
+// The commands of a script, or why there are none.
+fn shown(alloc: Global, found: &Result<Commands, ScriptErr>) -> Result<String, AllocError> {
+    match found {
+        Ok(commands) => format!(in alloc; "{:?}", commands.get()),
+        Err(error) => error.to_string(alloc),
+    }
+}
+
+// What a script is read as under the workflow.
+fn read(alloc: Global, script: &str) -> Result<String, Fail> {
+    let flow = read_flow(alloc, WORKFLOW.as_bytes())?;
+    let found = read_script(alloc, script.as_bytes(), &flow);
+    Ok(shown(alloc, &found)?)
+}
+
 #[test]
 fn a_script_is_read(rt: HostRuntime) -> Result<(), Fail> {
-    let flow = read_flow(rt.alloc(), WORKFLOW.as_bytes())?;
-    let commands = read_script(rt.alloc(), SCRIPT.as_bytes(), &flow)?;
-    let shown = format!(in rt.alloc(); "{:?}", commands.get())?;
-    assert_eq!(rt; shown.as_str(), READ);
-    Ok(())
+    expect_text(read(rt.alloc(), SCRIPT)?, READ)
 }
 
 #[test]
 fn a_bad_line_is_named(rt: HostRuntime) -> Result<(), Fail> {
-    let flow = read_flow(rt.alloc(), WORKFLOW.as_bytes())?;
-    match read_script(rt.alloc(), b"run\n\npause s 0\nend", &flow) {
-        Err(error) => {
-            let shown = error.to_string(rt.alloc())?;
-            assert_eq!(rt; shown.as_str(), "line 3: Kind");
-        }
-        Ok(_) => assert!(rt; false, "the third line was read"),
-    }
-    Ok(())
+    expect_text(read(rt.alloc(), "run\n\npause s 0\nend")?, "line 3: Kind")
 }

@@ -1,0 +1,46 @@
+// What is expected of numbers, texts and rows. A test fails by what was found, not by its line.
+use crate::written::{row, rows};
+use amber_rows::Row;
+use std::alloc::Global;
+use std::test::Fail;
+
+/// Expects a number.
+pub fn expect_number(found: u64, want: u64) -> Result<(), Fail> {
+    if found == want {
+        return Ok(());
+    }
+    Err(Fail::new(format_args!("found: {found}\nnot: {want}")))
+}
+
+/// Expects a text.
+pub fn expect_text(found: String, want: &str) -> Result<(), Fail> {
+    if found.as_str() == want {
+        return Ok(());
+    }
+    Err(Fail::new(format_args!("found: {found}\nnot: {want}")))
+}
+
+/// Expects the bytes of a text.
+pub fn expect_bytes(alloc: Global, found: &[u8], want: &str) -> Result<(), Fail> {
+    if found == want.as_bytes() {
+        return Ok(());
+    }
+    expect_text(String::from_utf8_lossy(alloc, found)?, want)?;
+    Err(Fail::new(format_args!("not UTF-8, not: {want}")))
+}
+
+/// Expects a row.
+pub fn expect_row(alloc: Global, found: &Row, want: &str) -> Result<(), Fail> {
+    if *found == row(alloc, want)? {
+        return Ok(());
+    }
+    Err(Fail::new(format_args!("found: {found:?}\nnot: {want}")))
+}
+
+/// Expects rows in this order.
+pub fn expect_rows(alloc: Global, found: &[Row], want: &str) -> Result<(), Fail> {
+    if found == rows(alloc, want)?.as_slice() {
+        return Ok(());
+    }
+    Err(Fail::new(format_args!("found: {found:?}\nnot: {want}")))
+}
