@@ -30,6 +30,3 @@ pub use senders::{
 };
 pub use settling::settle_at;
 pub use std::alloc::AllocError as NoMemory;
-
-#[cfg(test)]
-mod tests;

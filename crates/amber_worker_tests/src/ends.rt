@@ -1,4 +1,4 @@
-// Links of which a test holds the one end and a worker the other.
+// Links of which a test holds the one end, and a worker or the test the other.
 ghost use Rattle.std.specs.Prelude.{◌≡◌, ◌+◌, ◌^◌, ◌<◌, ◌≤◌, All, IfOk, OnOk, false};
 ghost use Rattle.amber_worker.specs.Made.{IsFreshIn, IsFreshOut};
 
@@ -55,12 +55,13 @@ pub fn last_end(batch: u32, outs: &mut Vec<Out>) -> Result<Out, Fail>
     }
 }
 
-// Pushes a row of one number.
-fn push(alloc: Global, out: &mut Out, number: i64) -> Result<(), Fail>
+/// Pushes a row of one number.
+pub fn push(alloc: Global, out: &mut Out, number: i64) -> Result<(), Fail>
     requires few { out.old.kept.made < 2 ^ 40 }
     requires open { out.old.kept.ended ≡ false }
     ensures made { out.new.kept.made ≤ out.old.kept.made + 1 }
     ensures open { OnOk result (out.new.kept.ended ≡ false) }
+    ensures ring { out.new.ring ≡ out.old.ring }
 {
     let row = Row::new(vec![in alloc; Value::Int(number)]?);
     match out.push(row) {

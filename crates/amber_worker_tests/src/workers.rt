@@ -96,6 +96,12 @@ fn waiting(alloc: Global, worker: &Worker) -> Result<String, NoMemory> {
     Ok(told)
 }
 
+// The same of the filter that has taken this row.
+fn waiting_after(alloc: Global, number: i64) -> Result<String, Fail> {
+    let filter = fed(alloc, number)?;
+    Ok(waiting(alloc, &filter)?)
+}
+
 // Each row goes by its key to one of the group's workers, which have the numbers 2 to 5; a row that does not pass to none.
 #[test]
 fn a_filter_feeds_a_group_of_four(rt: HostRuntime) -> Result<(), Fail> {
@@ -107,8 +113,7 @@ fn a_filter_feeds_a_group_of_four(rt: HostRuntime) -> Result<(), Fail> {
         (2, "- - - 5 "),
         (-1, "- - - - "),
     ] {
-        let filter = fed(alloc, number)?;
-        assert_eq!(rt; waiting(alloc, &filter)?.as_str(), want, "{number}");
+        assert_eq!(rt; waiting_after(alloc, number)?.as_str(), want, "{number}");
     }
     Ok(())
 }
@@ -197,13 +202,26 @@ fn append_journal(alloc: Global, told: &mut String, join: &Worker) -> Result<(),
     told.push_str(journal(alloc, join)?.as_str())
 }
 
-// The steps of the join after each of these rows, a row a sender, from the last sender on; and what it has written down.
+// The steps of a join after each of these rows, a row a sender, from the last sender on; and what it has written down.
+fn tell_join(
+    alloc: Global,
+    senders: &mut Vec<Out>,
+    join: &mut Worker,
+    numbers: &[i64],
+    told: &mut String,
+) -> Result<(), Fail>
+    requires { All (IsFreshOut 1) senders.old.items }
+{
+    tell_all(alloc, senders, join, numbers, told)?;
+    append_journal(alloc, told, join)?;
+    Ok(())
+}
+
+// The same of the join, with its four senders.
 fn join_over(alloc: Global, numbers: &[i64], told: &mut String) -> Result<(), Fail> {
     let (mut senders, ins) = links(alloc, 4, 1)?;
     let mut join = join_of(alloc, ins)?;
-    tell_all(alloc, &mut senders, &mut join, numbers, told)?;
-    append_journal(alloc, told, &join)?;
-    Ok(())
+    tell_join(alloc, &mut senders, &mut join, numbers, told)
 }
 
 // The probe side ends first and waits; then the second sender of the build side ends, and the first one last.
