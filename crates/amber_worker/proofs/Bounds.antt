@@ -16,9 +16,8 @@ use Rattle.amber_link.specs.Sides.{IsTaken, have_all_ended, have_builders_ended}
 use Rattle.amber_link.specs.declared.senders.Sender.{Sender}
 use Rattle.amber_link.specs.declared.receivers.Receiver.{Receiver}
 use Rattle.amber_link.specs.Sides.{AreEnded, AreLooked}
-use Rattle.amber_worker.specs.declared.route.Route.{Route}
 use Rattle.amber_worker.specs.Links.{EmitsFirst}
-use Rattle.amber_worker.specs.Fields.{AreFew, row_from, rows_moved}
+use Rattle.amber_worker.specs.Fields.{AreFew, WorkerFields, row_from, rows_moved}
 use Rattle.amber_worker.specs.WorkerState.{WorkerState, has_ready}
 use Rattle.amber_worker.specs.Steps.{Becomes, Closes, EmitsRow, Finishes, TakesBatch, TakesRow, columns_at_hand, gives_if, gone_on, keeps_if, turned_to, with_go}
 use Rattle.amber_worker.proofs.States.{closes-batch, in_order-batch, in_order-row, in_order-settled}
@@ -76,20 +75,19 @@ scans-so : (does now : OperatorState) (o : Option (List Scanned)) → (does ≡ 
 scans-so does now None f h = h
 scans-so does now (Some x) f h = f h
 
-pub few-row : (does now : OperatorState) (building : Bool) (found : Option (List Value)) (share later : Option (List Scanned)) (taken emitted batches : ℕ) (finished : Bool)
-    (ins : List Sender) (outs : List Receiver) (route : Route) (journal : List Entry) → Becomes does building found now
-    → AreFew does building share taken emitted batches finished ins outs route journal → taken + emitted + batches + one_if finished < 2 ^ 40 → is_some later ≡ is_some share
-    → AreFew now building later (taken + 1) emitted batches finished ins outs route (with_go journal 1 0)
-few-row does now building found share later taken emitted batches finished ins outs route journal becomes few less same = record {
-  in_order = in_order-row does now building found taken ins becomes few.in_order;
-  scans = scans-so does now later (scans-more does now building found becomes) (same-some (does ≡ operator_state.Scan) share later same few.scans);
-  shares = same-some (ins ≡ []) share later same few.shares;
+pub few-row : (f : WorkerFields) (now : OperatorState) (found : Option (List Value)) (later : Option (List Scanned)) → Becomes f.operator_state f.building found now → AreFew f
+    → f.taken + f.emitted + f.batches + one_if f.finished < 2 ^ 40 → is_some later ≡ is_some f.share
+    → AreFew (record f { operator_state = now; share = later; taken = f.taken + 1; journal = with_go f.journal 1 0 })
+few-row f now found later becomes few less same = record {
+  in_order = in_order-row f.operator_state now f.building found f.taken f.ins becomes few.in_order;
+  scans = scans-so f.operator_state now later (scans-more f.operator_state now f.building found becomes) (same-some (f.operator_state ≡ operator_state.Scan) f.share later same few.scans);
+  shares = same-some (f.ins ≡ []) f.share later same few.shares;
   steps = omega arith;
   received = few.received;
   sent = few.sent;
   over = few.over;
   routed = few.routed;
-  moved = λ k d below. let within = within-with_go (taken + emitted) journal 1 0 refl few.moved k d below in omega arith;
+  moved = λ k d below. let within = within-with_go (f.taken + f.emitted) f.journal 1 0 refl few.moved k d below in omega arith;
 }
 
 pub takes-row : (w : WorkerState) (one : Arrival) (later : List Arrival) (now : OperatorState) (last : List (List Value)) (rest : List Arrival) (pending : List (List Value)) (refused : List _)
@@ -112,28 +110,26 @@ takes-row w one later now last rest pending refused kept journal columns over co
 
 -- ---- a row is emitted
 
-pub few-emitted : (does : OperatorState) (building : Bool) (share : Option (List Scanned)) (taken emitted batches : ℕ) (finished : Bool) (ins : List Sender) (outs after : List Receiver)
-    (route : Route) (journal : List Entry) → finished ≡ false → AreFew does building share taken emitted batches finished ins outs route journal
-    → taken + emitted + batches + one_if finished < 2 ^ 40 → ((n : ℕ) → All (λ one. one.link.kept.made ≤ n) outs → All (λ one. one.link.kept.made ≤ n + 1) after)
-    → All (λ one. one.link.kept.ended ≡ false) after → AreFew does building share taken (emitted + 1) batches finished ins after route (with_go journal 0 1)
-few-emitted does building share taken emitted batches finished ins outs after route journal unfinished few less made over = record {
+pub few-emitted : (f : WorkerFields) (after : List Receiver) → f.finished ≡ false → AreFew f → f.taken + f.emitted + f.batches + one_if f.finished < 2 ^ 40
+    → ((n : ℕ) → All (λ one. one.link.kept.made ≤ n) f.outs → All (λ one. one.link.kept.made ≤ n + 1) after) → All (λ one. one.link.kept.ended ≡ false) after
+    → AreFew (record f { emitted = f.emitted + 1; outs = after; journal = with_go f.journal 0 1 })
+few-emitted f after unfinished few less made over = record {
   in_order = few.in_order;
   scans = few.scans;
   shares = few.shares;
   steps = omega arith;
   received = few.received;
-  sent = λ e. made emitted (few.sent e);
+  sent = λ e. made f.emitted (few.sent e);
   over = λ k d below. over k d below ∙ sym unfinished;
   routed = few.routed;
-  moved = λ k d below. let within = within-with_go (taken + emitted) journal 0 1 refl few.moved k d below in omega arith;
+  moved = λ k d below. let within = within-with_go (f.taken + f.emitted) f.journal 0 1 refl few.moved k d below in omega arith;
 }
 
 -- ---- the end
 
-pub few-done : (does : OperatorState) (building : Bool) (share : Option (List Scanned)) (taken emitted batches : ℕ) (finished : Bool) (ins : List Sender) (outs after : List Receiver)
-    (route : Route) (journal : List Entry) → AreFew does building share taken emitted batches finished ins outs route journal → taken + emitted + batches + one_if finished < 2 ^ 40
-    → All (λ one. one.link.kept.ended ≡ true) after → AreFew does building share taken emitted batches true ins after route (journal ++ entry.Finish ∷ [])
-few-done does building share taken emitted batches finished ins outs after route journal few less over = record {
+pub few-done : (f : WorkerFields) (after : List Receiver) → AreFew f → f.taken + f.emitted + f.batches + one_if f.finished < 2 ^ 40 → All (λ one. one.link.kept.ended ≡ true) after
+    → AreFew (record f { finished = true; outs = after; journal = f.journal ++ entry.Finish ∷ [] })
+few-done f after few less over = record {
   in_order = few.in_order;
   scans = few.scans;
   shares = few.shares;
@@ -142,7 +138,7 @@ few-done does building share taken emitted batches finished ins outs after route
   sent = λ e. absurd (false≢true (sym e));
   over = over;
   routed = few.routed;
-  moved = All-push (λ one. rows_moved one ≤ taken + emitted) journal entry.Finish few.moved (omega arith);
+  moved = All-push (λ one. rows_moved one ≤ f.taken + f.emitted) f.journal entry.Finish few.moved (omega arith);
 }
 
 -- ---- a batch is taken
@@ -154,25 +150,24 @@ written-back n old new e same = take-append-le n new (drop (length new) old) (om
 turned-scan : (does : OperatorState) (builds : Bool) → does ≡ operator_state.Scan → turned_to builds does ≡ operator_state.Scan
 turned-scan does builds scan = ap (turned_to builds) scan
 
-pub few-batch : (does : OperatorState) (building : Bool) (share : Option (List Scanned)) (taken emitted batches : ℕ) (finished : Bool) (ins found later : List Sender) (outs : List Receiver) (route : Route)
-    (journal : List Entry) (place from number : ℕ) (builds : Bool) (batch : Batch)
+pub few-batch : (f : WorkerFields) (found later : List Sender) (place from number : ℕ) (builds : Bool) (batch : Batch)
     → ((one : Sender) × (one.from ≡ from) × (one.taken ≡ number) × (one.builds ≡ builds) × IsTaken found one batch later)
-    → have_builders_ended found ≡ have_builders_ended ins → length found ≡ length ins → AreFew does building share taken emitted batches finished ins outs route journal → taken + emitted + batches + one_if finished < 2 ^ 40 → place < length ins
-    → All (λ one. one.taken ≤ batches + 1) later
-    → AreFew (turned_to builds does) builds share taken emitted (batches + 1) finished later outs route (journal ++ entry.Take from number ∷ [])
-few-batch does building share taken emitted batches finished ins found later outs route journal place from number builds batch so built same few less there received = record {
-  in_order = rw (← so.3) (in_order-batch does building taken found later so.0 batch so.4 (in_order-settled does building taken ins found built few.in_order));
-  scans = scans-so does (turned_to builds does) share (turned-scan does builds) few.scans;
-  shares = none share few.shares;
+    → have_builders_ended found ≡ have_builders_ended f.ins → length found ≡ length f.ins → AreFew f → f.taken + f.emitted + f.batches + one_if f.finished < 2 ^ 40 → place < length f.ins
+    → All (λ one. one.taken ≤ f.batches + 1) later
+    → AreFew (record f { operator_state = turned_to builds f.operator_state; building = builds; batches = f.batches + 1; ins = later; journal = f.journal ++ entry.Take from number ∷ [] })
+few-batch f found later place from number builds batch so built same few less there received = record {
+  in_order = rw (← so.3) (in_order-batch f.operator_state f.building f.taken found later so.0 batch so.4 (in_order-settled f.operator_state f.building f.taken f.ins found built few.in_order));
+  scans = scans-so f.operator_state (turned_to builds f.operator_state) f.share (turned-scan f.operator_state builds) few.scans;
+  shares = none f.share few.shares;
   steps = omega arith;
   received = received;
   sent = few.sent;
   over = few.over;
   routed = few.routed;
-  moved = All-push (λ one. rows_moved one ≤ taken + emitted) journal (entry.Take from number) few.moved (omega arith);
+  moved = All-push (λ one. rows_moved one ≤ f.taken + f.emitted) f.journal (entry.Take from number) few.moved (omega arith);
 }
   where
-    none : (o : Option (List Scanned)) → IfSome o (λ _. ins ≡ []) → IfSome o (λ _. later ≡ [])
+    none : (o : Option (List Scanned)) → IfSome o (λ _. f.ins ≡ []) → IfSome o (λ _. later ≡ [])
     none None h = tt
     none (Some x) h = let empty = ap length h in absurd (omega arith)
 
@@ -203,13 +198,12 @@ takes-batch w from number builds batch looked ins found rest journal now closing
 }
 
 -- batches have come
-pub few-settled : (does : OperatorState) (building : Bool) (share : Option (List Scanned)) (taken emitted batches : ℕ) (finished : Bool) (ins later : List Sender) (outs : List Receiver) (route : Route) (journal : List Entry)
-    → AreFew does building share taken emitted batches finished ins outs route journal → length later ≡ length ins → All (λ one. one.taken ≤ batches) later
-    → have_builders_ended later ≡ have_builders_ended ins → AreFew does building share taken emitted batches finished later outs route journal
-few-settled does building share taken emitted batches finished ins later outs route journal few same received built = record {
-  in_order = in_order-settled does building taken ins later built few.in_order;
+pub few-settled : (f : WorkerFields) (later : List Sender) → AreFew f → length later ≡ length f.ins → All (λ one. one.taken ≤ f.batches) later
+    → have_builders_ended later ≡ have_builders_ended f.ins → AreFew (record f { ins = later })
+few-settled f later few same received built = record {
+  in_order = in_order-settled f.operator_state f.building f.taken f.ins later built few.in_order;
   scans = few.scans;
-  shares = none share few.shares;
+  shares = none f.share few.shares;
   steps = few.steps;
   received = received;
   sent = few.sent;
@@ -218,15 +212,14 @@ few-settled does building share taken emitted batches finished ins later outs ro
   moved = few.moved;
 }
   where
-    none : (o : Option (List Scanned)) → IfSome o (λ _. ins ≡ []) → IfSome o (λ _. later ≡ [])
+    none : (o : Option (List Scanned)) → IfSome o (λ _. f.ins ≡ []) → IfSome o (λ _. later ≡ [])
     none None h = tt
     none (Some x) h = let empty = ap length h in nil_from_length later (omega arith)
 
 -- batches have gone
-pub few-sent : (does : OperatorState) (building : Bool) (share : Option (List Scanned)) (taken emitted batches : ℕ) (finished : Bool) (ins : List Sender) (outs later : List Receiver) (route : Route) (journal : List Entry)
-    → AreFew does building share taken emitted batches finished ins outs route journal → (finished ≡ false → All (λ one. one.link.kept.made ≤ emitted) later)
-    → All (λ one. one.link.kept.ended ≡ finished) later → AreFew does building share taken emitted batches finished ins later route journal
-few-sent does building share taken emitted batches finished ins outs later route journal few made over = record {
+pub few-sent : (f : WorkerFields) (later : List Receiver) → AreFew f → (f.finished ≡ false → All (λ one. one.link.kept.made ≤ f.emitted) later)
+    → All (λ one. one.link.kept.ended ≡ f.finished) later → AreFew (record f { outs = later })
+few-sent f later few made over = record {
   in_order = few.in_order;
   scans = few.scans;
   shares = few.shares;

@@ -14,7 +14,6 @@ use Rattle.amber_rows.specs.declared.record.RowFault.{RowFault}
 use Rattle.amber_rows.specs.declared.flow.What.{What}
 use Rattle.amber_rows.specs.declared.flow.Operator.{Operator}
 use Rattle.amber_log.specs.Grammar.{AreEntries}
-use Rattle.amber_log.specs.declared.entry.Entry.{Entry}
 use Rattle.amber_meaning.specs.Plan.{role_of, task_of}
 use Rattle.amber_meaning.specs.Position.{all_arrivals, kept, origin, share_or, taken_from}
 use Rattle.amber_meaning.specs.Rules.{Leads}
@@ -31,14 +30,12 @@ use Rattle.amber_link.specs.declared.receivers.Receiver.{Receiver}
 use Rattle.amber_link.proofs.Sides.{map-at, map-length}
 use Rattle.amber_worker.specs.Fields.{AreFew}
 use Rattle.amber_worker.specs.Links.{IsSoundRoute}
-use Rattle.amber_worker.specs.Made.{AreFreshSenders, AreNumbered, IsFresh, IsFreshIn, IsFreshOut, IsOperatorStateOf, IsTaskOf, end_of, fresh_worker, from_of, is_join, link_of, out_of, roomless, to_of}
+use Rattle.amber_worker.specs.Made.{AreFreshSenders, AreNumbered, IsFresh, IsFreshIn, IsFreshOut, IsOperatorStateOf, IsTaskOf, end_of, fresh_fields, fresh_worker, from_of, is_join, link_of, out_of, roomless, to_of}
 use Rattle.amber_worker.specs.declared.making.WorkerEnds.{WorkerEnds}
 use Rattle.amber_worker.specs.declared.making.WorkerTask.{WorkerTask}
 use Rattle.amber_worker.specs.AtPosition.{HasShare, IsAtPosition, Placement, ReceiveAll, SendAll, Shows, first_orders, no_base, placement_of}
 use Rattle.amber_worker.specs.WorkerState.{WorkerState}
-use Rattle.amber_worker.specs.declared.operator_state.OperatorState.{OperatorState}
 use Rattle.amber_worker.specs.declared.operator_state.OperatorState.TheVariants as operator_state
-use Rattle.amber_worker.specs.declared.route.Route.{Route}
 use Rattle.amber_link.specs.Sides.{without_room}
 use Rattle.amber_worker.proofs.Roomless.{all-roomless}
 use Rattle.amber_worker.proofs.Fresh.{sender-within}
@@ -174,11 +171,11 @@ fresh-stands flow records size worker share w some shared has fresh = record {
 }
 
 -- what a new worker counts is within its steps
-few-fresh : (d : OperatorState) (kind : What) (share : Option (List Scanned)) (flow : List Operator) (ins : List Sender) (outs : List Receiver) (size : ℕ) (route : Route) (journal : List Entry)
-    → IsOperatorStateOf d kind → is_some share ≡ is_scan kind → (is_scan kind ≡ true → ins ≡ []) → AreFreshSenders flow kind ins
-    → All (λ (one : Receiver). IsFreshOut size one.link) outs → IsSoundRoute route → journal ≡ [] → AreFew d (is_join kind) share 0 0 0 false ins outs route journal
-few-fresh d kind share flow ins outs size route journal is shared scans fresh out_ends routed none = record {
-  in_order = order-first d kind ins is;
+few-fresh : (kind : What) (flow : List Operator) (size : ℕ) (share : Option (List Scanned)) (task : WorkerTask) (ends : WorkerEnds) → task.building ≡ is_join kind
+    → IsOperatorStateOf task.operator_state kind → is_some share ≡ is_scan kind → (is_scan kind ≡ true → ends.ins.items ≡ []) → AreFreshSenders flow kind ends.ins.items
+    → All (λ (one : Receiver). IsFreshOut size one.link) ends.outs.items → IsSoundRoute task.route → AreFew (fresh_fields share task ends)
+few-fresh kind flow size share task ends building is shared scans fresh out_ends routed = record {
+  in_order = rw building (order-first task.operator_state kind ends.ins.items is);
   scans = scan share shared;
   shares = alone share shared;
   steps = omega arith;
@@ -186,14 +183,14 @@ few-fresh d kind share flow ins outs size route journal is shared scans fresh ou
   sent = λ _ k e less. let same = ap (λ (o : Outgoing). o.made) (out_ends k e less).1 in omega arith;
   over = λ k e less. ap (λ (o : Outgoing). o.ended) (out_ends k e less).1;
   routed = routed;
-  moved = rw none (λ k e less. absurd (omega arith));
+  moved = λ k e less. absurd (omega arith);
 }
   where
-    scan : (o : Option (List Scanned)) → is_some o ≡ is_scan kind → IfSome o (λ _. d ≡ operator_state.Scan)
+    scan : (o : Option (List Scanned)) → is_some o ≡ is_scan kind → IfSome o (λ _. task.operator_state ≡ operator_state.Scan)
     scan None e = tt
-    scan (Some x) e = scan-operator_state d kind is (sym e)
+    scan (Some x) e = scan-operator_state task.operator_state kind is (sym e)
 
-    alone : (o : Option (List Scanned)) → is_some o ≡ is_scan kind → IfSome o (λ _. ins ≡ [])
+    alone : (o : Option (List Scanned)) → is_some o ≡ is_scan kind → IfSome o (λ _. ends.ins.items ≡ [])
     alone None e = tt
     alone (Some x) e = scans (sym e)
 
@@ -255,7 +252,7 @@ made-fresh flow worker size share task ends is numbered outs ins = record {
 -- what it counts is within its steps
 pub few-made : (flow : List Operator) (worker size : ℕ) (share : Option (List Scanned)) (task : WorkerTask) (ends : WorkerEnds) → IsTaskOf flow worker task → AreNumbered flow worker ends
     → All (IsFreshOut size) (map out_of ends.outs.items) → is_some share ≡ is_scan (what_at flow (op_of flow worker))
-    → AreFew task.operator_state task.building share 0 0 0 false ends.ins.items ends.outs.items task.route []
+    → AreFew (fresh_fields share task ends)
 few-made flow worker size share task ends is numbered outs shared =
-    rw is.building (few-fresh task.operator_state (what_at flow (op_of flow worker)) share flow ends.ins.items ends.outs.items size task.route [] is.does shared
-    (no-sender flow worker ends.ins.items numbered.senders) numbered.fresh (all-back out_of (IsFreshOut size) ends.outs.items outs) is.sound refl)
+    few-fresh (what_at flow (op_of flow worker)) flow size share task ends is.building is.does shared
+    (no-sender flow worker ends.ins.items numbered.senders) numbered.fresh (all-back out_of (IsFreshOut size) ends.outs.items outs) is.sound

@@ -49,18 +49,31 @@ IsInOrder (operator_state.Join state) building taken ins = (state.sealed ≡ not
 IsInOrder (operator_state.Group state) building taken ins = state.fed ≤ taken
 IsInOrder operator_state.Sink building taken ins = Unit {0}
 
+-- the fields of a worker that are within bounds
+pub record WorkerFields : Type 0 where
+  pub operator_state : OperatorState
+  pub building : Bool
+  pub share : Option (List Scanned)
+  pub taken : ℕ
+  pub emitted : ℕ
+  pub batches : ℕ
+  pub finished : Bool
+  pub ins : List Sender
+  pub outs : List Receiver
+  pub route : Route
+  pub journal : List Entry
+
 -- what a worker counts is within its steps, and these are few; one that has a share is a scan's and has no senders
-pub record AreFew (does : OperatorState) (building : Bool) (share : Option (List Scanned)) (taken emitted batches : ℕ) (finished : Bool) (ins : List Sender) (outs : List Receiver)
-    (route : Route) (journal : List Entry) : Type 0 where
-  pub in_order : IsInOrder does building taken ins
-  pub scans : IfSome share (λ _. does ≡ operator_state.Scan)
-  pub shares : IfSome share (λ _. ins ≡ [])
-  pub steps : taken + emitted + batches + one_if finished ≤ 2 ^ 40
-  pub received : All (λ one. one.taken ≤ batches) ins
-  pub sent : finished ≡ false → All (λ one. one.link.kept.made ≤ emitted) outs
-  pub over : All (λ one. one.link.kept.ended ≡ finished) outs
-  pub routed : IsSoundRoute route
-  pub moved : All (λ one. rows_moved one ≤ taken + emitted) journal
+pub record AreFew (f : WorkerFields) : Type 0 where
+  pub in_order : IsInOrder f.operator_state f.building f.taken f.ins
+  pub scans : IfSome f.share (λ _. f.operator_state ≡ operator_state.Scan)
+  pub shares : IfSome f.share (λ _. f.ins ≡ [])
+  pub steps : f.taken + f.emitted + f.batches + one_if f.finished ≤ 2 ^ 40
+  pub received : All (λ one. one.taken ≤ f.batches) f.ins
+  pub sent : f.finished ≡ false → All (λ one. one.link.kept.made ≤ f.emitted) f.outs
+  pub over : All (λ one. one.link.kept.ended ≡ f.finished) f.outs
+  pub routed : IsSoundRoute f.route
+  pub moved : All (λ one. rows_moved one ≤ f.taken + f.emitted) f.journal
 
 abbrev pub arrivals_in : Rest → List Arrival
 arrivals_in rest = rest_in rest.share rest.from rest.rows.items

@@ -17,7 +17,7 @@ use Rattle.amber_link.specs.declared.senders.Sender.{Sender}
 use Rattle.amber_link.specs.declared.receivers.Receiver.{Receiver}
 use Rattle.amber_link.specs.Sides.{without_room}
 use Rattle.amber_worker.specs.Links.{IsSoundRoute, number_to}
-use Rattle.amber_worker.specs.Fields.{rest_in}
+use Rattle.amber_worker.specs.Fields.{WorkerFields, rest_in}
 use Rattle.amber_worker.specs.WorkerState.{WorkerState}
 use Rattle.amber_worker.specs.declared.making.WorkerEnds.{WorkerEnds}
 use Rattle.amber_worker.specs.declared.making.WorkerTask.{WorkerTask}
@@ -140,6 +140,22 @@ pub record AreNumbered (flow : List Operator) (worker : ℕ) (ends : WorkerEnds)
   pub senders : map from_of ends.ins.items ≡ senders_of flow worker
   pub fresh : AreFreshSenders flow (what_at flow (op_of flow worker)) ends.ins.items
   pub receivers : map to_of ends.outs.items ≡ receivers_of flow worker
+
+-- the bounded fields of a worker of this share, task and ends that has done nothing
+abbrev pub fresh_fields : Option (List Scanned) → WorkerTask → WorkerEnds → WorkerFields
+fresh_fields share task ends = record {
+  operator_state = task.operator_state;
+  building = task.building;
+  share = share;
+  taken = 0;
+  emitted = 0;
+  batches = 0;
+  finished = false;
+  ins = ends.ins.items;
+  outs = ends.outs.items;
+  route = task.route;
+  journal = [];
+}
 
 -- a worker of this number, share, task and ends that has done nothing
 abbrev pub fresh_worker : ℕ → Option (List Scanned) → WorkerTask → WorkerEnds → WorkerState

@@ -94,8 +94,19 @@ impl Model for Worker {
       journal = a.journal.items;
     } };
 
-    ghost invariant = { λ a. AreFew a.operator_state a.building a.rest.share a.taken a.emitted
-        a.batches a.finished a.ins.items a.outs.items a.route a.journal.items };
+    ghost invariant = { λ a. AreFew (record {
+      operator_state = a.operator_state;
+      building = a.building;
+      share = a.rest.share;
+      taken = a.taken;
+      emitted = a.emitted;
+      batches = a.batches;
+      finished = a.finished;
+      ins = a.ins.items;
+      outs = a.outs.items;
+      route = a.route;
+      journal = a.journal.items;
+    }) };
 }
 
 impl Worker {

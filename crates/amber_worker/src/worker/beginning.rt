@@ -4,7 +4,7 @@ ghost use Rattle.std.specs.Prelude.{All, IfOk, false, is_some, length, map, ◌�
 ghost use Rattle.amber_rows.specs.Crew.{crew_of, op_of, receivers_of, senders_of, what_at};
 ghost use Rattle.amber_rows.specs.Kinds.{is_scan};
 ghost use Rattle.amber_worker.specs.Fields.{AreFew};
-ghost use Rattle.amber_worker.specs.Made.{IsFresh, IsFreshIn, IsFreshOut, end_of, fresh_worker, link_of, roomless};
+ghost use Rattle.amber_worker.specs.Made.{IsFresh, IsFreshIn, IsFreshOut, end_of, fresh_fields, fresh_worker, link_of, roomless};
 
 use super::Worker;
 use crate::making::{WorkerEnds, WorkerTask, ends_of, task_of};
@@ -51,8 +51,7 @@ impl Worker {
         task: WorkerTask,
         ends: WorkerEnds,
     ) -> Worker
-        requires few { AreFew task.operator_state task.building share 0 0 0 false ends.ins.items
-            ends.outs.items task.route [] }
+        requires few { AreFew (fresh_fields share task ends) }
         ensures { result ≡ fresh_worker number share task ends }
     {
         let rest = Rest {

@@ -14,7 +14,7 @@ invariant_of-self-in_err-emit_first c =
     let stays : length c.emit_first.new.outs ≡ length c.self.inside.outs.items = omega (arith, lent, c.emit_first.auto.outs) in
     let same = c.in_err-emit_first.ensures.outs_on_err ∙ ap (map without_room) c.as_mut_slice.ensures.value in
     rw (c.reserve.ensures.items, written-back _ _ _ len stays)
-    (few-sent _ _ _ _ _ _ _ _ _ _ _ _ c.self.invariant
+    (few-sent _ _ c.self.invariant
     (λ e. still-all (λ (one : Receiver). one.link.kept.made ≤ c.self.inside.emitted) c.self.inside.outs.items c.emit_first.new.outs same (c.self.invariant.sent e))
     (still-all (λ (one : Receiver). one.link.kept.ended ≡ c.self.inside.finished) c.self.inside.outs.items c.emit_first.new.outs same c.self.invariant.over))
 
@@ -26,7 +26,7 @@ invariant_of-self-2 c =
     let len : c.self.inside.outs.len ≡ length c.self.inside.outs.items = omega (arith, lent, c.as_mut_slice.ensures.len) in
     let stays : length c.emit_first.new.outs ≡ length c.self.inside.outs.items = omega (arith, lent, c.emit_first.auto.outs) in
     rw (c.note_go.ensures, c.reserve.ensures.items, written-back _ _ _ len stays)
-    (few-emitted _ _ _ _ _ _ _ _ _ _ _ _ unfinished c.self.invariant few (λ n h. c.emit_first.ensures.few n (rw c.as_mut_slice.ensures.value h)) c.emit_first.ensures.«open»)
+    (few-emitted _ _ unfinished c.self.invariant few (λ n h. c.emit_first.ensures.few n (rw c.as_mut_slice.ensures.value h)) c.emit_first.ensures.«open»)
 
 pub returns-clause-ok : goal.returns-clause-ok
 returns-clause-ok c =

@@ -13,7 +13,7 @@ invariant_of-self-in_err-end_streams c =
     let stays : length c.end_streams.new.outs ≡ length c.self.inside.outs.items = omega (arith, lent, c.end_streams.auto.outs) in
     let same = c.in_err-end_streams.ensures.err ∙ ap (map without_room) c.as_mut_slice.ensures.value in
     rw (c.reserve.ensures.items, written-back _ _ _ len stays)
-    (few-sent _ _ _ _ _ _ _ _ _ _ _ _ c.self.invariant
+    (few-sent _ _ c.self.invariant
     (λ e. still-all (λ (one : Receiver). one.link.kept.made ≤ c.self.inside.emitted) c.self.inside.outs.items c.end_streams.new.outs same (c.self.invariant.sent e))
     (still-all (λ (one : Receiver). one.link.kept.ended ≡ c.self.inside.finished) c.self.inside.outs.items c.end_streams.new.outs same c.self.invariant.over))
 
@@ -24,7 +24,7 @@ invariant_of-self-2 c =
     let len : c.self.inside.outs.len ≡ length c.self.inside.outs.items = omega (arith, lent, c.as_mut_slice.ensures.len) in
     let stays : length c.end_streams.new.outs ≡ length c.self.inside.outs.items = omega (arith, lent, c.end_streams.auto.outs) in
     rw (c.push_reserved.ensures.items, c.reserve.ensures.items, written-back _ _ _ len stays)
-    (few-done _ _ _ _ _ _ _ _ _ _ _ _ c.self.invariant few c.in_ok-end_streams.ensures.ended)
+    (few-done _ _ c.self.invariant few c.in_ok-end_streams.ensures.ended)
 
 pub returns-clause-done : goal.returns-clause-done
 returns-clause-done c =

@@ -23,7 +23,7 @@ pub invariant_of-self : goal.invariant_of-self
 invariant_of-self c =
     let looked = rw c.as_mut_slice.ensures.value at c.ready_place.ensures.looked in
     rw (written-back _ _ _ (len c) (stays c))
-    (few-settled _ _ _ _ _ _ _ _ _ _ _ _ c.self.invariant (stays c) (looked-few c.self.inside.batches c.self.inside.ins.items c.ready_place.new.ins looked c.self.invariant.received)
+    (few-settled _ _ c.self.invariant (stays c) (looked-few c.self.inside.batches c.self.inside.ins.items c.ready_place.new.ins looked c.self.invariant.received)
     (looked-built c.self.inside.ins.items c.ready_place.new.ins looked))
 
 pub returns-clause-none : goal.returns-clause-none

@@ -14,7 +14,7 @@ invariant_of-self-2 c =
     let len : c.self.inside.ins.len ≡ length c.self.inside.ins.items = omega (arith, lent, c.as_mut_slice.ensures.len) in
     let stays : length c.take_at-from.new.ins ≡ length c.self.inside.ins.items = omega (arith, lent, c.take_at-from.auto.ins) in
     rw (c.turn_to.ensures, c.push_reserved.ensures.items, c.reserve.ensures.items, written-back _ _ _ len stays)
-    (few-batch _ _ _ _ _ _ _ _ _ _ _ _ _ c.args.place _ _ _ _ (rw c.as_mut_slice.ensures.value at c.take_at-from.ensures.taken) refl refl c.self.invariant few there
+    (few-batch _ _ _ c.args.place _ _ _ _ (rw c.as_mut_slice.ensures.value at c.take_at-from.ensures.taken) refl refl c.self.invariant few there
     (c.take_at-from.ensures.few c.self.inside.batches (rw c.as_mut_slice.ensures.value c.self.invariant.received)))
 
 pub returns-clause-ok : goal.returns-clause-ok

@@ -10,7 +10,7 @@ pub invariant_of-self-2 : goal.invariant_of-self-2
 invariant_of-self-2 c =
     let few = rw (← c.self.view_is) at c.requires.few in
     let gains = c.in_ok-take_next.ensures.ok in
-    rw (c.note_go.ensures, c.reserve.ensures.items) (few-row _ _ _ _ _ _ _ _ _ _ _ _ _ _ gains.becomes c.self.invariant few c.take_next.ensures.shares)
+    rw (c.note_go.ensures, c.reserve.ensures.items) (few-row _ _ _ _ gains.becomes c.self.invariant few c.take_next.ensures.shares)
 
 pub take_next-requires-clause-may : goal.take_next-requires-clause-may
 take_next-requires-clause-may c =

@@ -33,7 +33,7 @@ invariant_of-from c =
     let len : c.from.inside.outs.len ≡ length c.from.inside.outs.items = omega (arith, lent, c.as_mut_slice.ensures.len) in
     let stays : length c.settle_into.new.outs ≡ length c.from.inside.outs.items = omega (arith, lent, c.settle_into.auto.outs) in
     rw (written-back _ _ _ len stays)
-    (few-sent _ _ _ _ _ _ _ _ _ _ _ _ c.from.invariant
+    (few-sent _ _ c.from.invariant
     (λ e. c.settle_into.ensures.made c.from.inside.emitted (rw c.as_mut_slice.ensures.value (c.from.invariant.sent e)))
     (c.settle_into.ensures.ended c.from.inside.finished (rw c.as_mut_slice.ensures.value c.from.invariant.over)))
 
@@ -43,5 +43,5 @@ invariant_of-to c =
     let len : c.to.inside.ins.len ≡ length c.to.inside.ins.items = omega (arith, lent, c.as_mut_slice-2.ensures.len) in
     let stays : length c.settle_into.new.ins ≡ length c.to.inside.ins.items = omega (arith, lent, c.settle_into.auto.ins) in
     rw (written-back _ _ _ len stays)
-    (few-settled _ _ _ _ _ _ _ _ _ _ _ _ c.to.invariant stays (c.settle_into.ensures.taken c.to.inside.batches (rw c.as_mut_slice-2.ensures.value c.to.invariant.received))
+    (few-settled _ _ c.to.invariant stays (c.settle_into.ensures.taken c.to.inside.batches (rw c.as_mut_slice-2.ensures.value c.to.invariant.received))
     (c.settle_into.ensures.built ∙ ap have_builders_ended c.as_mut_slice-2.ensures.value))
