@@ -25,13 +25,13 @@ use Rattle.amber_meaning.specs.Plan.{role_of}
 use Rattle.amber_meaning.specs.Position.{Taken, origin}
 use Rattle.amber_meaning.specs.State.{arms_at, first_constants, no_arms, orders_of, position_at, start_of}
 use Rattle.amber_meaning.proofs.OneState.{position-get_or}
-use Rattle.amber_worker.specs.AtPosition.{IsAtPosition, Placement, ReceiveAll, SendAll, first_orders, no_base, placement_of}
+use Rattle.amber_worker.specs.AtPosition.{IsAtPosition, Placement, ReceiveAll, SendAll, first_context, first_orders, placement_of}
 use Rattle.amber_worker.specs.Changes.{StandsNew}
 use Rattle.amber_worker.specs.Made.{end_of, link_of, roomless}
 use Rattle.amber_worker.specs.Pairs.{AreJoined, AreSettledAt, IsLinkAt}
 use Rattle.amber_worker.specs.WorkerState.{WorkerState}
 use Rattle.amber_worker.proofs.PairFacts.{joined-made}
-use Rattle.amber_home.specs.AtWork.{AreAtWork, AreJoinedAt, IsQuiet, SendsTo, no_worker_state, worker_state_at}
+use Rattle.amber_home.specs.AtWork.{AreAtWork, AreJoinedAt, IsQuiet, SendsTo, context_in, no_worker_state, worker_state_at}
 use Rattle.amber_home.specs.Start.{AreSharesDealt, AreEnds, AreNew, IsNew, Parts, ends_at, from_whom, share_of_worker, to_whom, web_of}
 use Rattle.amber_home.proofs.OnePlace.{in-place, no_receiver, no_sender, out-place}
 use Rattle.amber_home.proofs.Sending.{sending}
@@ -112,7 +112,7 @@ module _ (flow : List Operator) (files : List (List ℕ)) (parts : Parts) (crew 
   within worker below = subst (λ f. worker < crew_of f) (sym flow_is) below
 
   stands : (worker : ℕ) → worker < crew_of flow
-      → IsAtPosition (placement_of flow (records_of files flow) parts.size worker) (first_orders flow worker) (worker_state_at crew worker) origin origin no_base
+      → IsAtPosition (first_context flow (records_of files flow) parts.size worker) (worker_state_at crew worker) origin origin
   unfolding StandsNew
   stands worker below = subst (λ f. StandsNew f worker parts.size (share_of_worker parts.shares worker) (worker_state_at crew worker)) flow_is (new.each worker (within worker below)).stands (records_of files flow) (dealt.dealt worker below)
 
@@ -193,9 +193,8 @@ module _ (flow : List Operator) (files : List (List ℕ)) (parts : Parts) (crew 
       at_positions = record {
         all = new.all ∙ ap crew_of flow_is;
         each = λ worker below.
-            subst (λ p. IsAtPosition (placement_of flow (records_of files flow) parts.size worker) (orders_of (arms_at (start_of flow) (op_of flow worker)))
-            (worker_state_at crew worker) p origin no_base) (sym (start-position flow worker))
-            (subst (λ orders. IsAtPosition (placement_of flow (records_of files flow) parts.size worker) orders (worker_state_at crew worker) origin origin no_base)
+            subst (λ p. IsAtPosition (context_in query (start_of flow) worker) (worker_state_at crew worker) p origin) (sym (start-position flow worker))
+            (subst (λ orders. IsAtPosition (record (context_in query (start_of flow) worker) { orders = orders }) (worker_state_at crew worker) origin origin)
             (sym (start-orders flow worker)) (stands worker below));
       };
       joined = joined;

@@ -23,10 +23,9 @@ use Rattle.amber_meaning.proofs.Lists.{nth-next}
 use Rattle.amber_meaning.proofs.OneState.{legal_logs_have_one_state}
 use Rattle.amber_meaning.proofs.Rest.{ends_close, runs_close}
 use Rattle.amber_meaning.proofs.Senders.{flows_send_forward}
-use Rattle.amber_worker.specs.AtPosition.{no_base}
 use Rattle.amber_worker.specs.WorkerState.{WorkerState}
 use Rattle.amber_worker.proofs.Settling.{IsAtPosition-without_journal}
-use Rattle.amber_home.specs.AtWork.{AreAtWork, IsQuiet, placement_at, worker_state_at}
+use Rattle.amber_home.specs.AtWork.{AreAtWork, IsQuiet, context_in, worker_state_at}
 use Rattle.amber_home.specs.HomeState.{ClosesIn, HomeState, item_of_leg, query_of, rest_state, with_item}
 use Rattle.amber_home.specs.Kept.{IsAtRest, IsWithinLeg}
 use Rattle.amber_home.specs.Parts.{parts_from, state_reached, without_journal}
@@ -205,7 +204,7 @@ module _ (to_end : Bool) (e : HomeState) (crew : List WorkerState) (arms : List 
             (quiet-closed query reached quiet to_end closed)
             (λ worker inside.
             rw (handed-at crew worker, orders-closed query reached quiet to_end closed worker inside, ← here worker inside)
-            (IsAtPosition-without_journal (placement_at query worker) (orders_in query start worker) (worker_state_at crew worker) (position_at start.positions worker) (leg.positions worker) no_base
+            (IsAtPosition-without_journal (context_in query start worker) (worker_state_at crew worker) (position_at start.positions worker) (leg.positions worker)
             (leg.at.at.at_positions.each worker inside))));
         none = λ worker inside. ap (λ (w : WorkerState). w.journal) (handed-at crew worker);
         arms_are = now-is ∙ ap (λ (s : State). s.arms) (sym rest);

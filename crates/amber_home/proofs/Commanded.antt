@@ -28,12 +28,12 @@ use Rattle.amber_meaning.proofs.Lists.{nth-next}
 use Rattle.amber_meaning.proofs.OneState.{legal_logs_have_one_state}
 use Rattle.amber_meaning.proofs.Rest.{legal_logs_rest}
 use Rattle.amber_meaning.proofs.Senders.{flows_send_forward}
-use Rattle.amber_worker.specs.AtPosition.{Base, IsAtPosition, Placement, no_base, placement_of}
+use Rattle.amber_worker.specs.AtPosition.{Context, IsAtPosition, placement_of}
 use Rattle.amber_worker.specs.Changes.{ShowsSet, with_value}
 use Rattle.amber_worker.specs.WorkerState.{WorkerState}
 use Rattle.amber_worker.proofs.Commands.{shows-set}
 use Rattle.amber_home.specs.Applied.{HasOperator, NamesOneOf, arms_after, crew_after, worker_set}
-use Rattle.amber_home.specs.AtWork.{AreAtWork, IsQuiet, placement_at, worker_state_at}
+use Rattle.amber_home.specs.AtWork.{AreAtWork, IsQuiet, context_in, worker_state_at}
 use Rattle.amber_home.specs.HomeState.{HomeState, is_done_at_rest, query_of, rest_state, with_item}
 use Rattle.amber_home.specs.Kept.{IsAtRest, IsHome, StandsIn}
 use Rattle.amber_home.specs.Parts.{open_parts}
@@ -216,14 +216,14 @@ module _ (op : ℕ) (value : Value) where
   journal-set (w ∷ crew) (suc k) = journal-set crew k
 
   -- where it is one of the operator
-  stands-set : (placement : Placement) (orders : Orders) (w : WorkerState) (p : Position) (base : Base) → placement.op ≡ op → w.journal ≡ [] → IsAtPosition placement orders w p p base
-      → IsAtPosition placement (record orders { constants = value ∷ [] }) (worker_set op value w) p p base
+  stands-set : (context : Context) (w : WorkerState) (p : Position) → context.placement.op ≡ op → w.journal ≡ [] → IsAtPosition context w p p
+      → IsAtPosition (record context { orders = record context.orders { constants = value ∷ [] } }) (worker_set op value w) p p
   unfolding Leads AreEntries ShowsSet
-  stands-set placement orders w p base own none stands =
+  stands-set context w p own none stands =
       rw (eq-eqb w.op op (stands.shows.op ∙ own)) (record {
         leads = rw none refl;
         text = rw none tt;
-        shows = shows-set value w placement orders p base stands.shows;
+        shows = shows-set value w context p stands.shows;
       })
 
   -- where it is not, it stays as it was
@@ -272,7 +272,7 @@ module _ (query : Query) (state : State) (crew : List WorkerState) (work : AreAt
     (none : (worker : ℕ) → worker < length crew → (worker_state_at crew worker).journal ≡ []) (long : length state.arms ≡ length query.flow) where
   -- under orders that are the same
   stands-same : (orders : Orders) (worker : ℕ) → worker < crew_of query.flow → orders ≡ orders_in query state worker
-      → IsAtPosition (placement_at query worker) orders (worker_state_at crew worker) (position_at state.positions worker) (position_at state.positions worker) no_base
+      → IsAtPosition (record (context_in query state worker) { orders = orders }) (worker_state_at crew worker) (position_at state.positions worker) (position_at state.positions worker)
   stands-same orders worker inside same = rw same (work.at.at_positions.each worker inside)
 
   -- another constant at its own operator, and at another one
@@ -293,8 +293,8 @@ module _ (query : Query) (state : State) (crew : List WorkerState) (work : AreAt
       ap (λ found. orders_of (unwrap_or found no_arms)) (nth-other change op state.arms (op_of query.flow worker) other)
 
   stands-after : (one : Command) → NamesOneOf one (length query.flow) → is_done_at_rest one ≡ true → (worker : ℕ) → worker < crew_of query.flow
-      → IsAtPosition (placement_at query worker) (orders_in query (after_command query.flow one state) worker) (worker_state_at (crew_after one crew) worker)
-      (position_at state.positions worker) (position_at state.positions worker) no_base
+      → IsAtPosition (context_in query (after_command query.flow one state) worker) (worker_state_at (crew_after one crew) worker)
+      (position_at state.positions worker) (position_at state.positions worker)
   unfolding after_command placement_of
   stands-after command.Run there done worker inside = absurd (false≢true done)
   stands-after command.End there done worker inside = absurd (false≢true done)
@@ -309,14 +309,14 @@ module _ (query : Query) (state : State) (crew : List WorkerState) (work : AreAt
       let w = worker_state_at crew worker in
       let p = position_at state.positions worker in
       let was = work.at.at_positions.each worker inside in
-      subst (λ v. IsAtPosition (placement_at query worker) (orders_in query (after_command query.flow (command.Set op value) state) worker) v p p no_base) (sym (set-at op value crew worker here))
+      subst (λ v. IsAtPosition (context_in query (after_command query.flow (command.Set op value) state) worker) v p p) (sym (set-at op value crew worker here))
       (elim (eqb_tells (op_of query.flow worker) op) [
         | inl same ↦
-            subst (λ orders. IsAtPosition (placement_at query worker) orders (worker_set op value w) p p no_base) (sym (orders-here op value there worker same.1))
-            (stands-set op value (placement_at query worker) (orders_in query state worker) w p no_base same.1 (none worker here) was)
+            subst (λ orders. IsAtPosition (record (context_in query state worker) { orders = orders }) (worker_set op value w) p p) (sym (orders-here op value there worker same.1))
+            (stands-set op value (context_in query state worker) w p same.1 (none worker here) was)
         | inr other ↦
             let apart : w.op ≢ op = λ is. other.1 (sym was.shows.op ∙ is) in
-            subst (λ v. IsAtPosition (placement_at query worker) (orders_in query (after_command query.flow (command.Set op value) state) worker) v p p no_base) (sym (stays op value w apart))
+            subst (λ v. IsAtPosition (context_in query (after_command query.flow (command.Set op value) state) worker) v p p) (sym (stays op value w apart))
             (stands-same _ worker inside (orders-elsewhere op value worker other.1))
       ])
   stands-after (command.Drop op worker) there done number inside = absurd (false≢true done)

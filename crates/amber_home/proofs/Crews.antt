@@ -7,11 +7,11 @@ use Rattle.amber_lines.specs.Moving.{orders_in}
 use Rattle.amber_meaning.specs.Legal.{Query}
 use Rattle.amber_meaning.specs.Position.{Position}
 use Rattle.amber_meaning.specs.State.{State, position_at}
-use Rattle.amber_worker.specs.AtPosition.{HasSameEnds, IsAtPosition, Keeps, KeepsUnder, no_base}
+use Rattle.amber_worker.specs.AtPosition.{HasSameEnds, IsAtPosition, Keeps, KeepsUnder}
 use Rattle.amber_worker.specs.Pairs.{AreJoined, StaysAt}
 use Rattle.amber_worker.specs.WorkerState.{WorkerState}
 use Rattle.amber_worker.proofs.Turns.{ends-same}
-use Rattle.amber_home.specs.AtWork.{AreJoinedAt, no_worker_state, placement_at, worker_state_at}
+use Rattle.amber_home.specs.AtWork.{AreJoinedAt, context_in, no_worker_state, worker_state_at}
 use Rattle.amber_home.proofs.Linked.{joined-still}
 
 -- ---- positions
@@ -60,7 +60,7 @@ module _ (query : Query) (start : State) (crew : List WorkerState) (positions : 
   unfolding KeepsUnder
   joined-turned at inside keeps same =
       let here : worker < crew_of query.flow = rw (← at.at_positions.all) inside in
-      let moved = keeps (placement_at query worker) (orders_in query start worker) (position_at start.positions worker) (positions worker) no_base (uncounted at)
+      let moved = keeps (context_in query start worker) (position_at start.positions worker) (positions worker) (uncounted at)
       (at.at_positions.each worker here) in
       let q = moved.0 in (
         q,
@@ -69,8 +69,8 @@ module _ (query : Query) (start : State) (crew : List WorkerState) (positions : 
           quiet = at.quiet;
           at_positions = record {
             all = length-set crew worker now ∙ at.at_positions.all;
-            each = at-each (λ k. k < crew_of query.flow → IsAtPosition (placement_at query k) (orders_in query start k)
-                (worker_state_at (set crew worker now) k) (position_at start.positions k) (placed positions worker q k) no_base) worker
+            each = at-each (λ k. k < crew_of query.flow → IsAtPosition (context_in query start k)
+                (worker_state_at (set crew worker now) k) (position_at start.positions k) (placed positions worker q k)) worker
                 (λ h. rw (here-now crew worker now inside, same-place worker) moved.1)
                 (λ k ne h. rw (there-still crew worker now inside k ne, ne_eqb k worker ne) (at.at_positions.each k h));
           };
@@ -91,10 +91,10 @@ module _ (query : Query) (start : State) (crew : List WorkerState) (positions : 
     quiet = at.quiet;
     at_positions = record {
       all = length-set crew worker now ∙ at.at_positions.all;
-      each = at-each (λ k. k < crew_of query.flow → IsAtPosition (placement_at query k) (orders_in query start k)
-          (worker_state_at (set crew worker now) k) (position_at start.positions k) (positions k) no_base) worker
+      each = at-each (λ k. k < crew_of query.flow → IsAtPosition (context_in query start k)
+          (worker_state_at (set crew worker now) k) (position_at start.positions k) (positions k)) worker
           (λ h. rw (here-now crew worker now inside)
-          (stays (placement_at query worker) (orders_in query start worker) (position_at start.positions worker) (positions worker) no_base (at.at_positions.each worker h)))
+          (stays (context_in query start worker) (position_at start.positions worker) (positions worker) (at.at_positions.each worker h)))
           (λ k ne h. rw (there-still crew worker now inside k ne) (at.at_positions.each k h));
     };
     joined = λ from to from-in to-in.

@@ -4,15 +4,14 @@ use Rattle.amber_rows.specs.declared.flow.Operator.{Operator}
 use Rattle.amber_log.specs.Grammar.{AreItems}
 use Rattle.amber_log.specs.declared.log.Item.{Item}
 use Rattle.amber_lines.specs.KeptStops.{kept_stops, stops_along}
-use Rattle.amber_lines.specs.Moving.{orders_in}
 use Rattle.amber_meaning.specs.declared.view.Stop.{Stop}
 use Rattle.amber_meaning.specs.Legal.{IsLegal, Query, Reaches, query_over}
 use Rattle.amber_meaning.specs.Position.{origin}
 use Rattle.amber_meaning.specs.Replay.{after_items, state_after}
 use Rattle.amber_meaning.specs.State.{Arms, position_at, start_of}
-use Rattle.amber_worker.specs.AtPosition.{IsAtPosition, no_base}
+use Rattle.amber_worker.specs.AtPosition.{IsAtPosition}
 use Rattle.amber_worker.specs.WorkerState.{WorkerState}
-use Rattle.amber_home.specs.AtWork.{AreAtWork, placement_at, worker_state_at}
+use Rattle.amber_home.specs.AtWork.{AreAtWork, context_in, worker_state_at}
 use Rattle.amber_home.specs.Kept.{IsHome}
 use Rattle.amber_home.specs.declared.phase.Phase.TheVariants as phase
 use Rattle.amber_home.proofs.Begun.{start-position}
@@ -32,8 +31,8 @@ at-start query crew work = record {
     at_positions = record {
       all = work.at.at_positions.all;
       each = λ worker inside.
-          subst (λ p. IsAtPosition (placement_at query worker) (orders_in query (start_of query.flow) worker) (worker_state_at crew worker)
-          (position_at (start_of query.flow).positions worker) p no_base) (sym (start-position query.flow worker)) (work.at.at_positions.each worker inside);
+          subst (λ p. IsAtPosition (context_in query (start_of query.flow) worker) (worker_state_at crew worker)
+          (position_at (start_of query.flow).positions worker) p) (sym (start-position query.flow worker)) (work.at.at_positions.each worker inside);
     };
     joined = work.at.joined;
   };

@@ -8,7 +8,7 @@ use Rattle.amber_rows.specs.declared.value.Value.{Value}
 use Rattle.amber_meaning.specs.declared.answer.Refusal.{Refusal}
 use Rattle.amber_meaning.specs.Legal.{Query}
 use Rattle.amber_meaning.specs.Position.{Position}
-use Rattle.amber_worker.specs.AtPosition.{IsGivenOf, Shows, placement_of}
+use Rattle.amber_worker.specs.AtPosition.{Context, IsGivenOf, Shows, placement_of}
 use Rattle.amber_worker.specs.WorkerState.{WorkerState}
 use Rattle.amber_worker.specs.declared.given.Given.{Given}
 use Rattle.amber_worker.proofs.Shares.{by_number-share}
@@ -22,7 +22,7 @@ given-none refused rows none empty query positions shows = (none, empty)
 all-before : (query : Query) (crew : List WorkerState) (w : WorkerState) (positions : ℕ → Position) → ShowAll query (crew ++ w ∷ []) positions → ShowAll query crew positions
 all-before query crew w positions shows k below =
     let one = shows k (rw (length_push crew w) (omega arith)) in
-    (one.0, one.1, subst (λ v. Shows (placement_at query k) one.0 v (positions k) one.1) (get_or_append_left crew (w ∷ []) no_worker_state k below) one.2)
+    (one.0, one.1, subst (λ v. Shows (record { placement = placement_at query k; orders = one.0; base = one.1 }) v (positions k)) (get_or_append_left crew (w ∷ []) no_worker_state k below) one.2)
 
 pub given-more : (crew : List WorkerState) (w : WorkerState) (given : Given) (refused longer : List Refusal) (rows : List (List Value))
     → HaveGiven crew refused rows → IsGivenOf w given → longer ≡ refused ++ given.refused → HaveGiven (crew ++ w ∷ []) longer given.rows
@@ -30,8 +30,9 @@ unfolding HaveGiven IsGivenOf refused_at rows_before numbers_below placement_of
 given-more crew w given refused longer rows before gives is query positions shows =
     let n = length crew in
     let last = shows n (rw (length_push crew w) (omega arith)) in
-    let here = gives (placement_at query n) last.0 (positions n) last.1 (λ m. by_number-share query.flow query.records n m)
-    (subst (λ v. Shows (placement_at query n) last.0 v (positions n) last.1) (get_or_push crew w no_worker_state n refl) last.2) in
+    let context : Context = record { placement = placement_at query n; orders = last.0; base = last.1 } in
+    let here = gives context (positions n) (λ m. by_number-share query.flow query.records n m)
+    (subst (λ v. Shows context v (positions n)) (get_or_push crew w no_worker_state n refl) last.2) in
     let old = before query positions (all-before query crew w positions shows) in
     let count : length (crew ++ w ∷ []) ≡ suc n = length_push crew w ∙ add-one n in (
       is ∙ ap (λ xs. xs ++ given.refused) old.0

@@ -15,11 +15,10 @@ use Rattle.amber_meaning.specs.State.{Arms, State, arms_at, begin_last_leg, begi
 use Rattle.amber_meaning.proofs.OneState.{legal_logs_have_one_state, position-get_or}
 use Rattle.amber_meaning.proofs.Rest.{legal_logs_rest}
 use Rattle.amber_meaning.proofs.Senders.{flows_send_forward}
-use Rattle.amber_worker.specs.AtPosition.{no_base}
 use Rattle.amber_worker.specs.Changes.{StandsAtLeg, with_leg}
 use Rattle.amber_worker.specs.WorkerState.{WorkerState}
 use Rattle.amber_worker.proofs.Commands.{stands-begun}
-use Rattle.amber_home.specs.AtWork.{IsQuiet, placement_at, steps_by, worker_state_at}
+use Rattle.amber_home.specs.AtWork.{IsQuiet, context_in, steps_by, worker_state_at}
 use Rattle.amber_home.specs.HomeState.{HomeState, query_of, rest_state}
 use Rattle.amber_home.specs.Kept.{IsAtRest, IsWithinLeg}
 use Rattle.amber_home.specs.Parts.{state_reached}
@@ -131,7 +130,7 @@ module _ (e : HomeState) (crew : List WorkerState) (arms : List Arms) (stops : L
             let here : worker < length crew = rw rest.at.at.at_positions.all inside in
             let w = worker_state_at crew worker in
             let p = position_at state.positions worker in
-            let begun = stands-begun w [] refl (placement_at query worker) (orders_in query state worker) p no_base (rest.at.at.at_positions.each worker inside).shows in
+            let begun = stands-begun w [] refl (context_in query state worker) p (rest.at.at.at_positions.each worker inside).shows in
             rw (begun-at crew worker here, orders-start query state rest.at.at.quiet to_end worker, position-start to_end state worker) begun);
         arms_are = now-is ∙ arms-start to_end arms state rest.arms_are;
         few = rw (steps-begun crew) (rest-few e crew arms stops rest legal);

@@ -3,13 +3,12 @@ use Rattle.std.proofs.Common.{◌≡◌, sym, subst, ◌∙◌, ℕ, ◌<◌, Li
 use Rattle.amber_rows.specs.Crew.{crew_of}
 use Rattle.amber_link.specs.Sides.{AreSameReceivers, AreSameSenders}
 use Rattle.amber_link.proofs.SameEnds.{receivers-same, senders-same}
-use Rattle.amber_lines.specs.Moving.{orders_in}
 use Rattle.amber_meaning.specs.Legal.{Query}
 use Rattle.amber_meaning.specs.Position.{Position}
 use Rattle.amber_meaning.specs.State.{State, arms_at, position_at}
-use Rattle.amber_worker.specs.AtPosition.{HasSameEnds, IsAtPosition, no_base}
+use Rattle.amber_worker.specs.AtPosition.{HasSameEnds, IsAtPosition}
 use Rattle.amber_worker.specs.WorkerState.{WorkerState}
-use Rattle.amber_home.specs.AtWork.{AreAtWork, IsQuiet, placement_at, worker_state_at}
+use Rattle.amber_home.specs.AtWork.{AreAtWork, IsQuiet, context_in, worker_state_at}
 use Rattle.amber_home.proofs.Crews.{joined-each}
 use Rattle.amber_home.proofs.Linked.{settled-same}
 
@@ -33,7 +32,7 @@ own-ends old new same = record {
 module _ (query : Query) (start now : State) (crew after : List WorkerState) (positions later : ℕ → Position) (work : AreAtWork query start crew positions) where
   pub renewed : length after ≡ length crew → ((k : ℕ) → HasItsEnds (worker_state_at crew k) (worker_state_at after k)) → ((op : ℕ) → IsQuiet (arms_at now op))
       → ((worker : ℕ) → worker < crew_of query.flow
-      → IsAtPosition (placement_at query worker) (orders_in query now worker) (worker_state_at after worker) (position_at now.positions worker) (later worker) no_base)
+      → IsAtPosition (context_in query now worker) (worker_state_at after worker) (position_at now.positions worker) (later worker))
       → AreAtWork query now after later
   renewed long same quiet each = record {
     at = record {

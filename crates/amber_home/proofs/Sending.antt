@@ -7,11 +7,10 @@ use Rattle.amber_meaning.specs.Plan.{role_of}
 use Rattle.amber_meaning.specs.Position.{Position}
 use Rattle.amber_meaning.specs.State.{State}
 use Rattle.amber_meaning.proofs.Senders.{flows_send_forward}
-use Rattle.amber_lines.specs.Moving.{orders_in}
-use Rattle.amber_worker.specs.AtPosition.{no_base, placement_of}
+use Rattle.amber_worker.specs.AtPosition.{placement_of}
 use Rattle.amber_worker.specs.WorkerState.{WorkerState}
 use Rattle.amber_worker.proofs.Settling.{receives-from, sends-to}
-use Rattle.amber_home.specs.AtWork.{AreJoinedAt, SendsTo, placement_at, worker_state_at}
+use Rattle.amber_home.specs.AtWork.{AreJoinedAt, SendsTo, context_in, worker_state_at}
 use Rattle.amber_home.proofs.Links.{is_in, receives, sends}
 
 -- one sends to the other, which stands behind it
@@ -33,13 +32,13 @@ module _ (query : Query) (start : State) (crew : List WorkerState) (positions : 
   pub receivers-are : (worker other : ℕ) → worker < length crew → list_any (λ one. nat_eq one.to other) (worker_state_at crew worker).outs ≡ is_in (receivers_of query.flow worker) other
   unfolding placement_of
   receivers-are worker other inside =
-      sends-to (placement_at query worker) (orders_in query start worker) (worker_state_at crew worker) (positions worker) no_base other
+      sends-to (context_in query start worker) (worker_state_at crew worker) (positions worker) other
       (at.at_positions.each worker (rw (← at.at_positions.all) inside)).shows
 
   pub senders-are : (worker other : ℕ) → worker < length crew → list_any (λ one. nat_eq one.from other) (worker_state_at crew worker).ins ≡ is_in (senders_of query.flow worker) other
   unfolding placement_of role_of
   senders-are worker other inside =
-      receives-from (placement_at query worker) (orders_in query start worker) (worker_state_at crew worker) (positions worker) no_base other
+      receives-from (context_in query start worker) (worker_state_at crew worker) (positions worker) other
       (at.at_positions.each worker (rw (← at.at_positions.all) inside)).shows
 
   pub sending : (from to : ℕ) → SendsTo query.flow from to → IsSending query crew from to

@@ -27,7 +27,7 @@ use Rattle.amber_worker.proofs.Settling.{Shows-relinked}
 use Rattle.amber_worker.proofs.Received.{receive_all-looked, sides-looked}
 use Rattle.amber_home.proofs.Linked.{pairwise-at}
 use Rattle.amber_home.proofs.Sending.{sending-in}
-use Rattle.amber_home.specs.AtWork.{AreAtWork, HaveFinished, IsCrew, placement_at, worker_state_at, steps_by}
+use Rattle.amber_home.specs.AtWork.{AreAtWork, HaveFinished, IsCrew, context_in, placement_at, steps_by, worker_state_at}
 
 -- ---- who has something to do
 
@@ -69,12 +69,12 @@ module _ (query : Query) (start : State) (crew : List WorkerState) (positions : 
   busy found looked idle =
       let here : worker < crew_of query.flow = rw (← work.at.at_positions.all) inside in
       let stands = work.at.at_positions.each worker here in
-      let placement = placement_at query worker in
-      let shows = Shows-relinked placement (orders_in query start worker) me (positions worker) no_base found me.outs me.journal stands.shows
-      (receive_all-looked (λ sender. []) (positions worker).taken placement.role.senders me.ins found looked stands.shows.ins)
-      (sides-looked placement.role.task me.ins found looked stands.shows.sides) stands.shows.outs in
+      let context = context_in query start worker in
+      let shows = Shows-relinked context me (positions worker) found me.outs me.journal stands.shows
+      (receive_all-looked (λ sender. []) (positions worker).taken context.placement.role.senders me.ins found looked stands.shows.ins)
+      (sides-looked context.placement.role.task me.ins found looked stands.shows.sides) stands.shows.outs in
       let long : length found ≡ length me.ins = pairwise-length IsLooked me.ins found looked in
-      never_idle placement (orders_in query start worker) (record me { ins = found }) (positions worker) no_base shows
+      never_idle context (record me { ins = found }) (positions worker) shows
       (λ sender k less own d.
       let k_less : k < length me.ins = rw (← long) less in
       let seen : (e : Sender) → IsLooked (get_or me.ins k e) (get_or found k d) = λ e. pairwise-at IsLooked me.ins found k e d k_less looked in

@@ -12,7 +12,7 @@ use Rattle.amber_meaning.specs.declared.view.WorkerView.{WorkerView}
 use Rattle.amber_rows.proofs.CrewFacts.{count-there}
 use Rattle.amber_meaning.proofs.Crews.{worker-known}
 use Rattle.amber_meaning.proofs.Numbers.{among, among-first, among-more}
-use Rattle.amber_worker.specs.AtPosition.{IsViewOf, Shows, placement_of}
+use Rattle.amber_worker.specs.AtPosition.{Context, IsViewOf, Shows, placement_of}
 use Rattle.amber_worker.specs.WorkerState.{WorkerState}
 use Rattle.amber_home.specs.Answers.{IsShownAt, ShowWorkers}
 use Rattle.amber_home.specs.AtWork.{placement_at, worker_state_at}
@@ -34,8 +34,8 @@ shown-more crew first place w view views longer inside is before gives longer-is
     let worker = first + place in
     let one = shows worker inside in
     let same : worker_state_at crew worker ≡ w = sym (is ∙ read-at crew worker w inside) in
-    let here = gives (placement_at query worker) one.0 (positions worker) one.1
-    (subst (λ v. Shows (placement_at query worker) one.0 v (positions worker) one.1) same one.2) in
+    let context : Context = record { placement = placement_at query worker; orders = one.0; base = one.1 } in
+    let here = gives context (positions worker) (subst (λ v. Shows context v (positions worker)) same one.2) in
     let f : ℕ → WorkerView = λ worker. view_of (placement_at query worker).role (positions worker) in
     let workers = map (λ place. first + place) (numbers_below place) in
     longer-is ∙ ap (λ l. l ++ view ∷ []) (before query positions shows)

@@ -19,7 +19,7 @@ use Rattle.amber_worker.specs.Pairs.{OffersAll}
 use Rattle.amber_worker.specs.WorkerState.{WorkerState}
 use Rattle.amber_worker.proofs.PairFacts.{offers-all}
 use Rattle.amber_worker.proofs.Settling.{steps-shown}
-use Rattle.amber_home.specs.AtWork.{AreAtWork, HaveFinished, placement_at, steps_by, worker_state_at}
+use Rattle.amber_home.specs.AtWork.{AreAtWork, HaveFinished, context_in, placement_at, steps_by, worker_state_at}
 use Rattle.amber_home.specs.Parts.{parts_from, state_reached}
 use Rattle.amber_home.proofs.OnePlace.{in-place}
 use Rattle.amber_home.proofs.PartFacts.{are-parts, entries-at, part-above}
@@ -90,7 +90,7 @@ module _ (query : Query) (start : State) (crew : List WorkerState) (positions : 
   unfolding steps_in
   steps-reached =
       steps-listed crew positions (crew_of query.flow) (let all = work.at.at_positions.all in omega arith)
-      (λ k below. steps-shown (placement_at query k) (orders_in query start k) (worker_state_at crew k) (positions k) no_base (work.at.at_positions.each k below).shows)
+      (λ k below. steps-shown (context_in query start k) (worker_state_at crew k) (positions k) (work.at.at_positions.each k below).shows)
       ∙ ap steps_by (take_all (crew_of query.flow) crew (let all = work.at.at_positions.all in omega arith))
 
   -- whether all have finished

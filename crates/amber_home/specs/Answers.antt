@@ -68,7 +68,7 @@ IsShownAt flow arms crew op shown = (query : Query) (start : State) (positions :
 -- each worker shows its position
 abbrev pub ShowAll : Query → List WorkerState → (ℕ → Position) → Type 0
 ShowAll query crew positions = (worker : ℕ) → worker < length crew
-    → (orders : Orders) × (base : Base) × Shows (placement_at query worker) orders (worker_state_at crew worker) (positions worker) base
+    → (orders : Orders) × (base : Base) × Shows (record { placement = placement_at query worker; orders = orders; base = base }) (worker_state_at crew worker) (positions worker)
 
 -- what a worker has refused
 unfoldable pub refused_at : Query → (ℕ → Position) → ℕ → List Refusal

@@ -11,7 +11,7 @@ use Rattle.amber_lines.specs.Moving.{orders_in}
 use Rattle.amber_meaning.specs.Legal.{Query}
 use Rattle.amber_meaning.specs.Position.{Position}
 use Rattle.amber_meaning.specs.State.{Arms, State, arms_at, position_at}
-use Rattle.amber_worker.specs.AtPosition.{IsAtPosition, Placement, no_base, placement_of}
+use Rattle.amber_worker.specs.AtPosition.{Context, IsAtPosition, Placement, no_base, placement_of}
 use Rattle.amber_worker.specs.Pairs.{AreJoined, AreSettledAt, IsLinkAt}
 use Rattle.amber_worker.specs.WorkerState.{WorkerState, steps_made}
 use Rattle.amber_worker.specs.declared.operator_state.OperatorState.TheVariants as operator_state
@@ -55,6 +55,10 @@ worker_state_at crew worker = slice_index_or crew worker no_worker_state
 abbrev pub placement_at : Query → ℕ → Placement
 placement_at query worker = placement_of query.flow query.records query.size worker
 
+-- its place under the orders that are in force in a state, where nothing went through earlier links
+abbrev pub context_in : Query → State → ℕ → Context
+context_in query state worker = record { placement = placement_at query worker; orders = orders_in query state worker; base = no_base }
+
 -- ---- their links
 
 -- a worker sends to another
@@ -84,8 +88,7 @@ pub record IsQuiet (arms : Arms) : Type 0 where
 pub record AreAtPositions (query : Query) (start : State) (crew : List WorkerState) (positions : ℕ → Position) : Type 0 where
   pub all : length crew ≡ crew_of query.flow
   pub each : (worker : ℕ) → worker < crew_of query.flow
-      → IsAtPosition (placement_at query worker) (orders_in query start worker) (worker_state_at crew worker)
-      (position_at start.positions worker) (positions worker) no_base
+      → IsAtPosition (context_in query start worker) (worker_state_at crew worker) (position_at start.positions worker) (positions worker)
 
 -- the workers of a workflow stand somewhere, and who sends to whom hold the two ends of a link
 pub record AreJoinedAt (query : Query) (start : State) (crew : List WorkerState) (positions : ℕ → Position) : Type 0 where

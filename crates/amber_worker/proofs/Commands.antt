@@ -8,10 +8,10 @@ use Rattle.amber_log.specs.Grammar.{AreEntries}
 use Rattle.amber_log.specs.declared.entry.Entry.{Entry}
 use Rattle.amber_meaning.specs.Kinds.Filter.{with_constant}
 use Rattle.amber_meaning.specs.Position.{Position}
-use Rattle.amber_meaning.specs.Rules.{Leads, Orders}
+use Rattle.amber_meaning.specs.Rules.{Leads}
 use Rattle.amber_meaning.specs.State.{let_go}
 use Rattle.amber_meaning.specs.Task.{Arrival, Role, Task}
-use Rattle.amber_worker.specs.AtPosition.{Base, DoesKind, IsAtPosition, KeepsRows, Placement, Shows}
+use Rattle.amber_worker.specs.AtPosition.{Context, DoesKind, IsAtPosition, KeepsRows, Shows}
 use Rattle.amber_worker.specs.Changes.{ShowsSet, StandsAtLeg, with_leg, with_value}
 use Rattle.amber_worker.specs.WorkerState.{WorkerState}
 use Rattle.amber_worker.specs.declared.operator_state.OperatorState.{OperatorState}
@@ -44,11 +44,11 @@ keeps-set value operator_state.Sink task arrivals keeps = keeps
 
 pub shows-set : (value : Value) (w : WorkerState) → ShowsSet value w (record w { operator_state = with_value value w.operator_state })
 unfolding ShowsSet
-shows-set value w placement orders p base shows = record {
+shows-set value w context p shows = record {
   op = shows.op;
   number = shows.number;
-  operator_state = does-set value w.operator_state placement.role.task.kind orders.constants placement.role shows.operator_state;
-  state = keeps-set value w.operator_state placement.role.task _ shows.state;
+  operator_state = does-set value w.operator_state context.placement.role.task.kind context.orders.constants context.placement.role shows.operator_state;
+  state = keeps-set value w.operator_state context.placement.role.task _ shows.state;
   columns = shows.columns;
   build_columns = shows.build_columns;
   sides = shows.sides;
@@ -77,9 +77,9 @@ shows-set value w placement orders p base shows = record {
 -- ---- a leg begins
 
 -- the same position but for what holds it, with these flags
-shows-flags : (placement : Placement) (orders : Orders) (w : WorkerState) (p : Position) (base : Base) (waved : Bool) (journal : List Entry) → Shows placement orders w p base
-    → Shows placement orders (record w { paused = false; held = false; waved = waved; journal = journal }) (record p { paused = false; held = false; waved = waved }) base
-shows-flags placement orders w p base waved journal shows = record {
+shows-flags : (context : Context) (w : WorkerState) (p : Position) (waved : Bool) (journal : List Entry) → Shows context w p
+    → Shows context (record w { paused = false; held = false; waved = waved; journal = journal }) (record p { paused = false; held = false; waved = waved })
+shows-flags context w p waved journal shows = record {
   op = shows.op;
   number = shows.number;
   operator_state = shows.operator_state;
@@ -119,11 +119,11 @@ let_go-is p held waved held_is waved_is = by held held_is
 
 stands-at_leg : (w : WorkerState) → StandsAtLeg w (with_leg w)
 unfolding StandsAtLeg Leads AreEntries
-stands-at_leg w placement orders p base shows = record {
+stands-at_leg w context p shows = record {
   leads = refl;
   text = tt;
-  shows = subst (λ q. Shows placement orders (with_leg w) q base) (let_go-is p w.held w.waved shows.held shows.waved)
-      (shows-flags placement orders w p base (w.held || w.waved) [] shows);
+  shows = subst (λ q. Shows context (with_leg w) q) (let_go-is p w.held w.waved shows.held shows.waved)
+      (shows-flags context w p (w.held || w.waved) [] shows);
 }
 
 pub stands-begun : (w : WorkerState) (journal : List Entry) → journal ≡ [] → StandsAtLeg w (record (with_leg w) { journal = journal })
@@ -131,9 +131,13 @@ stands-begun w journal none = subst (λ l. StandsAtLeg w (record (with_leg w) { 
 
 -- ---- a condition is put in force, or a count is armed
 
-shows-watched : (placement : Placement) (orders : Orders) (w : WorkerState) (p : Position) (base : Base) (watch : Option Cond) (counted : Bool) → Shows placement orders w p base
-    → Shows placement (record orders { watch = watch; counted = counted }) (record w { watch = watch }) p base
-shows-watched placement orders w p base watch counted shows = record {
+-- the context in which this condition is in force, and a count is armed or not
+abbrev pub with_watch : Option Cond → Bool → Context → Context
+with_watch watch counted context = record context { orders = record context.orders { watch = watch; counted = counted } }
+
+shows-watched : (context : Context) (w : WorkerState) (p : Position) (watch : Option Cond) (counted : Bool) → Shows context w p
+    → Shows (with_watch watch counted context) (record w { watch = watch }) p
+shows-watched context w p watch counted shows = record {
   op = shows.op;
   number = shows.number;
   operator_state = shows.operator_state;
@@ -164,12 +168,12 @@ shows-watched placement orders w p base watch counted shows = record {
 }
 
 -- between legs, where nothing was done since
-pub stands-watched : (placement : Placement) (orders : Orders) (w : WorkerState) (p : Position) (base : Base) (watch : Option Cond) (counted : Bool)
-    → IsAtPosition placement orders w p p base → w.journal ≡ []
-    → IsAtPosition placement (record orders { watch = watch; counted = counted }) (record w { watch = watch }) p p base
+pub stands-watched : (context : Context) (w : WorkerState) (p : Position) (watch : Option Cond) (counted : Bool)
+    → IsAtPosition context w p p → w.journal ≡ []
+    → IsAtPosition (with_watch watch counted context) (record w { watch = watch }) p p
 unfolding Leads AreEntries
-stands-watched placement orders w p base watch counted stands none = record {
+stands-watched context w p watch counted stands none = record {
   leads = rw none refl;
   text = rw none tt;
-  shows = shows-watched placement orders w p base watch counted stands.shows;
+  shows = shows-watched context w p watch counted stands.shows;
 }

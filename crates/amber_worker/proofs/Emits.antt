@@ -5,11 +5,11 @@ use Rattle.std.proofs.lemmas.List.Sums.{sum_by_push}
 use Rattle.amber_rows.specs.declared.value.Value.{Value}
 use Rattle.amber_log.specs.declared.entry.Entry.TheVariants as entry
 use Rattle.amber_meaning.specs.Position.{Position, emitted_rows, is_emitted, product}
-use Rattle.amber_meaning.specs.Rules.{MayFinish, MayGo, Orders, is_watched, pass_by, product_with, produced_with, with_rows}
+use Rattle.amber_meaning.specs.Rules.{MayFinish, MayGo, is_watched, pass_by, product_with, produced_with, with_rows}
 use Rattle.amber_link.specs.Sides.{AreEnded, have_all_ended}
 use Rattle.amber_worker.specs.Links.{IsHandedOn, number_to}
 use Rattle.amber_link.specs.declared.receivers.Receiver.{Receiver}
-use Rattle.amber_worker.specs.AtPosition.{Base, KeepsUnder, Placement, SendAll, Shows}
+use Rattle.amber_worker.specs.AtPosition.{Context, KeepsUnder, SendAll, Shows}
 use Rattle.amber_worker.specs.WorkerState.{WorkerState}
 use Rattle.amber_worker.specs.Steps.{all_done, row_emitted}
 use Rattle.amber_meaning.proofs.Led.{Leads-push, no_batch}
@@ -21,45 +21,45 @@ use Rattle.amber_worker.proofs.Moves.{HasUnit, IsWorking, all-ended, free-shown,
 -- ---- a row is emitted
 
 -- nothing is at its end that works
-open-outs : (placement : Placement) (orders : Orders) (w : WorkerState) (p : Position) (base : Base) → Shows placement orders w p base → IsWorking w
-    → SendAll placement placement.receivers (emitted_rows placement.role p) false base.gave w.outs
-open-outs placement orders w p base shows works =
+open-outs : (context : Context) (w : WorkerState) (p : Position) → Shows context w p → IsWorking w
+    → SendAll context.placement context.placement.receivers (emitted_rows context.placement.role p) false context.base.gave w.outs
+open-outs context w p shows works =
     let open_still : p.finished ≡ false = sym shows.finished ∙ works.unfinished in
-    let P : Bool → Type 0 = λ ended. SendAll placement placement.receivers (emitted_rows placement.role p) ended base.gave w.outs in
+    let P : Bool → Type 0 = λ ended. SendAll context.placement context.placement.receivers (emitted_rows context.placement.role p) ended context.base.gave w.outs in
     subst P open_still shows.outs
 
-may-emit_row : (placement : Placement) (orders : Orders) (w : WorkerState) (p : Position) (base : Base) (row : List Value) (later : List (List Value))
-    → Shows placement orders w p base → w.pending ≡ row ∷ later → IsWorking w → HasUnit orders.counted w → lets_by w row ≡ true → MayGo placement.role orders p 0 1
-may-emit_row placement orders w p base row later shows pending works unit by_it =
-    let produced = left-within (length p.outcomes) (product placement.role p.taken p.constants) row later (sym shows.pending ∙ pending) in
-    let same : produced_with placement.role orders p 0 ≡ length (product placement.role p.taken p.constants) =
-    ap (λ (constants : List (List Value)). length (product placement.role p.taken constants)) (append-nil p.constants) in
+may-emit_row : (context : Context) (w : WorkerState) (p : Position) (row : List Value) (later : List (List Value))
+    → Shows context w p → w.pending ≡ row ∷ later → IsWorking w → HasUnit context.orders.counted w → lets_by w row ≡ true → MayGo context.placement.role context.orders p 0 1
+may-emit_row context w p row later shows pending works unit by_it =
+    let produced = left-within (length p.outcomes) (product context.placement.role p.taken p.constants) row later (sym shows.pending ∙ pending) in
+    let same : produced_with context.placement.role context.orders p 0 ≡ length (product context.placement.role p.taken p.constants) =
+    ap (λ (constants : List (List Value)). length (product context.placement.role p.taken constants)) (append-nil p.constants) in
     let within = shows.within in
     record {
-      free = free-shown placement orders w p base shows works;
+      free = free-shown context w p shows works;
       within = omega arith;
       produced = omega arith;
       drained = λ none. absurd (omega arith);
       in_hand = λ counted. let has = unit counted in omega (arith, has, shows.hand);
       before_taking = λ counted none. absurd (omega arith);
       no_stop =
-          let first : drop (length p.outcomes) (product_with placement.role orders p 0) ≡ row ∷ later =
-          ap (λ constants. drop (length p.outcomes) (product placement.role p.taken constants)) (append-nil p.constants) ∙ sym shows.pending ∙ pending in
-          let passed : pass_by orders.watch p.waved (row ∷ []) ≡ true =
-          first-passes orders.watch p.waved row (ap (λ waved. waved || not (is_watched orders.watch row)) (sym shows.waved) ∙ ap (λ watch. w.waved || not (is_watched watch row)) (sym shows.watch) ∙ by_it) in
-          subst (λ l. pass_by orders.watch p.waved (take 1 l) ≡ true) (sym first) passed;
+          let first : drop (length p.outcomes) (product_with context.placement.role context.orders p 0) ≡ row ∷ later =
+          ap (λ constants. drop (length p.outcomes) (product context.placement.role p.taken constants)) (append-nil p.constants) ∙ sym shows.pending ∙ pending in
+          let passed : pass_by context.orders.watch p.waved (row ∷ []) ≡ true =
+          first-passes context.orders.watch p.waved row (ap (λ waved. waved || not (is_watched context.orders.watch row)) (sym shows.waved) ∙ ap (λ watch. w.waved || not (is_watched watch row)) (sym shows.watch) ∙ by_it) in
+          subst (λ l. pass_by context.orders.watch p.waved (take 1 l) ≡ true) (sym first) passed;
     }
 
 both_false : (b : Bool) → (b && false) ≡ false
 both_false true = refl
 both_false false = refl
 
-shows-row_emitted : (counted : Bool) (placement : Placement) (orders : Orders) (w : WorkerState) (p : Position) (base : Base) (row : List Value) (later : List (List Value)) (outs : List Receiver)
-    → orders.counted ≡ counted → Shows placement orders w p base → w.pending ≡ row ∷ later → IsHandedOn (number_to w.route row) row w.outs outs → IsWorking w
-    → Shows placement orders (row_emitted counted later outs w) (with_rows orders 0 1 p) base
-shows-row_emitted counted placement orders w p base row later outs armed shows pending handed works =
-    let left : drop (length p.outcomes) (product placement.role p.taken p.constants) ≡ row ∷ later = sym shows.pending ∙ pending in
-    let produced = left-within (length p.outcomes) (product placement.role p.taken p.constants) row later left in
+shows-row_emitted : (counted : Bool) (context : Context) (w : WorkerState) (p : Position) (row : List Value) (later : List (List Value)) (outs : List Receiver)
+    → context.orders.counted ≡ counted → Shows context w p → w.pending ≡ row ∷ later → IsHandedOn (number_to w.route row) row w.outs outs → IsWorking w
+    → Shows context (row_emitted counted later outs w) (with_rows context.orders 0 1 p)
+shows-row_emitted counted context w p row later outs armed shows pending handed works =
+    let left : drop (length p.outcomes) (product context.placement.role p.taken p.constants) ≡ row ∷ later = sym shows.pending ∙ pending in
+    let produced = left-within (length p.outcomes) (product context.placement.role p.taken p.constants) row later left in
     let no_row : p.constants ++ [] ≡ p.constants = append-nil p.constants in
     let more : length (p.outcomes ++ true ∷ []) ≡ length p.outcomes + 1 = omega (arith, length-append p.outcomes (true ∷ [])) in
     let gone = sum_by_push (λ fate. if is_emitted fate then 1 else 0) p.outcomes true in
@@ -76,7 +76,7 @@ shows-row_emitted counted placement orders w p base row later outs armed shows p
       building = shows.building;
       watch = shows.watch;
       rest = rw no_row shows.rest;
-      pending = rw (no_row, more) (sym (left-next (length p.outcomes) (product placement.role p.taken p.constants) row later left));
+      pending = rw (no_row, more) (sym (left-next (length p.outcomes) (product context.placement.role p.taken p.constants) row later left));
       taken = rw no_row shows.taken;
       emitted = let before = shows.emitted in omega arith;
       batches = shows.batches;
@@ -90,9 +90,9 @@ shows-row_emitted counted placement orders w p base row later outs armed shows p
       paused = shows.paused;
       finished = shows.finished;
       ins = shows.ins;
-      outs = rw (no_row, open_still, kept-next (product placement.role p.taken p.constants) p.outcomes row later left)
-          (send_all-row placement placement.receivers (emitted_rows placement.role p) row base.gave w.outs outs (number_to w.route row) (shows.route row)
-          (open-outs placement orders w p base shows works) handed);
+      outs = rw (no_row, open_still, kept-next (product context.placement.role p.taken p.constants) p.outcomes row later left)
+          (send_all-row context.placement context.placement.receivers (emitted_rows context.placement.role p) row context.base.gave w.outs outs (number_to w.route row) (shows.route row)
+          (open-outs context w p shows works) handed);
       route = shows.route;
     }
 
@@ -100,12 +100,12 @@ shows-row_emitted counted placement orders w p base row later outs armed shows p
 pub Keeps-row_emitted : (counted : Bool) (w : WorkerState) (row : List Value) (later : List (List Value)) (outs : List Receiver) → w.pending ≡ row ∷ later
     → IsHandedOn (number_to w.route row) row w.outs outs → IsWorking w → HasUnit counted w → lets_by w row ≡ true → KeepsUnder counted w (row_emitted counted later outs w)
 unfolding KeepsUnder
-Keeps-row_emitted counted w row later outs pending handed works unit by_it placement orders start p base armed stands = (
-  with_rows orders 0 1 p,
+Keeps-row_emitted counted w row later outs pending handed works unit by_it context start p armed stands = (
+  with_rows context.orders 0 1 p,
   record {
-    leads = Leads-go placement.role orders start w.journal p 0 1 stands.leads (may-emit_row placement orders w p base row later stands.shows pending works (λ so. unit (sym armed ∙ so)) by_it);
+    leads = Leads-go context.placement.role context.orders start w.journal p 0 1 stands.leads (may-emit_row context w p row later stands.shows pending works (λ so. unit (sym armed ∙ so)) by_it);
     text = AreEntries-with_go w.journal 0 1 stands.text works.few refl;
-    shows = shows-row_emitted counted placement orders w p base row later outs armed stands.shows pending handed works;
+    shows = shows-row_emitted counted context w p row later outs armed stands.shows pending handed works;
   },
 )
 
@@ -115,17 +115,17 @@ Keeps-row_emitted counted w row later outs pending handed works unit by_it place
 pub Keeps-all_done : (counted : Bool) (w : WorkerState) (outs : List Receiver) → w.rest ≡ [] → w.pending ≡ [] → have_all_ended w.ins ≡ true → AreEnded w.outs outs → IsWorking w
     → KeepsUnder counted w (all_done outs w)
 unfolding KeepsUnder
-Keeps-all_done counted w outs rest pending ended ends works placement orders start p base armed stands =
+Keeps-all_done counted w outs rest pending ended ends works context start p armed stands =
     let shows = stands.shows in
-    let may : MayFinish placement.role p = record {
-      free = free-shown placement orders w p base shows works;
+    let may : MayFinish context.placement.role p = record {
+      free = free-shown context w p shows works;
       no_rest = sym shows.rest ∙ rest;
       no_pending = sym shows.pending ∙ pending;
-      ended = sym (all-ended placement.role.senders base.had p.taken w.ins shows.ins) ∙ ended;
+      ended = sym (all-ended context.placement.role.senders context.base.had p.taken w.ins shows.ins) ∙ ended;
     } in (
       record p { finished = true },
       record {
-        leads = Leads-push placement.role orders start w.journal p entry.Finish (record p { finished = true }) stands.leads (no_batch, may, refl);
+        leads = Leads-push context.placement.role context.orders start w.journal p entry.Finish (record p { finished = true }) stands.leads (no_batch, may, refl);
         text = AreEntries-push false w.journal entry.Finish stands.text tt refl;
         shows = record {
           op = shows.op;
@@ -153,7 +153,7 @@ Keeps-all_done counted w outs rest pending ended ends works placement orders sta
           paused = shows.paused;
           finished = refl;
           ins = shows.ins;
-          outs = send_all-end placement placement.receivers (emitted_rows placement.role p) base.gave w.outs outs (open-outs placement orders w p base shows works) ends;
+          outs = send_all-end context.placement context.placement.receivers (emitted_rows context.placement.role p) context.base.gave w.outs outs (open-outs context w p shows works) ends;
           route = shows.route;
         };
       },

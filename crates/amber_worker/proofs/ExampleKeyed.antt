@@ -17,12 +17,12 @@ use Rattle.amber_link.specs.declared.ends.Out.{Out}
 use Rattle.amber_link.specs.declared.ends.In.{In}
 use Rattle.amber_link.specs.declared.senders.Sender.{Sender}
 use Rattle.amber_link.specs.declared.receivers.Receiver.{Receiver}
-use Rattle.amber_worker.specs.AtPosition.{IsAtPosition, first_orders, no_base, placement_of}
+use Rattle.amber_worker.specs.AtPosition.{IsAtPosition, first_context}
 use Rattle.amber_worker.specs.Made.{AreFreshSenders, IsFresh, IsFreshIn, IsFreshOut}
 use Rattle.amber_worker.specs.WorkerState.{WorkerState}
 use Rattle.amber_worker.specs.declared.operator_state.OperatorState.TheVariants as operator_state
 use Rattle.amber_worker.specs.declared.route.Route.TheVariants as route
-use Rattle.amber_worker.proofs.Commands.{stands-watched}
+use Rattle.amber_worker.proofs.Commands.{stands-watched, with_watch}
 use Rattle.amber_worker.proofs.FreshStands.{fresh-stands}
 
 -- ---- the workflow: the different numbers of a file, and the different ones of these
@@ -159,9 +159,9 @@ is-fresh e = record {
 
 -- it stands at the beginning, under any condition, with a count armed or not, from whatever records
 pub stands : (e : Ends) (records : List (List (Result (List Value) RowFault))) (watch : Option Cond) (counted : Bool)
-    → IsAtPosition (placement_of grouped records 2 3) (record (first_orders grouped 3) { watch = watch; counted = counted }) (record (worker e) { watch = watch }) origin origin no_base
+    → IsAtPosition (with_watch watch counted (first_context grouped records 2 3)) (record (worker e) { watch = watch }) origin origin
 stands e records watch counted =
-    stands-watched (placement_of grouped records 2 3) (first_orders grouped 3) (worker e) origin no_base watch counted
+    stands-watched (first_context grouped records 2 3) (worker e) origin watch counted
     (fresh-stands grouped records 2 3 None (worker e) (omega arith) (by refl) tt (is-fresh e)) refl
   where
     by : op_of grouped 3 ≡ op_of grouped 3 → false ≡ is_scan (what_at grouped (op_of grouped 3))

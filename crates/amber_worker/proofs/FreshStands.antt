@@ -33,7 +33,7 @@ use Rattle.amber_worker.specs.Links.{IsSoundRoute}
 use Rattle.amber_worker.specs.Made.{AreFreshSenders, AreNumbered, IsFresh, IsFreshIn, IsFreshOut, IsOperatorStateOf, IsTaskOf, end_of, fresh_fields, fresh_worker, from_of, is_join, link_of, out_of, roomless, to_of}
 use Rattle.amber_worker.specs.declared.making.WorkerEnds.{WorkerEnds}
 use Rattle.amber_worker.specs.declared.making.WorkerTask.{WorkerTask}
-use Rattle.amber_worker.specs.AtPosition.{HasShare, IsAtPosition, Placement, ReceiveAll, SendAll, Shows, first_orders, no_base, placement_of}
+use Rattle.amber_worker.specs.AtPosition.{HasShare, IsAtPosition, Placement, ReceiveAll, SendAll, Shows, first_context, first_orders, placement_of}
 use Rattle.amber_worker.specs.WorkerState.{WorkerState}
 use Rattle.amber_worker.specs.declared.operator_state.OperatorState.TheVariants as operator_state
 use Rattle.amber_link.specs.Sides.{without_room}
@@ -117,7 +117,7 @@ known-at flow worker k ins d is less =
 shows-first : (flow : List Operator) (records : List (List (Result (List Value) RowFault))) (size worker : ℕ) (share : Option (List Scanned)) (w : WorkerState)
     → 0 < size → is_some share ≡ is_scan (what_at flow (op_of flow worker))
     → HasShare share (role_of flow records worker) → IsFresh flow worker size share w
-    → Shows (placement_of flow records size worker) (first_orders flow worker) w origin no_base
+    → Shows (first_context flow records size worker) w origin
 unfolding placement_of first_orders role_of task_of all_arrivals closing kept
 shows-first flow records size worker share w some shared has fresh =
     let kind : What = what_at flow (op_of flow worker) in
@@ -162,7 +162,7 @@ shows-first flow records size worker share w some shared has fresh =
 pub fresh-stands : (flow : List Operator) (records : List (List (Result (List Value) RowFault))) (size worker : ℕ) (share : Option (List Scanned)) (w : WorkerState)
     → 0 < size → is_some share ≡ is_scan (what_at flow (op_of flow worker))
     → HasShare share (role_of flow records worker) → IsFresh flow worker size share w
-    → IsAtPosition (placement_of flow records size worker) (first_orders flow worker) w origin origin no_base
+    → IsAtPosition (first_context flow records size worker) w origin origin
 unfolding Leads AreEntries
 fresh-stands flow records size worker share w some shared has fresh = record {
   leads = rw fresh.journal refl;

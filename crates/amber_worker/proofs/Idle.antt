@@ -8,13 +8,12 @@ use Rattle.amber_rows.specs.Lists.{numbers_below}
 use Rattle.amber_rows.specs.declared.value.Value.{Value}
 use Rattle.amber_rows.specs.declared.batch.Batch.{Batch}
 use Rattle.amber_meaning.specs.Position.{Position, Taken, has_last, taken_from}
-use Rattle.amber_meaning.specs.Rules.{Orders}
 use Rattle.amber_meaning.specs.Task.{Task, is_builder}
 use Rattle.amber_link.specs.Sides.{have_all_ended, have_builders_ended, may_come}
 use Rattle.amber_link.specs.declared.senders.Sender.{Sender}
 use Rattle.amber_link.specs.Links.{has_some, waiting}
 use Rattle.amber_link.specs.Links.{HasGiven}
-use Rattle.amber_worker.specs.AtPosition.{Base, Placement, ReceiveAll, Shows}
+use Rattle.amber_worker.specs.AtPosition.{Context, ReceiveAll, Shows}
 use Rattle.amber_worker.specs.WorkerState.{WorkerState, next_turn, has_ready}
 use Rattle.amber_worker.specs.declared.turn.Turn.TheVariants as turn
 
@@ -133,22 +132,22 @@ idle_parts false false false false true h = cc
 idle_parts false false false false false h = (refl, refl)
 
 -- a worker of whose senders each last batch was taken or waits is never idle
-pub never_idle : (placement : Placement) (orders : Orders) (w : WorkerState) (p : Position) (base : Base) → Shows placement orders w p base
+pub never_idle : (context : Context) (w : WorkerState) (p : Position) → Shows context w p
     → ((sender k : ℕ) → k < length w.ins → ((d : Sender) → (get_or w.ins k d).from ≡ sender) → (d : Sender) → has_marked (taken_from p.taken sender ++ waiting (get_or w.ins k d).link) ≡ true)
     → next_turn w ≡ turn.Idle → ⊥
-never_idle placement orders w p base shows marked idle =
+never_idle context w p shows marked idle =
     let parts = idle_parts w.finished (has_some w.pending) (has_some w.rest) (has_ready w.ins) (have_all_ended w.ins) idle in
-    let built = built_so base.had placement.role.task p.taken placement.role.senders w.ins shows.ins shows.sides
+    let built = built_so context.base.had context.placement.role.task p.taken context.placement.role.senders w.ins shows.ins shows.sides
     (λ sender member builds. last (have_builders_ended w.ins) parts.0 sender member (or_left _ _ builds) (has_last p.taken sender) refl) in
-    let ended = all_ended base.had p.taken placement.role.senders w.ins shows.ins
+    let ended = all_ended context.base.had p.taken context.placement.role.senders w.ins shows.ins
     (λ sender member. last (have_builders_ended w.ins) parts.0 sender member (or_right _ _ built) (has_last p.taken sender) refl) in
     false≢true (sym parts.1 ∙ ended)
   where
-    last : (built : Bool) → list_any (may_come built) w.ins ≡ false → (sender : ℕ) → list_any (λ one. eqb one sender) placement.role.senders ≡ true
-        → (is_builder placement.role.task sender || built) ≡ true → (b : Bool) → has_last p.taken sender ≡ b → b ≡ true
+    last : (built : Bool) → list_any (may_come built) w.ins ≡ false → (sender : ℕ) → list_any (λ one. eqb one sender) context.placement.role.senders ≡ true
+        → (is_builder context.placement.role.task sender || built) ≡ true → (b : Bool) → has_last p.taken sender ≡ b → b ≡ true
     last built ready sender member side true e = refl
     last built ready sender member side false e =
-        let waits = none_waits base.had placement.role.task built p.taken placement.role.senders w.ins sender shows.ins shows.sides side ready member e in
+        let waits = none_waits context.base.had context.placement.role.task built p.taken context.placement.role.senders w.ins sender shows.ins shows.sides side ready member e in
         let place = waits.3 in
         let empty : waiting (get_or w.ins place.0 waits.0).link ≡ [] = ap (λ (s : Sender). waiting s.link) (place.2 waits.0) ∙ waits.2 in
         absurd (false≢true (sym e ∙ rw (empty, append-nil) at (marked sender place.0 place.1 (λ d. ap (λ (s : Sender). s.from) (place.2 d) ∙ place.3) waits.0)))

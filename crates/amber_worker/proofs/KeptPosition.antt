@@ -21,14 +21,14 @@ use Rattle.amber_worker.specs.declared.operator_state.OperatorState.TheVariants 
 -- a worker that nothing happened to stands where it stood
 pub Keeps-refl : (counted : Bool) (w : WorkerState) → KeepsUnder counted w w
 unfolding KeepsUnder
-Keeps-refl counted w placement orders start p base armed stands = (p, stands)
+Keeps-refl counted w context start p armed stands = (p, stands)
 
 -- and so does one to which one thing happened, and then another
 pub Keeps-then : (counted : Bool) (a b c : WorkerState) → KeepsUnder counted a b → KeepsUnder counted b c → KeepsUnder counted a c
 unfolding KeepsUnder
-Keeps-then counted a b c one two placement orders start p base armed stands =
-    let first = one placement orders start p base armed stands in
-    two placement orders start first.0 base armed first.1
+Keeps-then counted a b c one two context start p armed stands =
+    let first = one context start p armed stands in
+    two context start first.0 armed first.1
 
 -- the keys that a worker has refused are those of the rows that it took
 keys-are : (d : OperatorState) (kind : What) (constants : List Value) (role : Role) (task : Task) (arrivals : List Arrival) (keys : List (List Value))
@@ -50,13 +50,13 @@ keys-given false d kind constants role task arrivals keys does has are = are
 pub given-is : (w : WorkerState) (given : Given) (keys : List (List Value)) → AreKeysOf w.finished w.operator_state keys
     → given.refused ≡ w.refused ++ map (refusal.Group w.op) (sort_rows keys) → given.rows ≡ sort_rows w.kept → IsGivenOf w given
 unfolding IsGivenOf worker_refusals
-given-is w given keys are refused rows placement orders p base numbered shows =
-    let role = placement.role in
-    let own = keys-given w.finished w.operator_state role.task.kind orders.constants role role.task (taken_of role p) keys shows.operator_state shows.state are in
-    let same : refused_in placement.op (taken_of role p) ≡ refused_in placement.op (by_number (taken_of role p)) = refused-numbered placement.op role p numbered in (
+given-is w given keys are refused rows context p numbered shows =
+    let role = context.placement.role in
+    let own = keys-given w.finished w.operator_state role.task.kind context.orders.constants role role.task (taken_of role p) keys shows.operator_state shows.state are in
+    let same : refused_in context.placement.op (taken_of role p) ≡ refused_in context.placement.op (by_number (taken_of role p)) = refused-numbered context.placement.op role p numbered in (
       refused ∙ ap (λ l. l ++ map (refusal.Group w.op) (sort_rows keys)) (shows.refused ∙ same)
-          ∙ ap (λ op. refused_in placement.op (by_number (taken_of role p)) ++ map (refusal.Group op) (sort_rows keys)) shows.op
-          ∙ ap (λ l. refused_in placement.op (by_number (taken_of role p)) ++ refused_groups placement.op l) own
-          ∙ ap (λ b. refused_in placement.op (by_number (taken_of role p)) ++ refused_groups placement.op (if b then keys_refused role.task.kind role.task (taken_of role p) else [])) shows.finished,
+          ∙ ap (λ op. refused_in context.placement.op (by_number (taken_of role p)) ++ map (refusal.Group op) (sort_rows keys)) shows.op
+          ∙ ap (λ l. refused_in context.placement.op (by_number (taken_of role p)) ++ refused_groups context.placement.op l) own
+          ∙ ap (λ b. refused_in context.placement.op (by_number (taken_of role p)) ++ refused_groups context.placement.op (if b then keys_refused role.task.kind role.task (taken_of role p) else [])) shows.finished,
       rows ∙ ap sort_rows shows.kept,
     )

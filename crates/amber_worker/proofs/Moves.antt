@@ -20,7 +20,7 @@ use Rattle.amber_meaning.specs.Views.{taken_of}
 use Rattle.amber_link.specs.Sides.{have_all_ended}
 use Rattle.amber_link.specs.declared.senders.Sender.{Sender}
 use Rattle.amber_worker.specs.Fields.{rows_moved}
-use Rattle.amber_worker.specs.AtPosition.{Base, DoesKind, KeepsRows, KeepsUnder, Placement, ReceiveAll, Shows}
+use Rattle.amber_worker.specs.AtPosition.{Context, DoesKind, KeepsRows, KeepsUnder, ReceiveAll, Shows}
 use Rattle.amber_worker.specs.WorkerState.{WorkerState}
 use Rattle.amber_worker.specs.Steps.{Becomes, Closes, columns_at_hand, row_yield, gives_if, keeps, keeps_if, row_taken}
 use Rattle.amber_worker.specs.declared.operator_state.OperatorState.{OperatorState}
@@ -44,8 +44,8 @@ HasUnit counted w = counted ≡ true → 0 < w.hand
 abbrev pub lets_by : WorkerState → List Value → Bool
 lets_by w row = w.waved || not (is_watched w.watch row)
 
-pub free-shown : (placement : Placement) (orders : Orders) (w : WorkerState) (p : Position) (base : Base) → Shows placement orders w p base → IsWorking w → IsFree p
-free-shown placement orders w p base shows works = record {
+pub free-shown : (context : Context) (w : WorkerState) (p : Position) → Shows context w p → IsWorking w → IsFree p
+free-shown context w p shows works = record {
   running = sym shows.paused ∙ works.running;
   loose = sym shows.held ∙ works.loose;
   unfinished = sym shows.finished ∙ works.unfinished;
@@ -101,9 +101,9 @@ refused-more op taken one = flat_map-append _ taken (one ∷ []) ∙ ap (λ l. r
 -- ---- a row is taken
 
 -- the facts of a row that is taken
-record TakesOne (placement : Placement) (orders : Orders) (w : WorkerState) (p : Position) (base : Base) (one : Arrival) (later : List Arrival) (now : OperatorState)
+record TakesOne (context : Context) (w : WorkerState) (p : Position) (one : Arrival) (later : List Arrival) (now : OperatorState)
     (last : List (List Value)) : Type 0 where
-  shows : Shows placement orders w p base
+  shows : Shows context w p
   rest : w.rest ≡ one ∷ later
   pending : w.pending ≡ []
   becomes : Becomes w.operator_state w.building (row_in (columns_at_hand w) one.what) now
@@ -114,33 +114,33 @@ abbrev with_one : Orders → Position → Position
 with_one orders p = with_rows orders 1 0 p
 
 -- the side of what is at hand
-side-is : (placement : Placement) (orders : Orders) (w : WorkerState) (p : Position) (base : Base) (one : Arrival) (later : List Arrival) (now : OperatorState) (last : List (List Value))
-    → TakesOne placement orders w p base one later now last → All (λ other. is_builder placement.role.task other.from ≡ w.building) (one ∷ later)
-side-is placement orders w p base one later now last takes = rw takes.rest at takes.shows.building
+side-is : (context : Context) (w : WorkerState) (p : Position) (one : Arrival) (later : List Arrival) (now : OperatorState) (last : List (List Value))
+    → TakesOne context w p one later now last → All (λ other. is_builder context.placement.role.task other.from ≡ w.building) (one ∷ later)
+side-is context w p one later now last takes = rw takes.rest at takes.shows.building
 
 -- the row at hand, if it suits
-found-is : (placement : Placement) (orders : Orders) (w : WorkerState) (p : Position) (base : Base) (one : Arrival) (later : List Arrival) (now : OperatorState) (last : List (List Value))
-    → TakesOne placement orders w p base one later now last → row_in (columns_at_hand w) one.what ≡ suiting placement.role.task one
-found-is placement orders w p base one later now last takes =
-    let builds : is_builder placement.role.task one.from ≡ w.building = side-is placement orders w p base one later now last takes 0 one (omega arith) in
+found-is : (context : Context) (w : WorkerState) (p : Position) (one : Arrival) (later : List Arrival) (now : OperatorState) (last : List (List Value))
+    → TakesOne context w p one later now last → row_in (columns_at_hand w) one.what ≡ suiting context.placement.role.task one
+found-is context w p one later now last takes =
+    let builds : is_builder context.placement.role.task one.from ≡ w.building = side-is context w p one later now last takes 0 one (omega arith) in
     ap (λ (columns : List Column). row_in columns one.what) (same w.building builds)
   where
-    same : (b : Bool) → is_builder placement.role.task one.from ≡ b → (if b then w.build_columns else w.columns) ≡ columns_from placement.role.task one.from
+    same : (b : Bool) → is_builder context.placement.role.task one.from ≡ b → (if b then w.build_columns else w.columns) ≡ columns_from context.placement.role.task one.from
     same true e = takes.shows.build_columns ∙ rw e refl
     same false e = takes.shows.columns ∙ rw e refl
 
 -- what is kept becomes what the task says
-becomes-is : (placement : Placement) (orders : Orders) (w : WorkerState) (p : Position) (base : Base) (one : Arrival) (later : List Arrival) (now : OperatorState) (last : List (List Value))
-    → TakesOne placement orders w p base one later now last → Becomes w.operator_state (is_builder placement.role.task one.from) (suiting placement.role.task one) now
-becomes-is placement orders w p base one later now last takes =
-    let builds : is_builder placement.role.task one.from ≡ w.building = side-is placement orders w p base one later now last takes 0 one (omega arith) in
+becomes-is : (context : Context) (w : WorkerState) (p : Position) (one : Arrival) (later : List Arrival) (now : OperatorState) (last : List (List Value))
+    → TakesOne context w p one later now last → Becomes w.operator_state (is_builder context.placement.role.task one.from) (suiting context.placement.role.task one) now
+becomes-is context w p one later now last takes =
+    let builds : is_builder context.placement.role.task one.from ≡ w.building = side-is context w p one later now last takes 0 one (omega arith) in
     let P : Option (List Value) → Type 0 = λ found. Becomes w.operator_state w.building found now in
-    let Q : Bool → Type 0 = λ b. Becomes w.operator_state b (suiting placement.role.task one) now in
-    subst Q (sym builds) (subst P (found-is placement orders w p base one later now last takes) takes.becomes)
+    let Q : Bool → Type 0 = λ b. Becomes w.operator_state b (suiting context.placement.role.task one) now in
+    subst Q (sym builds) (subst P (found-is context w p one later now last takes) takes.becomes)
 
-taken-now : (placement : Placement) (orders : Orders) (w : WorkerState) (p : Position) (base : Base) (one : Arrival) (later : List Arrival) (now : OperatorState) (last : List (List Value))
-    → TakesOne placement orders w p base one later now last → take (length p.constants + 1) (all_arrivals placement.role p.taken) ≡ taken_of placement.role p ++ one ∷ []
-taken-now placement orders w p base one later now last takes = take-next (length p.constants) (all_arrivals placement.role p.taken) one later (sym takes.shows.rest ∙ takes.rest)
+taken-now : (context : Context) (w : WorkerState) (p : Position) (one : Arrival) (later : List Arrival) (now : OperatorState) (last : List (List Value))
+    → TakesOne context w p one later now last → take (length p.constants + 1) (all_arrivals context.placement.role p.taken) ≡ taken_of context.placement.role p ++ one ∷ []
+taken-now context w p one later now last takes = take-next (length p.constants) (all_arrivals context.placement.role p.taken) one later (sym takes.shows.rest ∙ takes.rest)
 
 pub all-ended : (senders : List ℕ) (had : ℕ → List Batch) (taken : List Taken) (ins : List Sender) → ReceiveAll senders had taken ins → have_all_ended ins ≡ have_ended senders taken
 unfolding ReceiveAll have_ended
@@ -156,78 +156,78 @@ closing-same true kind task arrivals all same = ap (λ l. closing_rows kind (fil
 closing-same false kind task arrivals all same = refl
 
 -- nothing more can come behind this row
-over-is : (placement : Placement) (orders : Orders) (w : WorkerState) (p : Position) (base : Base) (one : Arrival) (later : List Arrival) (now : OperatorState) (last : List (List Value))
-    → TakesOne placement orders w p base one later now last → (eqb (length w.rest) 1 && have_all_ended w.ins) ≡ is_complete placement.role p.taken (length p.constants + 1)
-over-is placement orders w p base one later now last takes =
+over-is : (context : Context) (w : WorkerState) (p : Position) (one : Arrival) (later : List Arrival) (now : OperatorState) (last : List (List Value))
+    → TakesOne context w p one later now last → (eqb (length w.rest) 1 && have_all_ended w.ins) ≡ is_complete context.placement.role p.taken (length p.constants + 1)
+over-is context w p one later now last takes =
     let shows = takes.shows in
-    let within = left-within (length p.constants) (all_arrivals placement.role p.taken) one later (sym shows.rest ∙ takes.rest) in
-    let left : length w.rest ≡ length (all_arrivals placement.role p.taken) - length p.constants = ap length shows.rest ∙ length-drop (length p.constants) (all_arrivals placement.role p.taken) in
+    let within = left-within (length p.constants) (all_arrivals context.placement.role p.taken) one later (sym shows.rest ∙ takes.rest) in
+    let left : length w.rest ≡ length (all_arrivals context.placement.role p.taken) - length p.constants = ap length shows.rest ∙ length-drop (length p.constants) (all_arrivals context.placement.role p.taken) in
     and-turned (eqb (length w.rest) 1) (have_all_ended w.ins)
-    ∙ ap (λ b. b && eqb (length w.rest) 1) (all-ended placement.role.senders base.had p.taken w.ins shows.ins)
-    ∙ ap (λ b. have_ended placement.role.senders p.taken && b)
-    (same-test (length w.rest) 1 (length p.constants + 1) (length (all_arrivals placement.role p.taken)) (λ e. omega arith) (λ e. omega arith))
+    ∙ ap (λ b. b && eqb (length w.rest) 1) (all-ended context.placement.role.senders context.base.had p.taken w.ins shows.ins)
+    ∙ ap (λ b. have_ended context.placement.role.senders p.taken && b)
+    (same-test (length w.rest) 1 (length p.constants + 1) (length (all_arrivals context.placement.role p.taken)) (λ e. omega arith) (λ e. omega arith))
 
 -- the rows that are given at the end
-last-is : (placement : Placement) (orders : Orders) (w : WorkerState) (p : Position) (base : Base) (one : Arrival) (later : List Arrival) (now : OperatorState) (last : List (List Value))
-    → TakesOne placement orders w p base one later now last
-    → last ≡ (if is_complete placement.role p.taken (length p.constants + 1) then closing placement.role.task (all_arrivals placement.role p.taken) else [])
+last-is : (context : Context) (w : WorkerState) (p : Position) (one : Arrival) (later : List Arrival) (now : OperatorState) (last : List (List Value))
+    → TakesOne context w p one later now last
+    → last ≡ (if is_complete context.placement.role p.taken (length p.constants + 1) then closing context.placement.role.task (all_arrivals context.placement.role p.taken) else [])
 unfolding closing
-last-is placement orders w p base one later now last takes =
+last-is context w p one later now last takes =
     let shows = takes.shows in
-    let task : Task = placement.role.task in
-    let becomes = becomes-is placement orders w p base one later now last takes in
-    let does = does-more w.operator_state now (is_builder task one.from) (suiting task one) task.kind orders.constants placement.role becomes shows.operator_state in
-    let has = has-more w.operator_state now task (taken_of placement.role p) one becomes shows.state in
-    let over = over-is placement orders w p base one later now last takes in
-    closing-is now task.kind orders.constants placement.role task (taken_of placement.role p ++ one ∷ []) (is_complete placement.role p.taken (length p.constants + 1)) last does has
+    let task : Task = context.placement.role.task in
+    let becomes = becomes-is context w p one later now last takes in
+    let does = does-more w.operator_state now (is_builder task one.from) (suiting task one) task.kind context.orders.constants context.placement.role becomes shows.operator_state in
+    let has = has-more w.operator_state now task (taken_of context.placement.role p) one becomes shows.state in
+    let over = over-is context w p one later now last takes in
+    closing-is now task.kind context.orders.constants context.placement.role task (taken_of context.placement.role p ++ one ∷ []) (is_complete context.placement.role p.taken (length p.constants + 1)) last does has
     (subst (λ b. Closes now b last) over takes.closes)
-    ∙ closing-same (is_complete placement.role p.taken (length p.constants + 1)) task.kind task (taken_of placement.role p ++ one ∷ []) (all_arrivals placement.role p.taken)
-    (λ e. let end = and_parts (have_ended placement.role.senders p.taken) _ e in
-    let here = eqb-true (length p.constants + 1) (length (all_arrivals placement.role p.taken)) end.1 in
-    sym (taken-now placement orders w p base one later now last takes) ∙ take_all (length p.constants + 1) (all_arrivals placement.role p.taken) (omega arith))
+    ∙ closing-same (is_complete context.placement.role p.taken (length p.constants + 1)) task.kind task (taken_of context.placement.role p ++ one ∷ []) (all_arrivals context.placement.role p.taken)
+    (λ e. let end = and_parts (have_ended context.placement.role.senders p.taken) _ e in
+    let here = eqb-true (length p.constants + 1) (length (all_arrivals context.placement.role p.taken)) end.1 in
+    sym (taken-now context w p one later now last takes) ∙ take_all (length p.constants + 1) (all_arrivals context.placement.role p.taken) (omega arith))
 
 -- what was produced with this row
-product-one : (placement : Placement) (orders : Orders) (w : WorkerState) (p : Position) (base : Base) (one : Arrival) (later : List Arrival) (now : OperatorState) (last : List (List Value))
-    → TakesOne placement orders w p base one later now last
-    → product placement.role p.taken (p.constants ++ orders.constants ∷ [])
-    ≡ product placement.role p.taken p.constants ++ (gives_if w.operator_state w.building (row_in (columns_at_hand w) one.what) ++ last)
-product-one placement orders w p base one later now last takes =
+product-one : (context : Context) (w : WorkerState) (p : Position) (one : Arrival) (later : List Arrival) (now : OperatorState) (last : List (List Value))
+    → TakesOne context w p one later now last
+    → product context.placement.role p.taken (p.constants ++ context.orders.constants ∷ [])
+    ≡ product context.placement.role p.taken p.constants ++ (gives_if w.operator_state w.building (row_in (columns_at_hand w) one.what) ++ last)
+product-one context w p one later now last takes =
     let shows = takes.shows in
-    let task : Task = placement.role.task in
-    let left : drop (length p.constants) (all_arrivals placement.role p.taken) ≡ one ∷ later = sym shows.rest ∙ takes.rest in
-    let within = left-within (length p.constants) (all_arrivals placement.role p.taken) one later left in
-    let more : length (p.constants ++ orders.constants ∷ []) ≡ length p.constants + 1 = omega (arith, length-append p.constants (orders.constants ∷ [])) in
-    let builds : is_builder task one.from ≡ w.building = side-is placement orders w p base one later now last takes 0 one (omega arith) in
-    let yielded : yields task (take (length p.constants) (all_arrivals placement.role p.taken)) one orders.constants ≡ gives_if w.operator_state w.building (row_in (columns_at_hand w) one.what) =
-    yields-all w.operator_state task orders.constants placement.role (taken_of placement.role p) one shows.operator_state shows.state
+    let task : Task = context.placement.role.task in
+    let left : drop (length p.constants) (all_arrivals context.placement.role p.taken) ≡ one ∷ later = sym shows.rest ∙ takes.rest in
+    let within = left-within (length p.constants) (all_arrivals context.placement.role p.taken) one later left in
+    let more : length (p.constants ++ context.orders.constants ∷ []) ≡ length p.constants + 1 = omega (arith, length-append p.constants (context.orders.constants ∷ [])) in
+    let builds : is_builder task one.from ≡ w.building = side-is context w p one later now last takes 0 one (omega arith) in
+    let yielded : yields task (take (length p.constants) (all_arrivals context.placement.role p.taken)) one context.orders.constants ≡ gives_if w.operator_state w.building (row_in (columns_at_hand w) one.what) =
+    yields-all w.operator_state task context.orders.constants context.placement.role (taken_of context.placement.role p) one shows.operator_state shows.state
     ∙ ap (λ b. gives_if w.operator_state b (suiting task one)) builds
-    ∙ ap (λ found. gives_if w.operator_state w.building found) (sym (found-is placement orders w p base one later now last takes)) in
-    let before : produce task [] (all_arrivals placement.role p.taken) p.constants ≡ product placement.role p.taken p.constants =
-    sym (product-open placement.role p.taken p.constants (not-complete placement.role p.taken (length p.constants) (omega arith))) in
-    product-is placement.role p.taken (p.constants ++ orders.constants ∷ [])
-    ∙ rw (more, produce-next task [] (all_arrivals placement.role p.taken) p.constants one later orders.constants left, yielded, before, ← last-is placement orders w p base one later now last takes)
-    (append_assoc (product placement.role p.taken p.constants) (gives_if w.operator_state w.building (row_in (columns_at_hand w) one.what)) last)
+    ∙ ap (λ found. gives_if w.operator_state w.building found) (sym (found-is context w p one later now last takes)) in
+    let before : produce task [] (all_arrivals context.placement.role p.taken) p.constants ≡ product context.placement.role p.taken p.constants =
+    sym (product-open context.placement.role p.taken p.constants (not-complete context.placement.role p.taken (length p.constants) (omega arith))) in
+    product-is context.placement.role p.taken (p.constants ++ context.orders.constants ∷ [])
+    ∙ rw (more, produce-next task [] (all_arrivals context.placement.role p.taken) p.constants one later context.orders.constants left, yielded, before, ← last-is context w p one later now last takes)
+    (append_assoc (product context.placement.role p.taken p.constants) (gives_if w.operator_state w.building (row_in (columns_at_hand w) one.what)) last)
 
 -- all that was produced is gone
-pub all-gone : (placement : Placement) (orders : Orders) (w : WorkerState) (p : Position) (base : Base) → Shows placement orders w p base → w.pending ≡ []
-    → length p.outcomes ≡ length (product placement.role p.taken p.constants)
-all-gone placement orders w p base shows none =
-    let gone = left-nothing (length p.outcomes) (product placement.role p.taken p.constants) (sym shows.pending ∙ none) in
+pub all-gone : (context : Context) (w : WorkerState) (p : Position) → Shows context w p → w.pending ≡ []
+    → length p.outcomes ≡ length (product context.placement.role p.taken p.constants)
+all-gone context w p shows none =
+    let gone = left-nothing (length p.outcomes) (product context.placement.role p.taken p.constants) (sym shows.pending ∙ none) in
     let within = shows.produced in
     omega arith
 
-may-take_row : (placement : Placement) (orders : Orders) (w : WorkerState) (p : Position) (base : Base) (one : Arrival) (later : List Arrival) (now : OperatorState) (last : List (List Value))
-    → TakesOne placement orders w p base one later now last → IsWorking w → HasUnit orders.counted w → MayGo placement.role orders p 1 0
-may-take_row placement orders w p base one later now_does last takes works unit =
+may-take_row : (context : Context) (w : WorkerState) (p : Position) (one : Arrival) (later : List Arrival) (now : OperatorState) (last : List (List Value))
+    → TakesOne context w p one later now last → IsWorking w → HasUnit context.orders.counted w → MayGo context.placement.role context.orders p 1 0
+may-take_row context w p one later now_does last takes works unit =
     let shows = takes.shows in
-    let within = left-within (length p.constants) (all_arrivals placement.role p.taken) one later (sym shows.rest ∙ takes.rest) in
-    let gone = all-gone placement orders w p base shows takes.pending in
-    let before : produced_with placement.role orders p 0 ≡ length (product placement.role p.taken p.constants) =
-    ap (λ (constants : List (List Value)). length (product placement.role p.taken constants)) (append-nil p.constants) in
-    let now = ap length (product-one placement orders w p base one later now_does last takes) in
-    let lengths = length-append (product placement.role p.taken p.constants) (gives_if w.operator_state w.building (row_in (columns_at_hand w) one.what) ++ last) in
+    let within = left-within (length p.constants) (all_arrivals context.placement.role p.taken) one later (sym shows.rest ∙ takes.rest) in
+    let gone = all-gone context w p shows takes.pending in
+    let before : produced_with context.placement.role context.orders p 0 ≡ length (product context.placement.role p.taken p.constants) =
+    ap (λ (constants : List (List Value)). length (product context.placement.role p.taken constants)) (append-nil p.constants) in
+    let now = ap length (product-one context w p one later now_does last takes) in
+    let lengths = length-append (product context.placement.role p.taken p.constants) (gives_if w.operator_state w.building (row_in (columns_at_hand w) one.what) ++ last) in
     record {
-      free = free-shown placement orders w p base shows works;
+      free = free-shown context w p shows works;
       within = within;
       produced = omega arith;
       drained = λ some. omega arith;
@@ -244,44 +244,44 @@ same-hand : (b : Bool) (hand : ℕ) → hand ≡ cond b (hand - 0) hand
 same-hand true hand = omega arith
 same-hand false hand = refl
 
-shows-row_taken : (placement : Placement) (orders : Orders) (w : WorkerState) (p : Position) (base : Base) (one : Arrival) (later : List Arrival) (now : OperatorState) (last : List (List Value))
-    → TakesOne placement orders w p base one later now last → Shows placement orders (row_taken one later now last w) (with_one orders p) base
-shows-row_taken placement orders w p base one later now last takes =
+shows-row_taken : (context : Context) (w : WorkerState) (p : Position) (one : Arrival) (later : List Arrival) (now : OperatorState) (last : List (List Value))
+    → TakesOne context w p one later now last → Shows context (row_taken one later now last w) (with_one context.orders p)
+shows-row_taken context w p one later now last takes =
     let shows = takes.shows in
-    let task : Task = placement.role.task in
-    let left : drop (length p.constants) (all_arrivals placement.role p.taken) ≡ one ∷ later = sym shows.rest ∙ takes.rest in
-    let within = left-within (length p.constants) (all_arrivals placement.role p.taken) one later left in
-    let more : length (p.constants ++ orders.constants ∷ []) ≡ length p.constants + 1 = omega (arith, length-append p.constants (orders.constants ∷ [])) in
-    let grown = product-one placement orders w p base one later now last takes in
-    let gone = all-gone placement orders w p base shows takes.pending in
+    let task : Task = context.placement.role.task in
+    let left : drop (length p.constants) (all_arrivals context.placement.role p.taken) ≡ one ∷ later = sym shows.rest ∙ takes.rest in
+    let within = left-within (length p.constants) (all_arrivals context.placement.role p.taken) one later left in
+    let more : length (p.constants ++ context.orders.constants ∷ []) ≡ length p.constants + 1 = omega (arith, length-append p.constants (context.orders.constants ∷ [])) in
+    let grown = product-one context w p one later now last takes in
+    let gone = all-gone context w p shows takes.pending in
     let no_fate : p.outcomes ++ [] ≡ p.outcomes = append-nil p.outcomes in
-    let still : length p.outcomes ≤ length (product placement.role p.taken p.constants) = shows.produced in
-    let lengths = length-append (product placement.role p.taken p.constants) (gives_if w.operator_state w.building (row_in (columns_at_hand w) one.what) ++ last) in
-    let now_taken : take (length (p.constants ++ orders.constants ∷ [])) (all_arrivals placement.role p.taken) ≡ taken_of placement.role p ++ one ∷ [] =
-    rw more (taken-now placement orders w p base one later now last takes) in
-    let becomes = becomes-is placement orders w p base one later now last takes in
-    let found = found-is placement orders w p base one later now last takes in
+    let still : length p.outcomes ≤ length (product context.placement.role p.taken p.constants) = shows.produced in
+    let lengths = length-append (product context.placement.role p.taken p.constants) (gives_if w.operator_state w.building (row_in (columns_at_hand w) one.what) ++ last) in
+    let now_taken : take (length (p.constants ++ context.orders.constants ∷ [])) (all_arrivals context.placement.role p.taken) ≡ taken_of context.placement.role p ++ one ∷ [] =
+    rw more (taken-now context w p one later now last takes) in
+    let becomes = becomes-is context w p one later now last takes in
+    let found = found-is context w p one later now last takes in
     record {
       op = shows.op;
       number = shows.number;
-      operator_state = does-more w.operator_state now (is_builder task one.from) (suiting task one) task.kind orders.constants placement.role becomes shows.operator_state;
-      state = rw now_taken (has-more w.operator_state now task (taken_of placement.role p) one becomes shows.state);
+      operator_state = does-more w.operator_state now (is_builder task one.from) (suiting task one) task.kind context.orders.constants context.placement.role becomes shows.operator_state;
+      state = rw now_taken (has-more w.operator_state now task (taken_of context.placement.role p) one becomes shows.state);
       columns = shows.columns;
       build_columns = shows.build_columns;
       sides = shows.sides;
       builders = shows.builders;
-      building = λ k d less. side-is placement orders w p base one later now last takes (suc k) d (omega arith);
+      building = λ k d less. side-is context w p one later now last takes (suc k) d (omega arith);
       watch = shows.watch;
-      rest = sym (rw more (left-next (length p.constants) (all_arrivals placement.role p.taken) one later left));
-      pending = rw (takes.pending, no_fate, grown) (sym (left-behind (length p.outcomes) (product placement.role p.taken p.constants) _ gone));
+      rest = sym (rw more (left-next (length p.constants) (all_arrivals context.placement.role p.taken) one later left));
+      pending = rw (takes.pending, no_fate, grown) (sym (left-behind (length p.outcomes) (product context.placement.role p.taken p.constants) _ gone));
       taken = rw (more, shows.taken) refl;
       emitted = rw no_fate shows.emitted;
       batches = shows.batches;
       within = rw more within;
       produced = rw (no_fate, grown) (omega arith);
-      refused = rw (shows.refused, shows.op, now_taken) (sym (refused-more placement.op (taken_of placement.role p) one));
-      kept = rw (shows.kept, found, now_taken) (sym (kept-more w.operator_state task task.kind orders.constants placement.role (taken_of placement.role p) one shows.operator_state));
-      hand = shows.hand ∙ same-hand orders.counted p.hand;
+      refused = rw (shows.refused, shows.op, now_taken) (sym (refused-more context.placement.op (taken_of context.placement.role p) one));
+      kept = rw (shows.kept, found, now_taken) (sym (kept-more w.operator_state task task.kind context.orders.constants context.placement.role (taken_of context.placement.role p) one shows.operator_state));
+      hand = shows.hand ∙ same-hand context.orders.counted p.hand;
       held = shows.held;
       waved = shows.waved ∙ sym (both_true p.waved);
       paused = shows.paused;
@@ -296,12 +296,12 @@ pub Keeps-row_taken : (w : WorkerState) (one : Arrival) (later : List Arrival) (
     → Becomes w.operator_state w.building (row_in (columns_at_hand w) one.what) now → Closes now (eqb (length w.rest) 1 && have_all_ended w.ins) last
     → IsWorking w → (counted : Bool) → HasUnit counted w → KeepsUnder counted w (row_taken one later now last w)
 unfolding KeepsUnder
-Keeps-row_taken w one later now last rest pending becomes closes works counted unit placement orders start p base armed stands =
-    let takes : TakesOne placement orders w p base one later now last = record { shows = stands.shows; rest = rest; pending = pending; becomes = becomes; closes = closes } in (
-      with_one orders p,
+Keeps-row_taken w one later now last rest pending becomes closes works counted unit context start p armed stands =
+    let takes : TakesOne context w p one later now last = record { shows = stands.shows; rest = rest; pending = pending; becomes = becomes; closes = closes } in (
+      with_one context.orders p,
       record {
-        leads = Leads-go placement.role orders start w.journal p 1 0 stands.leads (may-take_row placement orders w p base one later now last takes works (λ so. unit (sym armed ∙ so)));
+        leads = Leads-go context.placement.role context.orders start w.journal p 1 0 stands.leads (may-take_row context w p one later now last takes works (λ so. unit (sym armed ∙ so)));
         text = AreEntries-with_go w.journal 1 0 stands.text works.few refl;
-        shows = shows-row_taken placement orders w p base one later now last takes;
+        shows = shows-row_taken context w p one later now last takes;
       },
     )

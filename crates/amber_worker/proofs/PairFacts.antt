@@ -57,15 +57,15 @@ passes-on all from to from_now to_now h =
 
 pub from-stays : (all : Bool) (from to from_now to_now : WorkerState) → Passed all from to from_now to_now → StaysAt from from_now
 unfolding StaysAt
-from-stays all from to from_now to_now h placement orders start p base stands =
-    subst (λ w. IsAtPosition placement orders w start p base) (sym h.from_only)
-    (IsAtPosition-passed_on all placement orders from to start p base (record { from = from.number; to = to.number }) from_now.outs to_now.ins h.passes stands)
+from-stays all from to from_now to_now h context start p stands =
+    subst (λ w. IsAtPosition context w start p) (sym h.from_only)
+    (IsAtPosition-passed_on all context from to start p (record { from = from.number; to = to.number }) from_now.outs to_now.ins h.passes stands)
 
 pub to-stays : (all : Bool) (from to from_now to_now : WorkerState) → Passed all from to from_now to_now → StaysAt to to_now
 unfolding StaysAt
-to-stays all from to from_now to_now h placement orders start p base stands =
-    subst (λ w. IsAtPosition placement orders w start p base) (sym h.to_only)
-    (IsAtPosition-passed_to all placement orders to from start p base (record { from = from.number; to = to.number }) from_now.outs to_now.ins h.passes stands)
+to-stays all from to from_now to_now h context start p stands =
+    subst (λ w. IsAtPosition context w start p) (sym h.to_only)
+    (IsAtPosition-passed_to all context to from start p (record { from = from.number; to = to.number }) from_now.outs to_now.ins h.passes stands)
 
 -- ---- the same ends
 

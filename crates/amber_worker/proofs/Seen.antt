@@ -14,7 +14,7 @@ use Rattle.amber_meaning.specs.declared.view.Extra.{Extra}
 use Rattle.amber_meaning.specs.declared.view.Extra.TheVariants as extra
 use Rattle.amber_meaning.specs.declared.view.Stand.TheVariants as stand
 use Rattle.amber_meaning.specs.declared.view.WorkerView.{WorkerView}
-use Rattle.amber_worker.specs.AtPosition.{DoesKind, KeepsRows, IsViewOf}
+use Rattle.amber_worker.specs.AtPosition.{DoesKind, IsViewOf, KeepsRows}
 use Rattle.amber_worker.specs.WorkerState.{WorkerState}
 use Rattle.amber_worker.specs.Steps.{IsExtra, IsShown}
 use Rattle.amber_worker.specs.declared.operator_state.OperatorState.{OperatorState}
@@ -58,9 +58,9 @@ same-view a b taken rest out pending stand next extra =
 -- what a worker keeps shows what is said of each position that it shows
 pub view-is : (w : WorkerState) (view : WorkerView) → IsShown w view → w.held ≡ false → IsViewOf w view
 unfolding IsViewOf view_of
-view-is w view is loose placement orders p base shows =
-    same-view view (view_of placement.role p) (is.taken ∙ shows.taken) (is.rest ∙ ap length shows.rest) (is.out ∙ shows.emitted) (is.pending ∙ ap length shows.pending)
+view-is w view is loose context p shows =
+    same-view view (view_of context.placement.role p) (is.taken ∙ shows.taken) (is.rest ∙ ap length shows.rest) (is.out ∙ shows.emitted) (is.pending ∙ ap length shows.pending)
     (is.stand ∙ ap (λ (b : Bool). if b then stand.Finished else stand.Ready) shows.finished ∙ stands-so p.finished p.held (sym shows.held ∙ loose))
     (is.next ∙ ap first_of shows.pending)
-    (extra-is w.operator_state placement.role.task.kind orders.constants placement.role placement.role.task placement.op (taken_of placement.role p) w.refused w.kept view.extra shows.operator_state shows.state
+    (extra-is w.operator_state context.placement.role.task.kind context.orders.constants context.placement.role context.placement.role.task context.placement.op (taken_of context.placement.role p) w.refused w.kept view.extra shows.operator_state shows.state
     shows.refused shows.kept is.extra)

@@ -6,7 +6,7 @@ use Rattle.amber_rows.specs.declared.batch.Batch.{Batch}
 use Rattle.amber_log.specs.Grammar.{AreEntries}
 use Rattle.amber_log.specs.declared.entry.Entry.{Entry}
 use Rattle.amber_meaning.specs.Position.{Position, Taken, emitted_rows, steps_of, taken_from}
-use Rattle.amber_meaning.specs.Rules.{Leads, Orders}
+use Rattle.amber_meaning.specs.Rules.{Leads}
 use Rattle.amber_meaning.specs.Task.{Task, is_builder}
 use Rattle.amber_link.specs.declared.senders.Sender.{Sender}
 use Rattle.amber_link.specs.declared.receivers.Receiver.{Receiver}
@@ -15,19 +15,19 @@ use Rattle.amber_link.specs.Sides.{Way}
 use Rattle.amber_link.proofs.LinkEnds.{taken-looked}
 use Rattle.amber_worker.specs.Links.{Passes}
 use Rattle.amber_worker.proofs.Sent.{send_all-sent, sends-to-all}
-use Rattle.amber_worker.specs.AtPosition.{Base, Placement, ReceiveAll, SendAll, Shows, IsAtPosition}
+use Rattle.amber_worker.specs.AtPosition.{Context, IsAtPosition, ReceiveAll, SendAll, Shows}
 use Rattle.amber_worker.specs.WorkerState.{WorkerState, steps_made}
 
 -- the steps of a worker are those of its position
-pub steps-shown : (placement : Placement) (orders : Orders) (w : WorkerState) (p : Position) (base : Base) → Shows placement orders w p base → steps_made w ≡ steps_of p
-steps-shown placement orders w p base shows = rw (shows.taken, shows.emitted, shows.batches, shows.finished)
+pub steps-shown : (context : Context) (w : WorkerState) (p : Position) → Shows context w p → steps_made w ≡ steps_of p
+steps-shown context w p shows = rw (shows.taken, shows.emitted, shows.batches, shows.finished)
 
 -- the same position is shown with other links that suit it, and another journal
-pub Shows-relinked : (placement : Placement) (orders : Orders) (w : WorkerState) (p : Position) (base : Base) (ins : List Sender) (outs : List Receiver) (journal : List Entry)
-    → Shows placement orders w p base → ReceiveAll placement.role.senders base.had p.taken ins → All (λ one. one.builds ≡ is_builder placement.role.task one.from) ins
-    → SendAll placement placement.receivers (emitted_rows placement.role p) p.finished base.gave outs
-    → Shows placement orders (record w { ins = ins; outs = outs; journal = journal }) p base
-Shows-relinked placement orders w p base ins outs journal shows received sides sends = record {
+pub Shows-relinked : (context : Context) (w : WorkerState) (p : Position) (ins : List Sender) (outs : List Receiver) (journal : List Entry)
+    → Shows context w p → ReceiveAll context.placement.role.senders context.base.had p.taken ins → All (λ one. one.builds ≡ is_builder context.placement.role.task one.from) ins
+    → SendAll context.placement context.placement.receivers (emitted_rows context.placement.role p) p.finished context.base.gave outs
+    → Shows context (record w { ins = ins; outs = outs; journal = journal }) p
+Shows-relinked context w p ins outs journal shows received sides sends = record {
   op = shows.op;
   number = shows.number;
   operator_state = shows.operator_state;
@@ -60,24 +60,24 @@ Shows-relinked placement orders w p base ins outs journal shows received sides s
 -- ---- the journal
 
 -- a worker whose journal was handed out stands where it stood, with nothing done since
-pub IsAtPosition-without_journal : (placement : Placement) (orders : Orders) (w : WorkerState) (start p : Position) (base : Base)
-    → IsAtPosition placement orders w start p base → IsAtPosition placement orders (record w { journal = [] }) p p base
+pub IsAtPosition-without_journal : (context : Context) (w : WorkerState) (start p : Position)
+    → IsAtPosition context w start p → IsAtPosition context (record w { journal = [] }) p p
 unfolding Leads AreEntries
-IsAtPosition-without_journal placement orders w start p base stands = record { leads = refl; text = tt; shows = Shows-relinked placement orders w p base w.ins w.outs [] stands.shows stands.shows.ins stands.shows.sides stands.shows.outs }
+IsAtPosition-without_journal context w start p stands = record { leads = refl; text = tt; shows = Shows-relinked context w p w.ins w.outs [] stands.shows stands.shows.ins stands.shows.sides stands.shows.outs }
 
 -- ---- which senders and receivers there are
 
-pub sends-to : (placement : Placement) (orders : Orders) (w : WorkerState) (p : Position) (base : Base) (receiver : ℕ)
-    → Shows placement orders w p base → list_any (λ one. eqb one.to receiver) w.outs ≡ list_any (λ one. eqb one receiver) placement.receivers
-sends-to placement orders w p base receiver shows =
-    sends-to-all placement placement.receivers (emitted_rows placement.role p) p.finished base.gave w.outs receiver shows.outs
+pub sends-to : (context : Context) (w : WorkerState) (p : Position) (receiver : ℕ)
+    → Shows context w p → list_any (λ one. eqb one.to receiver) w.outs ≡ list_any (λ one. eqb one receiver) context.placement.receivers
+sends-to context w p receiver shows =
+    sends-to-all context.placement context.placement.receivers (emitted_rows context.placement.role p) p.finished context.base.gave w.outs receiver shows.outs
 
-pub receives-from : (placement : Placement) (orders : Orders) (w : WorkerState) (p : Position) (base : Base) (sender : ℕ)
-    → Shows placement orders w p base → list_any (λ one. eqb one.from sender) w.ins ≡ list_any (λ one. eqb one sender) placement.role.senders
+pub receives-from : (context : Context) (w : WorkerState) (p : Position) (sender : ℕ)
+    → Shows context w p → list_any (λ one. eqb one.from sender) w.ins ≡ list_any (λ one. eqb one sender) context.placement.role.senders
 unfolding ReceiveAll
-receives-from placement orders w p base sender shows = by placement.role.senders w.ins shows.ins
+receives-from context w p sender shows = by context.placement.role.senders w.ins shows.ins
   where
-    by : (senders : List ℕ) (ins : List Sender) → ReceiveAll senders base.had p.taken ins
+    by : (senders : List ℕ) (ins : List Sender) → ReceiveAll senders context.base.had p.taken ins
         → list_any (λ (one : Sender). eqb one.from sender) ins ≡ list_any (λ one. eqb one sender) senders
     by [] [] h = refl
     by [] (one ∷ ins) h = absurd h
@@ -108,30 +108,30 @@ sides-passed task (one ∷ ins) (suc k) d into less sides =
     (sides-passed task ins k d into (omega arith) (λ j e below. sides (suc j) e (omega arith)))
 
 -- the sender stands where it stood
-pub IsAtPosition-passed_on : (all : Bool) (placement : Placement) (orders : Orders) (w other : WorkerState) (start p : Position) (base : Base) (way : Way) (outs : List Receiver) (ins : List Sender)
-    → Passes all way (record { outs = w.outs; ins = other.ins }) (record { outs = outs; ins = ins }) → IsAtPosition placement orders w start p base → IsAtPosition placement orders (record w { outs = outs }) start p base
-IsAtPosition-passed_on all placement orders w other start p base way outs ins passes stands =
+pub IsAtPosition-passed_on : (all : Bool) (context : Context) (w other : WorkerState) (start p : Position) (way : Way) (outs : List Receiver) (ins : List Sender)
+    → Passes all way (record { outs = w.outs; ins = other.ins }) (record { outs = outs; ins = ins }) → IsAtPosition context w start p → IsAtPosition context (record w { outs = outs }) start p
+IsAtPosition-passed_on all context w other start p way outs ins passes stands =
     let s = passes.settles in
     record {
       leads = stands.leads;
       text = stands.text;
-      shows = Shows-relinked placement orders w p base w.ins outs w.journal stands.shows stands.shows.ins stands.shows.sides
-          (subst (λ l. SendAll placement placement.receivers (emitted_rows placement.role p) p.finished base.gave l) (sym s.outs_is)
-          (send_all-sent placement placement.receivers (emitted_rows placement.role p) p.finished base.gave w.outs passes.j s.out s.out passes.j_within s.forwards stands.shows.outs));
+      shows = Shows-relinked context w p w.ins outs w.journal stands.shows stands.shows.ins stands.shows.sides
+          (subst (λ l. SendAll context.placement context.placement.receivers (emitted_rows context.placement.role p) p.finished context.base.gave l) (sym s.outs_is)
+          (send_all-sent context.placement context.placement.receivers (emitted_rows context.placement.role p) p.finished context.base.gave w.outs passes.j s.out s.out passes.j_within s.forwards stands.shows.outs));
     }
 
 -- and so does the receiver
-pub IsAtPosition-passed_to : (all : Bool) (placement : Placement) (orders : Orders) (w other : WorkerState) (start p : Position) (base : Base) (way : Way) (outs : List Receiver) (ins : List Sender)
-    → Passes all way (record { outs = other.outs; ins = w.ins }) (record { outs = outs; ins = ins }) → IsAtPosition placement orders w start p base → IsAtPosition placement orders (record w { ins = ins }) start p base
-IsAtPosition-passed_to all placement orders w other start p base way outs ins passes stands =
+pub IsAtPosition-passed_to : (all : Bool) (context : Context) (w other : WorkerState) (start p : Position) (way : Way) (outs : List Receiver) (ins : List Sender)
+    → Passes all way (record { outs = other.outs; ins = w.ins }) (record { outs = outs; ins = ins }) → IsAtPosition context w start p → IsAtPosition context (record w { ins = ins }) start p
+IsAtPosition-passed_to all context w other start p way outs ins passes stands =
     let s = passes.settles in
     record {
       leads = stands.leads;
       text = stands.text;
-      shows = Shows-relinked placement orders w p base ins w.outs w.journal stands.shows
-          (subst (λ l. ReceiveAll placement.role.senders base.had p.taken l) (sym s.ins_is)
-          (receive_all-passed placement.role.senders base.had p.taken w.ins passes.k s.into s.into passes.k_within s.gives stands.shows.ins))
-          (subst (λ l. All (λ (one : Sender). one.builds ≡ is_builder placement.role.task one.from) l) (sym s.ins_is)
-          (sides-passed placement.role.task w.ins passes.k s.into s.into passes.k_within stands.shows.sides))
+      shows = Shows-relinked context w p ins w.outs w.journal stands.shows
+          (subst (λ l. ReceiveAll context.placement.role.senders context.base.had p.taken l) (sym s.ins_is)
+          (receive_all-passed context.placement.role.senders context.base.had p.taken w.ins passes.k s.into s.into passes.k_within s.gives stands.shows.ins))
+          (subst (λ l. All (λ (one : Sender). one.builds ≡ is_builder context.placement.role.task one.from) l) (sym s.ins_is)
+          (sides-passed context.placement.role.task w.ins passes.k s.into s.into passes.k_within stands.shows.sides))
           stands.shows.outs;
     }

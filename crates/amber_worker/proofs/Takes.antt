@@ -13,7 +13,7 @@ use Rattle.amber_rows.specs.declared.flow.What.{What}
 use Rattle.amber_rows.specs.declared.flow.What.TheVariants as what
 use Rattle.amber_log.specs.declared.entry.Entry.TheVariants as entry
 use Rattle.amber_meaning.specs.Position.{Position, Taken, all_arrivals, arrivals_of, has_last, have_ended, is_complete, product, share_or}
-use Rattle.amber_meaning.specs.Rules.{MayTake, Orders, may_take_from, with_batch}
+use Rattle.amber_meaning.specs.Rules.{MayTake, may_take_from, with_batch}
 use Rattle.amber_meaning.specs.Task.{Arrival, Role, Task, is_builder}
 use Rattle.amber_meaning.specs.Produce.{closing, produce}
 use Rattle.amber_meaning.specs.Views.{taken_of}
@@ -21,7 +21,7 @@ use Rattle.amber_link.specs.Sides.{AreLooked, IsTaken, have_all_ended, have_buil
 use Rattle.amber_worker.proofs.Settling.{Shows-relinked}
 use Rattle.amber_link.specs.declared.senders.Sender.{Sender}
 use Rattle.amber_worker.specs.Fields.{row_from}
-use Rattle.amber_worker.specs.AtPosition.{Base, DoesKind, KeepsUnder, Placement, ReceiveAll, Shows}
+use Rattle.amber_worker.specs.AtPosition.{Context, DoesKind, KeepsUnder, ReceiveAll, Shows}
 use Rattle.amber_worker.specs.WorkerState.{WorkerState}
 use Rattle.amber_worker.specs.Steps.{Closes, batch_taken}
 use Rattle.amber_worker.specs.declared.operator_state.OperatorState.{OperatorState}
@@ -145,150 +145,150 @@ record TakesOne (w : WorkerState) (one : Sender) (batch : Batch) (ins : List Sen
   taken_so : IsTaken w.ins one batch ins
   closes : Closes w.operator_state (eqb (length batch.rows) 0 && have_all_ended ins) last
 
-received-all : (placement : Placement) (orders : Orders) (w : WorkerState) (p : Position) (base : Base) (one : Sender) (batch : Batch) (ins : List Sender) (last : List (List Value))
-    → Shows placement orders w p base → (takes : TakesOne w one batch ins last) → ReceiveAll placement.role.senders base.had p.taken (takes.taken_so.front ++ one ∷ takes.taken_so.back)
-received-all placement orders w p base one batch ins last shows takes = rw takes.taken_so.found at shows.ins
+received-all : (context : Context) (w : WorkerState) (p : Position) (one : Sender) (batch : Batch) (ins : List Sender) (last : List (List Value))
+    → Shows context w p → (takes : TakesOne w one batch ins last) → ReceiveAll context.placement.role.senders context.base.had p.taken (takes.taken_so.front ++ one ∷ takes.taken_so.back)
+received-all context w p one batch ins last shows takes = rw takes.taken_so.found at shows.ins
 
-own-side : (placement : Placement) (orders : Orders) (w : WorkerState) (p : Position) (base : Base) (one : Sender) (batch : Batch) (ins : List Sender) (last : List (List Value))
-    → Shows placement orders w p base → TakesOne w one batch ins last → one.builds ≡ is_builder placement.role.task one.from
-own-side placement orders w p base one batch ins last shows takes =
+own-side : (context : Context) (w : WorkerState) (p : Position) (one : Sender) (batch : Batch) (ins : List Sender) (last : List (List Value))
+    → Shows context w p → TakesOne w one batch ins last → one.builds ≡ is_builder context.placement.role.task one.from
+own-side context w p one batch ins last shows takes =
     let so = takes.taken_so in
-    side-there placement.role.task so.front so.back one (rw so.found at shows.sides)
+    side-there context.placement.role.task so.front so.back one (rw so.found at shows.sides)
 
-may-take : (placement : Placement) (orders : Orders) (w : WorkerState) (p : Position) (base : Base) (one : Sender) (batch : Batch) (ins : List Sender) (last : List (List Value))
-    → Shows placement orders w p base → TakesOne w one batch ins last → IsWorking w → MayTake placement.role p one.from one.taken
-may-take placement orders w p base one batch ins last shows takes works =
+may-take : (context : Context) (w : WorkerState) (p : Position) (one : Sender) (batch : Batch) (ins : List Sender) (last : List (List Value))
+    → Shows context w p → TakesOne w one batch ins last → IsWorking w → MayTake context.placement.role p one.from one.taken
+may-take context w p one batch ins last shows takes works =
     let so = takes.taken_so in
-    let all = received-all placement orders w p base one batch ins last shows takes in
-    let received = is-received base.had p.taken placement.role.senders so.front so.back one all in
+    let all = received-all context w p one batch ins last shows takes in
+    let received = is-received context.base.had p.taken context.placement.role.senders so.front so.back one all in
     record {
-      free = free-shown placement orders w p base shows works;
-      sender = is-sender base.had p.taken placement.role.senders so.front so.back one all;
+      free = free-shown context w p shows works;
+      sender = is-sender context.base.had p.taken context.placement.role.senders so.front so.back one all;
       next = received.taken;
       no_rest = sym shows.rest ∙ takes.rest;
       no_pending = sym shows.pending ∙ takes.pending;
-      side = may-side placement.role p.taken one (have_builders_ended w.ins) (own-side placement orders w p base one batch ins last shows takes) so.side
-          (builders-ended base.had placement.role.task p.taken placement.role.senders w.ins shows.ins shows.sides shows.builders);
+      side = may-side context.placement.role p.taken one (have_builders_ended w.ins) (own-side context w p one batch ins last shows takes) so.side
+          (builders-ended context.base.had context.placement.role.task p.taken context.placement.role.senders w.ins shows.ins shows.sides shows.builders);
     }
 
 -- what was handed with this batch
-fed-now : (placement : Placement) (orders : Orders) (w : WorkerState) (p : Position) (base : Base) (one : Sender) (batch : Batch) (ins : List Sender) (last : List (List Value))
-    → Shows placement orders w p base → TakesOne w one batch ins last
-    → all_arrivals placement.role (p.taken ++ as_taken one.from batch ∷ []) ≡ all_arrivals placement.role p.taken ++ map (row_from one.from) batch.rows
-fed-now placement orders w p base one batch ins last shows takes =
+fed-now : (context : Context) (w : WorkerState) (p : Position) (one : Sender) (batch : Batch) (ins : List Sender) (last : List (List Value))
+    → Shows context w p → TakesOne w one batch ins last
+    → all_arrivals context.placement.role (p.taken ++ as_taken one.from batch ∷ []) ≡ all_arrivals context.placement.role p.taken ++ map (row_from one.from) batch.rows
+fed-now context w p one batch ins last shows takes =
     let so = takes.taken_so in
-    let all = received-all placement orders w p base one batch ins last shows takes in
-    fed-more w.operator_state orders.constants placement.role p.taken one.from batch shows.operator_state
-    (no-sender placement.role.senders one.from (is-sender base.had p.taken placement.role.senders so.front so.back one all))
+    let all = received-all context w p one batch ins last shows takes in
+    fed-more w.operator_state context.orders.constants context.placement.role p.taken one.from batch shows.operator_state
+    (no-sender context.placement.role.senders one.from (is-sender context.base.had p.taken context.placement.role.senders so.front so.back one all))
 
 -- all that was handed before was taken
-all-taken : (placement : Placement) (orders : Orders) (w : WorkerState) (p : Position) (base : Base) → Shows placement orders w p base → w.rest ≡ []
-    → length p.constants ≡ length (all_arrivals placement.role p.taken)
-all-taken placement orders w p base shows none =
-    let nothing_left = left-nothing (length p.constants) (all_arrivals placement.role p.taken) (sym shows.rest ∙ none) in
+all-taken : (context : Context) (w : WorkerState) (p : Position) → Shows context w p → w.rest ≡ []
+    → length p.constants ≡ length (all_arrivals context.placement.role p.taken)
+all-taken context w p shows none =
+    let nothing_left = left-nothing (length p.constants) (all_arrivals context.placement.role p.taken) (sym shows.rest ∙ none) in
     let within = shows.within in
     omega arith
 
-received-next : (placement : Placement) (orders : Orders) (w : WorkerState) (p : Position) (base : Base) (one : Sender) (batch : Batch) (ins : List Sender) (last : List (List Value))
-    → Shows placement orders w p base → TakesOne w one batch ins last → ReceiveAll placement.role.senders base.had (p.taken ++ as_taken one.from batch ∷ []) ins
-received-next placement orders w p base one batch ins last shows takes =
+received-next : (context : Context) (w : WorkerState) (p : Position) (one : Sender) (batch : Batch) (ins : List Sender) (last : List (List Value))
+    → Shows context w p → TakesOne w one batch ins last → ReceiveAll context.placement.role.senders context.base.had (p.taken ++ as_taken one.from batch ∷ []) ins
+received-next context w p one batch ins last shows takes =
     let so = takes.taken_so in
-    rw so.after_it (receive_all-next base.had p.taken placement.role.senders so.front so.back one so.now batch so.unended so.gives so.is (received-all placement orders w p base one batch ins last shows takes))
+    rw so.after_it (receive_all-next context.base.had p.taken context.placement.role.senders so.front so.back one so.now batch so.unended so.gives so.is (received-all context w p one batch ins last shows takes))
 
 -- more could come before
-open-before : (placement : Placement) (orders : Orders) (w : WorkerState) (p : Position) (base : Base) (one : Sender) (batch : Batch) (ins : List Sender) (last : List (List Value))
-    → Shows placement orders w p base → TakesOne w one batch ins last → is_complete placement.role p.taken (length p.constants) ≡ false
-open-before placement orders w p base one batch ins last shows takes =
+open-before : (context : Context) (w : WorkerState) (p : Position) (one : Sender) (batch : Batch) (ins : List Sender) (last : List (List Value))
+    → Shows context w p → TakesOne w one batch ins last → is_complete context.placement.role p.taken (length p.constants) ≡ false
+open-before context w p one batch ins last shows takes =
     let so = takes.taken_so in
-    ap (λ b. b && eqb (length p.constants) (length (all_arrivals placement.role p.taken)))
-    (sym (all-ended placement.role.senders base.had p.taken w.ins shows.ins) ∙ ap have_all_ended so.found ∙ unended-there so.front so.back one so.unended)
+    ap (λ b. b && eqb (length p.constants) (length (all_arrivals context.placement.role p.taken)))
+    (sym (all-ended context.placement.role.senders context.base.had p.taken w.ins shows.ins) ∙ ap have_all_ended so.found ∙ unended-there so.front so.back one so.unended)
 
 -- nothing more can come behind this batch
-over-is : (placement : Placement) (orders : Orders) (w : WorkerState) (p : Position) (base : Base) (one : Sender) (batch : Batch) (ins : List Sender) (last : List (List Value))
-    → Shows placement orders w p base → TakesOne w one batch ins last
-    → (eqb (length batch.rows) 0 && have_all_ended ins) ≡ is_complete placement.role (p.taken ++ as_taken one.from batch ∷ []) (length p.constants)
-over-is placement orders w p base one batch ins last shows takes =
-    let whole = all-taken placement orders w p base shows takes.rest in
-    let lengths = ap length (fed-now placement orders w p base one batch ins last shows takes) in
-    let sum = length-append (all_arrivals placement.role p.taken) (map (row_from one.from) batch.rows) in
+over-is : (context : Context) (w : WorkerState) (p : Position) (one : Sender) (batch : Batch) (ins : List Sender) (last : List (List Value))
+    → Shows context w p → TakesOne w one batch ins last
+    → (eqb (length batch.rows) 0 && have_all_ended ins) ≡ is_complete context.placement.role (p.taken ++ as_taken one.from batch ∷ []) (length p.constants)
+over-is context w p one batch ins last shows takes =
+    let whole = all-taken context w p shows takes.rest in
+    let lengths = ap length (fed-now context w p one batch ins last shows takes) in
+    let sum = length-append (all_arrivals context.placement.role p.taken) (map (row_from one.from) batch.rows) in
     let mapped = length-map batch.rows (row_from one.from) in
     and-turned (eqb (length batch.rows) 0) (have_all_ended ins)
     ∙ ap (λ b. b && eqb (length batch.rows) 0)
-    (all-ended placement.role.senders base.had (p.taken ++ as_taken one.from batch ∷ []) ins (received-next placement orders w p base one batch ins last shows takes))
-    ∙ ap (λ b. have_ended placement.role.senders (p.taken ++ as_taken one.from batch ∷ []) && b)
-    (same-test (length batch.rows) 0 (length p.constants) (length (all_arrivals placement.role (p.taken ++ as_taken one.from batch ∷ []))) (λ e. omega arith) (λ e. omega arith))
+    (all-ended context.placement.role.senders context.base.had (p.taken ++ as_taken one.from batch ∷ []) ins (received-next context w p one batch ins last shows takes))
+    ∙ ap (λ b. have_ended context.placement.role.senders (p.taken ++ as_taken one.from batch ∷ []) && b)
+    (same-test (length batch.rows) 0 (length p.constants) (length (all_arrivals context.placement.role (p.taken ++ as_taken one.from batch ∷ []))) (λ e. omega arith) (λ e. omega arith))
 
 -- as much was taken as before
-taken-same : (placement : Placement) (orders : Orders) (w : WorkerState) (p : Position) (base : Base) (one : Sender) (batch : Batch) (ins : List Sender) (last : List (List Value))
-    → Shows placement orders w p base → TakesOne w one batch ins last
-    → take (length p.constants) (all_arrivals placement.role (p.taken ++ as_taken one.from batch ∷ [])) ≡ taken_of placement.role p
-taken-same placement orders w p base one batch ins last shows takes =
-    rw (fed-now placement orders w p base one batch ins last shows takes)
-    (take-append-le (length p.constants) (all_arrivals placement.role p.taken) (map (row_from one.from) batch.rows) shows.within)
+taken-same : (context : Context) (w : WorkerState) (p : Position) (one : Sender) (batch : Batch) (ins : List Sender) (last : List (List Value))
+    → Shows context w p → TakesOne w one batch ins last
+    → take (length p.constants) (all_arrivals context.placement.role (p.taken ++ as_taken one.from batch ∷ [])) ≡ taken_of context.placement.role p
+taken-same context w p one batch ins last shows takes =
+    rw (fed-now context w p one batch ins last shows takes)
+    (take-append-le (length p.constants) (all_arrivals context.placement.role p.taken) (map (row_from one.from) batch.rows) shows.within)
 
 -- the rows that are given at the end
-last-is : (placement : Placement) (orders : Orders) (w : WorkerState) (p : Position) (base : Base) (one : Sender) (batch : Batch) (ins : List Sender) (last : List (List Value))
-    → Shows placement orders w p base → TakesOne w one batch ins last
-    → last ≡ (if is_complete placement.role (p.taken ++ as_taken one.from batch ∷ []) (length p.constants)
-    then closing placement.role.task (all_arrivals placement.role (p.taken ++ as_taken one.from batch ∷ [])) else [])
+last-is : (context : Context) (w : WorkerState) (p : Position) (one : Sender) (batch : Batch) (ins : List Sender) (last : List (List Value))
+    → Shows context w p → TakesOne w one batch ins last
+    → last ≡ (if is_complete context.placement.role (p.taken ++ as_taken one.from batch ∷ []) (length p.constants)
+    then closing context.placement.role.task (all_arrivals context.placement.role (p.taken ++ as_taken one.from batch ∷ [])) else [])
 unfolding closing
-last-is placement orders w p base one batch ins last shows takes =
-    let task : Task = placement.role.task in
+last-is context w p one batch ins last shows takes =
+    let task : Task = context.placement.role.task in
     let later : List Taken = p.taken ++ as_taken one.from batch ∷ [] in
-    let over = over-is placement orders w p base one batch ins last shows takes in
-    closing-is w.operator_state task.kind orders.constants placement.role task (taken_of placement.role p) (is_complete placement.role later (length p.constants)) last shows.operator_state shows.state
+    let over = over-is context w p one batch ins last shows takes in
+    closing-is w.operator_state task.kind context.orders.constants context.placement.role task (taken_of context.placement.role p) (is_complete context.placement.role later (length p.constants)) last shows.operator_state shows.state
     (subst (λ b. Closes w.operator_state b last) over takes.closes)
-    ∙ closing-same (is_complete placement.role later (length p.constants)) task.kind task (taken_of placement.role p) (all_arrivals placement.role later)
-    (λ e. let end = and_parts (have_ended placement.role.senders later) _ e in
-    let here = eqb-true (length p.constants) (length (all_arrivals placement.role later)) end.1 in
-    sym (taken-same placement orders w p base one batch ins last shows takes) ∙ take_all (length p.constants) (all_arrivals placement.role later) (omega arith))
+    ∙ closing-same (is_complete context.placement.role later (length p.constants)) task.kind task (taken_of context.placement.role p) (all_arrivals context.placement.role later)
+    (λ e. let end = and_parts (have_ended context.placement.role.senders later) _ e in
+    let here = eqb-true (length p.constants) (length (all_arrivals context.placement.role later)) end.1 in
+    sym (taken-same context w p one batch ins last shows takes) ∙ take_all (length p.constants) (all_arrivals context.placement.role later) (omega arith))
 
 -- what was produced with this batch
-product-now : (placement : Placement) (orders : Orders) (w : WorkerState) (p : Position) (base : Base) (one : Sender) (batch : Batch) (ins : List Sender) (last : List (List Value))
-    → Shows placement orders w p base → TakesOne w one batch ins last
-    → product placement.role (p.taken ++ as_taken one.from batch ∷ []) p.constants ≡ product placement.role p.taken p.constants ++ last
-product-now placement orders w p base one batch ins last shows takes =
-    let before = product-open placement.role p.taken p.constants (open-before placement orders w p base one batch ins last shows takes) in
-    let same : produce placement.role.task [] (all_arrivals placement.role (p.taken ++ as_taken one.from batch ∷ [])) p.constants ≡ product placement.role p.taken p.constants =
-    ap (λ arrivals. produce placement.role.task [] arrivals p.constants) (fed-now placement orders w p base one batch ins last shows takes)
-    ∙ produce-longer placement.role.task [] (all_arrivals placement.role p.taken) (map (row_from one.from) batch.rows) p.constants shows.within
+product-now : (context : Context) (w : WorkerState) (p : Position) (one : Sender) (batch : Batch) (ins : List Sender) (last : List (List Value))
+    → Shows context w p → TakesOne w one batch ins last
+    → product context.placement.role (p.taken ++ as_taken one.from batch ∷ []) p.constants ≡ product context.placement.role p.taken p.constants ++ last
+product-now context w p one batch ins last shows takes =
+    let before = product-open context.placement.role p.taken p.constants (open-before context w p one batch ins last shows takes) in
+    let same : produce context.placement.role.task [] (all_arrivals context.placement.role (p.taken ++ as_taken one.from batch ∷ [])) p.constants ≡ product context.placement.role p.taken p.constants =
+    ap (λ arrivals. produce context.placement.role.task [] arrivals p.constants) (fed-now context w p one batch ins last shows takes)
+    ∙ produce-longer context.placement.role.task [] (all_arrivals context.placement.role p.taken) (map (row_from one.from) batch.rows) p.constants shows.within
     ∙ sym before in
-    product-is placement.role (p.taken ++ as_taken one.from batch ∷ []) p.constants
-    ∙ ap (λ rows. rows ++ (if is_complete placement.role (p.taken ++ as_taken one.from batch ∷ []) (length p.constants)
-    then closing placement.role.task (all_arrivals placement.role (p.taken ++ as_taken one.from batch ∷ [])) else [])) same
-    ∙ ap (λ rows. product placement.role p.taken p.constants ++ rows) (sym (last-is placement orders w p base one batch ins last shows takes))
+    product-is context.placement.role (p.taken ++ as_taken one.from batch ∷ []) p.constants
+    ∙ ap (λ rows. rows ++ (if is_complete context.placement.role (p.taken ++ as_taken one.from batch ∷ []) (length p.constants)
+    then closing context.placement.role.task (all_arrivals context.placement.role (p.taken ++ as_taken one.from batch ∷ [])) else [])) same
+    ∙ ap (λ rows. product context.placement.role p.taken p.constants ++ rows) (sym (last-is context w p one batch ins last shows takes))
 
-shows-batch_taken : (placement : Placement) (orders : Orders) (w : WorkerState) (p : Position) (base : Base) (one : Sender) (batch : Batch) (ins : List Sender) (last : List (List Value))
-    → Shows placement orders w p base → TakesOne w one batch ins last → Shows placement orders (batch_taken one batch ins last w) (with_batch one.from batch p) base
-shows-batch_taken placement orders w p base one batch ins last shows takes =
+shows-batch_taken : (context : Context) (w : WorkerState) (p : Position) (one : Sender) (batch : Batch) (ins : List Sender) (last : List (List Value))
+    → Shows context w p → TakesOne w one batch ins last → Shows context (batch_taken one batch ins last w) (with_batch one.from batch p)
+shows-batch_taken context w p one batch ins last shows takes =
     let so = takes.taken_so in
-    let more = fed-now placement orders w p base one batch ins last shows takes in
-    let whole = all-taken placement orders w p base shows takes.rest in
+    let more = fed-now context w p one batch ins last shows takes in
+    let whole = all-taken context w p shows takes.rest in
     let within = shows.within in
-    let still : length p.outcomes ≤ length (product placement.role p.taken p.constants) = shows.produced in
-    let gone = all-gone placement orders w p base shows takes.pending in
-    let grown = product-now placement orders w p base one batch ins last shows takes in
-    let lengths = length-append (product placement.role p.taken p.constants) last in
-    let taken_same = taken-same placement orders w p base one batch ins last shows takes in
-    let side = own-side placement orders w p base one batch ins last shows takes in
+    let still : length p.outcomes ≤ length (product context.placement.role p.taken p.constants) = shows.produced in
+    let gone = all-gone context w p shows takes.pending in
+    let grown = product-now context w p one batch ins last shows takes in
+    let lengths = length-append (product context.placement.role p.taken p.constants) last in
+    let taken_same = taken-same context w p one batch ins last shows takes in
+    let side = own-side context w p one batch ins last shows takes in
     let batches = shows.batches in
     record {
       op = shows.op;
       number = shows.number;
-      operator_state = does-turned w.operator_state one.builds placement.role.task.kind orders.constants placement.role shows.operator_state;
-      state = rw taken_same (has-turned w.operator_state one.builds placement.role.task (taken_of placement.role p) shows.state);
+      operator_state = does-turned w.operator_state one.builds context.placement.role.task.kind context.orders.constants context.placement.role shows.operator_state;
+      state = rw taken_same (has-turned w.operator_state one.builds context.placement.role.task (taken_of context.placement.role p) shows.state);
       columns = shows.columns;
       build_columns = shows.build_columns;
-      sides = rw so.after_it (sides-next placement.role.task so.front so.back one so.now (ap (λ (s : Sender). s.builds) so.is) (ap (λ (s : Sender). s.from) so.is) (rw so.found at shows.sides));
+      sides = rw so.after_it (sides-next context.placement.role.task so.front so.back one so.now (ap (λ (s : Sender). s.builds) so.is) (ap (λ (s : Sender). s.from) so.is) (rw so.found at shows.sides));
       builders = shows.builders;
-      building = one-side placement.role.task one.from one.builds batch.rows (sym side);
+      building = one-side context.placement.role.task one.from one.builds batch.rows (sym side);
       watch = shows.watch;
-      rest = rw more (sym (left-behind (length p.constants) (all_arrivals placement.role p.taken) (map (row_from one.from) batch.rows) whole));
-      pending = rw grown (sym (left-behind (length p.outcomes) (product placement.role p.taken p.constants) last gone));
+      rest = rw more (sym (left-behind (length p.constants) (all_arrivals context.placement.role p.taken) (map (row_from one.from) batch.rows) whole));
+      pending = rw grown (sym (left-behind (length p.outcomes) (product context.placement.role p.taken p.constants) last gone));
       taken = shows.taken;
       emitted = shows.emitted;
       batches = omega (arith, length-append p.taken (as_taken one.from batch ∷ []));
-      within = rw more (omega (arith, length-append (all_arrivals placement.role p.taken) (map (row_from one.from) batch.rows)));
+      within = rw more (omega (arith, length-append (all_arrivals context.placement.role p.taken) (map (row_from one.from) batch.rows)));
       produced = rw grown (omega arith);
       refused = rw taken_same shows.refused;
       kept = rw taken_same shows.kept;
@@ -297,7 +297,7 @@ shows-batch_taken placement orders w p base one batch ins last shows takes =
       waved = shows.waved;
       paused = shows.paused;
       finished = shows.finished;
-      ins = received-next placement orders w p base one batch ins last shows takes;
+      ins = received-next context w p one batch ins last shows takes;
       outs = rw (grown, kept-longer) shows.outs;
       route = shows.route;
     }
@@ -307,26 +307,26 @@ pub Keeps-batch_taken : (w : WorkerState) (one : Sender) (batch : Batch) (ins : 
     → IsTaken w.ins one batch ins → one.from < 2 ^ 32 → one.taken < 2 ^ 64 → Closes w.operator_state (eqb (length batch.rows) 0 && have_all_ended ins) last
     → IsWorking w → (counted : Bool) → KeepsUnder counted w (batch_taken one batch ins last w)
 unfolding KeepsUnder
-Keeps-batch_taken w one batch ins last rest pending so few small closes works counted placement orders start p base armed stands =
+Keeps-batch_taken w one batch ins last rest pending so few small closes works counted context start p armed stands =
     let takes : TakesOne w one batch ins last = record { rest = rest; pending = pending; taken_so = so; closes = closes } in (
       with_batch one.from batch p,
       record {
-        leads = Leads-push placement.role orders start w.journal p (entry.Take one.from one.taken) (with_batch one.from batch p) stands.leads
-            (batch, may-take placement orders w p base one batch ins last stands.shows takes works, refl);
+        leads = Leads-push context.placement.role context.orders start w.journal p (entry.Take one.from one.taken) (with_batch one.from batch p) stands.leads
+            (batch, may-take context w p one batch ins last stands.shows takes works, refl);
         text = AreEntries-push false w.journal (entry.Take one.from one.taken) stands.text (few, small) refl;
-        shows = shows-batch_taken placement orders w p base one batch ins last stands.shows takes;
+        shows = shows-batch_taken context w p one batch ins last stands.shows takes;
       },
     )
 
 -- wherever a worker stood, it stands once it looked for batches
 pub Keeps-looked : (counted : Bool) (w : WorkerState) (found : List Sender) → AreLooked w.ins found → KeepsUnder counted w (record w { ins = found })
 unfolding KeepsUnder
-Keeps-looked counted w found looked placement orders start p base armed stands = (
+Keeps-looked counted w found looked context start p armed stands = (
   p,
   record {
     leads = stands.leads;
     text = stands.text;
-    shows = Shows-relinked placement orders w p base found w.outs w.journal stands.shows
-        (receive_all-looked base.had p.taken placement.role.senders w.ins found looked stands.shows.ins) (sides-looked placement.role.task w.ins found looked stands.shows.sides) stands.shows.outs;
+    shows = Shows-relinked context w p found w.outs w.journal stands.shows
+        (receive_all-looked context.base.had p.taken context.placement.role.senders w.ins found looked stands.shows.ins) (sides-looked context.placement.role.task w.ins found looked stands.shows.sides) stands.shows.outs;
   },
 )

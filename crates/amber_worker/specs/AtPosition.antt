@@ -98,6 +98,16 @@ pub record Base : Type 0 where
 abbrev pub no_base : Base
 no_base = record { had = λ sender. []; gave = λ receiver. [] }
 
+-- what a worker's position is seen against: its place in a run, the orders it is under, and what went through earlier links
+pub record Context : Type 0 where
+  pub placement : Placement
+  pub orders : Orders
+  pub base : Base
+
+-- that of a workflow's worker before any command, where nothing went through earlier links
+abbrev pub first_context : List Operator → List (List (Result (List Value) RowFault)) → ℕ → ℕ → Context
+first_context flow records size worker = record { placement = placement_of flow records size worker; orders = first_orders flow worker; base = no_base }
+
 -- what is kept of a sender: how many of its batches were taken, whether the last was, and that those that have come are those taken
 -- and those that wait
 pub record Receives (sender : ℕ) (had : List Batch) (batches : List Taken) (one : Sender) : Type 0 where
@@ -135,47 +145,47 @@ SendAll placement (receiver ∷ receivers) rows ended gave (one ∷ more) =
 
 -- ---- where it stands
 
--- a worker shows a position under these orders, over what went through earlier links
-pub record Shows (placement : Placement) (orders : Orders) (w : WorkerState) (p : Position) (base : Base) : Type 0 where
-  pub op : w.op ≡ placement.op
-  pub number : w.number ≡ placement.number
-  pub operator_state : DoesKind w.operator_state placement.role.task.kind orders.constants placement.role
-  pub state : KeepsRows w.operator_state placement.role.task (taken_of placement.role p)
-  pub columns : w.columns ≡ placement.role.task.columns
-  pub build_columns : w.build_columns ≡ placement.role.task.build_columns
+-- a worker shows a position
+pub record Shows (context : Context) (w : WorkerState) (p : Position) : Type 0 where
+  pub op : w.op ≡ context.placement.op
+  pub number : w.number ≡ context.placement.number
+  pub operator_state : DoesKind w.operator_state context.placement.role.task.kind context.orders.constants context.placement.role
+  pub state : KeepsRows w.operator_state context.placement.role.task (taken_of context.placement.role p)
+  pub columns : w.columns ≡ context.placement.role.task.columns
+  pub build_columns : w.build_columns ≡ context.placement.role.task.build_columns
   -- which of its senders are of the build side, that these are senders all, and whether what is left is of that side
-  pub sides : All (λ one. one.builds ≡ is_builder placement.role.task one.from) w.ins
-  pub builders : (sender : ℕ) → is_builder placement.role.task sender ≡ true → list_any (λ one. one == sender) placement.role.senders ≡ true
-  pub building : All (λ one. is_builder placement.role.task one.from ≡ w.building) w.rest
-  pub watch : w.watch ≡ orders.watch
-  pub rest : w.rest ≡ rest_of placement.role p
-  pub pending : w.pending ≡ pending_rows placement.role p
+  pub sides : All (λ one. one.builds ≡ is_builder context.placement.role.task one.from) w.ins
+  pub builders : (sender : ℕ) → is_builder context.placement.role.task sender ≡ true → list_any (λ one. one == sender) context.placement.role.senders ≡ true
+  pub building : All (λ one. is_builder context.placement.role.task one.from ≡ w.building) w.rest
+  pub watch : w.watch ≡ context.orders.watch
+  pub rest : w.rest ≡ rest_of context.placement.role p
+  pub pending : w.pending ≡ pending_rows context.placement.role p
   pub taken : w.taken ≡ length p.constants
   pub emitted : w.emitted ≡ emitted_count p.outcomes
   pub batches : w.batches ≡ length p.taken
-  pub within : length p.constants ≤ length (all_arrivals placement.role p.taken)
-  pub produced : length p.outcomes ≤ length (produced_rows placement.role p)
-  pub refused : w.refused ≡ refused_in placement.op (taken_of placement.role p)
-  pub kept : w.kept ≡ kept_rows placement.role.task.kind placement.role.task (taken_of placement.role p)
+  pub within : length p.constants ≤ length (all_arrivals context.placement.role p.taken)
+  pub produced : length p.outcomes ≤ length (produced_rows context.placement.role p)
+  pub refused : w.refused ≡ refused_in context.placement.op (taken_of context.placement.role p)
+  pub kept : w.kept ≡ kept_rows context.placement.role.task.kind context.placement.role.task (taken_of context.placement.role p)
   pub hand : w.hand ≡ p.hand
   pub held : w.held ≡ p.held
   pub waved : w.waved ≡ p.waved
   pub paused : w.paused ≡ p.paused
   pub finished : w.finished ≡ p.finished
-  pub ins : ReceiveAll placement.role.senders base.had p.taken w.ins
-  pub outs : SendAll placement placement.receivers (emitted_rows placement.role p) p.finished base.gave w.outs
-  pub route : (row : List Value) → 0 < length placement.receivers → number_to w.route row ≡ placement.route row
+  pub ins : ReceiveAll context.placement.role.senders context.base.had p.taken w.ins
+  pub outs : SendAll context.placement context.placement.receivers (emitted_rows context.placement.role p) p.finished context.base.gave w.outs
+  pub route : (row : List Value) → 0 < length context.placement.receivers → number_to w.route row ≡ context.placement.route row
 
 -- a worker stands at a position: it shows it, and its journal leads there from where it stood when the journal was empty
-pub record IsAtPosition (placement : Placement) (orders : Orders) (w : WorkerState) (start p : Position) (base : Base) : Type 0 where
-  pub leads : Leads placement.role orders start w.journal p
+pub record IsAtPosition (context : Context) (w : WorkerState) (start p : Position) : Type 0 where
+  pub leads : Leads context.placement.role context.orders start w.journal p
   pub text : AreEntries false w.journal
-  pub shows : Shows placement orders w p base
+  pub shows : Shows context w p
 
 -- wherever a worker stood, with a count armed or not, it stands at a position again, over the same links
 unfoldable pub KeepsUnder : Bool → WorkerState → WorkerState → Type 0
-KeepsUnder counted old new = (placement : Placement) (orders : Orders) (start p : Position) (base : Base) → orders.counted ≡ counted
-    → IsAtPosition placement orders old start p base → (q : Position) × IsAtPosition placement orders new start q base
+KeepsUnder counted old new = (context : Context) (start p : Position) → context.orders.counted ≡ counted
+    → IsAtPosition context old start p → (q : Position) × IsAtPosition context new start q
 
 -- the same where no count is armed
 abbrev pub Keeps : WorkerState → WorkerState → Type 0
@@ -215,7 +225,7 @@ HasTurned turn.Ended old new = new ≡ old
 
 -- what it shows in a position is what is said of that position
 unfoldable pub IsViewOf : WorkerState → WorkerView → Type 0
-IsViewOf w view = (placement : Placement) (orders : Orders) (p : Position) (base : Base) → Shows placement orders w p base → view ≡ view_of placement.role p
+IsViewOf w view = (context : Context) (p : Position) → Shows context w p → view ≡ view_of context.placement.role p
 
 -- the records of a worker's share stand by their numbers
 abbrev pub IsNumbered : Role → Type 0
@@ -224,6 +234,6 @@ IsNumbered role = (n : ℕ) → by_number (take n role.share) ≡ take n role.sh
 -- what it gives for the answer in a position: what it has refused, by the definition for several workers, and of a sink the rows that
 -- it took, in their order
 unfoldable pub IsGivenOf : WorkerState → Given → Type 0
-IsGivenOf w given = (placement : Placement) (orders : Orders) (p : Position) (base : Base) → IsNumbered placement.role → Shows placement orders w p base
-    → (given.refused ≡ worker_refusals placement.op placement.role p)
-    × (given.rows ≡ sort_rows (kept_rows placement.role.task.kind placement.role.task (taken_of placement.role p)))
+IsGivenOf w given = (context : Context) (p : Position) → IsNumbered context.placement.role → Shows context w p
+    → (given.refused ≡ worker_refusals context.placement.op context.placement.role p)
+    × (given.rows ≡ sort_rows (kept_rows context.placement.role.task.kind context.placement.role.task (taken_of context.placement.role p)))

@@ -5,11 +5,10 @@ use Rattle.amber_rows.specs.declared.flow.Operator.{Operator}
 use Rattle.amber_rows.specs.declared.record.RowFault.{RowFault}
 use Rattle.amber_meaning.specs.Plan.{role_of}
 use Rattle.amber_meaning.specs.Position.{Position, origin}
-use Rattle.amber_meaning.specs.Rules.{Orders}
 use Rattle.amber_meaning.specs.State.{let_go}
 use Rattle.amber_scan.specs.declared.share.Scanned.{Scanned}
 use Rattle.amber_link.specs.Links.{has_some}
-use Rattle.amber_worker.specs.AtPosition.{Base, HasShare, IsAtPosition, Placement, Shows, first_orders, no_base, placement_of}
+use Rattle.amber_worker.specs.AtPosition.{Context, HasShare, IsAtPosition, Shows, first_context}
 use Rattle.amber_worker.specs.WorkerState.{WorkerState}
 use Rattle.amber_worker.specs.declared.operator_state.OperatorState.{OperatorState}
 use Rattle.amber_worker.specs.declared.operator_state.OperatorState.TheVariants as operator_state
@@ -17,7 +16,7 @@ use Rattle.amber_worker.specs.declared.operator_state.OperatorState.TheVariants 
 -- a new worker stands at the beginning, where its share is that of some records
 unfoldable pub StandsNew : List Operator → ℕ → ℕ → Option (List Scanned) → WorkerState → Type 0
 StandsNew flow worker size share made = (records : List (List (Result (List Value) RowFault))) → HasShare share (role_of flow records worker)
-    → IsAtPosition (placement_of flow records size worker) (first_orders flow worker) made origin origin no_base
+    → IsAtPosition (first_context flow records size worker) made origin origin
 
 -- a turn begins with a look for a batch: the worker goes on, and has neither a row that is pending nor one that was handed and not
 -- taken
@@ -35,8 +34,8 @@ with_value value operator_state.Sink = operator_state.Sink
 
 -- what it shows under any orders it shows under those with this constant
 unfoldable pub ShowsSet : Value → WorkerState → WorkerState → Type 0
-ShowsSet value old new = (placement : Placement) (orders : Orders) (p : Position) (base : Base)
-    → Shows placement orders old p base → Shows placement (record orders { constants = value ∷ [] }) new p base
+ShowsSet value old new = (context : Context) (p : Position)
+    → Shows context old p → Shows (record context { orders = record context.orders { constants = value ∷ [] } }) new p
 
 -- a leg begins: pauses end, a held row may go, and nothing was done since
 abbrev pub with_leg : WorkerState → WorkerState
@@ -44,5 +43,5 @@ with_leg w = record w { paused = false; held = false; waved = w.held || w.waved;
 
 -- wherever it stood, it stands where the leg begins
 unfoldable pub StandsAtLeg : WorkerState → WorkerState → Type 0
-StandsAtLeg old new = (placement : Placement) (orders : Orders) (p : Position) (base : Base)
-    → Shows placement orders old p base → IsAtPosition placement orders new (let_go p) (let_go p) base
+StandsAtLeg old new = (context : Context) (p : Position)
+    → Shows context old p → IsAtPosition context new (let_go p) (let_go p)

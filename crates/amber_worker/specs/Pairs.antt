@@ -8,7 +8,7 @@ use Rattle.amber_meaning.specs.Rules.{Orders}
 use Rattle.amber_link.specs.Links.{AreLinked, AreSettled, Forwards, GivesBatches, waiting}
 use Rattle.amber_link.specs.declared.senders.Sender.{Sender}
 use Rattle.amber_link.specs.declared.receivers.Receiver.{Receiver}
-use Rattle.amber_worker.specs.AtPosition.{Base, IsAtPosition, Placement, Shows, stream_to}
+use Rattle.amber_worker.specs.AtPosition.{Base, Context, IsAtPosition, Placement, Shows, stream_to}
 use Rattle.amber_worker.specs.WorkerState.{WorkerState}
 
 -- the places of the link from one worker to another: at which the one keeps the other as a receiver, and the other the one as a
@@ -50,8 +50,8 @@ pub record AreSettledAt (from to : WorkerState) : Type 0 where
 
 -- a worker stands wherever it stood
 unfoldable pub StaysAt : WorkerState → WorkerState → Type 0
-StaysAt old new = (placement : Placement) (orders : Orders) (start p : Position) (base : Base)
-    → IsAtPosition placement orders old start p base → IsAtPosition placement orders new start p base
+StaysAt old new = (context : Context) (start p : Position)
+    → IsAtPosition context old start p → IsAtPosition context new start p
 
 -- the batches that a worker makes in a position for another
 abbrev pub made_for : Placement → Position → ℕ → List Batch
@@ -63,8 +63,8 @@ pub record AreBeside (from to : WorkerState) (one other : Placement) (p q : Posi
   pub other_orders : Orders
   pub base : Base
   pub before : Base
-  pub shows : Shows one one_orders from p base
-  pub other_shows : Shows other other_orders to q before
+  pub shows : Shows (record { placement = one; orders = one_orders; base = base }) from p
+  pub other_shows : Shows (record { placement = other; orders = other_orders; base = before }) to q
   pub earlier : base.gave other.number ≡ before.had one.number
 
 -- what the other has taken of the one are the first of the batches that the one has made for it
