@@ -10,13 +10,12 @@ use Rattle.amber_link.specs.Links.{has_some, waiting}
 use Rattle.amber_link.specs.Sides.{AreLooked, IsLooked, have_all_ended}
 use Rattle.amber_link.proofs.Sides.{pairwise-length}
 use Rattle.amber_link.specs.declared.senders.Sender.{Sender}
-use Rattle.amber_lines.specs.Moving.{orders_in}
 use Rattle.amber_rows.specs.Chunks.{chunks_of}
 use Rattle.amber_rows.specs.declared.batch.Batch.{Batch}
 use Rattle.amber_meaning.specs.Legal.{Query, role_in}
 use Rattle.amber_meaning.specs.Position.{Position, emitted_rows, taken_from}
 use Rattle.amber_meaning.specs.State.{State}
-use Rattle.amber_worker.specs.AtPosition.{HasTurned, IsNextTurn, no_base, placement_of, stream_to}
+use Rattle.amber_worker.specs.AtPosition.{HasTurned, IsNextTurn, placement_of, stream_to}
 use Rattle.amber_worker.specs.Pairs.{OffersAll}
 use Rattle.amber_worker.specs.WorkerState.{WorkerState, has_ready, next_turn, steps_made}
 use Rattle.amber_worker.specs.declared.turn.Turn.{Turn}
@@ -57,8 +56,9 @@ module _ (query : Query) (start : State) (crew : List WorkerState) (positions : 
       let sends = work.at.at_positions.each sender there in
       let takes = work.at.at_positions.each worker here in
       let done : (positions sender).finished ≡ true = sym sends.shows.finished ∙ finished sender one.before in
-      let all = offers-all (worker_state_at crew sender) me (work.settled sender worker one.does) (placement_at query sender) (placement_at query worker) (positions sender) (positions worker)
-      (record { one_orders = orders_in query start sender; other_orders = orders_in query start worker; base = no_base; before = no_base; shows = sends.shows; other_shows = takes.shows; earlier = refl })
+      let all = offers-all (worker_state_at crew sender) me (work.settled sender worker one.does)
+      (record { context = context_in query start sender; position = positions sender }) (record { context = context_in query start worker; position = positions worker })
+      (record { shows = sends.shows; other_shows = takes.shows; earlier = refl })
       k d less (own d) in
       rw all (ap (λ b. has_marked (chunks_of query.size (stream_to (placement_at query sender) worker (emitted_rows (role_in query sender) (positions sender))) b)) done
       ∙ has_marked-chunks_of query.size _)

@@ -14,12 +14,12 @@ use Rattle.amber_meaning.specs.Rules.{Leads}
 use Rattle.amber_meaning.specs.State.{State, have_finished, position_at, steps_in}
 use Rattle.amber_meaning.proofs.OneState.{legs_have_one_state}
 use Rattle.amber_meaning.proofs.Senders.{flows_send_forward}
-use Rattle.amber_worker.specs.AtPosition.{no_base, placement_of}
+use Rattle.amber_worker.specs.AtPosition.{placement_of}
 use Rattle.amber_worker.specs.Pairs.{OffersAll}
 use Rattle.amber_worker.specs.WorkerState.{WorkerState}
 use Rattle.amber_worker.proofs.PairFacts.{offers-all}
 use Rattle.amber_worker.proofs.Settling.{steps-shown}
-use Rattle.amber_home.specs.AtWork.{AreAtWork, HaveFinished, context_in, placement_at, steps_by, worker_state_at}
+use Rattle.amber_home.specs.AtWork.{AreAtWork, HaveFinished, context_in, steps_by, worker_state_at}
 use Rattle.amber_home.specs.Parts.{parts_from, state_reached}
 use Rattle.amber_home.proofs.OnePlace.{in-place}
 use Rattle.amber_home.proofs.PartFacts.{are-parts, entries-at, part-above}
@@ -57,8 +57,8 @@ module _ (query : Query) (start : State) (crew : List WorkerState) (positions : 
       let place = at.0 in
       let d : Sender = first-of-senders (worker_state_at crew receiver).ins place at.1 in
       let all = offers-all (worker_state_at crew sender) (worker_state_at crew receiver) (work.settled sender receiver one.does)
-      (placement_at query sender) (placement_at query receiver) (positions sender) (positions receiver)
-      (record { one_orders = orders_in query start sender; other_orders = orders_in query start receiver; base = no_base; before = no_base; shows = sends.shows; other_shows = takes.shows; earlier = refl })
+      (record { context = context_in query start sender; position = positions sender }) (record { context = context_in query start receiver; position = positions receiver })
+      (record { shows = sends.shows; other_shows = takes.shows; earlier = refl })
       place d at.1 (at.2 d) in (
         waiting (get_or (worker_state_at crew receiver).ins place d).link,
         rw (position-here receiver inside, position-here sender there) all,

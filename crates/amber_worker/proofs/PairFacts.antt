@@ -6,7 +6,7 @@ use Rattle.std.proofs.lemmas.List.{append-nil}
 use Rattle.amber_rows.specs.declared.value.Value.{Value}
 use Rattle.amber_rows.specs.declared.batch.Batch.{Batch}
 use Rattle.amber_rows.specs.Chunks.{chunks_of}
-use Rattle.amber_meaning.specs.Position.{Taken, emitted_rows, taken_from}
+use Rattle.amber_meaning.specs.Position.{Position, Taken, emitted_rows, taken_from}
 use Rattle.amber_link.specs.Links.{AreLinked, AreSettled, OutCarries, waiting}
 use Rattle.amber_link.specs.Sides.{AreSameReceivers, AreSameSenders, IsSameReceiver, IsSameSender, Pairwise, without_room}
 use Rattle.amber_link.specs.declared.ends.Out.{Out}
@@ -161,43 +161,51 @@ one-place (sender ∷ senders) had batches (one ∷ ins) (suc k) (suc m) n d e l
 
 pub offers : (all : Bool) (from to from_now to_now : WorkerState) → Passed all from to from_now to_now → Offers from to
 unfolding Offers
-offers all from to from_now to_now h one other p q beside =
+offers all from to from_now to_now h one other beside =
+    let sender : Placement = one.context.placement in
+    let receiver : Placement = other.context.placement in
+    let p : Position = one.position in
+    let q : Position = other.position in
     let s = h.passes.settles in
     let out : Receiver = get_or from.outs h.passes.j s.out in
     let into : Sender = get_or to.ins h.passes.k s.into in
-    let sends = sends-at one one.receivers (emitted_rows one.role p) p.finished beside.base.gave from.outs h.passes.j other.number s.out h.passes.j_within
+    let sends = sends-at sender sender.receivers (emitted_rows sender.role p) p.finished one.context.base.gave from.outs h.passes.j receiver.number s.out h.passes.j_within
     (h.passes.to_is s.out ∙ beside.other_shows.number) beside.shows.outs in
-    let receives = receives-at other.role.senders beside.before.had q.taken to.ins h.passes.k one.number s.into h.passes.k_within
+    let receives = receives-at receiver.role.senders other.context.base.had q.taken to.ins h.passes.k sender.number s.into h.passes.k_within
     (h.passes.from_is s.into ∙ beside.shows.number) beside.other_shows.ins in
-    let carries : OutCarries out.link (beside.before.had one.number) (stream_to one other.number (emitted_rows one.role p)) =
-    subst (λ gave. OutCarries out.link gave (stream_to one other.number (emitted_rows one.role p))) beside.earlier sends.carries in
-    let whole = s.whole.chunks (beside.before.had one.number) (taken_from q.taken one.number) (stream_to one other.number (emitted_rows one.role p)) carries receives.come in (
+    let carries : OutCarries out.link (other.context.base.had sender.number) (stream_to sender receiver.number (emitted_rows sender.role p)) =
+    subst (λ gave. OutCarries out.link gave (stream_to sender receiver.number (emitted_rows sender.role p))) beside.earlier sends.carries in
+    let whole = s.whole.chunks (other.context.base.had sender.number) (taken_from q.taken sender.number) (stream_to sender receiver.number (emitted_rows sender.role p)) carries receives.come in (
       waiting into.link ++ (s.whole.beyond ++ out.link.kept.waiting),
-      sym (append_assoc (taken_from q.taken one.number) (waiting into.link) (s.whole.beyond ++ out.link.kept.waiting)) ∙ whole
-          ∙ ap (λ n. chunks_of n (stream_to one other.number (emitted_rows one.role p)) out.link.kept.ended) sends.size
-          ∙ ap (λ b. chunks_of one.size (stream_to one other.number (emitted_rows one.role p)) b) sends.over,
+      sym (append_assoc (taken_from q.taken sender.number) (waiting into.link) (s.whole.beyond ++ out.link.kept.waiting)) ∙ whole
+          ∙ ap (λ n. chunks_of n (stream_to sender receiver.number (emitted_rows sender.role p)) out.link.kept.ended) sends.size
+          ∙ ap (λ b. chunks_of sender.size (stream_to sender receiver.number (emitted_rows sender.role p)) b) sends.over,
     )
 
 -- of a link that is settled
 pub offers-all : (from to : WorkerState) → AreSettledAt from to → OffersAll from to
 unfolding OffersAll
-offers-all from to h one other p q beside k d less own =
+offers-all from to h one other beside k d less own =
+    let sender : Placement = one.context.placement in
+    let receiver : Placement = other.context.placement in
+    let p : Position = one.position in
+    let q : Position = other.position in
     let out : Receiver = get_or from.outs h.j h.out in
     let into : Sender = get_or to.ins k d in
     let from_is = h.places.from_is d ∙ beside.shows.number in
-    let same : k ≡ h.k = one-place other.role.senders beside.before.had q.taken to.ins k h.k one.number d d less h.places.k_within own from_is beside.other_shows.ins in
-    let sends = sends-at one one.receivers (emitted_rows one.role p) p.finished beside.base.gave from.outs h.j other.number h.out h.places.j_within
+    let same : k ≡ h.k = one-place receiver.role.senders other.context.base.had q.taken to.ins k h.k sender.number d d less h.places.k_within own from_is beside.other_shows.ins in
+    let sends = sends-at sender sender.receivers (emitted_rows sender.role p) p.finished one.context.base.gave from.outs h.j receiver.number h.out h.places.j_within
     (h.places.to_is h.out ∙ beside.other_shows.number) beside.shows.outs in
-    let receives = receives-at other.role.senders beside.before.had q.taken to.ins k one.number d less own beside.other_shows.ins in
-    let carries : OutCarries out.link (beside.before.had one.number) (stream_to one other.number (emitted_rows one.role p)) =
-    subst (λ gave. OutCarries out.link gave (stream_to one other.number (emitted_rows one.role p))) beside.earlier sends.carries in
+    let receives = receives-at receiver.role.senders other.context.base.had q.taken to.ins k sender.number d less own beside.other_shows.ins in
+    let carries : OutCarries out.link (other.context.base.had sender.number) (stream_to sender receiver.number (emitted_rows sender.role p)) =
+    subst (λ gave. OutCarries out.link gave (stream_to sender receiver.number (emitted_rows sender.role p))) beside.earlier sends.carries in
     let settled : AreSettled out.link into.link = subst (λ (r : Receiver). AreSettled r.link into.link) (sym (h.out_is h.out))
     (subst (λ (r : Sender). AreSettled h.out.link r.link) (sym (ap (λ n. get_or to.ins n d) same ∙ h.into_is d)) h.settled) in
     let known : waiting into.link ≡ into.link.inbox.items = ap (λ l. into.link.inbox.items ++ l) settled.known ∙ append-nil into.link.inbox.items in
-    ap (λ l. taken_from q.taken one.number ++ l) known
-    ∙ settled.chunks (beside.before.had one.number) (taken_from q.taken one.number) (stream_to one other.number (emitted_rows one.role p)) carries receives.come
-    ∙ ap (λ n. chunks_of n (stream_to one other.number (emitted_rows one.role p)) out.link.kept.ended) sends.size
-    ∙ ap (λ b. chunks_of one.size (stream_to one other.number (emitted_rows one.role p)) b) sends.over
+    ap (λ l. taken_from q.taken sender.number ++ l) known
+    ∙ settled.chunks (other.context.base.had sender.number) (taken_from q.taken sender.number) (stream_to sender receiver.number (emitted_rows sender.role p)) carries receives.come
+    ∙ ap (λ n. chunks_of n (stream_to sender receiver.number (emitted_rows sender.role p)) out.link.kept.ended) sends.size
+    ∙ ap (λ b. chunks_of sender.size (stream_to sender receiver.number (emitted_rows sender.role p)) b) sends.over
 
 pub settled-at : (from to from_now to_now : WorkerState) → Passed true from to from_now to_now → AreSettledAt from_now to_now
 settled-at from to from_now to_now h =

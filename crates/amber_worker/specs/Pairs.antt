@@ -4,11 +4,10 @@ use Rattle.amber_rows.specs.Chunks.{chunks_of}
 use Rattle.amber_rows.specs.Lists.{IsPrefix}
 use Rattle.amber_rows.specs.declared.batch.Batch.{Batch}
 use Rattle.amber_meaning.specs.Position.{Position, emitted_rows, taken_from}
-use Rattle.amber_meaning.specs.Rules.{Orders}
 use Rattle.amber_link.specs.Links.{AreLinked, AreSettled, Forwards, GivesBatches, waiting}
 use Rattle.amber_link.specs.declared.senders.Sender.{Sender}
 use Rattle.amber_link.specs.declared.receivers.Receiver.{Receiver}
-use Rattle.amber_worker.specs.AtPosition.{Base, Context, IsAtPosition, Placement, Shows, stream_to}
+use Rattle.amber_worker.specs.AtPosition.{Context, IsAtPosition, Placement, Shows, stream_to}
 use Rattle.amber_worker.specs.WorkerState.{WorkerState}
 
 -- the places of the link from one worker to another: at which the one keeps the other as a receiver, and the other the one as a
@@ -57,23 +56,25 @@ StaysAt old new = (context : Context) (start p : Position)
 abbrev pub made_for : Placement → Position → ℕ → List Batch
 made_for placement p receiver = chunks_of placement.size (stream_to placement receiver (emitted_rows placement.role p)) p.finished
 
--- wherever the two stand, over the same earlier batches of their link
-pub record AreBeside (from to : WorkerState) (one other : Placement) (p q : Position) : Type 0 where
-  pub one_orders : Orders
-  pub other_orders : Orders
-  pub base : Base
-  pub before : Base
-  pub shows : Shows (record { placement = one; orders = one_orders; base = base }) from p
-  pub other_shows : Shows (record { placement = other; orders = other_orders; base = before }) to q
-  pub earlier : base.gave other.number ≡ before.had one.number
+-- where a worker stands: at which position, and in what context
+pub record Standing : Type 0 where
+  pub context : Context
+  pub position : Position
 
--- what the other has taken of the one are the first of the batches that the one has made for it
+-- the two stand there, over the same earlier batches of their link
+pub record AreBeside (from to : WorkerState) (one other : Standing) : Type 0 where
+  pub shows : Shows one.context from one.position
+  pub other_shows : Shows other.context to other.position
+  pub earlier : one.context.base.gave other.context.placement.number ≡ other.context.base.had one.context.placement.number
+
+-- wherever they do, what the other has taken of the one are the first of the batches that the one has made for it
 unfoldable pub Offers : WorkerState → WorkerState → Type 0
-Offers from to = (one other : Placement) (p q : Position) → AreBeside from to one other p q
-    → IsPrefix (taken_from q.taken one.number) (made_for one p other.number)
+Offers from to = (one other : Standing) → AreBeside from to one other
+    → IsPrefix (taken_from other.position.taken one.context.placement.number) (made_for one.context.placement one.position other.context.placement.number)
 
 -- what the other has taken of the one, and what waits in its inbox, are all of them
 unfoldable pub OffersAll : WorkerState → WorkerState → Type 0
-OffersAll from to = (one other : Placement) (p q : Position) → AreBeside from to one other p q
-    → (k : ℕ) (d : Sender) → k < length to.ins → (slice_index_or to.ins k d).from ≡ one.number
-    → taken_from q.taken one.number ++ waiting (slice_index_or to.ins k d).link ≡ made_for one p other.number
+OffersAll from to = (one other : Standing) → AreBeside from to one other
+    → (k : ℕ) (d : Sender) → k < length to.ins → (slice_index_or to.ins k d).from ≡ one.context.placement.number
+    → taken_from other.position.taken one.context.placement.number ++ waiting (slice_index_or to.ins k d).link
+    ≡ made_for one.context.placement one.position other.context.placement.number
