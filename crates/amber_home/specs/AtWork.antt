@@ -13,39 +13,13 @@ use Rattle.amber_meaning.specs.Position.{Position}
 use Rattle.amber_meaning.specs.State.{Arms, State, arms_at, position_at}
 use Rattle.amber_worker.specs.AtPosition.{Context, IsAtPosition, Placement, no_base, placement_of}
 use Rattle.amber_worker.specs.Pairs.{AreJoined, AreSettledAt, IsLinkAt}
-use Rattle.amber_worker.specs.WorkerState.{WorkerState, steps_made}
-use Rattle.amber_worker.specs.declared.operator_state.OperatorState.TheVariants as operator_state
-use Rattle.amber_worker.specs.declared.route.Route.TheVariants as route
+use Rattle.amber_worker.specs.WorkerState.{WorkerState, empty_worker_state, steps_made}
 
 -- ---- one of the workers
 
 -- a worker that is not there
 abbrev pub no_worker_state : WorkerState
-no_worker_state = record {
-  op = 0;
-  number = 0;
-  operator_state = operator_state.Sink;
-  columns = [];
-  build_columns = [];
-  building = false;
-  rest = [];
-  pending = [];
-  taken = 0;
-  emitted = 0;
-  batches = 0;
-  refused = [];
-  kept = [];
-  watch = None;
-  hand = 0;
-  held = false;
-  waved = false;
-  paused = false;
-  finished = false;
-  ins = [];
-  outs = [];
-  route = route.One 0;
-  journal = [];
-}
+no_worker_state = empty_worker_state
 
 -- the worker with this number
 abbrev pub worker_state_at : List WorkerState → ℕ → WorkerState

@@ -19,7 +19,7 @@ use Rattle.amber_link.specs.declared.senders.Sender.{Sender}
 use Rattle.amber_link.specs.declared.receivers.Receiver.{Receiver}
 use Rattle.amber_worker.specs.AtPosition.{IsAtPosition, first_context}
 use Rattle.amber_worker.specs.Made.{AreFreshSenders, IsFresh, IsFreshIn, IsFreshOut}
-use Rattle.amber_worker.specs.WorkerState.{WorkerState}
+use Rattle.amber_worker.specs.WorkerState.{WorkerState, empty_worker_state}
 use Rattle.amber_worker.specs.declared.operator_state.OperatorState.TheVariants as operator_state
 use Rattle.amber_worker.specs.declared.route.Route.TheVariants as route
 use Rattle.amber_worker.proofs.Commands.{stands-watched, with_watch}
@@ -81,30 +81,14 @@ pub record Ends : Type 0 where
   pub fresh8 : IsFreshOut 2 out8
 
 abbrev pub worker : Ends → WorkerState
-worker e = record {
+worker e = record empty_worker_state {
   op = 2;
   number = 3;
   operator_state = operator_state.Group (record { keys = 1 ∷ []; aggs = []; fed = 0; groups = []; ready = false });
   columns = numbers;
-  build_columns = [];
-  building = false;
-  rest = [];
-  pending = [];
-  taken = 0;
-  emitted = 0;
-  batches = 0;
-  refused = [];
-  kept = [];
-  watch = None;
-  hand = 0;
-  held = false;
-  waved = false;
-  paused = false;
-  finished = false;
   ins = from 0 e.in0 ∷ from 1 e.in1 ∷ from 2 e.in2 ∷ [];
   outs = to 5 e.out5 ∷ to 6 e.out6 ∷ to 7 e.out7 ∷ to 8 e.out8 ∷ [];
   route = route.ByKeys (1 ∷ []) 5 4;
-  journal = [];
 }
 
 fresh-senders : (e : Ends) → AreFreshSenders grouped (what.Group 1 (1 ∷ []) []) (worker e).ins

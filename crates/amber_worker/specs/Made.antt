@@ -18,7 +18,7 @@ use Rattle.amber_link.specs.declared.receivers.Receiver.{Receiver}
 use Rattle.amber_link.specs.Sides.{without_room}
 use Rattle.amber_worker.specs.Links.{IsSoundRoute, number_to}
 use Rattle.amber_worker.specs.Fields.{WorkerFields, rest_in}
-use Rattle.amber_worker.specs.WorkerState.{WorkerState}
+use Rattle.amber_worker.specs.WorkerState.{WorkerState, empty_worker_state}
 use Rattle.amber_worker.specs.declared.making.WorkerEnds.{WorkerEnds}
 use Rattle.amber_worker.specs.declared.making.WorkerTask.{WorkerTask}
 use Rattle.amber_worker.specs.declared.operator_state.OperatorState.{OperatorState}
@@ -159,7 +159,7 @@ fresh_fields share task ends = record {
 
 -- a worker of this number, share, task and ends that has done nothing
 abbrev pub fresh_worker : ℕ → Option (List Scanned) → WorkerTask → WorkerEnds → WorkerState
-fresh_worker number share task ends = record {
+fresh_worker number share task ends = record empty_worker_state {
   op = task.op;
   number = number;
   operator_state = task.operator_state;
@@ -167,20 +167,7 @@ fresh_worker number share task ends = record {
   build_columns = task.build_columns;
   building = task.building;
   rest = rest_in share 0 [];
-  pending = [];
-  taken = 0;
-  emitted = 0;
-  batches = 0;
-  refused = [];
-  kept = [];
-  watch = None;
-  hand = 0;
-  held = false;
-  waved = false;
-  paused = false;
-  finished = false;
   ins = ends.ins.items;
   outs = map without_room ends.outs.items;
   route = task.route;
-  journal = [];
 }

@@ -1,5 +1,5 @@
 -- What a worker keeps, as lists, numbers and flags.
-use Rattle.std.specs.Prelude.{ℕ, ◌+◌, List, Option, Bool, if◌then◌else◌}
+use Rattle.std.specs.Prelude.{ℕ, ◌+◌, List, [], Option, None, Bool, false, if◌then◌else◌}
 use Rattle.std.specs.List.{list_any}
 use Rattle.amber_rows.specs.declared.value.Value.{Value}
 use Rattle.amber_rows.specs.declared.column.Column.{Column}
@@ -13,7 +13,9 @@ use Rattle.amber_link.specs.Sides.{have_all_ended, have_builders_ended, may_come
 use Rattle.amber_link.specs.declared.senders.Sender.{Sender}
 use Rattle.amber_link.specs.declared.receivers.Receiver.{Receiver}
 use Rattle.amber_worker.specs.declared.route.Route.{Route}
+use Rattle.amber_worker.specs.declared.route.Route.TheVariants as route
 use Rattle.amber_worker.specs.declared.operator_state.OperatorState.{OperatorState}
+use Rattle.amber_worker.specs.declared.operator_state.OperatorState.TheVariants as operator_state
 use Rattle.amber_worker.specs.declared.turn.Turn.{Turn}
 use Rattle.amber_worker.specs.declared.turn.Turn.TheVariants as turn
 
@@ -50,6 +52,34 @@ pub record WorkerState : Type 0 where
   pub route : Route
   -- what it did since the journal was handed out
   pub journal : List Entry
+
+-- a worker of nothing: of no operator and with no links, that has done nothing and keeps nothing
+abbrev pub empty_worker_state : WorkerState
+empty_worker_state = record {
+  op = 0;
+  number = 0;
+  operator_state = operator_state.Sink;
+  columns = [];
+  build_columns = [];
+  building = false;
+  rest = [];
+  pending = [];
+  taken = 0;
+  emitted = 0;
+  batches = 0;
+  refused = [];
+  kept = [];
+  watch = None;
+  hand = 0;
+  held = false;
+  waved = false;
+  paused = false;
+  finished = false;
+  ins = [];
+  outs = [];
+  route = route.One 0;
+  journal = [];
+}
 
 -- its steps so far
 abbrev pub steps_made : WorkerState → ℕ
