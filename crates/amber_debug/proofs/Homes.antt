@@ -1,5 +1,5 @@
 -- What commands leave at home.
-use Rattle.std.proofs.Common.{◌≡◌, ◌⊎◌, inl, inr, refl, sym, ap, subst, ◌∙◌, ℕ, zero, suc, ◌-◌, ◌<◌, ◌≤◌, ◌==◌, List, [], ◌∷◌, ◌++◌, length, get_or, Option, Result, Bool, true, false, Ok, Err, ◌+◌, arith}
+use Rattle.std.proofs.Common.{◌≡◌, ◌⊎◌, inl, inr, refl, sym, ap, subst, ◌∙◌, ℕ, zero, suc, ◌-◌, ◌<◌, ◌≤◌, ◌==◌, List, [], ◌∷◌, ◌++◌, length, get_or, Option, Bool, true, false, Ok, Err, arith}
 use Rattle.std.specs.Prelude.{slice_get}
 use Rattle.std.proofs.lemmas.Bool.{ne_eqb}
 use Rattle.std.proofs.lemmas.List.{get_or_push, length_push}
@@ -31,10 +31,9 @@ use Rattle.amber_report.specs.Replies.{done_text}
 use Rattle.amber_home.specs.HomeState.{ClosesLeg, HomeState, is_done_at_rest, item_of_leg, query_of, rest_state, state_of, stops_of_home, with_item}
 use Rattle.amber_home.specs.declared.phase.Phase.TheVariants as phase
 use Rattle.amber_debug.specs.declared.done.Done.{Done}
-use Rattle.amber_debug.specs.declared.done.EndErr.{EndErr}
 use Rattle.amber_debug.specs.declared.done.EndErr.TheVariants as end_err
 use Rattle.amber_log.specs.declared.leg.Part.{Part}
-use Rattle.amber_debug.specs.AtHome.{HasLeg, HasLog, IsLastText, RunsAs}
+use Rattle.amber_debug.specs.AtHome.{HasLeg, HasLog, IsLastText, RunsAs, TellsLeg}
 use Rattle.amber_debug.specs.Session.{IsKept}
 
 -- ---- the last item
@@ -69,7 +68,8 @@ has-leg to_end old new closed leg = record {
   };
 }
 
-leg-text : (to_end : Bool) (old new : HomeState) (closed : Close) (text : List ℕ) → (leg : ClosesLeg to_end old new closed) → IsLastText new.log text
+-- the text is the leg's
+pub leg-text : (to_end : Bool) (old new : HomeState) (closed : Close) (text : List ℕ) → (leg : ClosesLeg to_end old new closed) → IsLastText new.log text
     → text ≡ item_text (item_of_leg to_end leg.parts closed)
 unfolding IsLastText
 leg-text to_end old new closed text leg last = last old.log.items (item_of_leg to_end leg.parts closed) (ap (λ (e : HomeState). e.log.items) leg.is)
@@ -78,24 +78,6 @@ leg-text to_end old new closed text leg last = last old.log.items (item_of_leg t
 pub runs-long : (to_end : Bool) (old new : HomeState) (text : List ℕ) → ClosesLeg to_end old new close.Long → IsLastText new.log text → RunsAs (Err (end_err.Long text)) to_end old new
 runs-long to_end old new text leg last = (has-leg to_end old new close.Long leg, leg-text to_end old new close.Long text leg last)
 
--- the log has an item
-pub leg-there : (to_end : Bool) (old new : HomeState) (closed : Close) → ClosesLeg to_end old new closed → 0 < length new.log.items
-leg-there to_end old new closed leg =
-    let long : length new.log.items ≡ length old.log.items + 1 = ap (λ (e : HomeState). length e.log.items) leg.is ∙ length_push old.log.items (item_of_leg to_end leg.parts closed) in
-    omega arith
-
--- memory ran out behind a leg, or within it
-pub runs-short : (to_end : Bool) (old new : HomeState) (closed : Close) (result : Result Done EndErr) → result ≡ Err end_err.NoMemory → ClosesLeg to_end old new closed → RunsAs result to_end old new
-runs-short to_end old new closed result is leg = rw is (inr (closed, has-leg to_end old new closed leg))
-
-pub runs-spent : (old new : HomeState) → new ≡ record old { phase = phase.Spent; parts = [] } → HasLog old new old.log
-runs-spent old new e = record {
-  flow = ap (λ (h : HomeState). h.flow) e;
-  files = ap (λ (h : HomeState). h.files) e;
-  most = ap (λ (h : HomeState). h.most) e;
-  log = ap (λ (h : HomeState). h.log) e;
-}
-
 -- ---- up to a stop
 
 stops-replied : (old new : HomeState) → (leg : ClosesLeg false old new close.Cut)
@@ -103,11 +85,11 @@ stops-replied : (old new : HomeState) → (leg : ClosesLeg false old new close.C
 unfolding stops_of_home
 stops-replied old new leg = rw leg.is (sym (kept_stops_were_replied (query_of old) old.log.items leg.parts))
 
-pub runs-stop : (old new : HomeState) (done : Done) (flow : List Operator) (stops : List Stop) → ClosesLeg false old new close.Cut → IsLastText new.log done.item → flow ≡ new.flow
+pub runs-stop : (old new : HomeState) (done : Done) (flow : List Operator) (stops : List Stop) → TellsLeg (Ok done.item) false old new → flow ≡ new.flow
     → stops ≡ stops_of_home new → done.reply ≡ stops_text flow stops → RunsAs (Ok done) false old new
-runs-stop old new done flow stops leg last same are reply = (
+runs-stop old new done flow stops (leg, text) same are reply = (
   has-leg false old new close.Cut leg,
-  leg-text false old new close.Cut done.item leg last,
+  text,
   reply ∙ ap (λ f. stops_text f stops) same ∙ ap (stops_text new.flow) are ∙ stops-replied old new leg,
 )
 
@@ -151,18 +133,13 @@ over-leg old mid new leg e =
       };
     }
 
-pub runs-end : (old mid new : HomeState) (done : Done) (flow : List Operator) (answer : Answer) → ClosesLeg true old mid close.Cut → IsLastText mid.log done.item
+pub runs-end : (old mid new : HomeState) (done : Done) (flow : List Operator) (answer : Answer) → TellsLeg (Ok done.item) true old mid
     → new ≡ record mid { phase = phase.Over } → flow ≡ new.flow → answer ≡ answer_in (query_of mid) (state_of mid) → done.reply ≡ answer_text flow answer → RunsAs (Ok done) true old new
-runs-end old mid new done flow answer leg last e same is reply = (
+runs-end old mid new done flow answer (leg, text) e same is reply = (
   over-leg old mid new (has-leg true old mid close.Cut leg) e,
-  leg-text true old mid close.Cut done.item leg last,
+  text,
   reply ∙ ap (λ f. answer_text f answer) (same ∙ ap (λ (h : HomeState). h.flow) e) ∙ ap (answer_text mid.flow) is ∙ answer-replied old mid leg,
 )
-
--- memory ran out once the answer was taken
-pub ends-short : (old mid new : HomeState) (result : Result Done EndErr) → result ≡ Err end_err.NoMemory → ClosesLeg true old mid close.Cut → new ≡ record mid { phase = phase.Over }
-    → RunsAs result true old new
-ends-short old mid new result is leg e = rw is (inr (close.Cut, over-leg old mid new (has-leg true old mid close.Cut leg) e))
 
 -- ---- at rest
 

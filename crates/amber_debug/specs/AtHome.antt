@@ -9,7 +9,7 @@ use Rattle.amber_log.specs.declared.log.Item.{Item}
 use Rattle.amber_log.specs.declared.log.Item.TheVariants as item
 use Rattle.amber_log.specs.declared.log.Log.{Log}
 use Rattle.amber_meaning.specs.Transcript.{reply_of}
-use Rattle.amber_home.specs.HomeState.{HomeState, item_of_leg, query_of, rest_state, with_item}
+use Rattle.amber_home.specs.HomeState.{ClosesLeg, HomeState, item_of_leg, query_of, rest_state, with_item}
 use Rattle.amber_debug.specs.declared.done.EndErr.{EndErr}
 use Rattle.amber_debug.specs.declared.done.EndErr.TheVariants as end_err
 use Rattle.amber_debug.specs.declared.done.Done.{Done}
@@ -38,6 +38,11 @@ RunsAs (Ok done) to_end old new =
     × (done.reply ≡ reply_of (query_of old) (rest_state old) (item_of_leg to_end leg.parts close.Cut))
 RunsAs (Err (end_err.Long text)) to_end old new = (leg : HasLeg to_end old new close.Long) × (text ≡ item_text (item_of_leg to_end leg.parts close.Long))
 RunsAs (Err end_err.NoMemory) to_end old new = HasLog old new old.log ⊎ ((closed : Close) × HasLeg to_end old new closed)
+
+-- the leg stands in the log, with its text; else what a command to run leaves that has no reply
+abbrev pub TellsLeg : Result (List ℕ) EndErr → Bool → HomeState → HomeState → Type 0
+TellsLeg (Ok text) to_end old new = (leg : ClosesLeg to_end old new close.Cut) × (text ≡ item_text (item_of_leg to_end leg.parts close.Cut))
+TellsLeg (Err why) to_end old new = RunsAs (Err why) to_end old new
 
 -- a command that is no leg has its item in the log, with its text and the reply to it
 pub record DoesAtRest (old new : HomeState) (told : Done) (command : Command) : Type 0 where

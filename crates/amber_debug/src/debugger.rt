@@ -8,7 +8,7 @@ ghost use Rattle.amber_meaning.specs.Transcript.{reply_of};
 ghost use Rattle.amber_script.specs.Commands.{is_scripted};
 ghost use Rattle.amber_home.specs.HomeState.{BeginsOrNames, is_done_at_rest, query_of, rest_state};
 ghost use Rattle.amber_home.specs.declared.phase.Phase.TheVariants as phase;
-ghost use Rattle.amber_debug.specs.AtHome.{DoesAtRest, IsLastText, RunsAs};
+ghost use Rattle.amber_debug.specs.AtHome.{DoesAtRest, IsLastText, RunsAs, TellsLeg};
 ghost use Rattle.amber_debug.specs.Session.{Does, query_in};
 
 use crate::done::{DebugErr, Done, EndErr};
@@ -59,6 +59,27 @@ fn last_text(alloc: Global, log: &Log) -> Result<Bytes, AllocError>
     Ok(Bytes::new(text))
 }
 
+// Runs a leg, up to a stop or to the end, and writes it.
+fn run_leg(alloc: Global, home: &mut Home, to_end: bool) -> Result<Bytes, EndErr>
+    requires resting { home.old.phase ≡ phase.Resting }
+    requires open { ends_over false home.old.log.items ≡ false }
+    requires legal { IsLegal (query_of home.old) home.old.log }
+    ensures told { TellsLeg result to_end home.old home.new }
+    ensures legal { IsLegal (query_of home.new) home.new.log }
+{
+    match home.leg_home(alloc, to_end) {
+        Ok(()) => {
+            let item = last_text(alloc, home.log())?;
+            Ok(item)
+        }
+        Err(LegErr::Long) => {
+            let item = last_text(alloc, home.log())?;
+            Err(EndErr::Long { item })
+        }
+        Err(LegErr::NoMemory) => Err(EndErr::NoMemory),
+    }
+}
+
 // Runs up to a stop, and writes the leg and the stops.
 fn do_run(alloc: Global, home: &mut Home) -> Result<Done, EndErr>
     requires resting { home.old.phase ≡ phase.Resting }
@@ -68,23 +89,14 @@ fn do_run(alloc: Global, home: &mut Home) -> Result<Done, EndErr>
     ensures rests { IfOk result (λ done. home.new.phase ≡ phase.Resting) }
     ensures legal { IsLegal (query_of home.new) home.new.log }
 {
-    match home.leg_home(alloc, false) {
-        Ok(()) => {
-            let item = last_text(alloc, home.log())?;
-            let stops = home.stops(alloc)?;
-            let reply = stop_lines(alloc, home.flow(), &stops)?;
-            Ok(Done {
-                item,
-                reply,
-                rows: None,
-            })
-        }
-        Err(LegErr::Long) => {
-            let item = last_text(alloc, home.log())?;
-            Err(EndErr::Long { item })
-        }
-        Err(LegErr::NoMemory) => Err(EndErr::NoMemory),
-    }
+    let item = run_leg(alloc, home, false)?;
+    let stops = home.stops(alloc)?;
+    let reply = stop_lines(alloc, home.flow(), &stops)?;
+    Ok(Done {
+        item,
+        reply,
+        rows: None,
+    })
 }
 
 // Runs to the end, and writes the leg and the answer.
@@ -95,23 +107,14 @@ fn do_end(alloc: Global, home: &mut Home) -> Result<Done, EndErr>
     ensures runs { RunsAs result true home.old home.new }
     ensures legal { IsLegal (query_of home.new) home.new.log }
 {
-    match home.leg_home(alloc, true) {
-        Ok(()) => {
-            let item = last_text(alloc, home.log())?;
-            let answer = home.take_answer(alloc)?;
-            let reply = answer_lines(alloc, home.flow(), &answer)?;
-            Ok(Done {
-                item,
-                reply,
-                rows: Some(answer.rows),
-            })
-        }
-        Err(LegErr::Long) => {
-            let item = last_text(alloc, home.log())?;
-            Err(EndErr::Long { item })
-        }
-        Err(LegErr::NoMemory) => Err(EndErr::NoMemory),
-    }
+    let item = run_leg(alloc, home, true)?;
+    let answer = home.take_answer(alloc)?;
+    let reply = answer_lines(alloc, home.flow(), &answer)?;
+    Ok(Done {
+        item,
+        reply,
+        rows: Some(answer.rows),
+    })
 }
 
 // The reply to a command that is no leg.

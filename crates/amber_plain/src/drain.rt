@@ -166,29 +166,6 @@ fn counted(rows: Rows, left: &mut u64) -> Result<Vec<Row>, PlainErr>
     Ok(rows.into_inner())
 }
 
-// The rows that are unread, one after the other into a list.
-fn listed(
-    alloc: Global,
-    flow: &Flow,
-    files: &Files,
-    unread: Unread,
-    tally: &mut Tally,
-) -> Result<Vec<Row>, PlainErr>
-    ensures rows { IfOk result (λ rows. rows.items
-        ≡ unread_rows (records_of files.now flow.now) unread) }
-    ensures left { Spends result tally.old.left tally.new.left
-        (unread_count (records_of files.now flow.now) unread) }
-    ensures told { OnOk result (tally.new.told.items
-        ≡ told_by (records_of files.now flow.now) tally.old.told.items unread.source) }
-{
-    let empty = Holder::Rows(Vec::new(alloc));
-    let holder = drain(alloc, flow, files, unread, empty, tally)?;
-    match holder {
-        Holder::Rows(rows) => Ok(rows),
-        Holder::Group(_) => unreachable!(),
-    }
-}
-
 /// The rows that are unread, in a list.
 pub fn gathered(
     alloc: Global,
@@ -204,9 +181,15 @@ pub fn gathered(
     ensures told { OnOk result (tally.new.told.items
         ≡ told_by (records_of files.now flow.now) tally.old.told.items unread.source) }
 {
-    match unread.into_rows() {
-        Ok(rows) => counted(rows, &mut tally.left),
-        Err(unread) => listed(alloc, flow, files, unread, tally),
+    let unread = match unread.into_rows() {
+        Ok(rows) => return counted(rows, &mut tally.left),
+        Err(unread) => unread,
+    };
+    let empty = Holder::Rows(Vec::new(alloc));
+    let holder = drain(alloc, flow, files, unread, empty, tally)?;
+    match holder {
+        Holder::Rows(rows) => Ok(rows),
+        Holder::Group(_) => unreachable!(),
     }
 }
 
