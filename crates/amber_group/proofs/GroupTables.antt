@@ -68,3 +68,9 @@ pub set-same : {A : Type 0} (entries : List (Row × A)) (i : ℕ) (v : A) → sl
 set-same [] i v e = absurd (cc)
 set-same (x ∷ xs) zero v e = let same : v ≡ x.1 = cc in ap (λ w. (x.0, w) ∷ xs) same
 set-same (x ∷ xs) (suc i) v e = ap (λ es. x ∷ es) (set-same xs i v e)
+
+-- of two values that are written at one place the second stands
+pub set-twice : {A : Type 0} (entries : List (Row × A)) (i : ℕ) (v w : A) → set_value_at (set_value_at entries i v) i w ≡ set_value_at entries i w
+set-twice [] i v w = refl
+set-twice (x ∷ xs) zero v w = refl
+set-twice (x ∷ xs) (suc i) v w = ap (λ es. x ∷ es) (set-twice xs i v w)

@@ -38,7 +38,7 @@ fn with_values(
 }
 
 // Puts the row of a group behind the others, or its key behind those that have none.
-fn add_group(
+pub(crate) fn add_group(
     key: &Row,
     runnings: &[Running],
     rows: &mut Vec<Row>,

@@ -12,6 +12,7 @@
 #![tactic(auto)]
 
 mod finish;
+mod last_row;
 pub mod placing;
 mod running;
 pub mod state;

@@ -5,12 +5,14 @@ ghost use Rattle.amber_group.specs.Group.{IsFedWith};
 ghost use Rattle.amber_group.specs.Places.{IsReadyFor};
 
 use crate::finish::{Grouped, finish};
+use crate::last_row::take_last;
 use crate::placing::{Prepared, find_place, take_in, take_to};
 use crate::totals::Totals;
 use amber_keys::Key;
 use amber_rows::{Aggs, Cols, Row, Value};
 use indexmap::IndexMap;
 use std::alloc::{AllocError, Global};
+use std::collections::VecDeque;
 use std::marker::Model;
 use std::mem;
 
@@ -86,6 +88,38 @@ impl GroupState {
             row,
             &mut self.changes,
             &mut self.room,
+        )?;
+        self.fed += 1;
+        self.ready = false;
+        Ok(())
+    }
+
+    /// Takes in a row, as `feed` does, and puts the rows of all groups behind those in `out`. For want of memory all is
+    /// as before.
+    pub fn feed_last(&mut self, row: &Row, out: &mut VecDeque<Row>) -> Result<(), AllocError>
+        requires { self.old.fed < 2 ^ 40 }
+        ensures ok { OnOk result ((rows : List (List Cell)) → IsFedWith self.old rows
+            → IsFedWith self.new (rows ++ row.now ∷ [])) }
+        ensures fed { OnOk result (self.new.fed ≡ self.old.fed + 1) }
+        ensures same_keys { self.new.keys ≡ self.old.keys }
+        ensures same_aggs { self.new.aggs ≡ self.old.aggs }
+        ensures groups { OnOk result ((made : List (List Cell))
+            × (out.new.items ≡ out.old.items ++ made)
+            × ((rows : List (List Cell)) → IsFedWith self.new rows
+            → made ≡ group_result self.new.keys self.new.aggs rows)) }
+        ensures same_on_err { OnErr result (self.new ≡ self.old) }
+        ensures out_on_err { OnErr result (out.new.items ≡ out.old.items) }
+    {
+        let room = mem::replace(&mut self.room, Vec::new(self.alloc));
+        let key = Key::over(self.alloc, room, row, &self.keys)?;
+        take_last(
+            self.alloc,
+            &mut self.groups,
+            key,
+            &self.aggs,
+            row,
+            &mut self.changes,
+            out,
         )?;
         self.fed += 1;
         self.ready = false;

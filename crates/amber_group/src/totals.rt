@@ -56,7 +56,11 @@ impl Totals {
     }
 
     // Takes in a row more. Its new best cells are made in `changes` first, whose content before does not matter.
-    fn add(&mut self, row: &Row, changes: &mut Vec<Option<Value>>) -> Result<(), AllocError>
+    pub(crate) fn add(
+        &mut self,
+        row: &Row,
+        changes: &mut Vec<Option<Value>>,
+    ) -> Result<(), AllocError>
         requires { (rows : ℕ) × (rows < 2 ^ 40) × AreWithin rows self.old }
         ensures ok { OnOk result (self.new ≡ map (running_after row.now) self.old) }
         ensures within { OnOk result ((rows : ℕ) → AreWithin rows self.old

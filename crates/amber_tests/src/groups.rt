@@ -4,6 +4,7 @@ use crate::written::{cols, rows};
 use amber_group::GroupState;
 use amber_rows::{Agg, Aggs, Row, Value};
 use std::alloc::{AllocError, Global};
+use std::collections::VecDeque;
 use std::test::Fail;
 
 // An aggregate as the tables write it: `count`, or a word and a column.
@@ -130,6 +131,34 @@ fn a_group_gives_its_rows_and_refuses_keys(rt: HostRuntime) -> Result<(), Fail> 
     for case in &GROUPS {
         let state = copied(rt.alloc(), case)?;
         expect_group(rt.alloc(), &state, case)?;
+    }
+    Ok(())
+}
+
+// The rows that a group gives with its last row.
+fn with_last(alloc: Global, case: &Case) -> Result<Vec<Row>, Fail> {
+    let keys = cols(alloc, case.keys)?;
+    let aggs = aggs(alloc, case.aggs)?;
+    let mut state = GroupState::new(alloc, keys, aggs);
+    let mut out = VecDeque::new(alloc);
+    let mut all = rows(alloc, case.fed)?;
+    let Some(last) = all.pop() else {
+        return Err(Fail::new(format_args!("no row")));
+    };
+    for row in all {
+        feed(&mut state, &row)?;
+    }
+    if state.fed() < 1 << 40 {
+        state.feed_last(&last, &mut out)?;
+    }
+    Ok(Vec::from_iter(alloc, out)?)
+}
+
+#[test]
+fn a_last_row_gives_the_rows_of_all_groups(rt: HostRuntime) -> Result<(), Fail> {
+    for case in &GROUPS {
+        let found = with_last(rt.alloc(), case)?;
+        expect_rows(rt.alloc(), found.as_slice(), case.rows)?;
     }
     Ok(())
 }

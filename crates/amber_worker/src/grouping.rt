@@ -32,16 +32,6 @@ pub(crate) fn rows_of_groups(alloc: Global, state: &GroupState) -> Result<VecDeq
     Ok(VecDeque::from_vec(group_result.rows.into_inner()))
 }
 
-// A copy that was fed a row, if it suits.
-fn fed_copy(state: &GroupState, columns: &Schema, row: &Row) -> Result<GroupState, AllocError>
-    requires few { state.now.fed < 2 ^ 40 }
-    ensures { IfOk result (Feeds (row_in columns.now (Ok row.now)) state.now) }
-{
-    let mut fed = state.clone()?;
-    feed(&mut fed, columns, row)?;
-    Ok(fed)
-}
-
 // The rows of the groups are pending too.
 fn add_groups(state: &GroupState, pending: &mut VecDeque<Row>) -> Result<(), AllocError>
     ensures ok { OnOk result (AddsGroups state.now true pending.old.items pending.new.items) }
@@ -52,8 +42,7 @@ fn add_groups(state: &GroupState, pending: &mut VecDeque<Row>) -> Result<(), All
     Ok(())
 }
 
-// Feeds the last row: the rows of the groups are pending. What is fed is a copy, so that want of
-// memory changes nothing.
+// Feeds the last row, if it suits: the rows of the groups are pending. Want of memory changes nothing.
 fn feed_last(
     state: &mut GroupState,
     columns: &Schema,
@@ -66,9 +55,11 @@ fn feed_last(
     ensures state_on_err { OnErr result (state.new ≡ state.old) }
     ensures pending_on_err { OnErr result (pending.new.items ≡ pending.old.items) }
 {
-    let fed = fed_copy(state, columns, row)?;
-    add_groups(&fed, pending)?;
-    *state = fed;
+    if !suits(row, columns) {
+        add_groups(state, pending)?;
+        return Ok(());
+    }
+    state.feed_last(row, pending)?;
     Ok(())
 }
 
