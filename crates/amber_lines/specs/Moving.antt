@@ -26,11 +26,12 @@ pub record HaveMoved (query : Query) (before : State) (parts : List Part) (after
       → Leads (role_in query worker) (orders_in query before worker)
       (position_at before.positions worker) (entries_of parts worker) (position_at after.positions worker)
 
--- a legal log and behind it a leg whose workers moved to this state
-pub record IsUnderway (query : Query) (log : Log) (to_end : Bool) (parts : List Part) (now : State) : Type 0 where
+-- a legal log and behind it a leg that is not closed yet, whose workers moved; whether what they took was there is not asked
+pub record IsUnderway (query : Query) (log : Log) (to_end : Bool) (parts : List Part) : Type 0 where
   pub legal : IsLegal query log
   pub more : ends_over false log.items ≡ false
   pub text : AreParts 0 parts
+  pub now : State
   pub moved : HaveMoved query (leg_start to_end legal.after) parts now
   pub few : steps_in now ≤ query.most
 

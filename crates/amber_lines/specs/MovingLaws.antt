@@ -20,7 +20,8 @@ WorkIsMovingAndOffering = (query : Query) (before after : State) (parts : List P
 -- the same of a leg that goes on
 abbrev pub OpenIsMovingAndOffering : Type 0
 OpenIsMovingAndOffering = (query : Query) (log : Log) (to_end : Bool) (parts : List Part) (now : State)
-    → ((leg : IsOpen query log to_end parts) × (leg.now ≡ now)) ↔ (IsUnderway query log to_end parts now × AreOffered query now.positions)
+    → ((leg : IsOpen query log to_end parts) × (leg.now ≡ now))
+    ↔ ((leg : IsUnderway query log to_end parts) × (leg.now ≡ now) × AreOffered query now.positions)
 
 -- a leg that goes on goes on when one worker makes an entry that its rule allows, and takes no batch that is not there
 abbrev pub OpenLegsGrow : Type 0
