@@ -10,7 +10,7 @@ use Rattle.amber_rows.specs.Lists.{numbers_below}
 use Rattle.amber_log.specs.declared.entry.Entry.{Entry}
 use Rattle.amber_log.specs.declared.entry.Entry.TheVariants as entry
 use Rattle.amber_meaning.specs.Position.{Position, origin, steps_of}
-use Rattle.amber_meaning.specs.Rules.{Leads, Moves, Orders}
+use Rattle.amber_meaning.specs.Rules.{Leads, Moves, Orders, assigned}
 use Rattle.amber_meaning.specs.State.{position_at}
 use Rattle.amber_meaning.specs.Task.{Role}
 use Rattle.amber_meaning.proofs.Lists.{list_all-at, list_all-below}
@@ -56,7 +56,7 @@ listed-same old new n k same =
 
 -- ---- no units
 
-hand-moves : (role : Role) (orders : Orders) (p q : Position) (one : Entry) → orders.counted ≡ false → p.hand ≡ 0 → Moves role orders p one q → q.hand ≡ 0
+hand-moves : (role : Role) (orders : Orders) (p q : Position) (one : Entry) → orders.counted ≡ false → p.hand ≡ 0 → Moves (assigned role orders) p one q → q.hand ≡ 0
 hand-moves role orders p q (entry.Take from number) uncounted none moves = ap (λ m. m.hand) moves.2 ∙ none
 hand-moves role orders p q (entry.Go rows outs) uncounted none moves = ap (λ m. m.hand) moves.2 ∙ rw uncounted none
 hand-moves role orders p q (entry.Grant n) uncounted none moves = absurd (false≢true (sym uncounted ∙ moves.1.counted))
@@ -66,7 +66,7 @@ hand-moves role orders p q entry.Resume uncounted none moves = ap (λ m. m.hand)
 hand-moves role orders p q entry.Hold uncounted none moves = ap (λ m. m.hand) moves.2 ∙ none
 hand-moves role orders p q entry.Finish uncounted none moves = ap (λ m. m.hand) moves.2 ∙ none
 
-pub hand-stays : (role : Role) (orders : Orders) (p q : Position) (entries : List Entry) → orders.counted ≡ false → p.hand ≡ 0 → Leads role orders p entries q → q.hand ≡ 0
+pub hand-stays : (role : Role) (orders : Orders) (p q : Position) (entries : List Entry) → orders.counted ≡ false → p.hand ≡ 0 → Leads (assigned role orders) p entries q → q.hand ≡ 0
 unfolding Leads
 hand-stays role orders p q [] uncounted none leads = ap (λ m. m.hand) (sym leads) ∙ none
 hand-stays role orders p q (one ∷ more) uncounted none leads =

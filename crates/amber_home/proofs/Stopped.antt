@@ -15,7 +15,7 @@ use Rattle.amber_meaning.specs.declared.view.Stop.{Stop}
 use Rattle.amber_meaning.specs.declared.view.Stop.TheVariants as stop
 use Rattle.amber_meaning.specs.Legal.{IsSettled, Query, role_in, stops_in}
 use Rattle.amber_meaning.specs.Position.{Position, emitted_count, pending_rows}
-use Rattle.amber_meaning.specs.Rules.{Leads, Moves, Orders, first_is_watched}
+use Rattle.amber_meaning.specs.Rules.{Leads, Moves, Orders, assigned, first_is_watched}
 use Rattle.amber_meaning.specs.State.{Arms, State, arms_at, crew_at, emitted_by, have_finished, no_arms, position_at, steps_in}
 use Rattle.amber_meaning.specs.Stops.{count_stop, count_stops, end_stop, held_stop, held_stops, op_numbers, pause_stop, pause_stops, stops_of}
 use Rattle.amber_meaning.specs.Task.{Role}
@@ -32,7 +32,7 @@ use Rattle.amber_home.proofs.Within.{finished-reached, leads-at, position-here, 
 
 -- ---- nobody is held
 
-held-moves : (role : Role) (orders : Orders) (p q : Position) (one : Entry) → orders.watch ≡ None → p.held ≡ false → Moves role orders p one q → q.held ≡ false
+held-moves : (role : Role) (orders : Orders) (p q : Position) (one : Entry) → orders.watch ≡ None → p.held ≡ false → Moves (assigned role orders) p one q → q.held ≡ false
 held-moves role orders p q (entry.Take from number) unwatched none moves = ap (λ m. m.held) moves.2 ∙ none
 held-moves role orders p q (entry.Go rows outs) unwatched none moves = ap (λ m. m.held) moves.2 ∙ none
 held-moves role orders p q (entry.Grant n) unwatched none moves = ap (λ m. m.held) moves.2 ∙ none
@@ -46,7 +46,7 @@ held-moves role orders p q entry.Hold unwatched none moves = absurd (false≢tru
     unwatched-first (row ∷ rows) = refl
 held-moves role orders p q entry.Finish unwatched none moves = ap (λ m. m.held) moves.2 ∙ none
 
-held-stays : (role : Role) (orders : Orders) (p q : Position) (entries : List Entry) → orders.watch ≡ None → p.held ≡ false → Leads role orders p entries q → q.held ≡ false
+held-stays : (role : Role) (orders : Orders) (p q : Position) (entries : List Entry) → orders.watch ≡ None → p.held ≡ false → Leads (assigned role orders) p entries q → q.held ≡ false
 unfolding Leads
 held-stays role orders p q [] unwatched none leads = ap (λ m. m.held) (sym leads) ∙ none
 held-stays role orders p q (one ∷ more) unwatched none leads =

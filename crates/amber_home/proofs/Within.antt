@@ -6,7 +6,7 @@ use Rattle.amber_lines.specs.Moving.{orders_in}
 use Rattle.amber_link.specs.Links.{waiting}
 use Rattle.amber_link.specs.declared.senders.Sender.{Sender}
 use Rattle.amber_log.specs.Grammar.{AreParts}
-use Rattle.amber_meaning.specs.Legal.{AreOffered, IsSettled, IsWorked, Query, batches_for, entries_of, role_in, stream_of}
+use Rattle.amber_meaning.specs.Legal.{AreOffered, IsSettled, IsWorked, Query, assignment_in, batches_for, entries_of, role_in, stream_of}
 use Rattle.amber_meaning.specs.Plan.{role_of}
 use Rattle.amber_meaning.specs.Position.{Position}
 use Rattle.amber_meaning.specs.Replay.{after_leg}
@@ -65,7 +65,7 @@ module _ (query : Query) (start : State) (crew : List WorkerState) (positions : 
       )
 
   pub leads-at : (worker : ℕ) → worker < crew_of query.flow
-      → Leads (role_in query worker) (orders_in query start worker) (position_at start.positions worker) (worker_state_at crew worker).journal (positions worker)
+      → Leads (assignment_in query start worker) (position_at start.positions worker) (worker_state_at crew worker).journal (positions worker)
   unfolding placement_of
   leads-at worker inside = (work.at.at_positions.each worker inside).leads
 

@@ -23,7 +23,7 @@ use Rattle.amber_judge.specs.LegalTests.{are_offered, is_first_of, is_offered, i
 use Rattle.amber_meaning.specs.Plan.{role_of}
 use Rattle.amber_meaning.specs.Position.{Position}
 use Rattle.amber_meaning.specs.Replay.{after_item, after_items, led_by, positions_after, after_leg, batch_for}
-use Rattle.amber_meaning.specs.Rules.{Leads, Moves, Orders, position_after, with_offered}
+use Rattle.amber_meaning.specs.Rules.{Leads, Moves, Orders, assigned, position_after, with_offered}
 use Rattle.amber_judge.specs.RuleTests.{may_move}
 use Rattle.amber_meaning.specs.State.{Counting, State, arms_at, begin_leg, begin_last_leg, counted_at, no_arms, orders_of, position_at, steps_in}
 use Rattle.amber_meaning.specs.Task.{Role}
@@ -35,11 +35,11 @@ use Rattle.amber_judge.proofs.RuleTests.{may_move-so, may_take-so, nil_from_empt
 
 -- ---- one worker
 
-pub moves-from : (role : Role) (orders : Orders) (offer : ℕ → List Batch) (p : Position) (one : Entry) → may_move role orders p one ≡ true
-    → is_offered offer one ≡ true → Moves role orders p one (position_after orders (batch_for offer one) one p)
+pub moves-from : (role : Role) (orders : Orders) (offer : ℕ → List Batch) (p : Position) (one : Entry) → may_move (assigned role orders) p one ≡ true
+    → is_offered offer one ≡ true → Moves (assigned role orders) p one (position_after orders (batch_for offer one) one p)
 moves-from role orders offer p (entry.Take from number) e f = by (nth (offer from) (number + 1)) f
   where
-    by : (found : Option Batch) → is_some found ≡ true → Moves role orders p (entry.Take from number) (with_offered from found p)
+    by : (found : Option Batch) → is_some found ≡ true → Moves (assigned role orders) p (entry.Take from number) (with_offered from found p)
     by None g = absurd (false≢true g)
     by (Some batch) g = (batch, (may_take-so role p from number).0 e, refl)
 moves-from role orders offer p (entry.Go rows outs) e f = (no_batch, (may_move-so role orders p (entry.Go rows outs)).0 e, refl)
@@ -50,18 +50,18 @@ moves-from role orders offer p entry.Resume e f = (no_batch, (may_move-so role o
 moves-from role orders offer p entry.Hold e f = (no_batch, (may_move-so role orders p entry.Hold).0 e, refl)
 moves-from role orders offer p entry.Finish e f = (no_batch, (may_move-so role orders p entry.Finish).0 e, refl)
 
-leads-from : (role : Role) (orders : Orders) (offer : ℕ → List Batch) (p : Position) (entries : List Entry) → may_lead offer role orders p entries ≡ true
-    → Leads role orders p entries (led_by offer orders entries p)
+leads-from : (role : Role) (orders : Orders) (offer : ℕ → List Batch) (p : Position) (entries : List Entry) → may_lead offer (assigned role orders) p entries ≡ true
+    → Leads (assigned role orders) p entries (led_by offer orders entries p)
 unfolding Leads led_by may_lead
 leads-from role orders offer p [] e = refl
 leads-from role orders offer p (one ∷ more) e =
-    let parts = and_parts (may_move role orders p one) _ e in
+    let parts = and_parts (may_move (assigned role orders) p one) _ e in
     let others = and_parts (is_offered offer one) _ parts.1 in
     (position_after orders (batch_for offer one) one p, moves-from role orders offer p one parts.0 others.0, leads-from role orders offer (position_after orders (batch_for offer one) one p) more others.1)
 
 -- the same batches of the senders lead to the same
 moved-same : (role : Role) (orders : Orders) (offer other : ℕ → List Batch) (p : Position) (one : Entry)
-    → ((sender : ℕ) → list_any (λ s. eqb s sender) role.senders ≡ true → other sender ≡ offer sender) → may_move role orders p one ≡ true
+    → ((sender : ℕ) → list_any (λ s. eqb s sender) role.senders ≡ true → other sender ≡ offer sender) → may_move (assigned role orders) p one ≡ true
     → position_after orders (batch_for other one) one p ≡ position_after orders (batch_for offer one) one p
 moved-same role orders offer other p (entry.Take from number) same e = rw (same from ((may_take-so role p from number).0 e).sender)
 moved-same role orders offer other p (entry.Go rows outs) same e = refl
@@ -73,12 +73,12 @@ moved-same role orders offer other p entry.Hold same e = refl
 moved-same role orders offer other p entry.Finish same e = refl
 
 led-same : (role : Role) (orders : Orders) (offer other : ℕ → List Batch) (p : Position) (entries : List Entry)
-    → ((sender : ℕ) → list_any (λ s. eqb s sender) role.senders ≡ true → other sender ≡ offer sender) → may_lead offer role orders p entries ≡ true
+    → ((sender : ℕ) → list_any (λ s. eqb s sender) role.senders ≡ true → other sender ≡ offer sender) → may_lead offer (assigned role orders) p entries ≡ true
     → led_by other orders entries p ≡ led_by offer orders entries p
 unfolding led_by may_lead
 led-same role orders offer other p [] same e = refl
 led-same role orders offer other p (one ∷ more) same e =
-    let parts = and_parts (may_move role orders p one) _ e in
+    let parts = and_parts (may_move (assigned role orders) p one) _ e in
     let others = and_parts (is_offered offer one) _ parts.1 in
     rw (moved-same role orders offer other p one same parts.0) (led-same role orders offer other (position_after orders (batch_for offer one) one p) more same others.1)
 

@@ -19,7 +19,7 @@ use Rattle.amber_judge.specs.LegalTests.{are_offered, is_first_of, is_offered, i
 use Rattle.amber_meaning.specs.Plan.{role_of}
 use Rattle.amber_meaning.specs.Position.{Position, taken_from}
 use Rattle.amber_meaning.specs.Replay.{after_leg}
-use Rattle.amber_meaning.specs.Rules.{Leads, Moves, Orders, May}
+use Rattle.amber_meaning.specs.Rules.{Leads, Moves, Orders, May, assigned}
 use Rattle.amber_meaning.specs.State.{Counting, State, arms_at, begin_leg, begin_last_leg, counted_at, orders_of, position_at}
 use Rattle.amber_meaning.specs.Task.{Role}
 use Rattle.amber_judge.proofs.Batches.{begins-so}
@@ -29,10 +29,10 @@ use Rattle.amber_judge.proofs.RuleTests.{empty_from_nil, may_move-so}
 
 -- ---- one worker
 
-pub rule-of : (role : Role) (orders : Orders) (p q : Position) (one : Entry) → Moves role orders p one q → May role orders p one
+pub rule-of : (role : Role) (orders : Orders) (p q : Position) (one : Entry) → Moves (assigned role orders) p one q → May (assigned role orders) p one
 rule-of role orders p q one h = h.1
 
-pub offered-is : (role : Role) (orders : Orders) (offer : ℕ → List Batch) (p q : Position) (one : Entry) → Moves role orders p one q → TookFirst role offer q
+pub offered-is : (role : Role) (orders : Orders) (offer : ℕ → List Batch) (p q : Position) (one : Entry) → Moves (assigned role orders) p one q → TookFirst role offer q
     → is_offered offer one ≡ true
 offered-is role orders offer p q (entry.Take from number) h first = ap (λ found. is_some found) (found-batch role orders offer p q from number h first)
 offered-is role orders offer p q (entry.Go rows outs) h first = refl
@@ -43,8 +43,8 @@ offered-is role orders offer p q entry.Resume h first = refl
 offered-is role orders offer p q entry.Hold h first = refl
 offered-is role orders offer p q entry.Finish h first = refl
 
-leads-may : (role : Role) (orders : Orders) (offer : ℕ → List Batch) (p q : Position) (entries : List Entry) → Leads role orders p entries q
-    → TookFirst role offer q → may_lead offer role orders p entries ≡ true
+leads-may : (role : Role) (orders : Orders) (offer : ℕ → List Batch) (p q : Position) (entries : List Entry) → Leads (assigned role orders) p entries q
+    → TookFirst role offer q → may_lead offer (assigned role orders) p entries ≡ true
 unfolding Leads may_lead
 leads-may role orders offer p q [] h first = refl
 leads-may role orders offer p q (one ∷ more) h first =
@@ -131,4 +131,4 @@ may_reach-is query state after (one ∷ more) first h =
     (rw (item-is query state h.0 one first h.1) (may_reach-is query h.0 after more first h.2))
 
 pub rules_are_tested : RulesAreTested
-rules_are_tested = may_move-so
+rules_are_tested it p one = may_move-so it.role it.orders p one

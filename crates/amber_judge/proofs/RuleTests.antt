@@ -5,7 +5,7 @@ use Rattle.amber_log.specs.declared.entry.Entry.{Entry}
 use Rattle.amber_log.specs.declared.entry.Entry.TheVariants as entry
 use Rattle.amber_meaning.specs.Task.{Role}
 use Rattle.amber_meaning.specs.Position.{Position}
-use Rattle.amber_meaning.specs.Rules.{IsFree, MayFinish, MayGiveBack, MayGo, MayGrant, MayHold, MayPause, MayResume, MayTake, Orders, May}
+use Rattle.amber_meaning.specs.Rules.{IsFree, MayFinish, MayGiveBack, MayGo, MayGrant, MayHold, MayPause, MayResume, MayTake, Orders, May, assigned}
 use Rattle.amber_judge.specs.RuleTests.{is_free, may_finish, may_give_back, may_go, may_grant, may_hold, may_move, may_pause, may_resume, may_take}
 use Rattle.amber_rows.specs.Lists.{is_empty}
 
@@ -60,11 +60,11 @@ may_take-so role p from number = (to, back)
         and_from _ _ (free-so p h.free) (and_from _ _ h.sender (and_from _ _ (eq-eqb _ _ h.next)
         (and_from _ _ (empty_from_nil _ h.no_rest) (and_from _ _ (empty_from_nil _ h.no_pending) h.side))))
 
-pub may_go-so : (role : Role) (orders : Orders) (p : Position) (rows outs : ℕ) → (may_go role orders p rows outs ≡ true) ↔ MayGo role orders p rows outs
+pub may_go-so : (role : Role) (orders : Orders) (p : Position) (rows outs : ℕ) → (may_go (assigned role orders) p rows outs ≡ true) ↔ MayGo (assigned role orders) p rows outs
 unfolding may_go
 may_go-so role orders p rows outs = (to, back)
   where
-    to : may_go role orders p rows outs ≡ true → MayGo role orders p rows outs
+    to : may_go (assigned role orders) p rows outs ≡ true → MayGo (assigned role orders) p rows outs
     to e =
         let a = four_parts _ _ _ _ _ e in
         let f = and_parts _ _ a.4 in
@@ -79,7 +79,7 @@ may_go-so role orders p rows outs = (to, back)
           no_stop = g.1;
         }
 
-    back : MayGo role orders p rows outs → may_go role orders p rows outs ≡ true
+    back : MayGo (assigned role orders) p rows outs → may_go (assigned role orders) p rows outs ≡ true
     back h =
         and_from _ _ (free-so p h.free) (and_from _ _ (le-leb _ _ h.within) (and_from _ _ (le-leb _ _ h.produced)
         (and_from _ _ (so_if _ _ (λ e. le-leb _ _ (h.drained (ltb-true _ _ e))))
@@ -120,18 +120,18 @@ may_resume-so p = (to, back)
     back : MayResume p → may_resume p ≡ true
     back h = and_from _ _ h.paused (and_from _ _ (not_from_false _ h.loose) (not_from_false _ h.unfinished))
 
-pub may_hold-so : (role : Role) (orders : Orders) (p : Position) → (may_hold role orders p ≡ true) ↔ MayHold role orders p
+pub may_hold-so : (role : Role) (orders : Orders) (p : Position) → (may_hold (assigned role orders) p ≡ true) ↔ MayHold (assigned role orders) p
 unfolding may_hold
 may_hold-so role orders p = (to, back)
   where
-    to : may_hold role orders p ≡ true → MayHold role orders p
+    to : may_hold (assigned role orders) p ≡ true → MayHold (assigned role orders) p
     to e =
         let a = and_parts _ _ e in
         let b = and_parts _ _ a.1 in
         let c = and_parts _ _ b.1 in
         record { free = IsFree-so p a.0; watched = b.0; not_waved = not-true _ c.0; in_hand = λ counted. ltb-true _ _ (if_so _ _ c.1 counted) }
 
-    back : MayHold role orders p → may_hold role orders p ≡ true
+    back : MayHold (assigned role orders) p → may_hold (assigned role orders) p ≡ true
     back h =
         and_from _ _ (free-so p h.free) (and_from _ _ h.watched (and_from _ _ (not_from_false _ h.not_waved)
         (so_if _ _ (λ counted. lt-ltb _ _ (h.in_hand counted)))))
@@ -150,7 +150,7 @@ may_finish-so role p = (to, back)
     back : MayFinish role p → may_finish role p ≡ true
     back h = and_from _ _ (free-so p h.free) (and_from _ _ (empty_from_nil _ h.no_rest) (and_from _ _ (empty_from_nil _ h.no_pending) h.ended))
 
-pub may_move-so : (role : Role) (orders : Orders) (p : Position) (one : Entry) → (may_move role orders p one ≡ true) ↔ May role orders p one
+pub may_move-so : (role : Role) (orders : Orders) (p : Position) (one : Entry) → (may_move (assigned role orders) p one ≡ true) ↔ May (assigned role orders) p one
 may_move-so role orders p (entry.Take from number) = may_take-so role p from number
 may_move-so role orders p (entry.Go rows outs) = may_go-so role orders p rows outs
 may_move-so role orders p (entry.Grant n) = may_grant-so orders p

@@ -2,7 +2,7 @@
 use Rattle.std.specs.Prelude.{ℕ, ◌==◌, nat_le, nat_lt, ◌&&◌, not, suc, List, [], ◌∷◌, length, map, Option, Some, None, is_some, Bool, true, false}
 use Rattle.std.specs.List.{list_all}
 use Rattle.amber_rows.specs.Lists.{numbers_below, is_empty}
-use Rattle.amber_rows.specs.Crew.{crew_of, op_of}
+use Rattle.amber_rows.specs.Crew.{crew_of}
 use Rattle.amber_rows.specs.Operators.{same_row}
 use Rattle.amber_rows.specs.declared.value.Value.{Value}
 use Rattle.amber_rows.specs.declared.batch.Batch.{Batch}
@@ -14,13 +14,12 @@ use Rattle.amber_log.specs.declared.leg.Close.TheVariants as close
 use Rattle.amber_log.specs.declared.leg.Part.{Part}
 use Rattle.amber_log.specs.declared.log.Item.{Item}
 use Rattle.amber_log.specs.declared.log.Item.TheVariants as item
-use Rattle.amber_meaning.specs.Legal.{Query, batches_for, entries_of, role_in, stops_in}
+use Rattle.amber_meaning.specs.Legal.{Query, assignment_in, batches_for, entries_of, role_in, stops_in}
 use Rattle.amber_meaning.specs.Position.{Position, taken_from}
 use Rattle.amber_meaning.specs.Replay.{after_item, after_leg, batch_for}
-use Rattle.amber_meaning.specs.Rules.{Orders, position_after}
+use Rattle.amber_meaning.specs.Rules.{Assignment, position_after}
 use Rattle.amber_judge.specs.RuleTests.{may_move}
-use Rattle.amber_meaning.specs.State.{Counting, State, arms_at, begin_leg, begin_last_leg, counted_at, have_finished, orders_of, position_at, steps_in}
-use Rattle.amber_meaning.specs.Task.{Role}
+use Rattle.amber_meaning.specs.State.{Counting, State, arms_at, begin_leg, begin_last_leg, counted_at, have_finished, position_at, steps_in}
 
 -- ---- batches
 
@@ -65,15 +64,15 @@ is_offered offer entry.Hold = true
 is_offered offer entry.Finish = true
 
 -- entries may follow one another from a position, where `offer` has the batches of each sender
-unfoldable pub may_lead : (ℕ → List Batch) → Role → Orders → Position → List Entry → Bool
-may_lead offer role orders p [] = true
-may_lead offer role orders p (one ∷ more) = may_move role orders p one && (is_offered offer one && may_lead offer role orders (position_after orders (batch_for offer one) one p) more)
+unfoldable pub may_lead : (ℕ → List Batch) → Assignment → Position → List Entry → Bool
+may_lead offer it p [] = true
+may_lead offer it p (one ∷ more) = may_move it p one && (is_offered offer one && may_lead offer it (position_after it.orders (batch_for offer one) one p) more)
 
 -- what a worker did may be what a leg's parts say
 abbrev pub may_do : Query → State → List Part → ℕ → Bool
 may_do query before parts worker =
-    may_lead (λ sender. batches_for query (after_leg query before parts).positions sender worker) (role_in query worker)
-    (orders_of (arms_at before (op_of query.flow worker))) (position_at before.positions worker) (entries_of parts worker)
+    may_lead (λ sender. batches_for query (after_leg query before parts).positions sender worker) (assignment_in query before worker)
+    (position_at before.positions worker) (entries_of parts worker)
 
 unfoldable pub may_work : Query → State → List Part → Bool
 may_work query before parts =

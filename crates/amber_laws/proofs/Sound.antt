@@ -9,7 +9,7 @@ use Rattle.amber_log.specs.declared.entry.Entry.{Entry}
 use Rattle.amber_log.specs.declared.entry.Entry.TheVariants as entry
 use Rattle.amber_meaning.specs.Task.{Role, Task, is_builder}
 use Rattle.amber_meaning.specs.Position.{Position, Taken, all_arrivals, has_last, have_ended, origin, pending_rows, produced_rows, rest_of, taken_from}
-use Rattle.amber_meaning.specs.Rules.{Leads, MayFinish, MayGo, MayTake, Moves, Orders, with_batch, with_rows}
+use Rattle.amber_meaning.specs.Rules.{Leads, MayFinish, MayGo, MayTake, Moves, Orders, assigned, with_batch, with_rows}
 use Rattle.amber_meaning.specs.State.{first_constants, let_go}
 use Rattle.amber_meaning.proofs.Lists.{list_all-member}
 use Rattle.amber_meaning.proofs.OneState.{Leads-keeps}
@@ -154,7 +154,7 @@ with_batch-sound role p from number batch orderly s may =
     }
 
 with_rows-sound : (role : Role) (orders : Orders) (p : Position) (rows outs : ℕ) → orders.constants ≡ first_constants role.task.kind → IsSound role p
-    → MayGo role orders p rows outs → IsSound role (with_rows orders rows outs p)
+    → MayGo (assigned role orders) p rows outs → IsSound role (with_rows orders rows outs p)
 with_rows-sound role orders p rows outs e s may =
     let taken : length (p.constants ++ replicate rows orders.constants) ≡ length p.constants + rows =
     length-append p.constants _ ∙ ap (λ n. length p.constants + n) (length-replicate rows orders.constants) in
@@ -177,7 +177,7 @@ finish-sound : (role : Role) (p : Position) → IsSound role p → MayFinish rol
 finish-sound role p s may = marked-sound role p p.hand p.held p.waved p.paused true s (λ e. (may.no_rest, may.no_pending, may.ended))
 
 moved-sound : (role : Role) (orders : Orders) (p q : Position) (one : Entry) → orders.constants ≡ first_constants role.task.kind → IsOrderly role q.taken
-    → IsSound role p → Moves role orders p one q → IsSound role q
+    → IsSound role p → Moves (assigned role orders) p one q → IsSound role q
 moved-sound role orders p q (entry.Take from number) e orderly s h = rw h.2 (with_batch-sound role p from number h.0 (rw h.2 at orderly) s h.1)
 moved-sound role orders p q (entry.Go rows outs) e orderly s h = rw h.2 (with_rows-sound role orders p rows outs e s h.1)
 moved-sound role orders p q (entry.Grant n) e orderly s h = rw h.2 (flags-sound role p (p.hand + n) p.held p.waved p.paused s)
@@ -188,7 +188,7 @@ moved-sound role orders p q entry.Hold e orderly s h = rw h.2 (flags-sound role 
 moved-sound role orders p q entry.Finish e orderly s h = rw h.2 (finish-sound role p s h.1)
 
 pub led-sound : (role : Role) (orders : Orders) (p q : Position) (entries : List Entry) → orders.constants ≡ first_constants role.task.kind → IsOrderly role q.taken
-    → IsSound role p → Leads role orders p entries q → IsSound role q
+    → IsSound role p → Leads (assigned role orders) p entries q → IsSound role q
 unfolding Leads
 led-sound role orders p q [] e orderly s h = rw (← h) s
 led-sound role orders p q (one ∷ more) e orderly s h =

@@ -10,7 +10,7 @@ use Rattle.amber_log.specs.declared.entry.Entry.{Entry}
 use Rattle.amber_log.specs.declared.entry.Entry.TheVariants as entry
 use Rattle.amber_rows.specs.Lists.{IsPrefix}
 use Rattle.amber_meaning.specs.Position.{Position, Taken, all_arrivals, has_last, have_ended, is_complete, origin, pending_rows, produced_rows, product}
-use Rattle.amber_meaning.specs.Rules.{Leads, MayGo, MayHold, MayTake, Moves, Orders, first_is_watched, with_batch, with_rows}
+use Rattle.amber_meaning.specs.Rules.{Leads, MayGo, MayHold, MayTake, Moves, Orders, assigned, first_is_watched, with_batch, with_rows}
 use Rattle.amber_meaning.specs.State.{let_go, without_held}
 use Rattle.amber_meaning.specs.Task.{Arrival, Role, Task}
 use Rattle.amber_meaning.specs.Produce.{closing, produce, yields}
@@ -122,7 +122,7 @@ with_batch-bounded role p from number batch orderly may h =
     (product-taken role p.taken from batch p.constants h.within orderly may.sender) in
     record { within = omega arith; produced = omega arith; held = not_held p _ may.free.loose }
 
-with_rows-bounded : (role : Role) (orders : Orders) (p : Position) (rows outs : ℕ) → MayGo role orders p rows outs → IsBounded role (with_rows orders rows outs p)
+with_rows-bounded : (role : Role) (orders : Orders) (p : Position) (rows outs : ℕ) → MayGo (assigned role orders) p rows outs → IsBounded role (with_rows orders rows outs p)
 with_rows-bounded role orders p rows outs may =
     let taken : length (p.constants ++ replicate rows orders.constants) ≡ length p.constants + rows =
     length-append p.constants (replicate rows orders.constants) ∙ ap (λ (n : ℕ). length p.constants + n) (length-replicate rows orders.constants) in
@@ -136,7 +136,7 @@ watched-some : (watch : Option Cond) (rows : List (List Value)) → first_is_wat
 watched-some watch [] e = absurd (false≢true e)
 watched-some watch (row ∷ rows) e = omega arith
 
-held-bounded : (role : Role) (orders : Orders) (p : Position) → MayHold role orders p → IsBounded role p → IsBounded role (record p { held = true })
+held-bounded : (role : Role) (orders : Orders) (p : Position) → MayHold (assigned role orders) p → IsBounded role p → IsBounded role (record p { held = true })
 held-bounded role orders p may h =
     let some = watched-some orders.watch (pending_rows role p) may.watched in
     let size = length-drop (length p.outcomes) (produced_rows role p) in
@@ -146,7 +146,7 @@ flags-bounded : (role : Role) (p : Position) (hand : ℕ) (waved paused finished
     → IsBounded role (record p { hand = hand; waved = waved; paused = paused; finished = finished })
 flags-bounded role p hand waved paused finished h = record { within = h.within; produced = h.produced; held = h.held }
 
-pub moved-bounded : (role : Role) (orders : Orders) (p q : Position) (one : Entry) → IsOrderly role q.taken → Moves role orders p one q → IsBounded role p → IsBounded role q
+pub moved-bounded : (role : Role) (orders : Orders) (p q : Position) (one : Entry) → IsOrderly role q.taken → Moves (assigned role orders) p one q → IsBounded role p → IsBounded role q
 moved-bounded role orders p q (entry.Take from number) orderly h bounded = rw h.2 (with_batch-bounded role p from number h.0 (rw h.2 at orderly) h.1 bounded)
 moved-bounded role orders p q (entry.Go rows outs) orderly h bounded = rw h.2 (with_rows-bounded role orders p rows outs h.1)
 moved-bounded role orders p q (entry.Grant n) orderly h bounded = rw h.2 (flags-bounded role p (p.hand + n) p.waved p.paused p.finished bounded)
@@ -156,12 +156,12 @@ moved-bounded role orders p q entry.Resume orderly h bounded = rw h.2 (flags-bou
 moved-bounded role orders p q entry.Hold orderly h bounded = rw h.2 (held-bounded role orders p h.1 bounded)
 moved-bounded role orders p q entry.Finish orderly h bounded = rw h.2 (flags-bounded role p p.hand p.waved p.paused true bounded)
 
-pub sooner-orderly : (role : Role) (orders : Orders) (p q : Position) (entries : List Entry) → Leads role orders p entries q → IsOrderly role q.taken → IsOrderly role p.taken
+pub sooner-orderly : (role : Role) (orders : Orders) (p q : Position) (entries : List Entry) → Leads (assigned role orders) p entries q → IsOrderly role q.taken → IsOrderly role p.taken
 sooner-orderly role orders p q entries h orderly sender known =
     let b = Leads-keeps role orders p q entries sender h in
     marked-front _ b.0 (rw b.1 (orderly sender known))
 
-pub led-bounded : (role : Role) (orders : Orders) (p q : Position) (entries : List Entry) → IsOrderly role q.taken → Leads role orders p entries q → IsBounded role p
+pub led-bounded : (role : Role) (orders : Orders) (p q : Position) (entries : List Entry) → IsOrderly role q.taken → Leads (assigned role orders) p entries q → IsBounded role p
     → IsBounded role q
 unfolding Leads
 led-bounded role orders p q [] orderly h bounded = rw (← h) bounded

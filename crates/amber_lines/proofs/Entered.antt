@@ -6,7 +6,7 @@ use Rattle.amber_rows.specs.Lists.{nth, changed_from}
 use Rattle.amber_rows.specs.declared.batch.Batch.{Batch}
 use Rattle.amber_log.specs.declared.entry.Entry.{Entry}
 use Rattle.amber_log.specs.declared.entry.Entry.TheVariants as entry
-use Rattle.amber_meaning.specs.Legal.{Query, role_in}
+use Rattle.amber_meaning.specs.Legal.{Query, assignment_in, role_in}
 use Rattle.amber_judge.specs.LegalTests.{is_offered}
 use Rattle.amber_meaning.specs.Position.{Position, origin}
 use Rattle.amber_meaning.specs.Rules.{Moves, Orders, position_after, with_offered, with_batch}
@@ -50,17 +50,17 @@ offered-from offer p q entry.Finish h = refl
 
 -- what a worker that may enter does
 pub enters : (query : Query) (now : State) (worker : ℕ) (made : Entry) → may_enter query now worker made ≡ true
-    → Moves (role_in query worker) (orders_in query now worker) (position_at now.positions worker) made (position_behind query now worker made)
+    → Moves (assignment_in query now worker) (position_at now.positions worker) made (position_behind query now worker made)
     × TakesOffered (offers_in query now worker) (position_at now.positions worker) made (position_behind query now worker made)
 unfolding may_enter position_behind
 enters query now worker made e =
-    let parts = and_parts (may_move (role_in query worker) (orders_in query now worker) (position_at now.positions worker) made) _ e in (
+    let parts = and_parts (may_move (assignment_in query now worker) (position_at now.positions worker) made) _ e in (
       moves-from (role_in query worker) (orders_in query now worker) (offers_in query now worker) (position_at now.positions worker) made parts.0 parts.1,
       takes-from (offers_in query now worker) (orders_in query now worker) (position_at now.positions worker) made parts.1,
     )
 
 pub may-enter : (query : Query) (now : State) (worker : ℕ) (made : Entry) (q : Position)
-    → Moves (role_in query worker) (orders_in query now worker) (position_at now.positions worker) made q
+    → Moves (assignment_in query now worker) (position_at now.positions worker) made q
     → is_offered (offers_in query now worker) made ≡ true → may_enter query now worker made ≡ true
 unfolding may_enter
 may-enter query now worker made q moves offered =

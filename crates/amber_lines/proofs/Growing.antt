@@ -17,10 +17,10 @@ use Rattle.amber_log.specs.Grammar.{IsBatch}
 use Rattle.amber_log.specs.declared.entry.Entry.{Entry}
 use Rattle.amber_log.specs.declared.entry.Entry.TheVariants as entry
 use Rattle.amber_log.specs.declared.log.Log.{Log}
-use Rattle.amber_meaning.specs.Legal.{AreOffered, IsLegal, Query, batches_for, entries_of, leg_start, role_in, stream_of}
+use Rattle.amber_meaning.specs.Legal.{AreOffered, IsLegal, Query, assignment_in, batches_for, entries_of, leg_start, role_in, stream_of}
 use Rattle.amber_meaning.specs.Plan.{role_of}
 use Rattle.amber_meaning.specs.Position.{Position, emitted_rows, kept, produced_rows, taken_from}
-use Rattle.amber_meaning.specs.Rules.{Leads, MayGo, MayTake, Moves, Orders, with_batch, with_rows}
+use Rattle.amber_meaning.specs.Rules.{Leads, MayGo, MayTake, Moves, Orders, assigned, with_batch, with_rows}
 use Rattle.amber_meaning.specs.State.{position_at}
 use Rattle.amber_meaning.specs.Task.{Role}
 use Rattle.amber_meaning.proofs.Chunks.{chunks-marked, full_batch, fulls-longer}
@@ -69,7 +69,7 @@ with_batch-grown role p from number batch orderly may h =
     ap (λ (rows : List (List Value)). kept rows p.outcomes) (sym longer.1) ∙ kept-front (produced_rows role p) longer.0 p.outcomes h.produced in
     record { emitted = rw same (IsPrefix-refl (emitted_rows role p)); over = still p _ may.free.unfinished }
 
-with_rows-grown : (role : Role) (orders : Orders) (p : Position) (rows outs : ℕ) → MayGo role orders p rows outs → IsBounded role p
+with_rows-grown : (role : Role) (orders : Orders) (p : Position) (rows outs : ℕ) → MayGo (assigned role orders) p rows outs → IsBounded role p
     → IsGrown role p (with_rows orders rows outs p)
 with_rows-grown role orders p rows outs may h =
     let longer = product-later role p.taken p.constants rows orders.constants may.within in
@@ -83,7 +83,7 @@ with_rows-grown role orders p rows outs may h =
 flags-grown : (role : Role) (p : Position) (hand : ℕ) (held waved paused : Bool) → IsGrown role p (record p { hand = hand; held = held; waved = waved; paused = paused })
 flags-grown role p hand held waved paused = record { emitted = IsPrefix-refl (emitted_rows role p); over = λ e. (refl, e) }
 
-pub moved-grown : (role : Role) (orders : Orders) (p q : Position) (one : Entry) → IsOrderly role q.taken → Moves role orders p one q → IsBounded role p → IsGrown role p q
+pub moved-grown : (role : Role) (orders : Orders) (p q : Position) (one : Entry) → IsOrderly role q.taken → Moves (assigned role orders) p one q → IsBounded role p → IsGrown role p q
 moved-grown role orders p q (entry.Take from number) orderly h bounded = rw h.2 (with_batch-grown role p from number h.0 (rw h.2 at orderly) h.1 bounded)
 moved-grown role orders p q (entry.Go rows outs) orderly h bounded = rw h.2 (with_rows-grown role orders p rows outs h.1 bounded)
 moved-grown role orders p q (entry.Grant n) orderly h bounded = rw h.2 (flags-grown role p (p.hand + n) p.held p.waved p.paused)
@@ -180,7 +180,7 @@ taken-next offer p from number batch next there begins =
     (sym (nth-next (offer from) (length (taken_from p.taken from))) ∙ ap (λ (n : ℕ). nth (offer from) (n + 1)) (sym next) ∙ there))
 
 -- what was taken, with the batch that an entry takes, are the first batches of its sender
-pub taken-offered : (role : Role) (orders : Orders) (offer : ℕ → List Batch) (p q : Position) (one : Entry) (sender : ℕ) → Moves role orders p one q → TakesOffered offer p one q
+pub taken-offered : (role : Role) (orders : Orders) (offer : ℕ → List Batch) (p q : Position) (one : Entry) (sender : ℕ) → Moves (assigned role orders) p one q → TakesOffered offer p one q
     → IsPrefix (taken_from p.taken sender) (offer sender) → IsPrefix (taken_from q.taken sender) (offer sender)
 taken-offered role orders offer p q (entry.Take from number) sender h there begins = rw there.2 (by (cases_eq from sender))
   where
@@ -247,9 +247,9 @@ grown-moved query next moved h = record {
 }
   where
     by : (worker : ℕ) → worker < crew_of query.flow → (worker ≡ next.worker) ⊎ (worker ≡ next.worker → ⊥)
-        → Leads (role_in query worker) (orders_in query next.start worker) (position_at next.start.positions worker) (entries_of next.longer worker) (position_at next.after.positions worker)
+        → Leads (assignment_in query next.start worker) (position_at next.start.positions worker) (entries_of next.longer worker) (position_at next.after.positions worker)
     by worker less (inl same) =
-        subst (λ (w : ℕ). Leads (role_in query w) (orders_in query next.start w) (position_at next.start.positions w) (entries_of next.longer w) (position_at next.after.positions w))
+        subst (λ (w : ℕ). Leads (assignment_in query next.start w) (position_at next.start.positions w) (entries_of next.longer w) (position_at next.after.positions w))
         (sym same) h.leads
     by worker less (inr other) = rw ((h.others worker other).0, (h.others worker other).1) (moved.moved worker less)
 

@@ -9,7 +9,7 @@ use Rattle.amber_rows.specs.declared.value.Value.{Value}
 use Rattle.amber_rows.specs.declared.cond.Cond.{Cond}
 use Rattle.amber_log.specs.declared.entry.Entry.TheVariants as entry
 use Rattle.amber_meaning.specs.Position.{Position, all_arrivals, product}
-use Rattle.amber_meaning.specs.Rules.{Leads, MayGo, Orders, is_watched, pass_by, produced_with, product_with, with_rows}
+use Rattle.amber_meaning.specs.Rules.{Leads, MayGo, Orders, assigned, is_watched, pass_by, produced_with, product_with, with_rows}
 use Rattle.amber_meaning.specs.Task.{Role}
 use Rattle.amber_meaning.proofs.Led.{Leads-parts, Leads-push, no_batch}
 use Rattle.amber_lines.specs.MovingLaws.{GoesJoin}
@@ -76,8 +76,8 @@ rows-both outcomes outs others rows more all is within =
     ∙ ap (λ (l : List (List Value)). l ++ take others (drop outs (drop outcomes all))) (take-append-le outs (drop outcomes rows) more (omega arith))
     ∙ ap (λ (l : List (List Value)). take outs (drop outcomes rows) ++ take others l) (drop-drop outs outcomes all)
 
-go-both : (role : Role) (orders : Orders) (p : Position) (rows outs more others : ℕ) → MayGo role orders p rows outs → MayGo role orders (with_rows orders rows outs p) more others
-    → MayGo role orders p (rows + more) (outs + others)
+go-both : (role : Role) (orders : Orders) (p : Position) (rows outs more others : ℕ) → MayGo (assigned role orders) p rows outs → MayGo (assigned role orders) (with_rows orders rows outs p) more others
+    → MayGo (assigned role orders) p (rows + more) (outs + others)
 go-both role orders p rows outs more others a b =
     record {
       free = a.free;
@@ -150,13 +150,13 @@ go-both role orders p rows outs more others a b =
 
 pub goes_join : GoesJoin
 unfolding Leads
-goes_join role orders start p q done rows outs more others leads moves =
-    let parts = Leads-parts role orders start p done (entry.Go rows outs ∷ []) leads in
+goes_join it start p q done rows outs more others leads moves =
+    let parts = Leads-parts it.role it.orders start p done (entry.Go rows outs ∷ []) leads in
     joined parts.0 parts.1 parts.2.1.1 (sym parts.2.2 ∙ parts.2.1.2)
   where
-    joined : (m : Position) → Leads role orders start done m → MayGo role orders m rows outs → p ≡ with_rows orders rows outs m
-        → Leads role orders start (done ++ entry.Go (rows + more) (outs + others) ∷ []) q
+    joined : (m : Position) → Leads it start done m → MayGo it m rows outs → p ≡ with_rows it.orders rows outs m
+        → Leads it start (done ++ entry.Go (rows + more) (outs + others) ∷ []) q
     joined m before may is =
-        let second : MayGo role orders (with_rows orders rows outs m) more others = rw is at moves.1 in
-        let now : q ≡ with_rows orders (rows + more) (outs + others) m = moves.2 ∙ ap (with_rows orders more others) is ∙ with_rows-both orders m rows outs more others in
-        Leads-push role orders start done m (entry.Go (rows + more) (outs + others)) q before (no_batch, go-both role orders m rows outs more others may second, now)
+        let second : MayGo it (with_rows it.orders rows outs m) more others = rw is at moves.1 in
+        let now : q ≡ with_rows it.orders (rows + more) (outs + others) m = moves.2 ∙ ap (with_rows it.orders more others) is ∙ with_rows-both it.orders m rows outs more others in
+        Leads-push it.role it.orders start done m (entry.Go (rows + more) (outs + others)) q before (no_batch, go-both it.role it.orders m rows outs more others may second, now)

@@ -5,7 +5,7 @@ use Rattle.std.proofs.lemmas.List.Sums.{sum_by-append, sum_by-cons}
 use Rattle.amber_log.specs.declared.entry.Entry.{Entry}
 use Rattle.amber_log.specs.declared.entry.Entry.TheVariants as entry
 use Rattle.amber_meaning.specs.Position.{Position, Taken, emitted_count, is_emitted, one_if, origin, steps_of}
-use Rattle.amber_meaning.specs.Rules.{Leads, Moves, Orders, with_rows}
+use Rattle.amber_meaning.specs.Rules.{Leads, Moves, Orders, assigned, with_rows}
 use Rattle.amber_meaning.specs.State.{State, position_at, steps_in}
 use Rattle.amber_meaning.specs.Task.{Role}
 use Rattle.amber_meaning.proofs.OneState.{position-get_or}
@@ -28,7 +28,7 @@ finish-steps p e = let none : one_if p.finished ≡ 0 = ap one_if e in omega ari
 no_fewer : (n : ℕ) → n ≤ n
 no_fewer n = omega arith
 
-moved-steps : (role : Role) (orders : Orders) (p q : Position) (one : Entry) → Moves role orders p one q → steps_of p ≤ steps_of q
+moved-steps : (role : Role) (orders : Orders) (p q : Position) (one : Entry) → Moves (assigned role orders) p one q → steps_of p ≤ steps_of q
 moved-steps role orders p q (entry.Take from number) h = rw h.2 (with_batch-steps p (record { from = from; batch = h.0 }))
 moved-steps role orders p q (entry.Go rows outs) h = rw h.2 (with_rows-steps orders p rows outs)
 moved-steps role orders p q (entry.Grant n) h = rw h.2 (no_fewer (steps_of p))
@@ -38,7 +38,7 @@ moved-steps role orders p q entry.Resume h = rw h.2 (no_fewer (steps_of p))
 moved-steps role orders p q entry.Hold h = rw h.2 (no_fewer (steps_of p))
 moved-steps role orders p q entry.Finish h = rw h.2 (finish-steps p h.1.free.unfinished)
 
-led-steps : (role : Role) (orders : Orders) (p q : Position) (entries : List Entry) → Leads role orders p entries q → steps_of p ≤ steps_of q
+led-steps : (role : Role) (orders : Orders) (p q : Position) (entries : List Entry) → Leads (assigned role orders) p entries q → steps_of p ≤ steps_of q
 unfolding Leads
 led-steps role orders p q [] h = let same = ap steps_of h in omega arith
 led-steps role orders p q (one ∷ more) h =
@@ -61,7 +61,7 @@ sums-below (p ∷ ps) (q ∷ qs) e h =
 -- where each worker's entries lead on, the steps are no fewer
 pub steps-grow : (before after : State) → length before.positions ≡ length after.positions
     → ((worker : ℕ) → worker < length before.positions → (role : Role) × ((orders : Orders) × ((entries : List Entry)
-    × Leads role orders (position_at before.positions worker) entries (position_at after.positions worker)))) → steps_in before ≤ steps_in after
+    × Leads (assigned role orders) (position_at before.positions worker) entries (position_at after.positions worker)))) → steps_in before ≤ steps_in after
 unfolding steps_in
 steps-grow before after size h =
     sums-below before.positions after.positions size (λ n less.

@@ -19,7 +19,7 @@ use Rattle.amber_log.specs.declared.log.Item.TheVariants as item
 use Rattle.amber_log.specs.declared.log.Log.{Log}
 use Rattle.amber_log.proofs.Pushes.{ends_over-push}
 use Rattle.amber_meaning.specs.Laws.{SendersFirst}
-use Rattle.amber_meaning.specs.Legal.{AreKnown, AreOffered, ClosesEnd, ClosesRun, IsLegal, IsOpen, IsWorked, Makes, Query, Reaches, after_close, entries_of, leg_start, role_in}
+use Rattle.amber_meaning.specs.Legal.{AreKnown, AreOffered, ClosesEnd, ClosesRun, IsLegal, IsOpen, IsWorked, Makes, Query, Reaches, after_close, assignment_in, entries_of, leg_start, role_in}
 use Rattle.amber_meaning.specs.Plan.{role_of}
 use Rattle.amber_meaning.specs.Position.{Position, origin, taken_from}
 use Rattle.amber_meaning.specs.Rules.{Leads, Moves, Orders}
@@ -46,7 +46,7 @@ record IsLeft (query : Query) (now after : State) (left : List Part) : Type 0 wh
   offered : AreOffered query after.positions
   few : steps_in after ≤ query.most
   led : (worker : ℕ) → worker < crew_of query.flow
-      → Leads (role_in query worker) (orders_in query now worker) (position_at now.positions worker) (entries_of left worker) (position_at after.positions worker)
+      → Leads (assignment_in query now worker) (position_at now.positions worker) (entries_of left worker) (position_at after.positions worker)
 
 left-steps : (query : Query) (now after : State) (left : List Part) → IsLeft query now after left → steps_in now ≤ query.most
 left-steps query now after left h =
@@ -69,8 +69,8 @@ record IsNext (query : Query) (now : State) (worker : ℕ) (made : Entry) (m : P
 
 next-entry : (query : Query) (now after : State) (worker : ℕ) (made : Entry) (more : List Entry) (m : Position) → SendersFirst query.flow → worker < crew_of query.flow
     → AreOffered query after.positions → ((sender : ℕ) → sender < worker → position_at now.positions sender ≡ position_at after.positions sender)
-    → Moves (role_in query worker) (orders_in query now worker) (position_at now.positions worker) made m
-    → Leads (role_in query worker) (orders_in query now worker) m more (position_at after.positions worker) → IsNext query now worker made m
+    → Moves (assignment_in query now worker) (position_at now.positions worker) made m
+    → Leads (assignment_in query now worker) m more (position_at after.positions worker) → IsNext query now worker made m
 unfolding AreOffered role_of position_behind
 next-entry query now after worker made more m first inside offered stand moves leads =
     record {
@@ -98,7 +98,7 @@ entry-judged : (query : Query) (to_end : Bool) (now after : State) (worker : ℕ
     × (judge_all query (Within to_end now worker) (line.Entry made ∷ more) ≡ judge_all query (Within to_end (state_behind query now worker made) worker) more)
 unfolding Leads judge_all
 entry-judged query to_end now after worker made entries rest more first inside text h =
-    let own : Leads (role_in query worker) (orders_in query now worker) (position_at now.positions worker) (made ∷ (entries ++ entries_of rest worker)) (position_at after.positions worker) =
+    let own : Leads (assignment_in query now worker) (position_at now.positions worker) (made ∷ (entries ++ entries_of rest worker)) (position_at after.positions worker) =
     rw (entries-first worker (made ∷ entries) rest) at (h.led worker inside) in
     by own.0 own.1 own.2
   where
@@ -113,8 +113,8 @@ entry-judged query to_end now after worker made entries rest more first inside t
         none-left query now after left sender h (omega arith)
         (entries-skip worker sender (made ∷ entries) rest (λ e. omega arith) ∙ entries-below (worker + 1) sender rest text (omega arith))
 
-    by : (m : Position) → Moves (role_in query worker) (orders_in query now worker) (position_at now.positions worker) made m
-        → Leads (role_in query worker) (orders_in query now worker) m (entries ++ entries_of rest worker) (position_at after.positions worker)
+    by : (m : Position) → Moves (assignment_in query now worker) (position_at now.positions worker) made m
+        → Leads (assignment_in query now worker) m (entries ++ entries_of rest worker) (position_at after.positions worker)
         → IsLeft query behind after (part worker entries ∷ rest)
         × (option_and_then (λ next. judge_all query next more) (judge query (Within to_end now worker) (line.Entry made)) ≡ judge_all query (Within to_end behind worker) more)
     by m moves leads =
@@ -136,10 +136,10 @@ entry-judged query to_end now after worker made entries rest more first inside t
         )
       where
         led : (other : ℕ) → other < crew_of query.flow → (other ≡ worker) ⊎ (other ≡ worker → ⊥) → position_at behind.positions worker ≡ m
-            → Leads (role_in query worker) (orders_in query now worker) m (entries ++ entries_of rest worker) (position_at after.positions worker)
-            → Leads (role_in query other) (orders_in query now other) (position_at behind.positions other) (entries_of (part worker entries ∷ rest) other) (position_at after.positions other)
+            → Leads (assignment_in query now worker) m (entries ++ entries_of rest worker) (position_at after.positions worker)
+            → Leads (assignment_in query now other) (position_at behind.positions other) (entries_of (part worker entries ∷ rest) other) (position_at after.positions other)
         led other less (inl same) here leads =
-            subst (λ (w : ℕ). Leads (role_in query w) (orders_in query now w) (position_at behind.positions w) (entries_of (part worker entries ∷ rest) w) (position_at after.positions w))
+            subst (λ (w : ℕ). Leads (assignment_in query now w) (position_at behind.positions w) (entries_of (part worker entries ∷ rest) w) (position_at after.positions w))
             (sym same) (rw (here, entries-first worker entries rest) leads)
         led other less (inr apart) here leads =
             rw (placed-else worker other (position_behind query now worker made) now apart, entries-skip worker other entries rest apart, ← entries-skip worker other (made ∷ entries) rest apart)

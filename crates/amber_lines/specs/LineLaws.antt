@@ -11,18 +11,18 @@ use Rattle.amber_log.specs.declared.line.Line.{Line}
 use Rattle.amber_log.specs.declared.line.Line.TheVariants as line
 use Rattle.amber_log.specs.declared.log.Log.{Log}
 use Rattle.amber_meaning.specs.Laws.{SendersFirst}
-use Rattle.amber_meaning.specs.Legal.{IsLegal, IsOpen, Query, role_in}
+use Rattle.amber_meaning.specs.Legal.{IsLegal, IsOpen, Query, assignment_in}
 use Rattle.amber_meaning.specs.Position.{Position}
 use Rattle.amber_meaning.specs.Rules.{Moves}
 use Rattle.amber_meaning.specs.State.{State, position_at, steps_in}
-use Rattle.amber_lines.specs.Moving.{TakesOffered, orders_in}
+use Rattle.amber_lines.specs.Moving.{TakesOffered}
 use Rattle.amber_lines.specs.Lines.{IsBeginning, illegal_line, may_enter, offers_in, open_lines, state_behind}
 
 -- the test of an entry is true exactly where it leads somewhere and the batch that it takes is there
 abbrev pub EntriesAreTested : Type 0
 EntriesAreTested = (query : Query) (now : State) (worker : ℕ) (made : Entry)
     → (may_enter query now worker made ≡ true)
-    ↔ ((q : Position) × Moves (role_in query worker) (orders_in query now worker) (position_at now.positions worker) made q
+    ↔ ((q : Position) × Moves (assignment_in query now worker) (position_at now.positions worker) made q
     × TakesOffered (offers_in query now worker) (position_at now.positions worker) made q)
 
 -- each front of a legal beginning is one

@@ -13,7 +13,7 @@ use Rattle.amber_log.specs.declared.leg.Part.{Part}
 use Rattle.amber_log.specs.declared.line.Line.{Line}
 use Rattle.amber_log.specs.declared.line.Line.TheVariants as line
 use Rattle.amber_log.specs.declared.log.Log.{Log}
-use Rattle.amber_meaning.specs.Legal.{Query, after_close, batches_for, leg_start, role_in}
+use Rattle.amber_meaning.specs.Legal.{Query, after_close, assignment_in, batches_for, leg_start}
 use Rattle.amber_rows.specs.Lists.{IsPrefix, changed_at}
 use Rattle.amber_judge.specs.LegalTests.{is_offered, may_close_end, may_close_run}
 use Rattle.amber_meaning.specs.Position.{Position}
@@ -37,7 +37,7 @@ offers_in query now worker sender = batches_for query now.positions sender worke
 -- whether a worker may make an entry: its rule allows it, and the batch that it takes is there
 unfoldable pub may_enter : Query → State → ℕ → Entry → Bool
 may_enter query now worker made =
-    may_move (role_in query worker) (orders_in query now worker) (position_at now.positions worker) made && is_offered (offers_in query now worker) made
+    may_move (assignment_in query now worker) (position_at now.positions worker) made && is_offered (offers_in query now worker) made
 
 -- where the worker stands behind it
 unfoldable pub position_behind : Query → State → ℕ → Entry → Position

@@ -1,21 +1,21 @@
 -- A leg's work in two parts: each worker moves by its rules, and what was taken was offered.
 use Rattle.std.specs.Prelude.{◌≡◌, ℕ, ◌+◌, ◌<◌, ◌≤◌, List, length, Some, Bool, false}
 use Rattle.amber_rows.specs.Lists.{nth}
-use Rattle.amber_rows.specs.Crew.{crew_of, op_of}
+use Rattle.amber_rows.specs.Crew.{crew_of}
 use Rattle.amber_rows.specs.declared.batch.Batch.{Batch}
 use Rattle.amber_log.specs.Grammar.{AreParts, ends_over}
 use Rattle.amber_log.specs.declared.entry.Entry.{Entry}
 use Rattle.amber_log.specs.declared.entry.Entry.TheVariants as entry
 use Rattle.amber_log.specs.declared.leg.Part.{Part}
 use Rattle.amber_log.specs.declared.log.Log.{Log}
-use Rattle.amber_meaning.specs.Legal.{AreKnown, IsLegal, Query, batches_for, entries_of, leg_start, role_in}
+use Rattle.amber_meaning.specs.Legal.{AreKnown, IsLegal, Query, assignment_in, batches_for, entries_of, leg_start}
 use Rattle.amber_meaning.specs.Position.{Position}
 use Rattle.amber_meaning.specs.Rules.{Leads, Moves, Orders, with_batch}
-use Rattle.amber_meaning.specs.State.{State, arms_at, orders_of, position_at, steps_in}
+use Rattle.amber_meaning.specs.State.{State, position_at, steps_in}
 
 -- the orders of a worker in a leg that began in this state
 abbrev pub orders_in : Query → State → ℕ → Orders
-orders_in query start worker = orders_of (arms_at start (op_of query.flow worker))
+orders_in query start worker = (assignment_in query start worker).orders
 
 -- what the workers did leads each from where it stood; whether what they took was there is not asked
 pub record HaveMoved (query : Query) (before : State) (parts : List Part) (after : State) : Type 0 where
@@ -23,8 +23,7 @@ pub record HaveMoved (query : Query) (before : State) (parts : List Part) (after
   pub crew : length after.positions ≡ crew_of query.flow
   pub known : AreKnown query parts
   pub moved : (worker : ℕ) → worker < crew_of query.flow
-      → Leads (role_in query worker) (orders_in query before worker)
-      (position_at before.positions worker) (entries_of parts worker) (position_at after.positions worker)
+      → Leads (assignment_in query before worker) (position_at before.positions worker) (entries_of parts worker) (position_at after.positions worker)
 
 -- a legal log and behind it a leg that is not closed yet, whose workers moved; whether what they took was there is not asked
 pub record IsUnderway (query : Query) (log : Log) (to_end : Bool) (parts : List Part) : Type 0 where
@@ -67,10 +66,10 @@ pub record IsNextEntry (query : Query) (next : NextEntry) : Type 0 where
   pub crew : length next.after.positions ≡ crew_of query.flow
   pub others : (other : ℕ) → (other ≡ next.worker → ⊥)
       → (position_at next.after.positions other ≡ position_at next.now.positions other) × (entries_of next.longer other ≡ entries_of next.parts other)
-  pub allowed : Moves (role_in query next.worker) (orders_in query next.start next.worker)
+  pub allowed : Moves (assignment_in query next.start next.worker)
       (position_at next.now.positions next.worker) next.made (position_at next.after.positions next.worker)
   pub offered : TakesOffered (λ sender. batches_for query next.now.positions sender next.worker)
       (position_at next.now.positions next.worker) next.made (position_at next.after.positions next.worker)
   -- the entries may be more by one, or have one that was merged with it
-  pub leads : Leads (role_in query next.worker) (orders_in query next.start next.worker)
+  pub leads : Leads (assignment_in query next.start next.worker)
       (position_at next.start.positions next.worker) (entries_of next.longer next.worker) (position_at next.after.positions next.worker)

@@ -7,9 +7,8 @@ use Rattle.amber_log.specs.declared.leg.Part.{Part}
 use Rattle.amber_log.specs.declared.log.Log.{Log}
 use Rattle.amber_meaning.specs.Legal.{AreOffered, IsOpen, IsWorked, Query, leg_start}
 use Rattle.amber_meaning.specs.Position.{Position}
-use Rattle.amber_meaning.specs.Rules.{Leads, Moves, Orders}
+use Rattle.amber_meaning.specs.Rules.{Assignment, Leads, Moves}
 use Rattle.amber_meaning.specs.State.{State, steps_in}
-use Rattle.amber_meaning.specs.Task.{Role}
 use Rattle.amber_lines.specs.Moving.{HaveMoved, IsNextEntry, IsUnderway}
 
 -- a leg was worked exactly where its workers moved and what they took was offered
@@ -33,6 +32,6 @@ OpenLegsGrow = (query : Query) (log : Log) (to_end : Bool) (parts longer : List 
 
 -- rows taken and emitted in one entry and then in another are taken and emitted in one entry
 abbrev pub GoesJoin : Type 0
-GoesJoin = (role : Role) (orders : Orders) (start p q : Position) (done : List Entry) (rows outs more others : ℕ)
-    → Leads role orders start (done ++ entry.Go rows outs ∷ []) p → Moves role orders p (entry.Go more others) q
-    → Leads role orders start (done ++ entry.Go (rows + more) (outs + others) ∷ []) q
+GoesJoin = (it : Assignment) (start p q : Position) (done : List Entry) (rows outs more others : ℕ)
+    → Leads it start (done ++ entry.Go rows outs ∷ []) p → Moves it p (entry.Go more others) q
+    → Leads it start (done ++ entry.Go (rows + more) (outs + others) ∷ []) q

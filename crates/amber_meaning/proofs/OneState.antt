@@ -17,7 +17,7 @@ use Rattle.amber_meaning.specs.Legal.{AreOffered, IsWorked, Makes, Query, Reache
 use Rattle.amber_meaning.specs.Plan.{role_of}
 use Rattle.amber_meaning.specs.Position.{Position, Taken, origin, taken_from}
 use Rattle.amber_meaning.specs.Replay.{after_item, after_items, led_by, positions_after, state_after, after_leg, batch_for}
-use Rattle.amber_meaning.specs.Rules.{Leads, Moves, Orders, position_after}
+use Rattle.amber_meaning.specs.Rules.{Leads, Moves, Orders, assigned, position_after}
 use Rattle.amber_meaning.specs.State.{State, arms_at, begin_leg, begin_last_leg, orders_of, position_at, start_of}
 use Rattle.amber_meaning.specs.Task.{Role}
 use Rattle.amber_meaning.proofs.Lists.{IsPrefix-refl, IsPrefix-trans, nth-behind, numbered_or}
@@ -54,7 +54,7 @@ taken_from-other (one ∷ more) from sender batch ne = by (eqb one.from sender) 
     by false e = e
 
 -- what was taken stays taken
-pub taken-keeps : (role : Role) (orders : Orders) (p q : Position) (one : Entry) (sender : ℕ) → Moves role orders p one q
+pub taken-keeps : (role : Role) (orders : Orders) (p q : Position) (one : Entry) (sender : ℕ) → Moves (assigned role orders) p one q
     → IsPrefix (taken_from p.taken sender) (taken_from q.taken sender)
 taken-keeps role orders p q (entry.Take from number) sender h =
     elim (cases_eq from sender) [
@@ -69,7 +69,7 @@ taken-keeps role orders p q entry.Resume sender h = rw h.2 (IsPrefix-refl _)
 taken-keeps role orders p q entry.Hold sender h = rw h.2 (IsPrefix-refl _)
 taken-keeps role orders p q entry.Finish sender h = rw h.2 (IsPrefix-refl _)
 
-pub Leads-keeps : (role : Role) (orders : Orders) (p q : Position) (entries : List Entry) (sender : ℕ) → Leads role orders p entries q
+pub Leads-keeps : (role : Role) (orders : Orders) (p q : Position) (entries : List Entry) (sender : ℕ) → Leads (assigned role orders) p entries q
     → IsPrefix (taken_from p.taken sender) (taken_from q.taken sender)
 unfolding Leads
 Leads-keeps role orders p q [] sender h = rw h (IsPrefix-refl _)
@@ -81,13 +81,13 @@ abbrev pub TookFirst : Role → (ℕ → List Batch) → Position → Type 0
 TookFirst role offer p = (sender : ℕ) → list_any (λ one. eqb one sender) role.senders ≡ true → IsPrefix (taken_from p.taken sender) (offer sender)
 
 -- where a batch is taken, it is the one that is looked up
-pub found-batch : (role : Role) (orders : Orders) (offer : ℕ → List Batch) (p q : Position) (from number : ℕ) (h : Moves role orders p (entry.Take from number) q)
+pub found-batch : (role : Role) (orders : Orders) (offer : ℕ → List Batch) (p q : Position) (from number : ℕ) (h : Moves (assigned role orders) p (entry.Take from number) q)
     → TookFirst role offer q → nth (offer from) (number + 1) ≡ Some h.0
 found-batch role orders offer p q from number h first =
     let b : IsPrefix (taken_from p.taken from ++ h.0 ∷ []) (offer from) = rw (h.2, taken_from-push p.taken from h.0) at (first from h.1.sender) in
     nth-behind (taken_from p.taken from) (offer from) h.0 number h.1.next b
 
-pub moved-is : (role : Role) (orders : Orders) (offer : ℕ → List Batch) (p q : Position) (one : Entry) → Moves role orders p one q
+pub moved-is : (role : Role) (orders : Orders) (offer : ℕ → List Batch) (p q : Position) (one : Entry) → Moves (assigned role orders) p one q
     → TookFirst role offer q → position_after orders (batch_for offer one) one p ≡ q
 moved-is role orders offer p q (entry.Take from number) h first = rw (found-batch role orders offer p q from number h first) (sym h.2)
 moved-is role orders offer p q (entry.Go rows outs) h first = sym h.2
@@ -98,7 +98,7 @@ moved-is role orders offer p q entry.Resume h first = sym h.2
 moved-is role orders offer p q entry.Hold h first = sym h.2
 moved-is role orders offer p q entry.Finish h first = sym h.2
 
-pub led-is : (role : Role) (orders : Orders) (offer : ℕ → List Batch) (p q : Position) (entries : List Entry) → Leads role orders p entries q
+pub led-is : (role : Role) (orders : Orders) (offer : ℕ → List Batch) (p q : Position) (entries : List Entry) → Leads (assigned role orders) p entries q
     → TookFirst role offer q → led_by offer orders entries p ≡ q
 unfolding Leads led_by
 led-is role orders offer p q [] h first = h

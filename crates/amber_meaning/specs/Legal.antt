@@ -22,7 +22,7 @@ use Rattle.amber_meaning.specs.declared.view.Stop.{Stop}
 use Rattle.amber_meaning.specs.Plain.{records_of}
 use Rattle.amber_meaning.specs.Plan.{role_of}
 use Rattle.amber_meaning.specs.Position.{Position, emitted_rows, taken_from}
-use Rattle.amber_meaning.specs.Rules.{Leads}
+use Rattle.amber_meaning.specs.Rules.{Assignment, Leads, assigned}
 use Rattle.amber_meaning.specs.State.{Counting, State, arms_at, begin_leg, begin_last_leg, after_command, counted_at, have_finished, orders_of, position_at, start_of, steps_in}
 use Rattle.amber_meaning.specs.Stops.{stops_of, without_stops}
 use Rattle.amber_meaning.specs.Task.{Role}
@@ -40,6 +40,10 @@ query_over flow files size most = record { flow = flow; records = records_of fil
 
 abbrev pub role_in : Query → ℕ → Role
 role_in query worker = role_of query.flow query.records worker
+
+-- what a worker does in a leg that began in this state, and its orders there
+abbrev pub assignment_in : Query → State → ℕ → Assignment
+assignment_in query start worker = assigned (role_in query worker) (orders_of (arms_at start (op_of query.flow worker)))
 
 -- ---- links
 
@@ -75,8 +79,7 @@ pub record IsWorked (query : Query) (before : State) (parts : List Part) (after 
   pub crew : length after.positions ≡ crew_of query.flow
   pub known : AreKnown query parts
   pub moved : (worker : ℕ) → worker < crew_of query.flow
-      → Leads (role_in query worker) (orders_of (arms_at before (op_of query.flow worker)))
-      (position_at before.positions worker) (entries_of parts worker) (position_at after.positions worker)
+      → Leads (assignment_in query before worker) (position_at before.positions worker) (entries_of parts worker) (position_at after.positions worker)
   pub offered : AreOffered query after.positions
 
 -- no hand holds a unit, and no count has counted more than it asks for

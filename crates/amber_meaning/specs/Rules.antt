@@ -16,6 +16,15 @@ pub record Orders : Type 0 where
   pub watch : Option Cond
   pub counted : Bool
 
+-- what a worker does, and the orders that it is under
+pub record Assignment : Type 0 where
+  pub role : Role
+  pub orders : Orders
+
+-- the two together
+abbrev pub assigned : Role → Orders → Assignment
+assigned role orders = record { role = role; orders = orders }
+
 -- ---- the parts of the rules
 
 -- neither paused nor held nor finished
@@ -64,16 +73,16 @@ pub record MayTake (role : Role) (p : Position) (from number : ℕ) : Type 0 whe
   pub side : may_take_from role p.taken from ≡ true
 
 -- taking rows and emitting rows
-pub record MayGo (role : Role) (orders : Orders) (p : Position) (rows outs : ℕ) : Type 0 where
+pub record MayGo (it : Assignment) (p : Position) (rows outs : ℕ) : Type 0 where
   pub free : IsFree p
-  pub within : length p.constants + rows ≤ length (all_arrivals role p.taken)
-  pub produced : length p.outcomes + outs ≤ produced_with role orders p rows
+  pub within : length p.constants + rows ≤ length (all_arrivals it.role p.taken)
+  pub produced : length p.outcomes + outs ≤ produced_with it.role it.orders p rows
   -- a row is taken only where all that was produced before it is gone
-  pub drained : 0 < rows → produced_with role orders p (rows - 1) ≤ length p.outcomes + outs
+  pub drained : 0 < rows → produced_with it.role it.orders p (rows - 1) ≤ length p.outcomes + outs
   -- under a count each row is emitted with a unit, and each is taken while there is one
-  pub in_hand : orders.counted ≡ true → outs ≤ p.hand
-  pub before_taking : orders.counted ≡ true → 0 < rows → produced_with role orders p (rows - 1) < length p.outcomes + p.hand
-  pub no_stop : pass_by orders.watch p.waved (take outs (drop (length p.outcomes) (product_with role orders p rows))) ≡ true
+  pub in_hand : it.orders.counted ≡ true → outs ≤ p.hand
+  pub before_taking : it.orders.counted ≡ true → 0 < rows → produced_with it.role it.orders p (rows - 1) < length p.outcomes + p.hand
+  pub no_stop : pass_by it.orders.watch p.waved (take outs (drop (length p.outcomes) (product_with it.role it.orders p rows))) ≡ true
 
 -- claiming units of a count
 pub record MayGrant (orders : Orders) (p : Position) : Type 0 where
@@ -95,11 +104,11 @@ pub record MayResume (p : Position) : Type 0 where
   pub unfinished : p.finished ≡ false
 
 -- stopping before a row that meets the condition
-pub record MayHold (role : Role) (orders : Orders) (p : Position) : Type 0 where
+pub record MayHold (it : Assignment) (p : Position) : Type 0 where
   pub free : IsFree p
-  pub watched : first_is_watched orders.watch (pending_rows role p) ≡ true
+  pub watched : first_is_watched it.orders.watch (pending_rows it.role p) ≡ true
   pub not_waved : p.waved ≡ false
-  pub in_hand : orders.counted ≡ true → 0 < p.hand
+  pub in_hand : it.orders.counted ≡ true → 0 < p.hand
 
 pub record MayFinish (role : Role) (p : Position) : Type 0 where
   pub free : IsFree p
@@ -108,15 +117,15 @@ pub record MayFinish (role : Role) (p : Position) : Type 0 where
   pub ended : have_ended role.senders p.taken ≡ true
 
 -- when an entry may come
-abbrev pub May : Role → Orders → Position → Entry → Type 0
-May role orders p (entry.Take from number) = MayTake role p from number
-May role orders p (entry.Go rows outs) = MayGo role orders p rows outs
-May role orders p (entry.Grant n) = MayGrant orders p
-May role orders p (entry.Back n) = MayGiveBack orders p n
-May role orders p entry.Pause = MayPause p
-May role orders p entry.Resume = MayResume p
-May role orders p entry.Hold = MayHold role orders p
-May role orders p entry.Finish = MayFinish role p
+abbrev pub May : Assignment → Position → Entry → Type 0
+May it p (entry.Take from number) = MayTake it.role p from number
+May it p (entry.Go rows outs) = MayGo it p rows outs
+May it p (entry.Grant n) = MayGrant it.orders p
+May it p (entry.Back n) = MayGiveBack it.orders p n
+May it p entry.Pause = MayPause p
+May it p entry.Resume = MayResume p
+May it p entry.Hold = MayHold it p
+May it p entry.Finish = MayFinish it.role p
 
 -- ---- the position afterwards
 
@@ -152,10 +161,10 @@ position_after orders offered entry.Finish p = record p { finished = true }
 -- ---- one entry, and a journal
 
 -- an entry leads from one position to another: it may come, and some batch is offered to it
-abbrev pub Moves : Role → Orders → Position → Entry → Position → Type 0
-Moves role orders p one q = (batch : Batch) × May role orders p one × (q ≡ position_after orders (Some batch) one p)
+abbrev pub Moves : Assignment → Position → Entry → Position → Type 0
+Moves it p one q = (batch : Batch) × May it p one × (q ≡ position_after it.orders (Some batch) one p)
 
 -- entries lead from one position to another, one after the other
-unfoldable pub Leads : Role → Orders → Position → List Entry → Position → Type 0
-Leads role orders p [] q = p ≡ q
-Leads role orders p (one ∷ more) q = (m : Position) × Moves role orders p one m × Leads role orders m more q
+unfoldable pub Leads : Assignment → Position → List Entry → Position → Type 0
+Leads it p [] q = p ≡ q
+Leads it p (one ∷ more) q = (m : Position) × Moves it p one m × Leads it m more q

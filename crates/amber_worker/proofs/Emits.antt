@@ -5,7 +5,7 @@ use Rattle.std.proofs.lemmas.List.Sums.{sum_by_push}
 use Rattle.amber_rows.specs.declared.value.Value.{Value}
 use Rattle.amber_log.specs.declared.entry.Entry.TheVariants as entry
 use Rattle.amber_meaning.specs.Position.{Position, emitted_rows, is_emitted, product}
-use Rattle.amber_meaning.specs.Rules.{MayFinish, MayGo, is_watched, pass_by, product_with, produced_with, with_rows}
+use Rattle.amber_meaning.specs.Rules.{MayFinish, MayGo, assigned, is_watched, pass_by, product_with, produced_with, with_rows}
 use Rattle.amber_link.specs.Sides.{AreEnded, have_all_ended}
 use Rattle.amber_worker.specs.Links.{IsHandedOn, number_to}
 use Rattle.amber_link.specs.declared.receivers.Receiver.{Receiver}
@@ -29,7 +29,7 @@ open-outs context w p shows works =
     subst P open_still shows.outs
 
 may-emit_row : (context : Context) (w : WorkerState) (p : Position) (row : List Value) (later : List (List Value))
-    → Shows context w p → w.pending ≡ row ∷ later → IsWorking w → HasUnit context.orders.counted w → lets_by w row ≡ true → MayGo context.placement.role context.orders p 0 1
+    → Shows context w p → w.pending ≡ row ∷ later → IsWorking w → HasUnit context.orders.counted w → lets_by w row ≡ true → MayGo (assigned context.placement.role context.orders) p 0 1
 may-emit_row context w p row later shows pending works unit by_it =
     let produced = left-within (length p.outcomes) (product context.placement.role p.taken p.constants) row later (sym shows.pending ∙ pending) in
     let same : produced_with context.placement.role context.orders p 0 ≡ length (product context.placement.role p.taken p.constants) =

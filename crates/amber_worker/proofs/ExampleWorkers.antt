@@ -26,6 +26,7 @@ use Rattle.amber_rows.specs.Shares.{share_of, with_numbers}
 use Rattle.amber_meaning.specs.Position.{Position, all_arrivals, have_ended, kept, origin, product, taken_from}
 use Rattle.amber_meaning.specs.Replay.{after_item, after_items, led_by, positions_after, state_after, after_leg}
 use Rattle.amber_judge.specs.RuleTests.{may_finish, may_go, may_take}
+use Rattle.amber_meaning.specs.Rules.{assigned}
 use Rattle.amber_meaning.specs.State.{begin_leg, begin_last_leg, start_of, steps_in}
 use Rattle.amber_meaning.specs.Stops.{without_stops}
 use Rattle.amber_meaning.specs.Task.{built_of}
@@ -193,7 +194,7 @@ threes count = replicate count (cell 3)
 -- the filter may write this down where the scan has made the batches of so many rows of these threes
 abbrev may_write : ℕ → ℕ → List Entry → Bool
 may_write size count entries =
-    may_lead (λ sender. chunks_of size (threes count) true) (role_in (query five 400) 1) (record { constants = cell 2; watch = None; counted = false }) origin entries
+    may_lead (λ sender. chunks_of size (threes count) true) (assigned (role_in (query five 400) 1) (record { constants = cell 2; watch = None; counted = false })) origin entries
 
 in_one_batch : may_write 400 400 (t 0 0 ∷ g 400 400 ∷ t 0 1 ∷ f ∷ []) ≡ true
 unfolding logs_on_literals

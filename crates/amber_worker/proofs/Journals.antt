@@ -10,7 +10,7 @@ use Rattle.amber_log.specs.Grammar.{AreEntries, IsEntry, is_go}
 use Rattle.amber_log.specs.declared.entry.Entry.{Entry}
 use Rattle.amber_log.specs.declared.entry.Entry.TheVariants as entry
 use Rattle.amber_meaning.specs.Position.{Position, Taken, all_arrivals, is_complete, product}
-use Rattle.amber_meaning.specs.Rules.{Leads, MayGo, Orders, is_watched, pass_by, produced_with, product_with, with_rows}
+use Rattle.amber_meaning.specs.Rules.{Leads, MayGo, Orders, assigned, is_watched, pass_by, produced_with, product_with, with_rows}
 use Rattle.amber_meaning.specs.Task.{Role}
 use Rattle.amber_meaning.specs.Produce.{closing, yields}
 use Rattle.amber_meaning.proofs.Led.{no_batch}
@@ -151,8 +151,8 @@ front-of n a xs ys few =
     ap (take a) (drop-append-le n xs ys within) ∙ take-append-le a (drop n xs) ys enough
 
 -- rows that were taken and emitted, and then some that may be, may go as one
-pub go-both : (role : Role) (orders : Orders) (p : Position) (rows outs more others : ℕ) → MayGo role orders p rows outs
-    → MayGo role orders (with_rows orders rows outs p) more others → MayGo role orders p (rows + more) (outs + others)
+pub go-both : (role : Role) (orders : Orders) (p : Position) (rows outs more others : ℕ) → MayGo (assigned role orders) p rows outs
+    → MayGo (assigned role orders) (with_rows orders rows outs p) more others → MayGo (assigned role orders) p (rows + more) (outs + others)
 go-both role orders p rows outs more others first second =
     let constants = length-append p.constants (replicate rows orders.constants) in
     let rows_gone = length-replicate rows orders.constants in
@@ -212,7 +212,7 @@ go-both role orders p rows outs more others first second =
 
 -- rows more at the end of a journal lead on
 pub Leads-go : (role : Role) (orders : Orders) (start : Position) (journal : List Entry) (p : Position) (rows outs : ℕ)
-    → Leads role orders start journal p → MayGo role orders p rows outs → Leads role orders start (with_go journal rows outs) (with_rows orders rows outs p)
+    → Leads (assigned role orders) start journal p → MayGo (assigned role orders) p rows outs → Leads (assigned role orders) start (with_go journal rows outs) (with_rows orders rows outs p)
 unfolding Leads with_go
 Leads-go role orders start [] p rows outs leads may = (with_rows orders rows outs p, (no_batch, rw leads may, rw leads refl), refl)
 Leads-go role orders start (entry.Take sender batch ∷ []) p rows outs leads may =

@@ -11,7 +11,7 @@ use Rattle.amber_rows.specs.declared.column.Column.{Column}
 use Rattle.amber_rows.specs.declared.flow.What.{What}
 use Rattle.amber_rows.specs.declared.flow.What.TheVariants as what
 use Rattle.amber_meaning.specs.Position.{Position, Taken, all_arrivals, have_ended, is_complete, product}
-use Rattle.amber_meaning.specs.Rules.{IsFree, MayGo, Orders, is_watched, produced_with, with_rows}
+use Rattle.amber_meaning.specs.Rules.{IsFree, MayGo, Orders, assigned, is_watched, produced_with, with_rows}
 use Rattle.amber_meaning.specs.Task.{Arrival, Role, Task, columns_from, is_builder, row_in, suiting, rows_in}
 use Rattle.amber_meaning.specs.Produce.{closing, produce, yields, yields_if}
 use Rattle.amber_meaning.specs.Kinds.{closing_rows, yields_row, kept_rows}
@@ -217,7 +217,7 @@ all-gone context w p shows none =
     omega arith
 
 may-take_row : (context : Context) (w : WorkerState) (p : Position) (one : Arrival) (later : List Arrival) (now : OperatorState) (last : List (List Value))
-    → TakesOne context w p one later now last → IsWorking w → HasUnit context.orders.counted w → MayGo context.placement.role context.orders p 1 0
+    → TakesOne context w p one later now last → IsWorking w → HasUnit context.orders.counted w → MayGo (assigned context.placement.role context.orders) p 1 0
 may-take_row context w p one later now_does last takes works unit =
     let shows = takes.shows in
     let within = left-within (length p.constants) (all_arrivals context.placement.role p.taken) one later (sym shows.rest ∙ takes.rest) in

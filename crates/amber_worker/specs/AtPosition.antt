@@ -14,7 +14,7 @@ use Rattle.amber_log.specs.Grammar.{AreEntries}
 use Rattle.amber_group.specs.Group.{IsFedWith}
 use Rattle.amber_meaning.specs.Plan.{role_of}
 use Rattle.amber_meaning.specs.Position.{Position, Taken, emitted_count, emitted_rows, all_arrivals, has_last, pending_rows, produced_rows, rest_of, taken_from}
-use Rattle.amber_meaning.specs.Rules.{Leads, Orders}
+use Rattle.amber_meaning.specs.Rules.{Leads, Orders, assigned}
 use Rattle.amber_meaning.specs.State.{first_constants}
 use Rattle.amber_meaning.specs.Task.{Arrival, Role, Task, built_of, is_builder, rows_in}
 use Rattle.amber_meaning.specs.Kinds.Filter.{with_constant}
@@ -178,7 +178,7 @@ pub record Shows (context : Context) (w : WorkerState) (p : Position) : Type 0 w
 
 -- a worker stands at a position: it shows it, and its journal leads there from where it stood when the journal was empty
 pub record IsAtPosition (context : Context) (w : WorkerState) (start p : Position) : Type 0 where
-  pub leads : Leads context.placement.role context.orders start w.journal p
+  pub leads : Leads (assigned context.placement.role context.orders) start w.journal p
   pub text : AreEntries false w.journal
   pub shows : Shows context w p
 
