@@ -233,7 +233,7 @@ few-sent f later few made over = record {
 
 -- ---- rows that are emitted
 
-pub emits-row : (w : WorkerState) (later : List (List Value)) (outs after : List Receiver) (journal : List Entry) → EmitsFirst w.route w.pending w.outs later after → outs ≡ after
+pub emits-row : (w : WorkerState) (later : List (List Value)) (outs after : List Receiver) (journal : List Entry) → EmitsFirst w.route (record { pending = w.pending; outs = w.outs }) (record { pending = later; outs = after }) → outs ≡ after
     → journal ≡ with_go w.journal 0 1 → w.waved ≡ false → EmitsRow false w (record w { pending = later; emitted = w.emitted + 1; outs = outs; journal = journal })
 emits-row w later outs after journal emits outs_is journal_is waved = record {
   row = emits.row;

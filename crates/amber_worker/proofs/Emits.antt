@@ -9,12 +9,12 @@ use Rattle.amber_meaning.specs.Rules.{MayFinish, MayGo, assigned, is_watched, pa
 use Rattle.amber_link.specs.Sides.{AreEnded, have_all_ended}
 use Rattle.amber_worker.specs.Links.{IsHandedOn, number_to}
 use Rattle.amber_link.specs.declared.receivers.Receiver.{Receiver}
-use Rattle.amber_worker.specs.AtPosition.{Context, KeepsUnder, SendAll, Shows}
+use Rattle.amber_worker.specs.AtPosition.{Context, KeepsUnder, SendAll, Shows, output_at}
 use Rattle.amber_worker.specs.WorkerState.{WorkerState}
 use Rattle.amber_worker.specs.Steps.{all_done, row_emitted}
 use Rattle.amber_meaning.proofs.Led.{Leads-push, no_batch}
 use Rattle.amber_worker.proofs.Journals.{AreEntries-push, AreEntries-with_go, Leads-go, first-passes}
-use Rattle.amber_worker.proofs.Sent.{send_all-end, send_all-row}
+use Rattle.amber_worker.proofs.Sent.{send_all-end, send_all-row, unended}
 use Rattle.amber_worker.proofs.Produced.{kept-next, left-next, left-within}
 use Rattle.amber_worker.proofs.Moves.{HasUnit, IsWorking, all-ended, free-shown, lets_by}
 
@@ -22,10 +22,10 @@ use Rattle.amber_worker.proofs.Moves.{HasUnit, IsWorking, all-ended, free-shown,
 
 -- nothing is at its end that works
 open-outs : (context : Context) (w : WorkerState) (p : Position) → Shows context w p → IsWorking w
-    → SendAll context.placement context.placement.receivers (emitted_rows context.placement.role p) false context.base.gave w.outs
+    → SendAll context.placement context.placement.receivers (unended (emitted_rows context.placement.role p) context.base.gave) w.outs
 open-outs context w p shows works =
     let open_still : p.finished ≡ false = sym shows.finished ∙ works.unfinished in
-    let P : Bool → Type 0 = λ ended. SendAll context.placement context.placement.receivers (emitted_rows context.placement.role p) ended context.base.gave w.outs in
+    let P : Bool → Type 0 = λ ended. SendAll context.placement context.placement.receivers (record (output_at context p) { ended = ended }) w.outs in
     subst P open_still shows.outs
 
 may-emit_row : (context : Context) (w : WorkerState) (p : Position) (row : List Value) (later : List (List Value))

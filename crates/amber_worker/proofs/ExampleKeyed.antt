@@ -110,7 +110,7 @@ fresh-outs e (suc (suc zero)) d less = e.fresh7
 fresh-outs e (suc (suc (suc zero))) d less = e.fresh8
 fresh-outs e (suc (suc (suc (suc k)))) d less = absurd (omega arith)
 
-is-fresh : (e : Ends) → IsFresh grouped 3 2 None (worker e)
+is-fresh : (e : Ends) → IsFresh (record { flow = grouped; number = 3; size = 2; share = None }) (worker e)
 unfolding op_of receiver_of reader_from first_worker_of keyed_receiver_of crew_of groups_of first_keys
 is-fresh e = record {
   op = refl;

@@ -38,6 +38,7 @@ use Rattle.amber_worker.specs.WorkerState.{WorkerState}
 use Rattle.amber_worker.specs.declared.operator_state.OperatorState.TheVariants as operator_state
 use Rattle.amber_link.specs.Sides.{without_room}
 use Rattle.amber_worker.proofs.Roomless.{all-roomless}
+use Rattle.amber_worker.proofs.Sent.{unended}
 use Rattle.amber_worker.proofs.Fresh.{sender-within}
 use Rattle.amber_worker.proofs.FreshParts.{building-first, builders-first, closing-first, columns-arrivals, does-first, has-first, kept-first, order-first, product-first, rest-first, scan-operator_state, scan-senders, side-first}
 
@@ -86,7 +87,7 @@ carries-first out size some fresh =
     }
 
 sent-first : (placement : Placement) (outs : List Receiver) → 0 < placement.size → are_different (map to_of outs) ≡ true → All (λ (one : Receiver). IsFreshOut placement.size one.link) outs
-    → SendAll placement (map to_of outs) [] false (λ _. []) outs
+    → SendAll placement (map to_of outs) (unended [] (λ _. [])) outs
 unfolding SendAll
 sent-first placement [] some apart fresh = tt
 sent-first placement (one ∷ outs) some apart fresh =
@@ -116,7 +117,7 @@ known-at flow worker k ins d is less =
 -- a worker that has done nothing shows the beginning
 shows-first : (flow : List Operator) (records : List (List (Result (List Value) RowFault))) (size worker : ℕ) (share : Option (List Scanned)) (w : WorkerState)
     → 0 < size → is_some share ≡ is_scan (what_at flow (op_of flow worker))
-    → HasShare share (role_of flow records worker) → IsFresh flow worker size share w
+    → HasShare share (role_of flow records worker) → IsFresh (record { flow = flow; number = worker; size = size; share = share }) w
     → Shows (first_context flow records size worker) w origin
 unfolding placement_of first_orders role_of task_of all_arrivals closing kept
 shows-first flow records size worker share w some shared has fresh =
@@ -153,7 +154,7 @@ shows-first flow records size worker share w some shared has fresh =
       finished = fresh.finished;
       ins = subst (λ senders. ReceiveAll senders (λ _. []) [] w.ins) fresh.senders
           (received-first flow kind w.ins (ap are_different fresh.senders ∙ different-senders flow worker) fresh.ins fresh.in_ends);
-      outs = rw nothing (subst (λ receivers. SendAll placement receivers [] false (λ _. []) w.outs) fresh.receivers
+      outs = rw nothing (subst (λ receivers. SendAll placement receivers (unended [] (λ _. [])) w.outs) fresh.receivers
           (sent-first placement w.outs some (ap are_different fresh.receivers ∙ different-receivers flow worker) fresh.out_ends));
       route = fresh.route;
     }
@@ -161,7 +162,7 @@ shows-first flow records size worker share w some shared has fresh =
 -- a worker that has done nothing stands at the beginning
 pub fresh-stands : (flow : List Operator) (records : List (List (Result (List Value) RowFault))) (size worker : ℕ) (share : Option (List Scanned)) (w : WorkerState)
     → 0 < size → is_some share ≡ is_scan (what_at flow (op_of flow worker))
-    → HasShare share (role_of flow records worker) → IsFresh flow worker size share w
+    → HasShare share (role_of flow records worker) → IsFresh (record { flow = flow; number = worker; size = size; share = share }) w
     → IsAtPosition (first_context flow records size worker) w origin origin
 unfolding Leads AreEntries
 fresh-stands flow records size worker share w some shared has fresh = record {
@@ -219,7 +220,7 @@ no-sender flow worker (one ∷ ins) is scans = let none = is ∙ scan-senders fl
 
 -- what is made of a task and of ends has done nothing
 pub made-fresh : (flow : List Operator) (worker size : ℕ) (share : Option (List Scanned)) (task : WorkerTask) (ends : WorkerEnds) → IsTaskOf flow worker task → AreNumbered flow worker ends
-    → All (IsFreshOut size) (map out_of ends.outs.items) → All IsFreshIn (map end_of ends.ins.items) → IsFresh flow worker size share (fresh_worker worker share task ends)
+    → All (IsFreshOut size) (map out_of ends.outs.items) → All IsFreshIn (map end_of ends.ins.items) → IsFresh (record { flow = flow; number = worker; size = size; share = share }) (fresh_worker worker share task ends)
 made-fresh flow worker size share task ends is numbered outs ins = record {
   op = is.op;
   number = refl;

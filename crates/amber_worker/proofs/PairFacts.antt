@@ -3,7 +3,6 @@ use Rattle.std.proofs.Common.{◌≡◌, ℕ, zero, suc, ◌<◌, eqb, arith, Li
 use Rattle.std.specs.List.{list_any}
 use Rattle.std.proofs.lemmas.Bool.{eq-eqb, false≢true, or_left, or_right}
 use Rattle.std.proofs.lemmas.List.{append-nil}
-use Rattle.amber_rows.specs.declared.value.Value.{Value}
 use Rattle.amber_rows.specs.declared.batch.Batch.{Batch}
 use Rattle.amber_rows.specs.Chunks.{chunks_of}
 use Rattle.amber_meaning.specs.Position.{Position, Taken, emitted_rows, taken_from}
@@ -17,7 +16,7 @@ use Rattle.amber_link.specs.declared.receivers.Receiver.{Receiver}
 use Rattle.amber_link.proofs.LinkEnds.{linked-still, same-in, same-out}
 use Rattle.amber_link.proofs.SameEnds.{receivers-same, senders-same}
 use Rattle.amber_link.proofs.Sides.{get_or-any, map-at, map-length, pairwise-length, pairwise-set}
-use Rattle.amber_worker.specs.AtPosition.{HasSameEnds, IsAtPosition, Placement, ReceiveAll, Receives, SendAll, Sends, stream_to}
+use Rattle.amber_worker.specs.AtPosition.{HasSameEnds, IsAtPosition, Output, Placement, ReceiveAll, Receives, SendAll, Sends, output_at, stream_to}
 use Rattle.amber_worker.specs.Links.{AreEndsOf, Passes}
 use Rattle.amber_worker.specs.Pairs.{AreJoined, AreSettledAt, IsLinkAt, Offers, OffersAll, PassesOn, StaysAt}
 use Rattle.amber_worker.specs.WorkerState.{WorkerState}
@@ -110,15 +109,15 @@ to-ends all from to from_now to_now h =
 -- ---- the places of a link
 
 -- what is kept of the receiver at a place
-pub sends-at : (placement : Placement) (receivers : List ℕ) (rows : List (List Value)) (ended : Bool) (gave : ℕ → List Batch) (outs : List Receiver) (j : ℕ) (n : ℕ) (d : Receiver) → j < length outs
-    → (get_or outs j d).to ≡ n → SendAll placement receivers rows ended gave outs → Sends placement n rows ended (gave n) (get_or outs j d)
+pub sends-at : (placement : Placement) (receivers : List ℕ) (output : Output) (outs : List Receiver) (j : ℕ) (n : ℕ) (d : Receiver) → j < length outs
+    → (get_or outs j d).to ≡ n → SendAll placement receivers output outs → Sends placement n output (get_or outs j d)
 unfolding SendAll
-sends-at placement [] rows ended gave [] j n d less own h = absurd (omega arith)
-sends-at placement [] rows ended gave (one ∷ outs) j n d less own h = absurd h
-sends-at placement (receiver ∷ receivers) rows ended gave [] j n d less own h = absurd h
-sends-at placement (receiver ∷ receivers) rows ended gave (one ∷ outs) zero n d less own h =
-    subst (λ r. Sends placement r rows ended (gave r) one) (sym h.0.to ∙ own) h.0
-sends-at placement (receiver ∷ receivers) rows ended gave (one ∷ outs) (suc j) n d less own h = sends-at placement receivers rows ended gave outs j n d (omega arith) own h.2
+sends-at placement [] output [] j n d less own h = absurd (omega arith)
+sends-at placement [] output (one ∷ outs) j n d less own h = absurd h
+sends-at placement (receiver ∷ receivers) output [] j n d less own h = absurd h
+sends-at placement (receiver ∷ receivers) output (one ∷ outs) zero n d less own h =
+    subst (λ r. Sends placement r output one) (sym h.0.to ∙ own) h.0
+sends-at placement (receiver ∷ receivers) output (one ∷ outs) (suc j) n d less own h = sends-at placement receivers output outs j n d (omega arith) own h.2
 
 -- what is kept of the sender at a place
 pub receives-at : (senders : List ℕ) (had : ℕ → List Batch) (batches : List Taken) (ins : List Sender) (k : ℕ) (n : ℕ) (d : Sender) → k < length ins → (get_or ins k d).from ≡ n
@@ -169,7 +168,7 @@ offers all from to from_now to_now h one other beside =
     let s = h.passes.settles in
     let out : Receiver = get_or from.outs h.passes.j s.out in
     let into : Sender = get_or to.ins h.passes.k s.into in
-    let sends = sends-at sender sender.receivers (emitted_rows sender.role p) p.finished one.context.base.gave from.outs h.passes.j receiver.number s.out h.passes.j_within
+    let sends = sends-at sender sender.receivers (output_at one.context p) from.outs h.passes.j receiver.number s.out h.passes.j_within
     (h.passes.to_is s.out ∙ beside.other_shows.number) beside.shows.outs in
     let receives = receives-at receiver.role.senders other.context.base.had q.taken to.ins h.passes.k sender.number s.into h.passes.k_within
     (h.passes.from_is s.into ∙ beside.shows.number) beside.other_shows.ins in
@@ -194,7 +193,7 @@ offers-all from to h one other beside k d less own =
     let into : Sender = get_or to.ins k d in
     let from_is = h.places.from_is d ∙ beside.shows.number in
     let same : k ≡ h.k = one-place receiver.role.senders other.context.base.had q.taken to.ins k h.k sender.number d d less h.places.k_within own from_is beside.other_shows.ins in
-    let sends = sends-at sender sender.receivers (emitted_rows sender.role p) p.finished one.context.base.gave from.outs h.j receiver.number h.out h.places.j_within
+    let sends = sends-at sender sender.receivers (output_at one.context p) from.outs h.j receiver.number h.out h.places.j_within
     (h.places.to_is h.out ∙ beside.other_shows.number) beside.shows.outs in
     let receives = receives-at receiver.role.senders other.context.base.had q.taken to.ins k sender.number d less own beside.other_shows.ins in
     let carries : OutCarries out.link (other.context.base.had sender.number) (stream_to sender receiver.number (emitted_rows sender.role p)) =

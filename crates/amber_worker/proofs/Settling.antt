@@ -5,7 +5,7 @@ use Rattle.std.proofs.lemmas.List.Elements.{All-cons}
 use Rattle.amber_rows.specs.declared.batch.Batch.{Batch}
 use Rattle.amber_log.specs.Grammar.{AreEntries}
 use Rattle.amber_log.specs.declared.entry.Entry.{Entry}
-use Rattle.amber_meaning.specs.Position.{Position, Taken, emitted_rows, steps_of, taken_from}
+use Rattle.amber_meaning.specs.Position.{Position, Taken, steps_of, taken_from}
 use Rattle.amber_meaning.specs.Rules.{Leads}
 use Rattle.amber_meaning.specs.Task.{Task, is_builder}
 use Rattle.amber_link.specs.declared.senders.Sender.{Sender}
@@ -15,7 +15,7 @@ use Rattle.amber_link.specs.Sides.{Way}
 use Rattle.amber_link.proofs.LinkEnds.{taken-looked}
 use Rattle.amber_worker.specs.Links.{Passes}
 use Rattle.amber_worker.proofs.Sent.{send_all-sent, sends-to-all}
-use Rattle.amber_worker.specs.AtPosition.{Context, IsAtPosition, ReceiveAll, SendAll, Shows}
+use Rattle.amber_worker.specs.AtPosition.{Context, IsAtPosition, ReceiveAll, SendAll, Shows, output_at}
 use Rattle.amber_worker.specs.WorkerState.{WorkerState, steps_made}
 
 -- the steps of a worker are those of its position
@@ -25,7 +25,7 @@ steps-shown context w p shows = rw (shows.taken, shows.emitted, shows.batches, s
 -- the same position is shown with other links that suit it, and another journal
 pub Shows-relinked : (context : Context) (w : WorkerState) (p : Position) (ins : List Sender) (outs : List Receiver) (journal : List Entry)
     → Shows context w p → ReceiveAll context.placement.role.senders context.base.had p.taken ins → All (λ one. one.builds ≡ is_builder context.placement.role.task one.from) ins
-    → SendAll context.placement context.placement.receivers (emitted_rows context.placement.role p) p.finished context.base.gave outs
+    → SendAll context.placement context.placement.receivers (output_at context p) outs
     → Shows context (record w { ins = ins; outs = outs; journal = journal }) p
 Shows-relinked context w p ins outs journal shows received sides sends = record {
   op = shows.op;
@@ -70,7 +70,7 @@ IsAtPosition-without_journal context w start p stands = record { leads = refl; t
 pub sends-to : (context : Context) (w : WorkerState) (p : Position) (receiver : ℕ)
     → Shows context w p → list_any (λ one. eqb one.to receiver) w.outs ≡ list_any (λ one. eqb one receiver) context.placement.receivers
 sends-to context w p receiver shows =
-    sends-to-all context.placement context.placement.receivers (emitted_rows context.placement.role p) p.finished context.base.gave w.outs receiver shows.outs
+    sends-to-all context.placement context.placement.receivers (output_at context p) w.outs receiver shows.outs
 
 pub receives-from : (context : Context) (w : WorkerState) (p : Position) (sender : ℕ)
     → Shows context w p → list_any (λ one. eqb one.from sender) w.ins ≡ list_any (λ one. eqb one sender) context.placement.role.senders
@@ -116,8 +116,8 @@ IsAtPosition-passed_on all context w other start p way outs ins passes stands =
       leads = stands.leads;
       text = stands.text;
       shows = Shows-relinked context w p w.ins outs w.journal stands.shows stands.shows.ins stands.shows.sides
-          (subst (λ l. SendAll context.placement context.placement.receivers (emitted_rows context.placement.role p) p.finished context.base.gave l) (sym s.outs_is)
-          (send_all-sent context.placement context.placement.receivers (emitted_rows context.placement.role p) p.finished context.base.gave w.outs passes.j s.out s.out passes.j_within s.forwards stands.shows.outs));
+          (subst (λ l. SendAll context.placement context.placement.receivers (output_at context p) l) (sym s.outs_is)
+          (send_all-sent context.placement context.placement.receivers (output_at context p) w.outs passes.j s.out s.out passes.j_within s.forwards stands.shows.outs));
     }
 
 -- and so does the receiver

@@ -128,20 +128,31 @@ ReceiveAll (sender ∷ senders) had batches (one ∷ more) =
 abbrev pub stream_to : Placement → ℕ → List (List Value) → List (List Value)
 stream_to placement receiver rows = filter (λ row. placement.route row == receiver) rows
 
--- what is kept of a receiver, where these rows were emitted: its link carries the batches of those that go there
-pub record Sends (placement : Placement) (receiver : ℕ) (rows : List (List Value)) (ended : Bool) (gave : List Batch) (one : Receiver) : Type 0 where
+-- what a worker has sent: the rows that it emitted, whether its streams have ended, and by the number of the receiver the batches
+-- that went through earlier links
+pub record Output : Type 0 where
+  pub rows : List (List Value)
+  pub ended : Bool
+  pub gave : ℕ → List Batch
+
+-- that of a worker in a position
+abbrev pub output_at : Context → Position → Output
+output_at context p = record { rows = emitted_rows context.placement.role p; ended = p.finished; gave = context.base.gave }
+
+-- what is kept of a receiver, where this was sent: its link carries the batches of the rows that go there
+pub record Sends (placement : Placement) (receiver : ℕ) (output : Output) (one : Receiver) : Type 0 where
   pub to : one.to ≡ receiver
   pub size : one.link.kept.size ≡ placement.size
-  pub over : one.link.kept.ended ≡ ended
-  pub carries : OutCarries one.link gave (stream_to placement receiver rows)
+  pub over : one.link.kept.ended ≡ output.ended
+  pub carries : OutCarries one.link (output.gave receiver) (stream_to placement receiver output.rows)
 
 -- the same for each receiver, none of whom is there twice
-unfoldable pub SendAll : Placement → List ℕ → List (List Value) → Bool → (ℕ → List Batch) → List Receiver → Type 0
-SendAll placement [] rows ended gave [] = Unit {0}
-SendAll placement [] rows ended gave (one ∷ more) = ⊥
-SendAll placement (receiver ∷ receivers) rows ended gave [] = ⊥
-SendAll placement (receiver ∷ receivers) rows ended gave (one ∷ more) =
-    Sends placement receiver rows ended (gave receiver) one × (list_any (λ other. other == receiver) receivers ≡ false) × SendAll placement receivers rows ended gave more
+unfoldable pub SendAll : Placement → List ℕ → Output → List Receiver → Type 0
+SendAll placement [] output [] = Unit {0}
+SendAll placement [] output (one ∷ more) = ⊥
+SendAll placement (receiver ∷ receivers) output [] = ⊥
+SendAll placement (receiver ∷ receivers) output (one ∷ more) =
+    Sends placement receiver output one × (list_any (λ other. other == receiver) receivers ≡ false) × SendAll placement receivers output more
 
 -- ---- where it stands
 
@@ -173,7 +184,7 @@ pub record Shows (context : Context) (w : WorkerState) (p : Position) : Type 0 w
   pub paused : w.paused ≡ p.paused
   pub finished : w.finished ≡ p.finished
   pub ins : ReceiveAll context.placement.role.senders context.base.had p.taken w.ins
-  pub outs : SendAll context.placement context.placement.receivers (emitted_rows context.placement.role p) p.finished context.base.gave w.outs
+  pub outs : SendAll context.placement context.placement.receivers (output_at context p) w.outs
   pub route : (row : List Value) → 0 < length context.placement.receivers → number_to w.route row ≡ context.placement.route row
 
 -- a worker stands at a position: it shows it, and its journal leads there from where it stood when the journal was empty

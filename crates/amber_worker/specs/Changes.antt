@@ -1,22 +1,21 @@
 -- What commands change of a worker between legs.
-use Rattle.std.specs.Prelude.{ℕ, ◌||◌, not, List, [], ◌∷◌, Option, Result, Bool, false}
+use Rattle.std.specs.Prelude.{◌||◌, not, List, [], ◌∷◌, Result, Bool, false}
 use Rattle.amber_rows.specs.declared.value.Value.{Value}
-use Rattle.amber_rows.specs.declared.flow.Operator.{Operator}
 use Rattle.amber_rows.specs.declared.record.RowFault.{RowFault}
 use Rattle.amber_meaning.specs.Plan.{role_of}
 use Rattle.amber_meaning.specs.Position.{Position, origin}
 use Rattle.amber_meaning.specs.State.{let_go}
-use Rattle.amber_scan.specs.declared.share.Scanned.{Scanned}
 use Rattle.amber_link.specs.Links.{has_some}
 use Rattle.amber_worker.specs.AtPosition.{Context, HasShare, IsAtPosition, Shows, first_context}
+use Rattle.amber_worker.specs.Made.{NewWorker}
 use Rattle.amber_worker.specs.WorkerState.{WorkerState}
 use Rattle.amber_worker.specs.declared.operator_state.OperatorState.{OperatorState}
 use Rattle.amber_worker.specs.declared.operator_state.OperatorState.TheVariants as operator_state
 
 -- a new worker stands at the beginning, where its share is that of some records
-unfoldable pub StandsNew : List Operator → ℕ → ℕ → Option (List Scanned) → WorkerState → Type 0
-StandsNew flow worker size share made = (records : List (List (Result (List Value) RowFault))) → HasShare share (role_of flow records worker)
-    → IsAtPosition (first_context flow records size worker) made origin origin
+unfoldable pub StandsNew : NewWorker → WorkerState → Type 0
+StandsNew new made = (records : List (List (Result (List Value) RowFault))) → HasShare new.share (role_of new.flow records new.number)
+    → IsAtPosition (first_context new.flow records new.size new.number) made origin origin
 
 -- a turn begins with a look for a batch: the worker goes on, and has neither a row that is pending nor one that was handed and not
 -- taken

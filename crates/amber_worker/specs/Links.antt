@@ -28,11 +28,16 @@ pub record IsHandedOn (number : ℕ) (row : List Value) (outs after : List Recei
   pub so : MatchOption place ((list_any (λ one. one.to == number) outs ≡ false) × (after ≡ outs))
       (λ i. HandsOn i row outs after × ((d : Receiver) → (slice_index_or outs i d).to ≡ number))
 
--- the first of these rows was handed on
-pub record EmitsFirst (to : Route) (rows : List (List Value)) (outs : List Receiver) (later : List (List Value)) (after : List Receiver) : Type 0 where
+-- a worker's side of output: the rows that are pending, and the receivers
+pub record OutputSide : Type 0 where
+  pub pending : List (List Value)
+  pub outs : List Receiver
+
+-- the first of the pending rows was handed on
+pub record EmitsFirst (to : Route) (old new : OutputSide) : Type 0 where
   pub row : List Value
-  pub first : rows ≡ row ∷ later
-  pub handed : IsHandedOn (number_to to row) row outs after
+  pub first : old.pending ≡ row ∷ new.pending
+  pub handed : IsHandedOn (number_to to row) row old.outs new.outs
 
 -- nothing was sent: the rings of the receivers are as they were
 abbrev pub HaveSentNothing : List Receiver → List Receiver → Type 0

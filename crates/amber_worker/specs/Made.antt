@@ -96,15 +96,22 @@ IsFreshSender flow kind one = (one.taken ≡ 0) × (one.ended ≡ false) × (one
 abbrev pub AreFreshSenders : List Operator → What → List Sender → Type 0
 AreFreshSenders flow kind ins = All (IsFreshSender flow kind) ins
 
+-- what a new worker is made of: its workflow, its own running number, the rows of a batch, and its share
+pub record NewWorker : Type 0 where
+  pub flow : List Operator
+  pub number : ℕ
+  pub size : ℕ
+  pub share : Option (List Scanned)
+
 -- a worker that has done nothing
-pub record IsFresh (flow : List Operator) (worker size : ℕ) (share : Option (List Scanned)) (w : WorkerState) : Type 0 where
-  pub op : w.op ≡ op_of flow worker
-  pub number : w.number ≡ worker
-  pub does : IsOperatorStateOf w.operator_state (what_at flow (op_of flow worker))
-  pub columns : w.columns ≡ columns_at flow (handing_operator (what_at flow (op_of flow worker)) (op_of flow worker))
-  pub build_columns : w.build_columns ≡ built_columns flow (what_at flow (op_of flow worker))
-  pub building : w.building ≡ is_join (what_at flow (op_of flow worker))
-  pub rest : w.rest ≡ rest_in share 0 []
+pub record IsFresh (new : NewWorker) (w : WorkerState) : Type 0 where
+  pub op : w.op ≡ op_of new.flow new.number
+  pub number : w.number ≡ new.number
+  pub does : IsOperatorStateOf w.operator_state (what_at new.flow (op_of new.flow new.number))
+  pub columns : w.columns ≡ columns_at new.flow (handing_operator (what_at new.flow (op_of new.flow new.number)) (op_of new.flow new.number))
+  pub build_columns : w.build_columns ≡ built_columns new.flow (what_at new.flow (op_of new.flow new.number))
+  pub building : w.building ≡ is_join (what_at new.flow (op_of new.flow new.number))
+  pub rest : w.rest ≡ rest_in new.share 0 []
   pub pending : w.pending ≡ []
   pub taken : w.taken ≡ 0
   pub emitted : w.emitted ≡ 0
@@ -117,12 +124,12 @@ pub record IsFresh (flow : List Operator) (worker size : ℕ) (share : Option (L
   pub waved : w.waved ≡ false
   pub paused : w.paused ≡ false
   pub finished : w.finished ≡ false
-  pub senders : map from_of w.ins ≡ senders_of flow worker
-  pub ins : AreFreshSenders flow (what_at flow (op_of flow worker)) w.ins
+  pub senders : map from_of w.ins ≡ senders_of new.flow new.number
+  pub ins : AreFreshSenders new.flow (what_at new.flow (op_of new.flow new.number)) w.ins
   pub in_ends : All (λ one. IsFreshIn one.link) w.ins
-  pub receivers : map to_of w.outs ≡ receivers_of flow worker
-  pub out_ends : All (λ one. IsFreshOut size one.link) w.outs
-  pub route : (row : List Value) → 0 < length (receivers_of flow worker) → number_to w.route row ≡ receiver_of flow worker row
+  pub receivers : map to_of w.outs ≡ receivers_of new.flow new.number
+  pub out_ends : All (λ one. IsFreshOut new.size one.link) w.outs
+  pub route : (row : List Value) → 0 < length (receivers_of new.flow new.number) → number_to w.route row ≡ receiver_of new.flow new.number row
   pub journal : w.journal ≡ []
 
 -- what a worker does before it was handed anything, and to whom its rows go

@@ -24,8 +24,9 @@ pub(crate) fn emit_first(
     requires routed { IsSoundRoute route.now }
     requires few { All (λ one. one.link.kept.made < 2 ^ 40) outs.old }
     requires open { All (λ one. one.link.kept.ended ≡ false) outs.old }
-    ensures ok { OnOk result (EmitsFirst route.now pending.old.items (map without_room outs.old)
-        pending.new.items (map without_room outs.new)) }
+    ensures ok { OnOk result (EmitsFirst route.now
+        (record { pending = pending.old.items; outs = map without_room outs.old })
+        (record { pending = pending.new.items; outs = map without_room outs.new })) }
     ensures open { All (λ one. one.link.kept.ended ≡ false) outs.new }
     ensures few { (n : ℕ) → All (λ one. one.link.kept.made ≤ n) outs.old → All
         (λ one. one.link.kept.made ≤ n + 1) outs.new }

@@ -131,7 +131,8 @@ impl Worker {
         requires all_ins { length ins.items ≡ length (senders_of flow.now worker) }
         requires fresh_outs { All (IsFreshOut batch) outs.items }
         requires fresh_ins { All IsFreshIn ins.items }
-        ensures stands { IfOk result (StandsNew flow.now worker batch share) }
+        ensures stands { IfOk result (StandsNew
+            (record { flow = flow.now; number = worker; size = batch; share = share })) }
         ensures outs { IfOk result (λ made. map link_of made.outs ≡ map roomless outs.items) }
         ensures ins { IfOk result (λ made. map end_of made.ins ≡ ins.items) }
         ensures journal { IfOk result (λ made. made.journal ≡ []) }

@@ -33,7 +33,8 @@ impl Worker {
         requires all_ins { length ins.items ≡ length (senders_of flow.now worker) }
         requires fresh_outs { All (IsFreshOut batch) outs.items }
         requires fresh_ins { All IsFreshIn ins.items }
-        ensures fresh { IfOk result (λ made. IsFresh flow.now worker batch share made) }
+        ensures fresh { IfOk result (IsFresh
+            (record { flow = flow.now; number = worker; size = batch; share = share })) }
         ensures journal { IfOk result (λ made. made.journal ≡ []) }
         ensures outs { IfOk result (λ made. map link_of made.outs ≡ map roomless outs.items) }
         ensures ins { IfOk result (λ made. map end_of made.ins ≡ ins.items) }

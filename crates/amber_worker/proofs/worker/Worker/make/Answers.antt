@@ -15,7 +15,7 @@ fresh-requires c = record {
 
 pub returns-clause-fresh : goal.returns-clause-fresh
 returns-clause-fresh c =
-    subst (λ (w : WorkerState). IsFresh c.args.flow.now c.args.worker c.args.batch c.args.share w) (sym c.fresh.ensures)
+    subst (λ (w : WorkerState). IsFresh (record { flow = c.args.flow.now; number = c.args.worker; size = c.args.batch; share = c.args.share }) w) (sym c.fresh.ensures)
     (made-fresh c.args.flow.now c.args.worker c.args.batch c.args.share c.in_ok-task.task c.in_ok-ends.ends c.in_ok-task.ensures c.in_ok-ends.ensures.numbers
     (subst (λ (l : List Out). All (IsFreshOut c.args.batch) l) (sym c.in_ok-ends.ensures.outs) c.requires.fresh_outs)
     (subst (λ (l : List In). All IsFreshIn l) (sym c.in_ok-ends.ensures.ins) c.requires.fresh_ins))
