@@ -11,7 +11,6 @@ use Rattle.amber_rows.specs.FlowRules.{IsFlow}
 use Rattle.amber_rows.specs.Lists.{nth}
 use Rattle.amber_rows.specs.declared.batch.Batch.{Batch}
 use Rattle.amber_rows.specs.declared.flow.Operator.{Operator}
-use Rattle.amber_rows.specs.declared.value.Value.{Value}
 use Rattle.amber_link.specs.Links.{AreLinked, waiting}
 use Rattle.amber_link.specs.declared.ends.Out.{Out}
 use Rattle.amber_link.specs.declared.ends.In.{In}
@@ -25,7 +24,7 @@ use Rattle.amber_meaning.specs.Plan.{role_of}
 use Rattle.amber_meaning.specs.Position.{Taken, origin}
 use Rattle.amber_meaning.specs.State.{arms_at, first_constants, no_arms, orders_of, position_at, start_of}
 use Rattle.amber_meaning.proofs.OneState.{position-get_or}
-use Rattle.amber_worker.specs.AtPosition.{IsAtPosition, Placement, ReceiveAll, SendAll, first_context, first_orders, placement_of}
+use Rattle.amber_worker.specs.AtPosition.{IsAtPosition, Output, Placement, ReceiveAll, SendAll, first_context, first_orders, placement_of}
 use Rattle.amber_worker.specs.Changes.{StandsNew}
 use Rattle.amber_worker.specs.Made.{end_of, link_of, roomless}
 use Rattle.amber_worker.specs.Pairs.{AreJoined, AreSettledAt, IsLinkAt}
@@ -82,14 +81,14 @@ start-quiet flow op = record {
 
 -- ---- who stands at a place
 
-sent-at : (placement : Placement) (receivers : List ℕ) (rows : List (List Value)) (ended : Bool) (gave : ℕ → List Batch) (outs : List Receiver) (j : ℕ) (d : Receiver) → j < length outs
-    → SendAll placement receivers rows ended gave outs → get_or receivers j 0 ≡ (get_or outs j d).to
+sent-at : (placement : Placement) (receivers : List ℕ) (output : Output) (outs : List Receiver) (j : ℕ) (d : Receiver) → j < length outs
+    → SendAll placement receivers output outs → get_or receivers j 0 ≡ (get_or outs j d).to
 unfolding SendAll
-sent-at placement [] rows ended gave [] j d less h = absurd (omega arith)
-sent-at placement [] rows ended gave (one ∷ outs) j d less h = absurd h
-sent-at placement (receiver ∷ receivers) rows ended gave [] j d less h = absurd h
-sent-at placement (receiver ∷ receivers) rows ended gave (one ∷ outs) zero d less h = sym h.0.to
-sent-at placement (receiver ∷ receivers) rows ended gave (one ∷ outs) (suc j) d less h = sent-at placement receivers rows ended gave outs j d (omega arith) h.2
+sent-at placement [] output [] j d less h = absurd (omega arith)
+sent-at placement [] output (one ∷ outs) j d less h = absurd h
+sent-at placement (receiver ∷ receivers) output [] j d less h = absurd h
+sent-at placement (receiver ∷ receivers) output (one ∷ outs) zero d less h = sym h.0.to
+sent-at placement (receiver ∷ receivers) output (one ∷ outs) (suc j) d less h = sent-at placement receivers output outs j d (omega arith) h.2
 
 come-at : (senders : List ℕ) (had : ℕ → List Batch) (batches : List Taken) (ins : List Sender) (k : ℕ) (d : Sender) → k < length ins
     → ReceiveAll senders had batches ins → get_or senders k 0 ≡ (get_or ins k d).from
@@ -114,7 +113,7 @@ module _ (flow : List Operator) (files : List (List ℕ)) (parts : Parts) (crew 
   stands : (worker : ℕ) → worker < crew_of flow
       → IsAtPosition (first_context flow (records_of files flow) parts.size worker) (worker_state_at crew worker) origin origin
   unfolding StandsNew
-  stands worker below = subst (λ f. StandsNew f worker parts.size (share_of_worker parts.shares worker) (worker_state_at crew worker)) flow_is (new.each worker (within worker below)).stands (records_of files flow) (dealt.dealt worker below)
+  stands worker below = subst (λ f. StandsNew (record { flow = f; number = worker; size = parts.size; share = share_of_worker parts.shares worker }) (worker_state_at crew worker)) flow_is (new.each worker (within worker below)).stands (records_of files flow) (dealt.dealt worker below)
 
   number-is : (worker : ℕ) → worker < crew_of flow → (worker_state_at crew worker).number ≡ worker
   unfolding placement_of
@@ -129,7 +128,7 @@ module _ (flow : List Operator) (files : List (List ℕ)) (parts : Parts) (crew 
   to-at : (from j : ℕ) (d : Receiver) → from < crew_of flow → j < length (worker_state_at crew from).outs
       → get_or (to_whom (web_of flow parts.size) from) j 0 ≡ (get_or (worker_state_at crew from).outs j d).to
   unfolding placement_of receivers_of
-  to-at from j d below less = sent-at _ (receivers_of flow from) _ _ _ (worker_state_at crew from).outs j d less (stands from below).shows.outs
+  to-at from j d below less = sent-at _ (receivers_of flow from) _ (worker_state_at crew from).outs j d less (stands from below).shows.outs
 
   from-at : (to k : ℕ) (d : Sender) → to < crew_of flow → k < length (worker_state_at crew to).ins
       → get_or (from_whom (web_of flow parts.size) to) k 0 ≡ (get_or (worker_state_at crew to).ins k d).from

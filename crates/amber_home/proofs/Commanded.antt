@@ -385,7 +385,7 @@ module _ (e : HomeState) (crew : List WorkerState) (arms : List Arms) (stops : L
         few = home.few;
         legal = (legal-commanded e crew arms stops rest home.legal one more fits done text).0;
         stands =
-            subst (λ (now : Phase). StandsIn now (record e { log = with_item e.log (item.Do one); parts = open_parts e.phase (crew_after one crew) }) (crew_after one crew) (arms_after one arms) stops)
+            subst (λ (now : Phase). StandsIn now (record e { log = with_item e.log (item.Do one); parts = open_parts e.phase (crew_after one crew) }) (record { crew = crew_after one crew; arms = arms_after one arms; stops = stops }))
             (sym resting) (rest-commanded e crew arms stops rest home.legal one more fits done text (open_parts e.phase (crew_after one crew)));
       })
 

@@ -19,7 +19,7 @@ use Rattle.amber_home.proofs.Legs.{arms-long, closes-here, within-on}
 use Rattle.amber_home.proofs.Opened.{opened}
 
 pub at-rest : (e : HomeState) (crew : List WorkerState) (arms : List Arms) (stops : List Stop) → IsHome e crew arms stops → e.phase ≡ phase.Resting → IsAtRest e crew arms stops
-at-rest e crew arms stops home resting = subst (λ now. StandsIn now e crew arms stops) resting home.stands
+at-rest e crew arms stops home resting = subst (λ now. StandsIn now e (record { crew = crew; arms = arms; stops = stops })) resting home.stands
 
 -- nothing was done in a leg that begins
 parts-none : (number : ℕ) (crew : List WorkerState) → parts_from number (map with_leg crew) ≡ []

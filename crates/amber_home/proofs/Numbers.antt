@@ -3,7 +3,6 @@ use Rattle.std.proofs.Common.{◌≡◌, refl, sym, ap, ◌∙◌, ℕ, ◌<◌,
 use Rattle.std.specs.List.{list_any}
 use Rattle.amber_rows.specs.Crew.{receivers_of, senders_of}
 use Rattle.amber_rows.specs.declared.batch.Batch.{Batch}
-use Rattle.amber_rows.specs.declared.value.Value.{Value}
 use Rattle.amber_link.specs.declared.receivers.Receiver.{Receiver}
 use Rattle.amber_link.specs.declared.senders.Sender.{Sender}
 use Rattle.amber_link.proofs.Sides.{map-at, map-length}
@@ -11,18 +10,18 @@ use Rattle.amber_meaning.specs.Legal.{Query}
 use Rattle.amber_meaning.specs.Plan.{role_of}
 use Rattle.amber_meaning.specs.Position.{Position, Taken}
 use Rattle.amber_meaning.specs.State.{State}
-use Rattle.amber_worker.specs.AtPosition.{Placement, ReceiveAll, SendAll, placement_of}
+use Rattle.amber_worker.specs.AtPosition.{Output, Placement, ReceiveAll, SendAll, placement_of}
 use Rattle.amber_worker.specs.Made.{from_of, to_of}
 use Rattle.amber_worker.specs.WorkerState.{WorkerState}
 use Rattle.amber_home.specs.AtWork.{AreJoinedAt, IsJoinedCrew, StayPut, worker_state_at}
 
-tos-are : (placement : Placement) (receivers : List ℕ) (rows : List (List Value)) (ended : _) (gave : ℕ → List Batch) (outs : List Receiver)
-    → SendAll placement receivers rows ended gave outs → map to_of outs ≡ receivers
+tos-are : (placement : Placement) (receivers : List ℕ) (output : Output) (outs : List Receiver)
+    → SendAll placement receivers output outs → map to_of outs ≡ receivers
 unfolding SendAll
-tos-are placement [] rows ended gave [] h = refl
-tos-are placement [] rows ended gave (one ∷ outs) h = absurd h
-tos-are placement (receiver ∷ receivers) rows ended gave [] h = absurd h
-tos-are placement (receiver ∷ receivers) rows ended gave (one ∷ outs) h = rw (h.0.to, tos-are placement receivers rows ended gave outs h.2) refl
+tos-are placement [] output [] h = refl
+tos-are placement [] output (one ∷ outs) h = absurd h
+tos-are placement (receiver ∷ receivers) output [] h = absurd h
+tos-are placement (receiver ∷ receivers) output (one ∷ outs) h = rw (h.0.to, tos-are placement receivers output outs h.2) refl
 
 froms-are : (senders : List ℕ) (had : ℕ → List Batch) (taken : List Taken) (ins : List Sender) → ReceiveAll senders had taken ins → map from_of ins ≡ senders
 unfolding ReceiveAll
@@ -34,7 +33,7 @@ froms-are (sender ∷ senders) had taken (one ∷ ins) h = rw (h.0.from, froms-a
 module _ (query : Query) (start : State) (crew : List WorkerState) (positions : ℕ → Position) (at : AreJoinedAt query start crew positions) (number : ℕ) (inside : number < length crew) where
   pub receivers-listed : map to_of (worker_state_at crew number).outs ≡ receivers_of query.flow number
   unfolding placement_of
-  receivers-listed = tos-are _ _ _ _ _ _ (at.at_positions.each number (rw (← at.at_positions.all) inside)).shows.outs
+  receivers-listed = tos-are _ _ _ _ (at.at_positions.each number (rw (← at.at_positions.all) inside)).shows.outs
 
   pub senders-listed : map from_of (worker_state_at crew number).ins ≡ senders_of query.flow number
   unfolding placement_of role_of

@@ -1,13 +1,11 @@
 -- A receiver stands at one place alone.
-use Rattle.std.proofs.Common.{◌≡◌, refl, sym, ap, ◌∙◌, ℕ, zero, suc, ◌<◌, eqb, nat_eq, List, [], ◌∷◌, length, get_or, Bool, true, false, ◌⊎◌, inl, inr, subst, arith}
+use Rattle.std.proofs.Common.{◌≡◌, refl, sym, ap, ◌∙◌, ℕ, zero, suc, ◌<◌, eqb, nat_eq, List, [], ◌∷◌, length, get_or, true, false, ◌⊎◌, inl, inr, subst, arith}
 use Rattle.std.specs.List.{list_any}
 use Rattle.std.proofs.lemmas.Bool.{eq-eqb, false≢true, or_cases, or_left, or_right, eqb-true}
-use Rattle.amber_rows.specs.declared.batch.Batch.{Batch}
-use Rattle.amber_rows.specs.declared.value.Value.{Value}
 use Rattle.amber_link.specs.Links.{has_some}
 use Rattle.amber_link.specs.declared.receivers.Receiver.{Receiver}
 use Rattle.amber_link.specs.declared.senders.Sender.{Sender}
-use Rattle.amber_worker.specs.AtPosition.{Placement, SendAll, placement_of}
+use Rattle.amber_worker.specs.AtPosition.{Output, Placement, SendAll, placement_of}
 use Rattle.amber_worker.specs.WorkerState.{WorkerState}
 use Rattle.amber_home.specs.AtWork.{IsJoinedCrew, worker_state_at}
 use Rattle.amber_home.specs.Passing.{Come, Settled}
@@ -15,31 +13,31 @@ use Rattle.amber_home.proofs.Linked.{settled-come}
 use Rattle.amber_home.proofs.Sending.{IsSending, sending-in, sending-out}
 use Rattle.amber_home.proofs.Split.{read-at}
 
-is-receiver : (placement : Placement) (receivers : List ℕ) (rows : List (List Value)) (ended : Bool) (gave : ℕ → List Batch) (outs : List Receiver) (j n : ℕ) (d : Receiver) → j < length outs
-    → (get_or outs j d).to ≡ n → SendAll placement receivers rows ended gave outs → list_any (λ other. eqb other n) receivers ≡ true
+is-receiver : (placement : Placement) (receivers : List ℕ) (output : Output) (outs : List Receiver) (j n : ℕ) (d : Receiver) → j < length outs
+    → (get_or outs j d).to ≡ n → SendAll placement receivers output outs → list_any (λ other. eqb other n) receivers ≡ true
 unfolding SendAll
-is-receiver placement [] rows ended gave [] j n d less own h = absurd (omega arith)
-is-receiver placement [] rows ended gave (one ∷ outs) j n d less own h = absurd h
-is-receiver placement (receiver ∷ receivers) rows ended gave [] j n d less own h = absurd h
-is-receiver placement (receiver ∷ receivers) rows ended gave (one ∷ outs) zero n d less own h = or_left _ _ (eq-eqb receiver n (sym h.0.to ∙ own))
-is-receiver placement (receiver ∷ receivers) rows ended gave (one ∷ outs) (suc j) n d less own h =
-    or_right _ _ (is-receiver placement receivers rows ended gave outs j n d (omega arith) own h.2)
+is-receiver placement [] output [] j n d less own h = absurd (omega arith)
+is-receiver placement [] output (one ∷ outs) j n d less own h = absurd h
+is-receiver placement (receiver ∷ receivers) output [] j n d less own h = absurd h
+is-receiver placement (receiver ∷ receivers) output (one ∷ outs) zero n d less own h = or_left _ _ (eq-eqb receiver n (sym h.0.to ∙ own))
+is-receiver placement (receiver ∷ receivers) output (one ∷ outs) (suc j) n d less own h =
+    or_right _ _ (is-receiver placement receivers output outs j n d (omega arith) own h.2)
 
-one-place : (placement : Placement) (receivers : List ℕ) (rows : List (List Value)) (ended : Bool) (gave : ℕ → List Batch) (outs : List Receiver) (j i n : ℕ) (d e : Receiver)
-    → j < length outs → i < length outs → (get_or outs j d).to ≡ n → (get_or outs i e).to ≡ n → SendAll placement receivers rows ended gave outs → j ≡ i
+one-place : (placement : Placement) (receivers : List ℕ) (output : Output) (outs : List Receiver) (j i n : ℕ) (d e : Receiver)
+    → j < length outs → i < length outs → (get_or outs j d).to ≡ n → (get_or outs i e).to ≡ n → SendAll placement receivers output outs → j ≡ i
 unfolding SendAll
-one-place placement [] rows ended gave [] j i n d e less below own same h = absurd (omega arith)
-one-place placement [] rows ended gave (one ∷ outs) j i n d e less below own same h = absurd h
-one-place placement (receiver ∷ receivers) rows ended gave [] j i n d e less below own same h = absurd h
-one-place placement (receiver ∷ receivers) rows ended gave (one ∷ outs) zero zero n d e less below own same h = refl
-one-place placement (receiver ∷ receivers) rows ended gave (one ∷ outs) zero (suc i) n d e less below own same h =
+one-place placement [] output [] j i n d e less below own same h = absurd (omega arith)
+one-place placement [] output (one ∷ outs) j i n d e less below own same h = absurd h
+one-place placement (receiver ∷ receivers) output [] j i n d e less below own same h = absurd h
+one-place placement (receiver ∷ receivers) output (one ∷ outs) zero zero n d e less below own same h = refl
+one-place placement (receiver ∷ receivers) output (one ∷ outs) zero (suc i) n d e less below own same h =
     let here : receiver ≡ n = sym h.0.to ∙ own in
-    absurd (false≢true (sym h.1 ∙ ap (λ r. list_any (λ other. eqb other r) receivers) here ∙ is-receiver placement receivers rows ended gave outs i n e (omega arith) same h.2))
-one-place placement (receiver ∷ receivers) rows ended gave (one ∷ outs) (suc j) zero n d e less below own same h =
+    absurd (false≢true (sym h.1 ∙ ap (λ r. list_any (λ other. eqb other r) receivers) here ∙ is-receiver placement receivers output outs i n e (omega arith) same h.2))
+one-place placement (receiver ∷ receivers) output (one ∷ outs) (suc j) zero n d e less below own same h =
     let here : receiver ≡ n = sym h.0.to ∙ same in
-    absurd (false≢true (sym h.1 ∙ ap (λ r. list_any (λ other. eqb other r) receivers) here ∙ is-receiver placement receivers rows ended gave outs j n d (omega arith) own h.2))
-one-place placement (receiver ∷ receivers) rows ended gave (one ∷ outs) (suc j) (suc i) n d e less below own same h =
-    ap suc (one-place placement receivers rows ended gave outs j i n d e (omega arith) (omega arith) own same h.2)
+    absurd (false≢true (sym h.1 ∙ ap (λ r. list_any (λ other. eqb other r) receivers) here ∙ is-receiver placement receivers output outs j n d (omega arith) own h.2))
+one-place placement (receiver ∷ receivers) output (one ∷ outs) (suc j) (suc i) n d e less below own same h =
+    ap suc (one-place placement receivers output outs j i n d e (omega arith) (omega arith) own same h.2)
 
 pub any-out : (outs : List Receiver) (k n : ℕ) → k < length outs → ((d : Receiver) → (get_or outs k d).to ≡ n) → list_any (λ (one : Receiver). nat_eq one.to n) outs ≡ true
 any-out [] k n less own = absurd (omega arith)
@@ -66,7 +64,7 @@ settled-waiting crew number place to joined inside within own none come =
     let at = joined.3 in
     let one = sending-out joined.0 joined.1 crew joined.2 at number to inside (any-out (worker_state_at crew number).outs place to within own) in
     let stands = at.at_positions.each number (rw (← at.at_positions.all) inside) in
-    let same : come.j ≡ place = one-place _ _ _ _ _ (worker_state_at crew number).outs come.j place to come.out come.out come.places.j_within within
+    let same : come.j ≡ place = one-place _ _ _ (worker_state_at crew number).outs come.j place to come.out come.out come.places.j_within within
     (come.places.to_is come.out ∙ one.to_number) (own come.out) stands.shows.outs in
     settled-come (worker_state_at crew number) (worker_state_at crew to) come (λ d. ap (λ k. has_some (get_or (worker_state_at crew number).outs k d).link.kept.waiting) same ∙ none d)
 

@@ -74,6 +74,10 @@ pub ok-map : {A E : Type 0} {P Q : A → Type 0} (result : Result A E) → ((x :
 ok-map (Ok x) change h = change x h
 ok-map (Err error) change h = tt
 
+pub ok-both : {A E : Type 0} {P Q R : A → Type 0} (result : Result A E) → ((x : A) → P x → Q x → R x) → IfOk result P → IfOk result Q → IfOk result R
+ok-both (Ok x) change g h = change x g h
+ok-both (Err error) change g h = tt
+
 pub ok-copy : {A E : Type 0} {P Q : A → Type 0} (R : E → Type 0) (result : Result A E) → ((x : A) → P x → Q x) → MatchResult result P R → IfOk result Q
 ok-copy R (Ok x) change h = change x h
 ok-copy R (Err error) change h = tt
@@ -87,10 +91,10 @@ finished-state query state crew arms h = sym (ap have_finished h.reached ∙ fin
 -- ---- what an operator shows
 
 pub shows-operator : (query : Query) (state : State) (crew : List WorkerState) (arms : List Arms) (op : ℕ) (shown : Inspected)
-    → StandsSomewhere query state crew arms → IsShownAt query.flow arms crew op shown → shown ≡ inspected_of query state op
+    → StandsSomewhere query state crew arms → shown.op ≡ op → IsShownAt query.flow arms crew shown → shown ≡ inspected_of query state op
 unfolding IsShownAt
-shows-operator query state crew arms op shown h is =
-    is query h.start h.positions refl h.arms_are h.at ∙ ap (λ s. inspected_of query s op) (sym h.reached)
+shows-operator query state crew arms op shown h op-is is =
+    is query h.start h.positions refl h.arms_are h.at ∙ ap (λ s. inspected_of query s shown.op) (sym h.reached) ∙ ap (inspected_of query state) op-is
 
 -- ---- the answer
 

@@ -65,7 +65,7 @@ views-among f g (x ∷ xs) same =
 
 pub inspected : (flow : List Operator) (arms : List Arms) (crew : List WorkerState) (op : ℕ) (constant : Option Value) (pause : Option ℕ) (views : List WorkerView)
     → constant ≡ first_of (unwrap_or (nth arms op) no_arms).constants → pause ≡ (unwrap_or (nth arms op) no_arms).pause → ShowWorkers crew (workers_of flow op) views
-    → IsShownAt flow arms crew op (record { op = op; constant = constant; pause = pause; count = None; when = None; workers = views })
+    → IsShownAt flow arms crew (record { op = op; constant = constant; pause = pause; count = None; when = None; workers = views })
 unfolding IsShownAt ShowWorkers inspected_of placement_of
 inspected flow arms crew op constant pause views constant-is pause-is shown query start positions same arms-are work =
     let state = state_reached query start positions in

@@ -60,10 +60,10 @@ unfoldable pub IsAnswerOf : List Operator → List WorkerState → Answer → Ty
 IsAnswerOf flow crew answer = (query : Query) (start : State) (positions : ℕ → Position) → query.flow ≡ flow → AreAtWork query start crew positions
     → HaveFinished (length crew) crew → answer ≡ answer_in query (state_reached query start positions)
 
--- wherever these workers stand, an operator shows this
-unfoldable pub IsShownAt : List Operator → List Arms → List WorkerState → ℕ → Inspected → Type 0
-IsShownAt flow arms crew op shown = (query : Query) (start : State) (positions : ℕ → Position) → query.flow ≡ flow → arms ≡ start.arms
-    → AreAtWork query start crew positions → shown ≡ inspected_of query (state_reached query start positions) op
+-- wherever these workers stand, this is what the operator that it names shows
+unfoldable pub IsShownAt : List Operator → List Arms → List WorkerState → Inspected → Type 0
+IsShownAt flow arms crew shown = (query : Query) (start : State) (positions : ℕ → Position) → query.flow ≡ flow → arms ≡ start.arms
+    → AreAtWork query start crew positions → shown ≡ inspected_of query (state_reached query start positions) shown.op
 
 -- each worker shows its position
 abbrev pub ShowAll : Query → List WorkerState → (ℕ → Position) → Type 0

@@ -27,14 +27,21 @@ pub record IsWithinLeg (to_end : Bool) (e : HomeState) (crew : List WorkerState)
   pub arms_are : arms ≡ (leg_start to_end (rest_state e)).arms
   pub few : steps_by crew ≤ e.most
 
-abbrev pub StandsIn : Phase → HomeState → List WorkerState → List Arms → List Stop → Type 0
-StandsIn phase.Resting e crew arms stops = IsAtRest e crew arms stops
-StandsIn (phase.Open to_end) e crew arms stops = IsWithinLeg to_end e crew arms
-StandsIn phase.Over e crew arms stops = Unit {0}
-StandsIn phase.Spent e crew arms stops = Unit {0}
+-- what a home keeps beside its log: its workers, what is in force at each operator, and the stops of the last leg
+pub record LiveState : Type 0 where
+  pub crew : List WorkerState
+  pub arms : List Arms
+  pub stops : List Stop
+
+-- at rest and within a leg it stands as the log says; in the other phases nothing is said of it
+abbrev pub StandsIn : Phase → HomeState → LiveState → Type 0
+StandsIn phase.Resting e live = IsAtRest e live.crew live.arms live.stops
+StandsIn (phase.Open to_end) e live = IsWithinLeg to_end e live.crew live.arms
+StandsIn phase.Over e live = Unit {0}
+StandsIn phase.Spent e live = Unit {0}
 
 -- the log is legal, and the workers stand where it says
 pub record IsHome (e : HomeState) (crew : List WorkerState) (arms : List Arms) (stops : List Stop) : Type 0 where
   pub few : e.most ≤ 2 ^ 40
   pub legal : IsLegal (query_of e) e.log
-  pub stands : StandsIn e.phase e crew arms stops
+  pub stands : StandsIn e.phase e (record { crew = crew; arms = arms; stops = stops })

@@ -137,7 +137,7 @@ pub record Parts : Type 0 where
 
 -- a worker that was made of its parts, and has done nothing
 pub record IsNew (parts : Parts) (worker : ℕ) (made : WorkerState) : Type 0 where
-  pub stands : StandsNew parts.flow worker parts.size (share_of_worker parts.shares worker) made
+  pub stands : StandsNew (record { flow = parts.flow; number = worker; size = parts.size; share = share_of_worker parts.shares worker }) made
   pub outs : map link_of made.outs ≡ map roomless (ends_at parts.outs worker)
   pub ins : map end_of made.ins ≡ ends_at parts.ins worker
   pub journal : made.journal ≡ []

@@ -53,7 +53,8 @@ pub(crate) fn inspect(
     requires some { 0 < op }
     requires within { op ≤ length flow.now }
     requires all { length crew.now ≡ crew_of flow.now }
-    ensures { IfOk result (IsShownAt flow.now arms.now crew.now op) }
+    ensures op { IfOk result (λ shown. shown.op ≡ op) }
+    ensures shown { IfOk result (IsShownAt flow.now arms.now crew.now) }
 {
     let constant = constant_at(arms, op)?;
     let workers = views_of(alloc, flow, crew, op)?;

@@ -2,7 +2,7 @@
 use Rattle.amber_home.proofs.Viewed.{inspected}
 use Rattle.amber_home.proofs.shown.inspect.Goals as goal
 
-pub returns : goal.returns
-returns c =
+pub returns-clause-shown : goal.returns-clause-shown
+returns-clause-shown c =
     inspected c.args.flow.now c.args.arms.now c.args.crew.now c.args.op c.in_ok-constant.constant c.pause_at.result c.in_ok-workers.workers
     c.in_ok-constant.ensures c.pause_at.ensures c.in_ok-workers.ensures

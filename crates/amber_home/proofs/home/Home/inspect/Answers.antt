@@ -4,7 +4,7 @@ use Rattle.amber_meaning.specs.Views.{inspected_of}
 use Rattle.amber_home.specs.Answers.{IsShownAt}
 use Rattle.amber_home.specs.HomeState.{HomeState, has_crew, query_of, state_of}
 use Rattle.amber_home.specs.Parts.{open_parts}
-use Rattle.amber_home.proofs.Saying.{ok-map, shows-operator, stands-somewhere}
+use Rattle.amber_home.proofs.Saying.{ok-both, shows-operator, stands-somewhere}
 use Rattle.amber_home.proofs.home.Home.inspect.Goals as goal
 
 pub returns : goal.returns
@@ -14,8 +14,8 @@ returns c =
     let there : has_crew i.phase ≡ true = ap (λ (h : HomeState). has_crew h.phase) c.self.view_is ∙ c.requires.there in
     let h = stands-somewhere e i.crew.items i.arms i.stops i.phase c.self.invariant there in
     subst (λ (at : HomeState). IfOk c.inspect.result (λ shown. shown ≡ inspected_of (query_of at) (state_of at) c.args.op)) c.self.view_is
-    (ok-map c.inspect.result (λ shown is. shows-operator (query_of e) (state_of e) i.crew.items i.arms c.args.op shown h is)
-    (subst (λ crew. IfOk c.inspect.result (IsShownAt i.flow i.arms crew c.args.op)) c.as_slice.ensures.value c.inspect.ensures))
+    (ok-both c.inspect.result (λ shown op-is is. shows-operator (query_of e) (state_of e) i.crew.items i.arms c.args.op shown h op-is is) c.inspect.ensures.op
+    (subst (λ crew. IfOk c.inspect.result (IsShownAt i.flow i.arms crew)) c.as_slice.ensures.value c.inspect.ensures.shown))
 
 pub inspect-requires-clause-all : goal.inspect-requires-clause-all
 inspect-requires-clause-all c =
