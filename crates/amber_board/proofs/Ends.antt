@@ -11,7 +11,7 @@ use Rattle.amber_board.specs.declared.view.Role.TheVariants.{Chief, Worker, Spen
 use Rattle.amber_board.specs.declared.view.Kept.{Kept}
 use Rattle.amber_board.specs.declared.view.Terms.{Terms}
 use Rattle.amber_board.specs.declared.view.View.{View}
-use Rattle.amber_board.specs.Ledger.{allotment, units_counted, total_below, seats_of, mine_of, times_kept, kept_of, flag, ConservedBy, Conserved, IsExact, IsSeen, IsWord, first_view, is_worker, worker_number_of}
+use Rattle.amber_board.specs.Ledger.{allotment, units_counted, total_below, seats_of, mine_of, times_kept, kept_of, flag, PlacedView, ConservedBy, Conserved, IsExact, IsSeen, IsWord, first_view, is_worker, worker_number_of}
 use Rattle.amber_board.specs.Moves.{after_split, new_seat, after_join, spent_view}
 use Rattle.amber_board.proofs.Sums.{total_below-ext, total_below-zero, total_below-le, total_below-plus, total_below-flag, total_below-term, total_below-keyed, flag-below, flag-above, sum-below, sum_by-cons}
 use Rattle.amber_board.proofs.Views.{at_within, sum_at_set, sum_at, sum_zero}
@@ -49,8 +49,7 @@ splits terms id v left right is room share s holds at =
     let views : List View = set s.views id l in
     let last : (k : ℕ) (u : View) → get_elem? (views ++ r ∷ []) k ≡ some u → u.role ≢ Worker v.made → get_elem? views k ≡ some u =
     λ k u e n. ⊎_elim (λ t. t) (λ t. absurd (n (ap (λ (x : View). x.role) (sym t)))) (at_snoc views r u k e) in (
-      id,
-      l,
+      record { place = id; view = l },
       record {
         units =
             let push = sum_by_push (λ (u : View). u.hand) views r in
@@ -95,8 +94,7 @@ joins terms id v other u n is worker empty s holds at apart there =
     let views : List View = set s.views id c in
     let name : worker_number_of u.role ≡ n = ap worker_number_of worker in
     let taken : Kept = record { worker = worker_number_of u.role; count = u.mine } in (
-      id,
-      c,
+      record { place = id; view = c },
       record {
         units =
             let first = sum_at_set (λ (x : View). x.hand) s.views id v c at in
@@ -161,8 +159,7 @@ pub opens : (terms : Terms) → terms.target ≤ 2 ^ 40 → terms.workers ≤ 16
 opens terms small few =
     let v : View = first_view terms in
     let t : ℕ = terms.target in (
-      0,
-      v,
+      record { place = 0; view = v },
       record {
         units =
             let allotments = total_below-zero 16 (allotment (first_words t)) (λ w l. no_allotment t w) in
@@ -185,23 +182,23 @@ opens terms small few =
     )
 
 -- a seat that was taken in is of one of the workers
-kept_below : {terms : Terms} {words : List ℕ} {views : List View} {place : ℕ} {chief : View} (h : ConservedBy terms words views place chief) (j : ℕ) (k : Kept) → get_elem? chief.kept j ≡ some k → k.worker < 16
+kept_below : {terms : Terms} {words : List ℕ} {views : List View} {chief : PlacedView} (h : ConservedBy terms words views chief) (j : ℕ) (k : Kept) → get_elem? chief.view.kept j ≡ some k → k.worker < 16
 kept_below {chief = chief} h j k at =
     let one = itself k.worker in
-    let least = sum_at (λ (x : Kept). seat_flag k.worker (Worker x.worker)) chief.kept j k at in
+    let least = sum_at (λ (x : Kept). seat_flag k.worker (Worker x.worker)) chief.view.kept j k at in
     let all = h.seats k.worker in
-    let below = from_flag k.worker chief.made (omega arith) in
+    let below = from_flag k.worker chief.view.made (omega arith) in
     let fewer = h.made in
     let few = h.limits.1 in
     omega arith
 
 -- what the workers counted, by seats that are out and seats that were taken in
-counted_parts : {terms : Terms} {words : List ℕ} {views : List View} {place : ℕ} {chief : View} (h : ConservedBy terms words views place chief)
-    → total_below 16 (units_counted words) ≡ total_below 16 (λ w. mine_of w views) + sum_by (λ (k : Kept). k.count) chief.kept
+counted_parts : {terms : Terms} {words : List ℕ} {views : List View} {chief : PlacedView} (h : ConservedBy terms words views chief)
+    → total_below 16 (units_counted words) ≡ total_below 16 (λ w. mine_of w views) + sum_by (λ (k : Kept). k.count) chief.view.kept
 counted_parts {words = words} {views = views} {chief = chief} h =
-    let cut = total_below-ext 16 (units_counted words) (λ w. mine_of w views + kept_of w chief.kept) (λ w l. h.mine w l) in
-    let parts = total_below-plus 16 (λ w. mine_of w views) (λ w. kept_of w chief.kept) in
-    let keyed = total_below-keyed 16 (λ (k : Kept). k.worker) (λ (k : Kept). k.count) chief.kept (λ j k at. kept_below h j k at) in
+    let cut = total_below-ext 16 (units_counted words) (λ w. mine_of w views + kept_of w chief.view.kept) (λ w l. h.mine w l) in
+    let parts = total_below-plus 16 (λ w. mine_of w views) (λ w. kept_of w chief.view.kept) in
+    let keyed = total_below-keyed 16 (λ (k : Kept). k.worker) (λ (k : Kept). k.count) chief.view.kept (λ j k at. kept_below h j k at) in
     omega arith
 
 length-sum : {X : Type 0} (xs : List X) → sum_by (λ _. 1) xs ≡ length xs
@@ -216,25 +213,25 @@ flag-most : (n m : ℕ) → flag (ltb n m) ≤ 1
 flag-most n m = ⊎_elim (λ l. let one = flag-below n m l in omega arith) (λ l. let none = flag-above n m l in omega arith) (cases_lt n m)
 
 -- where each worker's seat was taken in, none is out
-none_out : {terms : Terms} {words : List ℕ} {views : List View} {place : ℕ} {chief : View} (h : ConservedBy terms words views place chief) → length chief.kept ≡ chief.made → (w : ℕ) → w < 16 → mine_of w views ≡ 0
+none_out : {terms : Terms} {words : List ℕ} {views : List View} {chief : PlacedView} (h : ConservedBy terms words views chief) → length chief.view.kept ≡ chief.view.made → (w : ℕ) → w < 16 → mine_of w views ≡ 0
 none_out {views = views} {chief = chief} h all w l =
-    let flags = total_below-ext 16 (λ k. seats_of k views + times_kept k chief.kept) (λ k. flag (ltb k chief.made)) (λ k m. h.seats k) in
-    let parts = total_below-plus 16 (λ k. seats_of k views) (λ k. times_kept k chief.kept) in
+    let flags = total_below-ext 16 (λ k. seats_of k views + times_kept k chief.view.kept) (λ k. flag (ltb k chief.view.made)) (λ k m. h.seats k) in
+    let parts = total_below-plus 16 (λ k. seats_of k views) (λ k. times_kept k chief.view.kept) in
     let fewer = h.made in
     let few = h.limits.1 in
-    let made = total_below-flag 16 chief.made (omega arith) in
-    let keyed = total_below-keyed 16 (λ (k : Kept). k.worker) (λ _. 1) chief.kept (λ j k at. kept_below h j k at) in
-    let long = length-sum chief.kept in
+    let made = total_below-flag 16 chief.view.made (omega arith) in
+    let keyed = total_below-keyed 16 (λ (k : Kept). k.worker) (λ _. 1) chief.view.kept (λ j k at. kept_below h j k at) in
+    let long = length-sum chief.view.kept in
     let here = total_below-term 16 w (λ k. seats_of k views) l in
     sum_zero (λ (v : View). mine_if w v.role v.mine) views
     (λ k v at. let part = sum_at (λ (x : View). seat_flag w x.role) views k v at in idle_flag (is_worker w v.role) v.mine (omega arith))
 
 -- what the chief saw adds up to at most what was counted
-seen_below : {terms : Terms} {words : List ℕ} {views : List View} {place : ℕ} {chief : View} (h : ConservedBy terms words views place chief) → sum chief.seen ≤ total_below 16 (units_counted words)
+seen_below : {terms : Terms} {words : List ℕ} {views : List View} {chief : PlacedView} (h : ConservedBy terms words views chief) → sum chief.view.seen ≤ total_below 16 (units_counted words)
 seen_below {words = words} {chief = chief} h =
-    let places = sum-below chief.seen in
-    let long = ap (λ (n : ℕ). total_below n (λ k. get_or chief.seen k 0)) h.all_seen in
-    let least = total_below-le 16 (λ k. get_or chief.seen k 0) (units_counted words) h.seen in
+    let places = sum-below chief.view.seen in
+    let long = ap (λ (n : ℕ). total_below n (λ k. get_or chief.view.seen k 0)) h.all_seen in
+    let least = total_below-le 16 (λ k. get_or chief.view.seen k 0) (units_counted words) h.seen in
     omega arith
 
 pub seen_exact : (v : View) → v.role ≡ Chief → IsSeen v
@@ -267,8 +264,8 @@ closes terms words views k v holds at is =
 -- a seat that is out is its worker's only one, and it counted all that the worker did
 pub mine_exact : (v : View) (n : ℕ) → v.role ≡ Worker n → n < 16 → IsWord v
 mine_exact v n is few terms words views k holds at =
-    let h = holds.2 in
-    let chief : View = holds.1 in
+    let h = holds.1 in
+    let chief : View = holds.0.view in
     let name : worker_number_of v.role ≡ n = ap worker_number_of is in
     let own = ap (seat_flag n) is ∙ itself n in
     let all = h.seats n in

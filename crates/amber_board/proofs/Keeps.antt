@@ -9,7 +9,7 @@ use Rattle.amber_board.specs.declared.view.Role.{Role}
 use Rattle.amber_board.specs.declared.view.Role.TheVariants.{Chief, Worker, Spent}
 use Rattle.amber_board.specs.declared.view.Terms.{Terms}
 use Rattle.amber_board.specs.declared.view.View.{View}
-use Rattle.amber_board.specs.Ledger.{free_units, allotment, units_counted, ConservedBy, Conserved, worker_number_of}
+use Rattle.amber_board.specs.Ledger.{free_units, allotment, units_counted, PlacedView, ConservedBy, Conserved, worker_number_of}
 use Rattle.amber_board.specs.Moves.{drawn, after_grant, put_back_of, swept, after_watch, after_claim, counted_one, given_back}
 use Rattle.amber_board.proofs.Sums.{total_below-zero, total_below-term}
 use Rattle.amber_board.proofs.Views.{at_within, sum_at, sum_only}
@@ -20,24 +20,22 @@ use Rattle.amber_board.proofs.WordSteps.{unassigned_steps, allotment_steps, load
 abbrev pub Rule : Terms → State (Unit {0}) View → Type 0
 Rule terms s = Conserved terms s.words s.views
 
-chief_stays : {terms : Terms} {words words' : List ℕ} {views : List View} {id : ℕ} {v : View} (h : ConservedBy terms words views id v) (v' : View) → SameChief v v' → Steps words words' v.made v v'
-    → ((w : ℕ) → w < 16 → get_or v'.seen w 0 ≤ units_counted words w) → length v'.seen ≡ 16 → Conserved terms words' (set views id v')
-chief_stays {views = views} {id = id} {v = v} h v' same steps seen all_seen = (
-  id,
-  v',
-  stays h id v v' v' h.there (same.role ∙ sym h.is_chief) (λ e. let r : Chief ≡ Spent = sym h.is_chief ∙ e in cc) (set_here views id v' (at_within views id v h.there)) same steps seen all_seen,
+chief_stays : {terms : Terms} {words words' : List ℕ} {views : List View} {chief : PlacedView} (h : ConservedBy terms words views chief) (v' : View) → SameChief chief.view v' → Steps words words' chief.view.made chief.view v'
+    → ((w : ℕ) → w < 16 → get_or v'.seen w 0 ≤ units_counted words w) → length v'.seen ≡ 16 → Conserved terms words' (set views chief.place v')
+chief_stays {views = views} {chief = chief} h v' same steps seen all_seen = (
+  record { place = chief.place; view = v' },
+  stays h chief.place chief.view v' v' h.there (same.role ∙ sym h.is_chief) (λ e. let r : Chief ≡ Spent = sym h.is_chief ∙ e in cc) (set_here views chief.place v' (at_within views chief.place chief.view h.there)) same steps seen all_seen,
 )
 
-worker_stays : {terms : Terms} {words words' : List ℕ} {views : List View} {place : ℕ} {chief : View} (h : ConservedBy terms words views place chief) (id : ℕ) (v v' : View) (n : ℕ) → get_elem? views id ≡ some v → v.role ≡ Worker n → v'.role ≡ v.role
-    → Steps words words' chief.made v v' → Conserved terms words' (set views id v')
-worker_stays {views = views} {place = place} {chief = chief} h id v v' n at is role steps = (
-  place,
+worker_stays : {terms : Terms} {words words' : List ℕ} {views : List View} {chief : PlacedView} (h : ConservedBy terms words views chief) (id : ℕ) (v v' : View) (n : ℕ) → get_elem? views id ≡ some v → v.role ≡ Worker n → v'.role ≡ v.role
+    → Steps words words' chief.view.made v v' → Conserved terms words' (set views id v')
+worker_stays {views = views} {chief = chief} h id v v' n at is role steps = (
   chief,
-  stays h id v v' chief at role (λ e. let r : Worker n ≡ Spent = sym is ∙ e in cc) (set_else views id place v' (apart h id v n at is) ∙ h.there) (same_chief chief h.is_chief) steps h.seen h.all_seen,
+  stays h id v v' chief.view at role (λ e. let r : Worker n ≡ Spent = sym is ∙ e in cc) (set_else views id chief.place v' (apart h id v n at is) ∙ h.there) (same_chief chief.view h.is_chief) steps h.seen h.all_seen,
 )
 
 -- a hand is a part of the target, beside what is unassigned and what one worker may claim
-within : {terms : Terms} {words : List ℕ} {views : List View} {place : ℕ} {chief : View} (h : ConservedBy terms words views place chief) (id : ℕ) (v : View) (w : ℕ) → w < 16 → get_elem? views id ≡ some v
+within : {terms : Terms} {words : List ℕ} {views : List View} {chief : PlacedView} (h : ConservedBy terms words views chief) (id : ℕ) (v : View) (w : ℕ) → w < 16 → get_elem? views id ≡ some v
     → v.hand + free_units words + allotment words w + units_counted words w ≤ 2 ^ 40
 within {words = words} {views = views} h id v w l at =
     let hand = sum_at (λ (u : View). u.hand) views id v at in
@@ -48,17 +46,17 @@ within {words = words} {views = views} h id v w l at =
     omega arith
 
 -- while there is no worker, only the chief has a hand
-idle : {terms : Terms} {words : List ℕ} {views : List View} {place : ℕ} {chief : View} (h : ConservedBy terms words views place chief) → chief.made ≡ 0 → (k : ℕ) (v : View) → get_elem? views k ≡ some v → k ≢ place → (r : Role) → v.role ≡ r → v.hand ≡ 0
+idle : {terms : Terms} {words : List ℕ} {views : List View} {chief : PlacedView} (h : ConservedBy terms words views chief) → chief.view.made ≡ 0 → (k : ℕ) (v : View) → get_elem? views k ≡ some v → k ≢ chief.place → (r : Role) → v.role ≡ r → v.hand ≡ 0
 idle h none k v at n Chief is = absurd (n (h.only k v at is))
 idle h none k v at n (Worker w) is = let below = nth h k v w at is in absurd (omega arith)
 idle h none k v at n Spent is = h.spent k v at is
 
 -- while there is no worker, the chief's hand and the unassigned units are the target
-opened : {terms : Terms} {words : List ℕ} {views : List View} {place : ℕ} {chief : View} (h : ConservedBy terms words views place chief) → chief.made ≡ 0 → chief.hand + free_units words ≡ chief.target
-opened {words = words} {views = views} {place = place} {chief = chief} h none =
+opened : {terms : Terms} {words : List ℕ} {views : List View} {chief : PlacedView} (h : ConservedBy terms words views chief) → chief.view.made ≡ 0 → chief.view.hand + free_units words ≡ chief.view.target
+opened {words = words} {views = views} {chief = chief} h none =
     let allotments = total_below-zero 16 (allotment words) (λ w l. (h.unmade w (omega arith) l).0) in
     let counts = total_below-zero 16 (units_counted words) (λ w l. (h.unmade w (omega arith) l).1) in
-    let hand = sum_only (λ (u : View). u.hand) views place chief h.there (λ k v at n. idle h none k v at n v.role refl) in
+    let hand = sum_only (λ (u : View). u.hand) views chief.place chief.view h.there (λ k v at n. idle h none k v at n v.role refl) in
     let all = h.units in
     let target = h.target.1 in
     omega arith
@@ -141,7 +139,7 @@ module _ (terms : Terms) (slots id : ℕ) (me : Me (Unit {0}) View) (is : me.0.r
 module _ (terms : Terms) (slots id : ℕ) (me : Me (Unit {0}) View) (number : ℕ) (is : me.0.role ≡ Worker number) (few : number < 16) where
   pub claims : Allows (Rule terms) slots id me (2 + number) (λ _. 0) (λ n after. (2 + number ≡ 2 + worker_number_of me.0.role) × (after.0 ≡ after_claim me.0 (worker_number_of me.0.role) n) × (after.1 ≡ me.1) × (me.0.hand + n ≤ 2 ^ 40))
   claims s holds _ at _ =
-      let h = holds.2 in
+      let h = holds.1 in
       let x : ℕ = allotment s.words number in
       let v' : View = after_claim me.0 (worker_number_of me.0.role) x in
       let bound : me.0.hand + x ≤ 2 ^ 40 = let all = within h id me.0 number few at in omega arith in
@@ -149,13 +147,13 @@ module _ (terms : Terms) (slots id : ℕ) (me : Me (Unit {0}) View) (number : �
         v',
         keeps,
         tt,
-        worker_stays h id me.0 v' number at is refl (allotment_steps s.words h.size holds.1.made me.0 v' refl refl number 0 made few (omega arith)),
+        worker_stays h id me.0 v' number at is refl (allotment_steps s.words h.size holds.0.view.made me.0 v' refl refl number 0 made few (omega arith)),
         (ap (λ (r : Role). 2 + worker_number_of r) (sym is), refl, refl, bound),
       )
 
   pub counts : 0 < me.0.hand → Allows (Rule terms) slots id me (18 + number) (λ n. (n + 1) % 2 ^ 64) (λ n after. (18 + number ≡ 18 + worker_number_of me.0.role) × (after.0 ≡ counted_one me.0 (worker_number_of me.0.role)) × (after.1 ≡ me.1) × (me.0.mine + 1 ≤ 2 ^ 40))
   counts has s holds _ at _ =
-      let h = holds.2 in
+      let h = holds.1 in
       let x : ℕ = units_counted s.words number in
       let v' : View = counted_one me.0 (worker_number_of me.0.role) in
       let all = within h id me.0 number few at in
@@ -169,13 +167,13 @@ module _ (terms : Terms) (slots id : ℕ) (me : Me (Unit {0}) View) (number : �
         keeps,
         tt,
         subst (λ (y : ℕ). Conserved terms (set s.words (18 + number) y) (set s.views id v')) small
-            (worker_stays h id me.0 v' number at is refl (count_steps s.words holds.1.made number 1 me.0 v' h.size is refl made few (omega arith) refl)),
+            (worker_stays h id me.0 v' number at is refl (count_steps s.words holds.0.view.made number 1 me.0 v' h.size is refl made few (omega arith) refl)),
         (ap (λ (r : Role). 18 + worker_number_of r) (sym is), refl, refl, bound),
       )
 
   pub gives_back : (k : ℕ) → me.0.hand ≡ k → Allows (Rule terms) slots id me 1 (λ n. (n + k) % 2 ^ 64) (λ n after. (◌≡◌ {A = ℕ} 1 1) × (after.0 ≡ given_back me.0 (worker_number_of me.0.role)) × (after.1 ≡ me.1))
   gives_back k hand s holds _ at _ =
-      let h = holds.2 in
+      let h = holds.1 in
       let v' : View = given_back me.0 (worker_number_of me.0.role) in
       let x : ℕ = free_units s.words in
       let small : x + k ≡ (x + k) % 18446744073709551616 = let all = within h id me.0 0 (omega arith) at in omega arith in (
@@ -183,6 +181,6 @@ module _ (terms : Terms) (slots id : ℕ) (me : Me (Unit {0}) View) (number : �
         keeps,
         tt,
         subst (λ (y : ℕ). Conserved terms (set s.words 1 y) (set s.views id v')) small
-            (worker_stays h id me.0 v' number at is refl (unassigned_steps s.words h.size holds.1.made me.0 v' refl refl (x + k) (omega arith))),
+            (worker_stays h id me.0 v' number at is refl (unassigned_steps s.words h.size holds.0.view.made me.0 v' refl refl (x + k) (omega arith))),
         (refl, refl, refl),
       )

@@ -8,7 +8,7 @@ use Rattle.amber_board.specs.declared.view.Role.{Role}
 use Rattle.amber_board.specs.declared.view.Role.TheVariants.{Chief, Worker, Spent}
 use Rattle.amber_board.specs.declared.view.Terms.{Terms}
 use Rattle.amber_board.specs.declared.view.View.{View}
-use Rattle.amber_board.specs.Ledger.{free_units, allotment, units_counted, total_below, is_worker, seats_of, mine_of, times_kept, kept_of, flag, ConservedBy, Conserved}
+use Rattle.amber_board.specs.Ledger.{free_units, allotment, units_counted, total_below, is_worker, seats_of, mine_of, times_kept, kept_of, flag, PlacedView, ConservedBy, Conserved}
 use Rattle.amber_board.proofs.Sums.{flag-above}
 use Rattle.amber_board.proofs.Views.{sum_at_set, sum_at}
 
@@ -45,11 +45,11 @@ seats_same w views id v v' at role =
     let same : seat_flag w v'.role ≡ seat_flag w v.role = ap (seat_flag w) role in
     omega arith
 
-module _ {terms : Terms} {words words' : List ℕ} {views : List View} {place : ℕ} {chief : View} (h : ConservedBy terms words views place chief)
+module _ {terms : Terms} {words words' : List ℕ} {views : List View} {chief : PlacedView} (h : ConservedBy terms words views chief)
     (id : ℕ) (v v' chief' : View) (at : get_elem? views id ≡ some v) (role : v'.role ≡ v.role) (live : v.role ≢ Spent)
-    (there : get_elem? (set views id v') place ≡ some chief') (same : SameChief chief chief') (steps : Steps words words' chief.made v v')
+    (there : get_elem? (set views id v') chief.place ≡ some chief') (same : SameChief chief.view chief') (steps : Steps words words' chief.view.made v v')
     (seen : (w : ℕ) → w < 16 → get_or chief'.seen w 0 ≤ units_counted words w) (all_seen : length chief'.seen ≡ 16) where
-  only_here : (k : ℕ) (u : View) → get_elem? (set views id v') k ≡ some u → u.role ≡ Chief → k ≡ place
+  only_here : (k : ℕ) (u : View) → get_elem? (set views id v') k ≡ some u → u.role ≡ Chief → k ≡ chief.place
   only_here k u e is =
       ⊎_elim (λ t. t.0 ∙ h.only id v at (sym role ∙ ap (λ (x : View). x.role) t.1 ∙ is))
       (λ t. h.only k u t.1 is) (at_set views id k v' u e)
@@ -67,7 +67,7 @@ module _ {terms : Terms} {words words' : List ℕ} {views : List View} {place : 
       let least = sum_at (λ (u : View). mine_if w u.role u.mine) views id v at in
       omega arith
 
-  pub stays : ConservedBy terms words' (set views id v') place chief'
+  pub stays : ConservedBy terms words' (set views id v') (record { place = chief.place; view = chief' })
   stays = record {
     units =
         let change = sum_at_set (λ (u : View). u.hand) views id v v' at in
@@ -86,7 +86,7 @@ module _ {terms : Terms} {words words' : List ℕ} {views : List View} {place : 
         omega arith;
     made = let fewer = h.made in let same_made = same.made in omega arith;
     unmade = λ w le l.
-        let far : chief.made ≤ w = let same_made = same.made in omega arith in
+        let far : chief.view.made ≤ w = let same_made = same.made in omega arith in
         ((steps.unmade w far l).0 ∙ (h.unmade w far l).0, (steps.unmade w far l).1 ∙ (h.unmade w far l).1);
     spent = spent_here;
     mine = mine_here;
@@ -98,18 +98,19 @@ module _ {terms : Terms} {words words' : List ℕ} {views : List View} {place : 
   }
 
 -- the chief's view stands where its seat says
-pub by_chief : {terms : Terms} {words : List ℕ} {views : List View} (h : Conserved terms words views) (id : ℕ) (v : View) → get_elem? views id ≡ some v → v.role ≡ Chief → ConservedBy terms words views id v
+pub by_chief : {terms : Terms} {words : List ℕ} {views : List View} (h : Conserved terms words views) (id : ℕ) (v : View) → get_elem? views id ≡ some v → v.role ≡ Chief → ConservedBy terms words views (record { place = id; view = v })
 by_chief {terms} {words} {views} h id v at is =
-    let place : id ≡ h.0 = h.2.only id v at is in
-    let there : get_elem? views h.0 ≡ some v = subst (λ (k : ℕ). get_elem? views k ≡ some v) place at in
-    let same : h.1 ≡ v = some-injective h.1 v (sym h.2.there ∙ there) in
-    subst (λ (k : ℕ). ConservedBy terms words views k v) (sym place) (subst (λ (u : View). ConservedBy terms words views h.0 u) same h.2)
+    let place : id ≡ h.0.place = h.1.only id v at is in
+    let there : get_elem? views h.0.place ≡ some v = subst (λ (k : ℕ). get_elem? views k ≡ some v) place at in
+    let same : h.0.view ≡ v = some-injective h.0.view v (sym h.1.there ∙ there) in
+    let chief : h.0 ≡ record { place = id; view = v } = λ i. record { place = sym place i; view = same i } in
+    subst (ConservedBy terms words views) chief h.1
 
 -- a worker's seat is not where the chief's is
-pub apart : {terms : Terms} {words : List ℕ} {views : List View} {place : ℕ} {chief : View} (h : ConservedBy terms words views place chief) (id : ℕ) (v : View) (n : ℕ) → get_elem? views id ≡ some v → v.role ≡ Worker n → place ≢ id
-apart {terms} {words} {views} {place} {chief} h id v n at is e =
-    let here : get_elem? views id ≡ some chief = subst (λ (k : ℕ). get_elem? views k ≡ some chief) e h.there in
-    let same : v ≡ chief = some-injective v chief (sym at ∙ here) in
+pub apart : {terms : Terms} {words : List ℕ} {views : List View} {chief : PlacedView} (h : ConservedBy terms words views chief) (id : ℕ) (v : View) (n : ℕ) → get_elem? views id ≡ some v → v.role ≡ Worker n → chief.place ≢ id
+apart {terms} {words} {views} {chief} h id v n at is e =
+    let here : get_elem? views id ≡ some chief.view = subst (λ (k : ℕ). get_elem? views k ≡ some chief.view) e h.there in
+    let same : v ≡ chief.view = some-injective v chief.view (sym at ∙ here) in
     let role : Worker n ≡ Chief = sym is ∙ ap (λ (u : View). u.role) same ∙ h.is_chief in
     cc
 
@@ -120,9 +121,9 @@ pub from_flag : (n m : ℕ) → 1 ≤ flag (ltb n m) → n < m
 from_flag n m h = ⊎_elim (λ l. l) (λ l. let none = flag-above n m l in absurd (omega arith)) (cases_lt n m)
 
 -- a worker with a seat is below `made`
-pub nth : {terms : Terms} {words : List ℕ} {views : List View} {place : ℕ} {chief : View} (h : ConservedBy terms words views place chief) (id : ℕ) (v : View) (n : ℕ) → get_elem? views id ≡ some v → v.role ≡ Worker n → n < chief.made
-nth {terms} {words} {views} {place} {chief} h id v n at is =
+pub nth : {terms : Terms} {words : List ℕ} {views : List View} {chief : PlacedView} (h : ConservedBy terms words views chief) (id : ℕ) (v : View) (n : ℕ) → get_elem? views id ≡ some v → v.role ≡ Worker n → n < chief.view.made
+nth {terms} {words} {views} {chief} h id v n at is =
     let one : seat_flag n v.role ≡ 1 = ap (seat_flag n) is ∙ itself n in
     let least = sum_at (λ (u : View). seat_flag n u.role) views id v at in
     let all = h.seats n in
-    from_flag n chief.made (omega arith)
+    from_flag n chief.view.made (omega arith)

@@ -63,32 +63,37 @@ abbrev pub flag : Bool → ℕ
 flag true = 1
 flag false = 0
 
--- the rule, where the chief's view stands at this place
-pub record ConservedBy (terms : Terms) (words : List ℕ) (views : List View) (place : ℕ) (chief : View) : Type 0 where
+-- a view, and its place among all views
+pub record PlacedView : Type 0 where
+  pub place : ℕ
+  pub view : View
+
+-- the rule, where this is the chief's view
+pub record ConservedBy (terms : Terms) (words : List ℕ) (views : List View) (chief : PlacedView) : Type 0 where
   -- no unit is made or lost
   pub units : free_units words + total_below 16 (allotment words) + total_below 16 (units_counted words) + hands views ≡ terms.target
   -- exactly one view is the chief's
-  pub there : get_elem? views place ≡ some chief
-  pub is_chief : chief.role ≡ Chief
-  pub only : (k : ℕ) (v : View) → get_elem? views k ≡ some v → v.role ≡ Chief → k ≡ place
+  pub there : get_elem? views chief.place ≡ some chief.view
+  pub is_chief : chief.view.role ≡ Chief
+  pub only : (k : ℕ) (v : View) → get_elem? views k ≡ some v → v.role ≡ Chief → k ≡ chief.place
   -- each worker below `made` has one seat, which is out or was taken in, and no other worker has one
-  pub seats : (w : ℕ) → seats_of w views + times_kept w chief.kept ≡ flag (nat_lt w chief.made)
-  pub made : chief.made ≤ terms.workers
-  pub unmade : (w : ℕ) → chief.made ≤ w → w < 16 → (allotment words w ≡ 0) × (units_counted words w ≡ 0)
+  pub seats : (w : ℕ) → seats_of w views + times_kept w chief.view.kept ≡ flag (nat_lt w chief.view.made)
+  pub made : chief.view.made ≤ terms.workers
+  pub unmade : (w : ℕ) → chief.view.made ≤ w → w < 16 → (allotment words w ≡ 0) × (units_counted words w ≡ 0)
   pub spent : (k : ℕ) (v : View) → get_elem? views k ≡ some v → v.role ≡ Spent → v.hand ≡ 0
   -- a worker's word is what its seat counted, or had counted when it was taken in
-  pub mine : (w : ℕ) → w < 16 → units_counted words w ≡ mine_of w views + kept_of w chief.kept
+  pub mine : (w : ℕ) → w < 16 → units_counted words w ≡ mine_of w views + kept_of w chief.view.kept
   -- what the chief saw of a worker is at most what that worker counted
-  pub seen : (w : ℕ) → w < 16 → slice_index chief.seen w ≤ units_counted words w
-  pub all_seen : length chief.seen ≡ 16
+  pub seen : (w : ℕ) → w < 16 → slice_index chief.view.seen w ≤ units_counted words w
+  pub all_seen : length chief.view.seen ≡ 16
   -- what the words and the chief say of the target, and how large a board may be
-  pub target : (slice_index words 0 ≡ terms.target) × (chief.target ≡ terms.target)
+  pub target : (slice_index words 0 ≡ terms.target) × (chief.view.target ≡ terms.target)
   pub size : length words ≡ 34
   pub limits : (terms.target ≤ 2 ^ 40) × (terms.workers ≤ 16)
 
 -- the conservation rule of the ledger
 abbrev pub Conserved : Terms → List ℕ → List View → Type 0
-Conserved terms words views = (place : ℕ) × (chief : View) × ConservedBy terms words views place chief
+Conserved terms words views = (chief : PlacedView) × ConservedBy terms words views chief
 
 -- every unit is counted, and none is anywhere else
 pub record IsAllCounted (target : ℕ) (words : List ℕ) (views : List View) : Type 0 where
