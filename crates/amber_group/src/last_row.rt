@@ -1,12 +1,11 @@
 //! The last row that comes to groups: it is taken in and the rows of all groups are made, both or none of it.
 
-ghost use Rattle.std.specs.Prelude.{◌≡◌, ◌+◌, ◌^◌, ◌<◌, ◌++◌, ◌∷◌, [], ℕ, List, None, OnErr, OnOk, length};
+ghost use Rattle.std.specs.Prelude.{◌≡◌, ◌^◌, ◌<◌, ◌++◌, ◌∷◌, [], ℕ, None, OnErr, OnOk, length};
 ghost use Rattle.std.specs.Map.{lookup};
 ghost use Rattle.indexmap.specs.IndexMap.{set_value_at, spare};
-ghost use Rattle.amber_rows.specs.Operators.{pick_cells, same_row};
-ghost use Rattle.amber_rows.specs.declared.value.Value.{Value as Cell};
+ghost use Rattle.amber_rows.specs.Operators.{same_row};
 ghost use Rattle.amber_group.specs.Finished.{finished_rows};
-ghost use Rattle.amber_group.specs.Group.{groups_of};
+ghost use Rattle.amber_group.specs.Places.{TakesIn};
 ghost use Rattle.amber_group.specs.Steps.{GroupsWithin};
 
 use crate::finish::{add_group, finish};
@@ -99,11 +98,9 @@ pub(crate) fn take_last(
     out: &mut VecDeque<Row>,
 ) -> Result<(), AllocError>
     requires { (fed : ℕ) × (fed < 2 ^ 40) × GroupsWithin fed groups.old.entries }
-    ensures ok { OnOk result ((keys : List ℕ) (rows : List (List Cell)) → groups.old.entries
-        ≡ groups_of keys aggs.now rows → key ≡ pick_cells keys row.now → groups.new.entries
-        ≡ groups_of keys aggs.now (rows ++ row.now ∷ [])) }
-    ensures within { OnOk result ((fed : ℕ) → GroupsWithin fed groups.old.entries
-        → GroupsWithin (fed + 1) groups.new.entries) }
+    ensures ok { OnOk result (TakesIn
+        (record { entries = groups.old.entries; aggs = aggs.now; key = key; row = row.now })
+        groups.new.entries) }
     ensures rows { OnOk result (out.new.items
         ≡ out.old.items ++ finished_rows groups.new.entries) }
     ensures groups_on_err { OnErr result (groups.new.entries ≡ groups.old.entries) }

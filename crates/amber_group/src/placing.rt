@@ -6,7 +6,7 @@ ghost use Rattle.amber_rows.specs.Operators.{pick_cells};
 ghost use Rattle.amber_rows.specs.declared.agg.Agg.{Agg as OneAgg};
 ghost use Rattle.amber_rows.specs.declared.value.Value.{Value as Cell};
 ghost use Rattle.amber_group.specs.Group.{groups_of};
-ghost use Rattle.amber_group.specs.Places.{IsPlaceFor};
+ghost use Rattle.amber_group.specs.Places.{IsPlaceFor, TakesIn};
 ghost use Rattle.amber_group.specs.Steps.{GroupsWithin};
 
 use crate::totals::Totals;
@@ -101,11 +101,9 @@ pub fn take_in(
     room: &mut Vec<Value>,
 ) -> Result<(), AllocError>
     requires { (fed : ℕ) × (fed < 2 ^ 40) × GroupsWithin fed groups.old.entries }
-    ensures ok { OnOk result ((keys : List ℕ) (rows : List (List Cell)) → groups.old.entries
-        ≡ groups_of keys aggs.now rows → key ≡ pick_cells keys row.now → groups.new.entries
-        ≡ groups_of keys aggs.now (rows ++ row.now ∷ [])) }
-    ensures within { OnOk result ((fed : ℕ) → GroupsWithin fed groups.old.entries
-        → GroupsWithin (fed + 1) groups.new.entries) }
+    ensures ok { OnOk result (TakesIn
+        (record { entries = groups.old.entries; aggs = aggs.now; key = key; row = row.now })
+        groups.new.entries) }
     ensures same { OnErr result (groups.new.entries ≡ groups.old.entries) }
     ensures still { OnErr result (0 < spare groups.old → 0 < spare groups.new) }
 {

@@ -1,7 +1,7 @@
-ghost use Rattle.std.specs.Prelude.{◌≡◌, ◌+◌, ◌^◌, ◌<◌, ◌++◌, ◌∷◌, [], List, true, false, IfOk, OnErr, OnOk, length};
-ghost use Rattle.amber_rows.specs.Operators.{first_keys, group_result, refused_keys};
+ghost use Rattle.std.specs.Prelude.{◌≡◌, ◌^◌, ◌<◌, ◌++◌, [], List, true, false, IfOk, OnErr, OnOk, length};
+ghost use Rattle.amber_rows.specs.Operators.{first_keys, refused_keys};
 ghost use Rattle.amber_rows.specs.declared.value.Value.{Value as Cell};
-ghost use Rattle.amber_group.specs.Group.{IsFedWith};
+ghost use Rattle.amber_group.specs.Group.{AreRowsOf, FeedsRow, IsFedWith};
 ghost use Rattle.amber_group.specs.Places.{IsReadyFor};
 
 use crate::finish::{Grouped, finish};
@@ -29,7 +29,7 @@ pub struct GroupState {
     changes: Vec<Option<Value>>,
     // Whether a row is prepared: then there is room for a group more.
     ready: bool,
-    // Cells of a key that is done with, in whose room the next one is made.
+    // Cells of a key that is done with, in whose room `feed` makes the next one.
     room: Vec<Value>,
 }
 
@@ -71,11 +71,7 @@ impl GroupState {
     /// Takes in a row. A column that it does not have adds nothing to an aggregate, nor does a text to a sum.
     pub fn feed(&mut self, row: &Row) -> Result<(), AllocError>
         requires { self.old.fed < 2 ^ 40 }
-        ensures ok { OnOk result ((rows : List (List Cell)) → IsFedWith self.old rows
-            → IsFedWith self.new (rows ++ row.now ∷ [])) }
-        ensures fed { OnOk result (self.new.fed ≡ self.old.fed + 1) }
-        ensures same_keys { self.new.keys ≡ self.old.keys }
-        ensures same_aggs { self.new.aggs ≡ self.old.aggs }
+        ensures ok { OnOk result (FeedsRow row.now self.old self.new) }
         ensures same_on_err { OnErr result (self.new ≡ self.old) }
     {
         let room = mem::replace(&mut self.room, Vec::new(self.alloc));
@@ -98,20 +94,13 @@ impl GroupState {
     /// as before.
     pub fn feed_last(&mut self, row: &Row, out: &mut VecDeque<Row>) -> Result<(), AllocError>
         requires { self.old.fed < 2 ^ 40 }
-        ensures ok { OnOk result ((rows : List (List Cell)) → IsFedWith self.old rows
-            → IsFedWith self.new (rows ++ row.now ∷ [])) }
-        ensures fed { OnOk result (self.new.fed ≡ self.old.fed + 1) }
-        ensures same_keys { self.new.keys ≡ self.old.keys }
-        ensures same_aggs { self.new.aggs ≡ self.old.aggs }
+        ensures ok { OnOk result (FeedsRow row.now self.old self.new) }
         ensures groups { OnOk result ((made : List (List Cell))
-            × (out.new.items ≡ out.old.items ++ made)
-            × ((rows : List (List Cell)) → IsFedWith self.new rows
-            → made ≡ group_result self.new.keys self.new.aggs rows)) }
+            × (out.new.items ≡ out.old.items ++ made) × AreRowsOf self.new made) }
         ensures same_on_err { OnErr result (self.new ≡ self.old) }
         ensures out_on_err { OnErr result (out.new.items ≡ out.old.items) }
     {
-        let room = mem::replace(&mut self.room, Vec::new(self.alloc));
-        let key = Key::over(self.alloc, room, row, &self.keys)?;
+        let key = Key::of(self.alloc, row, &self.keys)?;
         take_last(
             self.alloc,
             &mut self.groups,
@@ -132,8 +121,7 @@ impl GroupState {
         ensures ready { OnOk result (self.new ≡ record self.old { ready = true }) }
         ensures same_on_err { OnErr result (self.new ≡ self.old) }
     {
-        let room = mem::replace(&mut self.room, Vec::new(self.alloc));
-        let key = Key::over(self.alloc, room, row, &self.keys)?;
+        let key = Key::of(self.alloc, row, &self.keys)?;
         let mut changes = mem::replace(&mut self.changes, Vec::new(self.alloc));
         let found = find_place(
             self.alloc,
@@ -153,11 +141,7 @@ impl GroupState {
     pub fn commit(&mut self, prepared: Prepared, row: &Row)
         requires few { self.old.fed < 2 ^ 40 }
         requires made { IsReadyFor prepared self.old row.now }
-        ensures rows { (rows : List (List Cell)) → IsFedWith self.old rows
-            → IsFedWith self.new (rows ++ row.now ∷ []) }
-        ensures fed { self.new.fed ≡ self.old.fed + 1 }
-        ensures same_keys { self.new.keys ≡ self.old.keys }
-        ensures same_aggs { self.new.aggs ≡ self.old.aggs }
+        ensures row { FeedsRow row.now self.old self.new }
         ensures ready { self.new.ready ≡ false }
     {
         let Prepared { place, mut changes } = prepared;
@@ -179,9 +163,7 @@ impl GroupState {
     /// bits do not hold, or with an aggregate of a column that none of its rows has, stands in `refused` instead.
     /// Keys stand in the order in which they came first.
     pub fn finish(&self, alloc: Global) -> Result<Grouped, AllocError>
-        ensures rows { IfOk result
-            (λ groups. (rows : List (List Cell)) → IsFedWith self.now rows → groups.rows
-            ≡ group_result self.now.keys self.now.aggs rows) }
+        ensures rows { IfOk result (λ groups. AreRowsOf self.now groups.rows) }
         ensures refused { IfOk result
             (λ groups. (rows : List (List Cell)) → IsFedWith self.now rows → groups.refused
             ≡ refused_keys self.now.keys self.now.aggs rows) }
@@ -202,24 +184,5 @@ impl GroupState {
             ≡ length (first_keys self.now.keys rows) }
     {
         self.groups.len() as u64
-    }
-}
-
-impl Clone for GroupState {
-    ghost is_clone = { λ a copy. copy ≡ a };
-
-    fn clone(&self) -> Result<Self, AllocError> {
-        let mut groups = self.groups.clone()?;
-        groups.reserve(1)?;
-        Ok(GroupState {
-            alloc: self.alloc,
-            keys: self.keys.clone()?,
-            aggs: self.aggs.clone()?,
-            fed: self.fed,
-            groups,
-            changes: Vec::new(self.alloc),
-            ready: self.ready,
-            room: Vec::new(self.alloc),
-        })
     }
 }

@@ -107,12 +107,6 @@ fn fed(alloc: Global, case: &Case) -> Result<GroupState, Fail> {
     Ok(state)
 }
 
-// A copy of the state of a group.
-fn copied(alloc: Global, case: &Case) -> Result<GroupState, Fail> {
-    let state = fed(alloc, case)?;
-    Ok(state.clone()?)
-}
-
 // Expects of a group its rows, and the keys that it refuses.
 fn expect_rows_of(alloc: Global, state: &GroupState, case: &Case) -> Result<(), Fail> {
     let found = state.finish(alloc)?;
@@ -129,7 +123,7 @@ fn expect_group(alloc: Global, state: &GroupState, case: &Case) -> Result<(), Fa
 #[test]
 fn a_group_gives_its_rows_and_refuses_keys(rt: HostRuntime) -> Result<(), Fail> {
     for case in &GROUPS {
-        let state = copied(rt.alloc(), case)?;
+        let state = fed(rt.alloc(), case)?;
         expect_group(rt.alloc(), &state, case)?;
     }
     Ok(())

@@ -10,4 +10,4 @@ take_in-requires c =
     (c.self.inside.fed, omega (arith, c.requires), c.self.invariant.0)
 
 pub invariant_of-self-2 : goal.invariant_of-self-2
-invariant_of-self-2 c = (c.in_ok-take_in.ensures.within c.self.inside.fed c.self.invariant.0, λ e. absurd (false≢true e))
+invariant_of-self-2 c = (c.in_ok-take_in.ensures.ok.within c.self.inside.fed c.self.invariant.0, λ e. absurd (false≢true e))

@@ -12,7 +12,7 @@ take_last-requires c =
     (c.self.inside.fed, omega (arith, c.requires), c.self.invariant.0)
 
 pub invariant_of-self-2 : goal.invariant_of-self-2
-invariant_of-self-2 c = (c.in_ok-take_last.ensures.within c.self.inside.fed c.self.invariant.0, λ e. absurd (false≢true e))
+invariant_of-self-2 c = (c.in_ok-take_last.ensures.ok.within c.self.inside.fed c.self.invariant.0, λ e. absurd (false≢true e))
 
 pub returns-clause-groups : goal.returns-clause-groups
 returns-clause-groups c = (
