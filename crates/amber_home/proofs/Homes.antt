@@ -4,7 +4,7 @@ use Rattle.std.proofs.lemmas.List.{drop_all, take_all}
 use Rattle.amber_log.specs.Grammar.{ends_over}
 use Rattle.amber_meaning.specs.declared.view.Stop.{Stop}
 use Rattle.amber_meaning.specs.State.{Arms, without_arms}
-use Rattle.amber_worker.specs.Changes.{with_leg}
+use Rattle.amber_worker.specs.Changes.{at_leg_start}
 use Rattle.amber_worker.specs.WorkerState.{WorkerState}
 use Rattle.std.proofs.lemmas.Bool.{false≢true}
 use Rattle.amber_log.specs.declared.leg.Close.{Close}
@@ -22,7 +22,7 @@ pub at-rest : (e : HomeState) (crew : List WorkerState) (arms : List Arms) (stop
 at-rest e crew arms stops home resting = subst (λ now. StandsIn now e (record { crew = crew; arms = arms; stops = stops })) resting home.stands
 
 -- nothing was done in a leg that begins
-parts-none : (number : ℕ) (crew : List WorkerState) → parts_from number (map with_leg crew) ≡ []
+parts-none : (number : ℕ) (crew : List WorkerState) → parts_from number (map at_leg_start crew) ≡ []
 unfolding parts_from
 parts-none number [] = refl
 parts-none number (w ∷ crew) = parts-none (number + 1) crew
@@ -30,7 +30,7 @@ parts-none number (w ∷ crew) = parts-none (number + 1) crew
 -- a leg is opened
 module _ (e later : HomeState) (crew after : List WorkerState) (arms now : List Arms) (stops : List Stop) (to_end : Bool)
     (home : IsHome e crew arms stops) (resting : e.phase ≡ phase.Resting) (more : ends_over false e.log.items ≡ false)
-    (begun : after ≡ map with_leg crew) (now-is : now ≡ (if to_end then map without_arms arms else arms))
+    (begun : after ≡ map at_leg_start crew) (now-is : now ≡ (if to_end then map without_arms arms else arms))
     (later-is : later ≡ record e { phase = phase.Open to_end; parts = open_parts (phase.Open to_end) after }) where
   pub home-opened : IsHome later after now stops
   home-opened =

@@ -15,7 +15,7 @@ use Rattle.amber_meaning.specs.State.{Arms, State, arms_at, begin_last_leg, begi
 use Rattle.amber_meaning.proofs.OneState.{legal_logs_have_one_state, position-get_or}
 use Rattle.amber_meaning.proofs.Rest.{legal_logs_rest}
 use Rattle.amber_meaning.proofs.Senders.{flows_send_forward}
-use Rattle.amber_worker.specs.Changes.{StandsAtLeg, with_leg}
+use Rattle.amber_worker.specs.Changes.{StandsAtLeg, at_leg_start}
 use Rattle.amber_worker.specs.WorkerState.{WorkerState}
 use Rattle.amber_worker.proofs.Commands.{stands-begun}
 use Rattle.amber_home.specs.AtWork.{IsQuiet, context_in, steps_by, worker_state_at}
@@ -81,19 +81,19 @@ position-start false rest worker = position-get_or (map let_go rest.positions) w
 
 -- ---- the workers begin a leg
 
-begun-at : (crew : List WorkerState) (k : ℕ) → k < length crew → worker_state_at (map with_leg crew) k ≡ with_leg (worker_state_at crew k)
+begun-at : (crew : List WorkerState) (k : ℕ) → k < length crew → worker_state_at (map at_leg_start crew) k ≡ at_leg_start (worker_state_at crew k)
 begun-at [] k less = absurd (omega arith)
 begun-at (w ∷ crew) zero less = refl
 begun-at (w ∷ crew) (suc k) less = begun-at crew k (omega arith)
 
-ends-begun : (crew : List WorkerState) (k : ℕ) → HasItsEnds (worker_state_at crew k) (worker_state_at (map with_leg crew) k)
+ends-begun : (crew : List WorkerState) (k : ℕ) → HasItsEnds (worker_state_at crew k) (worker_state_at (map at_leg_start crew) k)
 ends-begun [] k = record { number = refl; ins = refl; outs = refl; watch = refl; route = refl }
 ends-begun (w ∷ crew) zero = record { number = refl; ins = refl; outs = refl; watch = refl; route = refl }
 ends-begun (w ∷ crew) (suc k) = ends-begun crew k
 
-steps-begun : (crew : List WorkerState) → steps_by (map with_leg crew) ≡ steps_by crew
+steps-begun : (crew : List WorkerState) → steps_by (map at_leg_start crew) ≡ steps_by crew
 steps-begun [] = refl
-steps-begun (w ∷ crew) = rw (steps-cons w crew, steps-cons (with_leg w) (map with_leg crew), steps-begun crew) refl
+steps-begun (w ∷ crew) = rw (steps-cons w crew, steps-cons (at_leg_start w) (map at_leg_start crew), steps-begun crew) refl
 
 -- the steps at rest are no more than they may be
 pub rest-few : (e : HomeState) (crew : List WorkerState) (arms : List Arms) (stops : List Stop) → IsAtRest e crew arms stops → IsLegal (query_of e) e.log → steps_by crew ≤ e.most
@@ -116,16 +116,16 @@ arms-start false arms state is = is
 module _ (e : HomeState) (crew : List WorkerState) (arms : List Arms) (stops : List Stop) (rest : IsAtRest e crew arms stops) (legal : IsLegal (query_of e) e.log) (to_end : Bool) where
   -- they stand where the leg begins
   pub opened : ends_over false e.log.items ≡ false → (later : HomeState) → later ≡ record e { phase = phase.Open to_end; parts = later.parts }
-      → (now : List Arms) → now ≡ (if to_end then map without_arms arms else arms) → IsWithinLeg to_end later (map with_leg crew) now
+      → (now : List Arms) → now ≡ (if to_end then map without_arms arms else arms) → IsWithinLeg to_end later (map at_leg_start crew) now
   unfolding StandsAtLeg
   opened more later later-is now now-is =
       let query = query_of e in
       let state = rest_state e in
-      subst (λ (h : HomeState). IsWithinLeg to_end h (map with_leg crew) now) (sym later-is) (record {
+      subst (λ (h : HomeState). IsWithinLeg to_end h (map at_leg_start crew) now) (sym later-is) (record {
         more = more;
         positions = λ worker. let_go (position_at state.positions worker);
-        at = renewed query state (leg_start to_end state) crew (map with_leg crew) (position_at state.positions) (λ worker. let_go (position_at state.positions worker)) rest.at
-            (length-map crew with_leg) (ends-begun crew) (quiet-start query state rest.at.at.quiet to_end)
+        at = renewed query state (leg_start to_end state) crew (map at_leg_start crew) (position_at state.positions) (λ worker. let_go (position_at state.positions worker)) rest.at
+            (length-map crew at_leg_start) (ends-begun crew) (quiet-start query state rest.at.at.quiet to_end)
             (λ worker inside.
             let here : worker < length crew = rw rest.at.at.at_positions.all inside in
             let w = worker_state_at crew worker in

@@ -2,14 +2,14 @@
 
 ghost use Rattle.std.specs.Prelude.{◌≡◌, if◌then◌else◌, map};
 ghost use Rattle.amber_meaning.specs.State.{without_arms};
-ghost use Rattle.amber_worker.specs.Changes.{with_leg};
+ghost use Rattle.amber_worker.specs.Changes.{at_leg_start};
 
 use amber_arms::InForce;
 use amber_worker::Worker;
 
 /// Each worker begins a leg: pauses end, and nothing was done since.
 pub(crate) fn begin_all(crew: &mut [Worker])
-    ensures { crew.new ≡ map with_leg crew.old }
+    ensures { crew.new ≡ map at_leg_start crew.old }
 {
     for worker in crew.iter_mut() {
         worker.begin();

@@ -18,7 +18,7 @@ use Rattle.amber_meaning.specs.declared.answer.PlainErr.TheVariants as plain_err
 use Rattle.amber_meaning.specs.declared.answer.Refusal.{Refusal}
 use Rattle.amber_meaning.proofs.Operators.{Lists, length-outputs, list_at-is, next-here, nth-here, rows-before, rows-here}
 use Rattle.amber_plain.specs.Holding.{FallsShort}
-use Rattle.amber_plain.specs.Unread.{HasInputs, HasOne, Records, Waiting, nothing, unread_at, unread_count, unread_rows, without}
+use Rattle.amber_plain.specs.Unread.{HasInputs, HasOne, Records, Waiting, nothing_unread, unread_at, unread_count, unread_rows, without}
 use Rattle.amber_plain.specs.Steps.{others_of, unread_of, read_for, refused_now, told_by}
 use Rattle.amber_plain.proofs.Inputs.{AreWhole, HasInputs-same, earlier, inputs-there, read_count, refused-same, rows-same}
 use Rattle.amber_plain.proofs.Told.{IsTold, IsTold-next, IsTold-read, Refused, all-told, unread-last, unread-left, told-refusals}
@@ -39,7 +39,7 @@ pub record Evaluated (flow : List Operator) (records : Records) (i : ℕ) (waiti
   pub count : length waiting ≡ i
   pub whole : (op : ℕ) → 0 < op → op ≤ i → reader_count (take i flow) op ≡ 0 → list_at (lists_of records waiting) op ≡ list_at (outputs records [] flow) op
   pub unread : (op : ℕ) → i ≤ op → 0 < op → reader_count (take i flow) op ≡ 0
-  pub gone : (op : ℕ) → 0 < op → op ≤ i → 0 < reader_count (take i flow) op → unread_at waiting op ≡ nothing
+  pub gone : (op : ℕ) → 0 < op → op ≤ i → 0 < reader_count (take i flow) op → unread_at waiting op ≡ nothing_unread
   pub told_so_far : IsTold records (refused_at flow records) waiting told
   pub counted : most + owed records waiting ≡ left + sum_by length (take i (outputs records [] flow))
 
@@ -180,7 +180,7 @@ Evaluated-more flow ok records i o waiting new told newly left rest most h e v n
               ∙ sym (list_at-lists records waiting op) ∙ v.whole op some (omega (arith, few, other)) (omega (arith, sum, none))
         ]
 
-    gone : (op : ℕ) → 0 < op → op ≤ i + 1 → 0 < reader_count (take (i + 1) flow) op → unread_at (others_of o.what waiting ++ unread_of records (i + 1) o.what waiting ∷ []) op ≡ nothing
+    gone : (op : ℕ) → 0 < op → op ≤ i + 1 → 0 < reader_count (take (i + 1) flow) op → unread_at (others_of o.what waiting ++ unread_of records (i + 1) o.what waiting ∷ []) op ≡ nothing_unread
     gone op some few read =
         let others = others_of o.what waiting in
         let unread = unread_of records (i + 1) o.what waiting in
@@ -229,10 +229,10 @@ last-rows flow ok records i waiting told left most e v =
 
 -- nothing is left behind the last one
 last-gone : (flow : List Operator) → IsFlow flow → (records : Records) (i : ℕ) (waiting : List Waiting) (told : List (List Refusal)) (left most : ℕ) → i ≡ length flow
-    → Evaluated flow records i waiting told left most → (op : ℕ) → HasOne (without waiting (length flow)) op → unread_at (without waiting (length flow)) op ≡ nothing
+    → Evaluated flow records i waiting told left most → (op : ℕ) → HasOne (without waiting (length flow)) op → unread_at (without waiting (length flow)) op ≡ nothing_unread
 last-gone flow ok records i waiting told left most e v op there =
     let has = last-there flow ok records i waiting told left most e v in
-    let long : length (without waiting (length flow)) ≡ length waiting = length-set waiting (length flow - 1) nothing in
+    let long : length (without waiting (length flow)) ≡ length waiting = length-set waiting (length flow - 1) nothing_unread in
     elim (cases_eq op (length flow)) [
       | inl last ↦ ap (λ k. unread_at (without waiting (length flow)) k) last ∙ taken-same waiting (length flow) has
       | inr other ↦
@@ -250,7 +250,7 @@ last-owed flow ok records i waiting told left most e v =
     let others = without waiting (length flow) in
     let none : owed records others ≡ 0 = owed-none records others (λ k lt.
     let same : k + 1 - 1 ≡ k = omega arith in
-    ap (λ m. get_or others m nothing) (sym same) ∙ sym (unread_at-is others (k + 1) (omega arith)) ∙ gone (k + 1) (omega arith, omega (arith, lt))) in
+    ap (λ m. get_or others m nothing_unread) (sym same) ∙ sym (unread_at-is others (k + 1) (omega arith)) ∙ gone (k + 1) (omega arith, omega (arith, lt))) in
     let all : take i (outputs records [] flow) ≡ outputs records [] flow = take_all i (outputs records [] flow) (omega (arith, e, length-outputs records [] flow)) in
     let sum : sum_by length (take i (outputs records [] flow)) ≡ sum_by length (outputs records [] flow) = ap (λ ls. sum_by length ls) all in
     omega (arith, v.counted, taken-owed records waiting (length flow) has, none, sum)
@@ -261,7 +261,7 @@ pub last-told : (flow : List Operator) → IsFlow flow → (records : Records) (
 last-told flow ok records i waiting told left most e v =
     let has = last-there flow ok records i waiting told left most e v in
     let t = IsTold-read records (refused_at flow records) waiting told (length flow) has v.told_so_far in
-    let long : length (without waiting (length flow)) ≡ length waiting = length-set waiting (length flow - 1) nothing in
+    let long : length (without waiting (length flow)) ≡ length waiting = length-set waiting (length flow - 1) nothing_unread in
     let same : length (told_by records told (unread_at waiting (length flow)).source) ≡ length flow = omega (arith, t.count, long, v.count, e) in
     told-refusals records (outputs records [] flow) flow (told_by records told (unread_at waiting (length flow)).source) 1 same (λ k o lt is.
     let next : k + 1 ≡ 1 + k = omega arith in

@@ -15,7 +15,7 @@ use Rattle.amber_rows.specs.declared.flow.Operator.{Operator}
 use Rattle.amber_meaning.specs.Kinds.{refused_by, rows_of}
 use Rattle.amber_meaning.specs.Refused.{refused_groups}
 use Rattle.amber_meaning.proofs.Operators.{Lists, nth-within}
-use Rattle.amber_plain.specs.Unread.{HasInput, HasInputs}
+use Rattle.amber_plain.specs.Unread.{HasUnreadInput, HasInputs}
 
 -- how often an operator reads the list with this number
 abbrev pub read_count : What → ℕ → ℕ
@@ -106,9 +106,9 @@ refused-same op (what.Join build probe build_keys probe_keys) records lists all 
 refused-same op (what.Group input keys aggs) records lists all w = ap (λ rows. refused_groups op (refused_keys keys aggs rows)) (w input (omega (arith, reads_own input)))
 refused-same op (what.Sink input) records lists all w = refl
 
-HasInput-same : {A B : Type 0} (xs : List A) (ys : List B) (input : Option ℕ) → length xs ≡ length ys → HasInput xs input → HasInput ys input
-HasInput-same xs ys None e h = tt
-HasInput-same xs ys (Some input) e h = (h.0, omega (arith, h.1))
+HasUnreadInput-same : {A B : Type 0} (xs : List A) (ys : List B) (input : Option ℕ) → length xs ≡ length ys → HasUnreadInput xs input → HasUnreadInput ys input
+HasUnreadInput-same xs ys None e h = tt
+HasUnreadInput-same xs ys (Some input) e h = (h.0, omega (arith, h.1))
 
 pub HasInputs-same : {A B : Type 0} (xs : List A) (ys : List B) (kind : What) → length xs ≡ length ys → HasInputs xs kind → HasInputs ys kind
-HasInputs-same xs ys kind e h = (HasInput-same xs ys (build_input kind) e h.0, HasInput-same xs ys (main_input kind) e h.1, h.2)
+HasInputs-same xs ys kind e h = (HasUnreadInput-same xs ys (build_input kind) e h.0, HasUnreadInput-same xs ys (main_input kind) e h.1, h.2)

@@ -13,7 +13,7 @@ use Rattle.amber_rows.specs.declared.record_reader.RecordReader.{RecordReader}
 use Rattle.amber_meaning.specs.Refused.{refused_records}
 use Rattle.amber_meaning.specs.declared.answer.Refusal.{Refusal}
 use Rattle.amber_meaning.specs.declared.answer.PlainErr.{PlainErr}
-use Rattle.amber_plain.specs.Holding.{FallsShort, Moves}
+use Rattle.amber_plain.specs.Holding.{FallsShort, Fills}
 use Rattle.amber_plain.specs.Stages.{count_through}
 use Rattle.amber_plain.specs.declared.chain.Chain.{Chain}
 use Rattle.amber_plain.proofs.Passing.{Takes-more, Takes-none, count_through-append, count_through-none, rows_through-append, rows_through-none, short_behind}
@@ -29,11 +29,11 @@ Fields = List (List ℕ)
 
 -- ---- chains
 
-pub Moves-none : (a : Chain) → Moves a a []
-Moves-none a = record { stages = refl; taken = rw (rows_through-none a.stages.items) (Takes-none a.holder) }
+pub Fills-none : (a : Chain) → Fills a a []
+Fills-none a = record { stages = refl; taken = rw (rows_through-none a.stages.items) (Takes-none a.holder) }
 
-pub Moves-more : (a b c : Chain) (xs ys : Rows) → Moves a b xs → Moves b c ys → Moves a c (xs ++ ys)
-Moves-more a b c xs ys f g = record {
+pub Fills-more : (a b c : Chain) (xs ys : Rows) → Fills a b xs → Fills b c ys → Fills a c (xs ++ ys)
+Fills-more a b c xs ys f g = record {
   stages = g.stages ∙ f.stages;
   taken = rw (rows_through-append a.stages.items xs ys) (Takes-more a.holder b.holder c.holder _ _ f.taken (rw f.stages at g.taken));
 }
@@ -60,7 +60,7 @@ rows_in-append columns xs ys =
 
 -- these records went into a chain, or were refused
 pub record Gathers (op : ℕ) (columns : List Column) (done : List Fields) (old new : Chain) (refused : List Refusal) : Type 0 where
-  pub moved : Moves old new (rows_in columns done)
+  pub moved : Fills old new (rows_in columns done)
   pub spent : old.left ≡ new.left + count_through old.stages.items (rows_in columns done)
   pub refused_so_far : refused ≡ refused_records op 1 (map (row_of columns) done)
 
@@ -75,14 +75,14 @@ pub record IsAt (file : List ℕ) (r : RecordReader) (number : ℕ) (op : ℕ) (
 pub Gathers-none : (op : ℕ) (columns : List Column) (chain : Chain) (refused : List Refusal) → refused ≡ [] → Gathers op columns [] chain chain refused
 unfolding refused_records
 Gathers-none op columns chain refused e = record {
-  moved = Moves-none chain;
+  moved = Fills-none chain;
   spent = omega (arith, count_through-none chain.stages.items);
   refused_so_far = e;
 }
 
 pub Gathers-more : (op : ℕ) (columns : List Column) (done : List Fields) (old mid new : Chain) (refused newly : List Refusal) (fields : Fields) (typed : Result (List Value) RowFault) (number : ℕ)
     → Gathers op columns done old mid refused → number ≡ length done + 1 → typed ≡ row_of columns fields
-    → Moves mid new (filter_map ok_of (typed ∷ [])) → mid.left ≡ new.left + count_through mid.stages.items (filter_map ok_of (typed ∷ []))
+    → Fills mid new (filter_map ok_of (typed ∷ [])) → mid.left ≡ new.left + count_through mid.stages.items (filter_map ok_of (typed ∷ []))
     → newly ≡ refused ++ refused_records op number (typed ∷ [])
     → Gathers op columns (done ++ fields ∷ []) old new newly
 Gathers-more op columns done old mid new refused newly fields typed number g n t m l r =
@@ -92,7 +92,7 @@ Gathers-more op columns done old mid new refused newly fields typed number g n t
     let place : 1 + length before ≡ number = omega (arith, length-map done (row_of columns)) in
     let here = rw g.moved.stages at l in
     record {
-      moved = rw rows (Moves-more old mid new _ _ g.moved m);
+      moved = rw rows (Fills-more old mid new _ _ g.moved m);
       spent = rw rows (omega (arith, g.spent, here, count_through-append old.stages.items (rows_in columns done) (filter_map ok_of (typed ∷ []))));
       refused_so_far = r ∙ ap (λ xs. xs ++ refused_records op number (typed ∷ [])) g.refused_so_far
           ∙ sym (ap (λ xs. refused_records op 1 xs) all ∙ refused_records-append op 1 before (typed ∷ []) ∙ ap (λ k. refused_records op 1 before ++ refused_records op k (typed ∷ [])) place);
@@ -101,13 +101,13 @@ Gathers-more op columns done old mid new refused newly fields typed number g n t
 -- all records were gathered
 pub gathers-all : (op : ℕ) (columns : List Column) (file : List ℕ) (header : Fields) (done : List Fields) (old new : Chain) (refused : List Refusal)
     → Gathers op columns done old new refused → file_records file ≡ header ∷ done
-    → Moves old new (filter_map ok_of (typed_records columns file)) × (old.left ≡ new.left + count_through old.stages.items (filter_map ok_of (typed_records columns file)))
+    → Fills old new (filter_map ok_of (typed_records columns file)) × (old.left ≡ new.left + count_through old.stages.items (filter_map ok_of (typed_records columns file)))
     × (refused ≡ refused_records op 1 (typed_records columns file))
 gathers-all op columns file header done old new refused g e = rw (typed-all columns file header done e) (g.moved, g.spent, g.refused_so_far)
 
 -- there is no record, not even a header
 pub gathers-nothing : (op : ℕ) (columns : List Column) (file : List ℕ) (chain : Chain) (refused : List Refusal) → file_records file ≡ [] → refused ≡ []
-    → Moves chain chain (filter_map ok_of (typed_records columns file)) × (chain.left ≡ chain.left + count_through chain.stages.items (filter_map ok_of (typed_records columns file)))
+    → Fills chain chain (filter_map ok_of (typed_records columns file)) × (chain.left ≡ chain.left + count_through chain.stages.items (filter_map ok_of (typed_records columns file)))
     × (refused ≡ refused_records op 1 (typed_records columns file))
 gathers-nothing op columns file chain refused e n =
     let g = Gathers-none op columns chain refused n in rw (typed-none columns file e) (g.moved, g.spent, g.refused_so_far)

@@ -13,14 +13,14 @@ use Rattle.amber_meaning.specs.Refused.{refused_records}
 use Rattle.amber_meaning.specs.ScanFiles.{files_left, records_at}
 use Rattle.amber_meaning.specs.declared.answer.Refusal.{Refusal}
 use Rattle.amber_meaning.proofs.Operators.{list_at-is, records-here}
-use Rattle.amber_plain.specs.Holding.{Moves}
+use Rattle.amber_plain.specs.Holding.{Fills}
 use Rattle.amber_plain.specs.Stages.{count_through}
 use Rattle.amber_plain.specs.declared.chain.Chain.{Chain}
 use Rattle.amber_plain.proofs.Records.{Gathers-none}
 
 -- no records are read where there are none
 pub read-none : (op : ℕ) (records : List (Result (List Value) RowFault)) (chain : Chain) (refused : List Refusal) → records ≡ [] → refused ≡ []
-    → Moves chain chain (filter_map ok_of records) × (chain.left ≡ chain.left + count_through chain.stages.items (filter_map ok_of records)) × (refused ≡ refused_records op 1 records)
+    → Fills chain chain (filter_map ok_of records) × (chain.left ≡ chain.left + count_through chain.stages.items (filter_map ok_of records)) × (refused ≡ refused_records op 1 records)
 read-none op records chain refused e n =
     let g = Gathers-none op [] chain refused n in rw e (g.moved, g.spent, g.refused_so_far)
 

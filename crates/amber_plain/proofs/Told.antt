@@ -15,7 +15,7 @@ use Rattle.amber_meaning.specs.Plain.{refusals}
 use Rattle.amber_meaning.specs.Refused.{refused_groups, refused_records}
 use Rattle.amber_meaning.specs.declared.answer.Refusal.{Refusal}
 use Rattle.amber_meaning.proofs.Operators.{Lists, list_at-is}
-use Rattle.amber_plain.specs.Unread.{HasInputs, HasOne, Records, Waiting, nothing, unread_at, unread_rows, without}
+use Rattle.amber_plain.specs.Unread.{HasInputs, HasOne, Records, Waiting, nothing_unread, unread_at, unread_rows, without}
 use Rattle.amber_plain.specs.Steps.{others_of, unread_of, read_for, refused_now, told_by}
 use Rattle.amber_plain.specs.declared.stage.Source.{Source}
 use Rattle.amber_plain.specs.declared.stage.Source.TheVariants as source
@@ -54,10 +54,10 @@ list_at-last told one op e = list_at-is (told ++ one ∷ []) op (omega arith) �
 
 pub unread-left : (waiting : List Waiting) (one : Waiting) (op : ℕ) → 0 < op → op ≤ length waiting → unread_at (waiting ++ one ∷ []) op ≡ unread_at waiting op
 unread-left waiting one op a b =
-    unread_at-is (waiting ++ one ∷ []) op a ∙ get_or_append_left waiting (one ∷ []) nothing (op - 1) (omega (arith, a, b)) ∙ sym (unread_at-is waiting op a)
+    unread_at-is (waiting ++ one ∷ []) op a ∙ get_or_append_left waiting (one ∷ []) nothing_unread (op - 1) (omega (arith, a, b)) ∙ sym (unread_at-is waiting op a)
 
 pub unread-last : (waiting : List Waiting) (one : Waiting) (op : ℕ) → op ≡ length waiting + 1 → unread_at (waiting ++ one ∷ []) op ≡ one
-unread-last waiting one op e = unread_at-is (waiting ++ one ∷ []) op (omega arith) ∙ get_or_push waiting one nothing (op - 1) (omega arith)
+unread-last waiting one op e = unread_at-is (waiting ++ one ∷ []) op (omega arith) ∙ get_or_push waiting one nothing_unread (op - 1) (omega arith)
 
 -- ---- one that waits is read
 
@@ -89,7 +89,7 @@ other-waits : (waiting : List Waiting) (input place op : ℕ) → HasOne waiting
 other-waits waiting input place op has there e = elim (cases_eq place input) [
   | inl own ↦ absurd (none-waits (sym (ap (λ unread. unread.source) (ap (λ k. unread_at (without waiting input) k) own ∙ taken-same waiting input has)) ∙ e))
   | inr other ↦ (
-    (there.0, omega (arith, there.1, length-set waiting (input - 1) nothing)),
+    (there.0, omega (arith, there.1, length-set waiting (input - 1) nothing_unread)),
     sym (ap (λ unread. unread.source) (taken-other waiting input place there.0 has.0 other)) ∙ e,
   )
 ]
@@ -97,14 +97,14 @@ other-waits waiting input place op has there e = elim (cases_eq place input) [
 still-waits : (waiting : List Waiting) (input op : ℕ) → HasOne waiting input → (w : Waits waiting op) → w.place ≢ input → Waits (without waiting input) op
 still-waits waiting input op has w other = record {
   place = w.place;
-  there = (w.there.0, omega (arith, w.there.1, length-set waiting (input - 1) nothing));
+  there = (w.there.0, omega (arith, w.there.1, length-set waiting (input - 1) nothing_unread));
   is = ap (λ unread. unread.source) (taken-other waiting input w.place w.there.0 has.0 other) ∙ w.is;
 }
 
 pub IsTold-read : (records : Records) (all : Refused) (waiting : List Waiting) (told : List (List Refusal)) (input : ℕ) → HasOne waiting input → IsTold records all waiting told
     → IsTold records all (without waiting input) (told_by records told (unread_at waiting input).source)
 IsTold-read records all waiting told input has t =
-    let same : length (without waiting input) ≡ length waiting = length-set waiting (input - 1) nothing in
+    let same : length (without waiting input) ≡ length waiting = length-set waiting (input - 1) nothing_unread in
     let from = (unread_at waiting input).source in record {
       count = told-length records told from ∙ t.count ∙ sym same;
       told_so_far = λ op a b. now op a (omega (arith, b, same)) (t.told_so_far op a (omega (arith, b, same)));
@@ -204,7 +204,7 @@ IsTold-moved : (records : Records) (all : Refused) (waiting : List Waiting) (tol
     → HasOne waiting input → unread.source ≡ (unread_at waiting input).source → one ≡ all (length waiting + 1)
     → IsTold records all (without waiting input ++ unread ∷ []) (told ++ one ∷ [])
 IsTold-moved records all waiting told input unread one t has from e =
-    let same : length (without waiting input) ≡ length waiting = length-set waiting (input - 1) nothing in
+    let same : length (without waiting input) ≡ length waiting = length-set waiting (input - 1) nothing_unread in
     IsTold-more records all (without waiting input) told unread one (t.count ∙ sym same) (λ op a b. moved op (t.told_so_far op a (omega (arith, b, same)))) (inl (e ∙ ap (λ n. all (n + 1)) (sym same)))
     (λ op is. let s = t.scans input op has (sym from ∙ is) in (s.0, omega (arith, s.1, same), s.2))
     (λ place op there is. let before = other-waits waiting input place op has there is in let s = t.scans place op before.0 before.1 in (s.0, omega (arith, s.1, same), s.2))
@@ -228,20 +228,20 @@ IsTold-next records all waiting told op (what.Project input from) t h own e =
     IsTold-moved records all waiting told input (unread_of records op (what.Project input from) waiting) [] t h.1 refl (sym e ∙ ap all own)
 IsTold-next records all waiting told op (what.Join build probe build_keys probe_keys) t h own e =
     let read = IsTold-read records all waiting told build h.0 t in
-    let same : length (without waiting build) ≡ length waiting = length-set waiting (build - 1) nothing in
+    let same : length (without waiting build) ≡ length waiting = length-set waiting (build - 1) nothing_unread in
     let other : unread_at (without waiting build) probe ≡ unread_at waiting probe = taken-other waiting build probe h.1.0 h.0.0 (λ is. h.2 (sym is)) in
     IsTold-moved records all (without waiting build) (told_by records told (unread_at waiting build).source) probe (unread_of records op (what.Join build probe build_keys probe_keys) waiting) [] read
     (probe-there waiting build probe h.1) (sym (ap (λ unread. unread.source) other)) (sym e ∙ ap all own ∙ ap (λ n. all (n + 1)) (sym same))
 IsTold-next records all waiting told op (what.Group input keys aggs) t h own e =
     let read = IsTold-read records all waiting told input h.1 t in
-    let same : length (without waiting input) ≡ length waiting = length-set waiting (input - 1) nothing in
+    let same : length (without waiting input) ≡ length waiting = length-set waiting (input - 1) nothing_unread in
     let told_now : refused_groups op (refused_keys keys aggs (unread_rows records (unread_at waiting input))) ≡ all op =
     ap (λ rows. refused_groups op (refused_keys keys aggs rows)) (sym (list_at-lists records waiting input)) ∙ sym e in
     IsTold-rows records all (without waiting input) (told_by records told (unread_at waiting input).source) (group_result keys aggs (unread_rows records (unread_at waiting input)))
     (refused_groups op (refused_keys keys aggs (unread_rows records (unread_at waiting input)))) read (told_now ∙ ap all own ∙ ap (λ n. all (n + 1)) (sym same))
 IsTold-next records all waiting told op (what.Sink input) t h own e =
     let read = IsTold-read records all waiting told input h.1 t in
-    let same : length (without waiting input) ≡ length waiting = length-set waiting (input - 1) nothing in
+    let same : length (without waiting input) ≡ length waiting = length-set waiting (input - 1) nothing_unread in
     IsTold-rows records all (without waiting input) (told_by records told (unread_at waiting input).source) (sort_rows (unread_rows records (unread_at waiting input))) [] read
     (sym e ∙ ap all own ∙ ap (λ n. all (n + 1)) (sym same))
 
@@ -249,7 +249,7 @@ IsTold-next records all waiting told op (what.Sink input) t h own e =
 
 -- where nothing waits, the lists of what was told, one after the other, are what all operators refuse
 pub all-told : (records : Records) (all : Refused) (waiting : List Waiting) (told : List (List Refusal)) → IsTold records all waiting told
-    → ((place : ℕ) → HasOne waiting place → unread_at waiting place ≡ nothing) → (k : ℕ) → k < length told → get_or told k [] ≡ all (k + 1)
+    → ((place : ℕ) → HasOne waiting place → unread_at waiting place ≡ nothing_unread) → (k : ℕ) → k < length told → get_or told k [] ≡ all (k + 1)
 all-told records all waiting told t gone k lt = settled (t.told_so_far (k + 1) (omega arith) (omega (arith, lt, t.count)))
   where
     settled : (list_at told (k + 1) ≡ all (k + 1)) ⊎ Waits waiting (k + 1) → get_or told k [] ≡ all (k + 1)

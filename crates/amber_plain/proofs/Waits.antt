@@ -16,7 +16,7 @@ use Rattle.amber_rows.specs.declared.flow.What.TheVariants as what
 use Rattle.amber_meaning.specs.Kinds.{refused_by, rows_of}
 use Rattle.amber_meaning.specs.Refused.{refused_groups, refused_records}
 use Rattle.amber_meaning.proofs.Operators.{Lists}
-use Rattle.amber_plain.specs.Unread.{HasInputs, HasOne, Records, Waiting, nothing, unread_at, unread_count, unread_rows, source_rows, without}
+use Rattle.amber_plain.specs.Unread.{HasInputs, HasOne, Records, Waiting, nothing_unread, unread_at, unread_count, unread_rows, source_rows, without}
 use Rattle.amber_plain.specs.Stages.{count_through, rows_after, rows_through}
 use Rattle.amber_plain.specs.Steps.{others_of, unread_of, read_for, refused_now, through}
 use Rattle.amber_plain.specs.declared.stage.Source.TheVariants as source
@@ -44,45 +44,45 @@ through-count (first ∷ later) one rows = let rest = through-count later one (r
 abbrev pub lists_of : Records → List Waiting → Lists
 lists_of records waiting = map (unread_rows records) waiting
 
-nothing-rows : (records : Records) → unread_rows records nothing ≡ []
+nothing_unread-rows : (records : Records) → unread_rows records nothing_unread ≡ []
 unfolding rows_through
-nothing-rows records = refl
+nothing_unread-rows records = refl
 
-nothing-count : (records : Records) → unread_count records nothing ≡ 0
-nothing-count records = count_through-none []
+nothing_unread-count : (records : Records) → unread_count records nothing_unread ≡ 0
+nothing_unread-count records = count_through-none []
 
-list-of : (records : Records) (found : Option Waiting) → unwrap_or (option_map (unread_rows records) found) [] ≡ unread_rows records (unwrap_or found nothing)
-list-of records None = sym (nothing-rows records)
+list-of : (records : Records) (found : Option Waiting) → unwrap_or (option_map (unread_rows records) found) [] ≡ unread_rows records (unwrap_or found nothing_unread)
+list-of records None = sym (nothing_unread-rows records)
 list-of records (Some unread) = refl
 
 lists-by : (records : Records) (waiting : List Waiting) (op : ℕ) (b : Bool) → eqb op 0 ≡ b
-    → unwrap_or (cond b None (slice_get (lists_of records waiting) (op - 1))) [] ≡ unread_rows records (unwrap_or (cond b None (slice_get waiting (op - 1))) nothing)
-lists-by records waiting op true e = sym (nothing-rows records)
+    → unwrap_or (cond b None (slice_get (lists_of records waiting) (op - 1))) [] ≡ unread_rows records (unwrap_or (cond b None (slice_get waiting (op - 1))) nothing_unread)
+lists-by records waiting op true e = sym (nothing_unread-rows records)
 lists-by records waiting op false e = rw (slice_get-map (unread_rows records) waiting (op - 1)) (list-of records (slice_get waiting (op - 1)))
 
 pub list_at-lists : (records : Records) (waiting : List Waiting) (op : ℕ) → list_at (lists_of records waiting) op ≡ unread_rows records (unread_at waiting op)
 list_at-lists records waiting op = lists-by records waiting op (eqb op 0) refl
 
-pub unread_at-is : (waiting : List Waiting) (op : ℕ) → 0 < op → unread_at waiting op ≡ get_or waiting (op - 1) nothing
-unread_at-is waiting op h = let e : eqb op 0 ≡ false = ne_eqb op 0 (omega arith) in rw e (unwrap_or-slice_get waiting (op - 1) nothing)
+pub unread_at-is : (waiting : List Waiting) (op : ℕ) → 0 < op → unread_at waiting op ≡ get_or waiting (op - 1) nothing_unread
+unread_at-is waiting op h = let e : eqb op 0 ≡ false = ne_eqb op 0 (omega arith) in rw e (unwrap_or-slice_get waiting (op - 1) nothing_unread)
 
 -- ---- where one was taken
 
 pub taken-other : (waiting : List Waiting) (input op : ℕ) → 0 < op → 0 < input → op ≢ input → unread_at (without waiting input) op ≡ unread_at waiting op
 taken-other waiting input op a b ne =
-    unread_at-is (without waiting input) op a ∙ get_or-set_other waiting (input - 1) (op - 1) nothing nothing (λ e. ne (omega arith)) ∙ sym (unread_at-is waiting op a)
+    unread_at-is (without waiting input) op a ∙ get_or-set_other waiting (input - 1) (op - 1) nothing_unread nothing_unread (λ e. ne (omega arith)) ∙ sym (unread_at-is waiting op a)
 
-pub taken-same : (waiting : List Waiting) (op : ℕ) → HasOne waiting op → unread_at (without waiting op) op ≡ nothing
-taken-same waiting op h = unread_at-is (without waiting op) op h.0 ∙ get_or-set_same waiting (op - 1) nothing nothing (omega (arith, h.0, h.1))
+pub taken-same : (waiting : List Waiting) (op : ℕ) → HasOne waiting op → unread_at (without waiting op) op ≡ nothing_unread
+taken-same waiting op h = unread_at-is (without waiting op) op h.0 ∙ get_or-set_same waiting (op - 1) nothing_unread nothing_unread (omega (arith, h.0, h.1))
 
-pub taken-none : (waiting : List Waiting) (input op : ℕ) → 0 < op → HasOne waiting input → unread_at waiting op ≡ nothing → unread_at (without waiting input) op ≡ nothing
+pub taken-none : (waiting : List Waiting) (input op : ℕ) → 0 < op → HasOne waiting input → unread_at waiting op ≡ nothing_unread → unread_at (without waiting input) op ≡ nothing_unread
 taken-none waiting input op some has e = elim (cases_eq op input) [
   | inl same ↦ ap (λ k. unread_at (without waiting input) k) same ∙ taken-same waiting input has
   | inr other ↦ taken-other waiting input op some has.0 other ∙ e
 ]
 
 taken-lists : (records : Records) (waiting : List Waiting) (op : ℕ) → lists_of records (without waiting op) ≡ set (lists_of records waiting) (op - 1) []
-taken-lists records waiting op = map-set (unread_rows records) waiting (op - 1) nothing ∙ ap (λ rows. set (lists_of records waiting) (op - 1) rows) (nothing-rows records)
+taken-lists records waiting op = map-set (unread_rows records) waiting (op - 1) nothing_unread ∙ ap (λ rows. set (lists_of records waiting) (op - 1) rows) (nothing_unread-rows records)
 
 -- how many rows are still to come
 abbrev pub owed : Records → List Waiting → ℕ
@@ -91,20 +91,20 @@ owed records waiting = sum_by (unread_count records) waiting
 pub taken-owed : (records : Records) (waiting : List Waiting) (op : ℕ) → HasOne waiting op → owed records (without waiting op) + unread_count records (unread_at waiting op) ≡ owed records waiting
 taken-owed records waiting op h =
     let f = unread_count records in
-    let sum = sum_by-set f waiting (op - 1) nothing nothing (omega (arith, h.0, h.1)) in
-    let here : f (unread_at waiting op) ≡ f (get_or waiting (op - 1) nothing) = ap f (unread_at-is waiting op h.0) in
-    omega (arith, sum, here, nothing-count records)
+    let sum = sum_by-set f waiting (op - 1) nothing_unread nothing_unread (omega (arith, h.0, h.1)) in
+    let here : f (unread_at waiting op) ≡ f (get_or waiting (op - 1) nothing_unread) = ap f (unread_at-is waiting op h.0) in
+    omega (arith, sum, here, nothing_unread-count records)
 
 pub owed-push : (records : Records) (waiting : List Waiting) (unread : Waiting) → owed records (waiting ++ unread ∷ []) ≡ owed records waiting + unread_count records unread
 owed-push records waiting unread =
     let one : 0 + unread_count records unread ≡ unread_count records unread = omega arith in
     sum_by-append (unread_count records) waiting (unread ∷ []) ∙ ap (λ n. owed records waiting + n) one
 
-pub owed-none : (records : Records) (waiting : List Waiting) → ((k : ℕ) → k < length waiting → get_or waiting k nothing ≡ nothing) → owed records waiting ≡ 0
+pub owed-none : (records : Records) (waiting : List Waiting) → ((k : ℕ) → k < length waiting → get_or waiting k nothing_unread ≡ nothing_unread) → owed records waiting ≡ 0
 owed-none records [] h = refl
 owed-none records (unread ∷ waiting) h =
     let rest = owed-none records waiting (λ k lt. h (suc k) (omega (arith, lt))) in
-    let first : unread_count records unread ≡ 0 = ap (unread_count records) (h 0 (omega arith)) ∙ nothing-count records in
+    let first : unread_count records unread ≡ 0 = ap (unread_count records) (h 0 (omega arith)) ∙ nothing_unread-count records in
     omega (arith, sum_by-cons (unread_count records) unread waiting, rest, first)
 
 -- ---- the lists that are left when the inputs are taken
@@ -127,16 +127,16 @@ others-lists records (what.Sink input) waiting = taken-lists records waiting inp
 
 pub others-length : (kind : What) (waiting : List Waiting) → length (others_of kind waiting) ≡ length waiting
 others-length (what.Scan file) waiting = refl
-others-length (what.Filter input test) waiting = length-set waiting (input - 1) nothing
-others-length (what.Project input from) waiting = length-set waiting (input - 1) nothing
+others-length (what.Filter input test) waiting = length-set waiting (input - 1) nothing_unread
+others-length (what.Project input from) waiting = length-set waiting (input - 1) nothing_unread
 others-length (what.Join build probe build_keys probe_keys) waiting =
-    length-set (without waiting build) (probe - 1) nothing ∙ length-set waiting (build - 1) nothing
-others-length (what.Group input keys aggs) waiting = length-set waiting (input - 1) nothing
-others-length (what.Sink input) waiting = length-set waiting (input - 1) nothing
+    length-set (without waiting build) (probe - 1) nothing_unread ∙ length-set waiting (build - 1) nothing_unread
+others-length (what.Group input keys aggs) waiting = length-set waiting (input - 1) nothing_unread
+others-length (what.Sink input) waiting = length-set waiting (input - 1) nothing_unread
 
 -- there is still the other input of a join
 pub probe-there : (waiting : List Waiting) (build probe : ℕ) → HasOne waiting probe → HasOne (without waiting build) probe
-probe-there waiting build probe h = (h.0, omega (arith, h.1, length-set waiting (build - 1) nothing))
+probe-there waiting build probe h = (h.0, omega (arith, h.1, length-set waiting (build - 1) nothing_unread))
 
 -- ---- what was not read stands as before, and what was read is nothing
 
@@ -149,7 +149,7 @@ others-other (what.Join build probe build_keys probe_keys) waiting op some h non
 others-other (what.Group input keys aggs) waiting op some h none = taken-other waiting input op some h.1.0 (reads_other input op (omega arith))
 others-other (what.Sink input) waiting op some h none = taken-other waiting input op some h.1.0 (reads_other input op (omega arith))
 
-pub others-none : (kind : What) (waiting : List Waiting) (op : ℕ) → 0 < op → HasInputs waiting kind → unread_at waiting op ≡ nothing → unread_at (others_of kind waiting) op ≡ nothing
+pub others-none : (kind : What) (waiting : List Waiting) (op : ℕ) → 0 < op → HasInputs waiting kind → unread_at waiting op ≡ nothing_unread → unread_at (others_of kind waiting) op ≡ nothing_unread
 others-none (what.Scan file) waiting op some h e = e
 others-none (what.Filter input test) waiting op some h e = taken-none waiting input op some h.1 e
 others-none (what.Project input from) waiting op some h e = taken-none waiting input op some h.1 e
@@ -158,11 +158,11 @@ others-none (what.Join build probe build_keys probe_keys) waiting op some h e =
 others-none (what.Group input keys aggs) waiting op some h e = taken-none waiting input op some h.1 e
 others-none (what.Sink input) waiting op some h e = taken-none waiting input op some h.1 e
 
-taken-own : (waiting : List Waiting) (input op : ℕ) → HasOne waiting input → 0 < read_count (what.Sink input) op → unread_at (without waiting input) op ≡ nothing
+taken-own : (waiting : List Waiting) (input op : ℕ) → HasOne waiting input → 0 < read_count (what.Sink input) op → unread_at (without waiting input) op ≡ nothing_unread
 taken-own waiting input op h reads =
     let e = one_read input op (omega (arith, reads)) in ap (λ k. unread_at (without waiting input) k) (sym e) ∙ taken-same waiting input h
 
-pub others-read : (kind : What) (waiting : List Waiting) (op : ℕ) → HasInputs waiting kind → 0 < read_count kind op → unread_at (others_of kind waiting) op ≡ nothing
+pub others-read : (kind : What) (waiting : List Waiting) (op : ℕ) → HasInputs waiting kind → 0 < read_count kind op → unread_at (others_of kind waiting) op ≡ nothing_unread
 others-read (what.Scan file) waiting op h reads = absurd (omega arith)
 others-read (what.Filter input test) waiting op h reads = taken-own waiting input op h.1 reads
 others-read (what.Project input from) waiting op h reads = taken-own waiting input op h.1 reads
@@ -173,7 +173,7 @@ others-read (what.Join build probe build_keys probe_keys) waiting op h reads =
       | inr ne ↦
           let none = reads_none probe op ne in
           let e = one_read build op (omega (arith, none)) in
-          let gone : unread_at (without waiting build) op ≡ nothing = ap (λ k. unread_at (without waiting build) k) (sym e) ∙ taken-same waiting build h.0 in
+          let gone : unread_at (without waiting build) op ≡ nothing_unread = ap (λ k. unread_at (without waiting build) k) (sym e) ∙ taken-same waiting build h.0 in
           taken-none (without waiting build) probe op (omega (arith, h.0.0, e)) has gone
     ]
 others-read (what.Group input keys aggs) waiting op h reads = taken-own waiting input op h.1 reads
@@ -233,8 +233,8 @@ pub next-owed : (records : Records) (op : ℕ) (kind : What) (waiting : List Wai
     ≡ owed records waiting + length (unread_rows records (unread_of records op kind waiting))
 unfolding rows_through count_through
 next-owed records op (what.Scan file) waiting h = omega (arith, owed-push records waiting (record { source = source.Scan op; stages = [] }))
-next-owed records op (what.Filter input test) waiting h = omega (arith, owed-through records waiting input (stage.Filter test) h.1, nothing-count records)
-next-owed records op (what.Project input from) waiting h = omega (arith, owed-through records waiting input (stage.Project from) h.1, nothing-count records)
+next-owed records op (what.Filter input test) waiting h = omega (arith, owed-through records waiting input (stage.Filter test) h.1, nothing_unread-count records)
+next-owed records op (what.Project input from) waiting h = omega (arith, owed-through records waiting input (stage.Project from) h.1, nothing_unread-count records)
 next-owed records op (what.Join build probe build_keys probe_keys) waiting h =
     let one = stage.Probe (record { build_keys = build_keys; probe_keys = probe_keys; rows = unread_rows records (unread_at waiting build); sealed = true }) in
     let has = probe-there waiting build probe h.1 in
@@ -246,9 +246,9 @@ next-owed records op (what.Sink input) waiting h = owed-rows records waiting inp
 
 -- what is read was owed
 pub read-owed : (records : Records) (kind : What) (waiting : List Waiting) → HasInputs waiting kind → unread_count records (read_for kind waiting) ≤ owed records waiting
-read-owed records (what.Scan file) waiting h = omega (arith, nothing-count records)
-read-owed records (what.Filter input test) waiting h = omega (arith, nothing-count records)
-read-owed records (what.Project input from) waiting h = omega (arith, nothing-count records)
+read-owed records (what.Scan file) waiting h = omega (arith, nothing_unread-count records)
+read-owed records (what.Filter input test) waiting h = omega (arith, nothing_unread-count records)
+read-owed records (what.Project input from) waiting h = omega (arith, nothing_unread-count records)
 read-owed records (what.Join build probe build_keys probe_keys) waiting h = omega (arith, taken-owed records waiting build h.0)
 read-owed records (what.Group input keys aggs) waiting h = omega (arith, taken-owed records waiting input h.1)
 read-owed records (what.Sink input) waiting h = omega (arith, taken-owed records waiting input h.1)

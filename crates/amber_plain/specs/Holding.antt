@@ -33,6 +33,6 @@ Spends (Ok x) old new count = old ≡ new + count
 Spends (Err why) old new count = FallsShort why old count
 
 -- these rows went into a chain
-pub record Moves (old new : Chain) (rows : List (List Value)) : Type 0 where
+pub record Fills (old new : Chain) (rows : List (List Value)) : Type 0 where
   pub stages : new.stages.items ≡ old.stages.items
   pub taken : Takes old.holder new.holder (rows_through old.stages.items rows)

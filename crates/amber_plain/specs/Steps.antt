@@ -9,7 +9,7 @@ use Rattle.amber_rows.specs.declared.flow.What.{What}
 use Rattle.amber_rows.specs.declared.flow.What.TheVariants as what
 use Rattle.amber_meaning.specs.Refused.{refused_groups, refused_records}
 use Rattle.amber_meaning.specs.declared.answer.Refusal.{Refusal}
-use Rattle.amber_plain.specs.Unread.{Records, Waiting, nothing, unread_at, unread_rows, without}
+use Rattle.amber_plain.specs.Unread.{Records, Waiting, nothing_unread, unread_at, unread_rows, without}
 use Rattle.amber_plain.specs.declared.evaluator.Evaluated.{Evaluated}
 use Rattle.amber_plain.specs.declared.stage.Source.{Source}
 use Rattle.amber_plain.specs.declared.stage.Source.TheVariants as source
@@ -27,9 +27,9 @@ through unread stage = record { source = unread.source; stages = unread.stages +
 
 -- what is read, to its end: the build side of a join, and the input of a group or a sink
 abbrev pub read_for : What → List Waiting → Waiting
-read_for (what.Scan file) waiting = nothing
-read_for (what.Filter input cond) waiting = nothing
-read_for (what.Project input from) waiting = nothing
+read_for (what.Scan file) waiting = nothing_unread
+read_for (what.Filter input cond) waiting = nothing_unread
+read_for (what.Project input from) waiting = nothing_unread
 read_for (what.Join build probe build_keys probe_keys) waiting = unread_at waiting build
 read_for (what.Group input keys aggs) waiting = unread_at waiting input
 read_for (what.Sink input) waiting = unread_at waiting input

@@ -21,8 +21,8 @@ pub record Waiting : Type 0 where
   pub source : Source
   pub stages : List Stage
 
-abbrev pub nothing : Waiting
-nothing = record { source = source.Rows []; stages = [] }
+abbrev pub nothing_unread : Waiting
+nothing_unread = record { source = source.Rows []; stages = [] }
 
 -- the rows of a source
 abbrev pub source_rows : Records → Source → List (List Value)
@@ -40,7 +40,7 @@ unread_count records unread = count_through unread.stages (source_rows records u
 -- ---- lists of them, numbered from 1
 
 abbrev pub unread_at : List Waiting → ℕ → Waiting
-unread_at waiting op = unwrap_or (nth waiting op) nothing
+unread_at waiting op = unwrap_or (nth waiting op) nothing_unread
 
 -- there is one with this number
 abbrev pub HasOne : {A : Type 0} → List A → ℕ → Type 0
@@ -48,11 +48,11 @@ HasOne waiting op = (0 < op) × (op ≤ length waiting)
 
 -- the others, where this one was taken
 abbrev pub without : List Waiting → ℕ → List Waiting
-without waiting op = slice_set waiting (op - 1) nothing
+without waiting op = slice_set waiting (op - 1) nothing_unread
 
-abbrev pub HasInput : {A : Type 0} → List A → Option ℕ → Type 0
-HasInput waiting None = Unit {0}
-HasInput waiting (Some input) = HasOne waiting input
+abbrev pub HasUnreadInput : {A : Type 0} → List A → Option ℕ → Type 0
+HasUnreadInput waiting None = Unit {0}
+HasUnreadInput waiting (Some input) = HasOne waiting input
 
 -- two inputs are not one
 abbrev pub AreApart : Option ℕ → Option ℕ → Type 0
@@ -62,4 +62,4 @@ AreApart (Some build) (Some probe) = build ≢ probe
 
 -- there is one for each input of an operator, no two of which are one
 abbrev pub HasInputs : {A : Type 0} → List A → What → Type 0
-HasInputs waiting kind = HasInput waiting (build_input kind) × HasInput waiting (main_input kind) × AreApart (build_input kind) (main_input kind)
+HasInputs waiting kind = HasUnreadInput waiting (build_input kind) × HasUnreadInput waiting (main_input kind) × AreApart (build_input kind) (main_input kind)

@@ -1,6 +1,6 @@
 // The way of a row through stages.
 ghost use Rattle.std.specs.Prelude.{◌≡◌, ◌∷◌, [], OnOk};
-ghost use Rattle.amber_plain.specs.Holding.{Moves, Spends, Takes};
+ghost use Rattle.amber_plain.specs.Holding.{Fills, Spends, Takes};
 ghost use Rattle.amber_plain.specs.Stages.{count_through, rows_through};
 
 use crate::holder::Holder;
@@ -20,7 +20,7 @@ pub struct Chain {
 impl Chain {
     /// Sends a row through the stages. What is left of it does not matter.
     pub fn send(&mut self, alloc: Global, row: &mut Row) -> Result<(), PlainErr>
-        ensures moved { OnOk result (Moves self.old self.new (row.old ∷ [])) }
+        ensures moved { OnOk result (Fills self.old self.new (row.old ∷ [])) }
         ensures left { Spends result self.old.left self.new.left
             (count_through self.old.stages.items (row.old ∷ [])) }
     {
@@ -34,7 +34,7 @@ impl Chain {
 
     /// Sends each of these rows, one after the other.
     pub fn send_all(&mut self, alloc: Global, rows: Vec<Row>) -> Result<(), PlainErr>
-        ensures moved { OnOk result (Moves self.old self.new rows.items) }
+        ensures moved { OnOk result (Fills self.old self.new rows.items) }
         ensures left { Spends result self.old.left self.new.left
             (count_through self.old.stages.items rows.items) }
     {

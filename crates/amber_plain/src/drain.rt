@@ -7,7 +7,7 @@ ghost use Rattle.amber_rows.specs.Record.{ok_of};
 ghost use Rattle.amber_meaning.specs.Plain.{records_of};
 ghost use Rattle.amber_meaning.specs.Refused.{refused_records};
 ghost use Rattle.amber_meaning.specs.ScanFiles.{records_at};
-ghost use Rattle.amber_plain.specs.Holding.{Moves, Spends, Takes};
+ghost use Rattle.amber_plain.specs.Holding.{Fills, Spends, Takes};
 ghost use Rattle.amber_plain.specs.Unread.{unread_count, unread_rows, source_rows};
 ghost use Rattle.amber_plain.specs.Stages.{count_through};
 ghost use Rattle.amber_plain.specs.Steps.{told_by};
@@ -39,7 +39,7 @@ fn read_file(
     chain: &mut Chain,
 ) -> Result<Vec<Refusal>, PlainErr>
     requires { length operator.now.schema < 2 ^ 32 }
-    ensures moved { OnOk result (Moves chain.old chain.new (filter_map ok_of
+    ensures moved { OnOk result (Fills chain.old chain.new (filter_map ok_of
         (records_at operator.now.what operator.now.schema file.now))) }
     ensures left { Spends result chain.old.left chain.new.left
         (count_through chain.old.stages.items (filter_map ok_of
@@ -73,7 +73,7 @@ fn read_scan(
     op: u32,
     chain: &mut Chain,
 ) -> Result<Vec<Refusal>, PlainErr>
-    ensures moved { OnOk result (Moves chain.old chain.new (filter_map ok_of
+    ensures moved { OnOk result (Fills chain.old chain.new (filter_map ok_of
         (list_at (records_of files.now flow.now) op))) }
     ensures left { Spends result chain.old.left chain.new.left
         (count_through chain.old.stages.items (filter_map ok_of
@@ -107,7 +107,7 @@ fn read(
     chain: &mut Chain,
     told: &mut Vec<Refusals>,
 ) -> Result<(), PlainErr>
-    ensures moved { OnOk result (Moves chain.old chain.new
+    ensures moved { OnOk result (Fills chain.old chain.new
         (source_rows (records_of files.now flow.now) source)) }
     ensures left { Spends result chain.old.left chain.new.left
         (count_through chain.old.stages.items

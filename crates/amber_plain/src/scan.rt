@@ -3,7 +3,7 @@ ghost use Rattle.std.specs.Prelude.{◌≡◌, ◌<◌, ◌^◌, ◌++◌, ◌�
 ghost use Rattle.std.specs.List.{filter_map};
 ghost use Rattle.amber_rows.specs.Record.{ok_of, typed_records};
 ghost use Rattle.amber_meaning.specs.Refused.{refused_records};
-ghost use Rattle.amber_plain.specs.Holding.{Moves, Spends};
+ghost use Rattle.amber_plain.specs.Holding.{Fills, Spends};
 ghost use Rattle.amber_plain.specs.Stages.{count_through};
 
 use crate::chain::Chain;
@@ -31,7 +31,7 @@ fn add_record(
     chain: &mut Chain,
     refused: &mut Vec<Refusal>,
 ) -> Result<Vec<Value>, PlainErr>
-    ensures moved { OnOk result (Moves chain.old chain.new (filter_map ok_of (typed ∷ []))) }
+    ensures moved { OnOk result (Fills chain.old chain.new (filter_map ok_of (typed ∷ []))) }
     ensures left { Spends result chain.old.left chain.new.left
         (count_through chain.old.stages.items (filter_map ok_of (typed ∷ []))) }
     ensures refused { OnOk result (refused.new.items
@@ -58,7 +58,7 @@ pub fn scan(
     chain: &mut Chain,
 ) -> Result<Vec<Refusal>, PlainErr>
     requires { length schema.now < 2 ^ 32 }
-    ensures moved { OnOk result (Moves chain.old chain.new
+    ensures moved { OnOk result (Fills chain.old chain.new
         (filter_map ok_of (typed_records schema.now file.now))) }
     ensures left { Spends result chain.old.left chain.new.left
         (count_through chain.old.stages.items

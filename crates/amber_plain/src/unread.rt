@@ -1,6 +1,6 @@
 // The rows of an operator that nobody has read yet.
 ghost use Rattle.std.specs.Prelude.{◌≡◌, ◌++◌, ◌∷◌, [], IfErr, IfOk};
-ghost use Rattle.amber_plain.specs.Unread.{HasOne, nothing, unread_at, without};
+ghost use Rattle.amber_plain.specs.Unread.{HasOne, nothing_unread, unread_at, without};
 ghost use Rattle.amber_plain.specs.declared.stage.Source.TheVariants as source;
 
 use crate::stage::{Source, Stage};

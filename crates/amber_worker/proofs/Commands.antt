@@ -12,7 +12,7 @@ use Rattle.amber_meaning.specs.Rules.{Leads}
 use Rattle.amber_meaning.specs.State.{let_go}
 use Rattle.amber_meaning.specs.Task.{Arrival, Role, Task}
 use Rattle.amber_worker.specs.AtPosition.{Context, DoesKind, IsAtPosition, KeepsRows, Shows}
-use Rattle.amber_worker.specs.Changes.{ShowsSet, StandsAtLeg, with_leg, with_value}
+use Rattle.amber_worker.specs.Changes.{ShowsSet, StandsAtLeg, at_leg_start, with_value}
 use Rattle.amber_worker.specs.WorkerState.{WorkerState}
 use Rattle.amber_worker.specs.declared.operator_state.OperatorState.{OperatorState}
 use Rattle.amber_worker.specs.declared.operator_state.OperatorState.TheVariants as operator_state
@@ -117,17 +117,17 @@ let_go-is p held waved held_is waved_is = by held held_is
     by true e = rw (← e) refl
     by false e = rw (← e, waved_is) refl
 
-stands-at_leg : (w : WorkerState) → StandsAtLeg w (with_leg w)
+stands-at_leg : (w : WorkerState) → StandsAtLeg w (at_leg_start w)
 unfolding StandsAtLeg Leads AreEntries
 stands-at_leg w context p shows = record {
   leads = refl;
   text = tt;
-  shows = subst (λ q. Shows context (with_leg w) q) (let_go-is p w.held w.waved shows.held shows.waved)
+  shows = subst (λ q. Shows context (at_leg_start w) q) (let_go-is p w.held w.waved shows.held shows.waved)
       (shows-flags context w p (w.held || w.waved) [] shows);
 }
 
-pub stands-begun : (w : WorkerState) (journal : List Entry) → journal ≡ [] → StandsAtLeg w (record (with_leg w) { journal = journal })
-stands-begun w journal none = subst (λ l. StandsAtLeg w (record (with_leg w) { journal = l })) (sym none) (stands-at_leg w)
+pub stands-begun : (w : WorkerState) (journal : List Entry) → journal ≡ [] → StandsAtLeg w (record (at_leg_start w) { journal = journal })
+stands-begun w journal none = subst (λ l. StandsAtLeg w (record (at_leg_start w) { journal = l })) (sym none) (stands-at_leg w)
 
 -- ---- a condition is put in force, or a count is armed
 

@@ -37,8 +37,8 @@ ShowsSet value old new = (context : Context) (p : Position)
     → Shows context old p → Shows (record context { orders = record context.orders { constants = value ∷ [] } }) new p
 
 -- a leg begins: pauses end, a held row may go, and nothing was done since
-abbrev pub with_leg : WorkerState → WorkerState
-with_leg w = record w { paused = false; held = false; waved = w.held || w.waved; journal = [] }
+abbrev pub at_leg_start : WorkerState → WorkerState
+at_leg_start w = record w { paused = false; held = false; waved = w.held || w.waved; journal = [] }
 
 -- wherever it stood, it stands where the leg begins
 unfoldable pub StandsAtLeg : WorkerState → WorkerState → Type 0

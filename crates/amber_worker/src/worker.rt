@@ -12,7 +12,7 @@ ghost use Rattle.amber_link.specs.declared.senders.Sender.{Sender as OneSender};
 ghost use Rattle.amber_worker.specs.WorkerState.{steps_made};
 ghost use Rattle.amber_worker.specs.Steps.{IsCalm};
 ghost use Rattle.amber_worker.specs.Made.{IsFreshIn, IsFreshOut, end_of, link_of, roomless};
-ghost use Rattle.amber_worker.specs.Changes.{ShowsSet, StandsAtLeg, StandsNew, wants_batch, with_leg, with_value};
+ghost use Rattle.amber_worker.specs.Changes.{ShowsSet, StandsAtLeg, StandsNew, wants_batch, at_leg_start, with_value};
 
 mod beginning;
 mod giving;
@@ -278,7 +278,7 @@ impl Worker {
     /// Begins a leg: pauses end, a row before which the worker is held may go, and the journal is
     /// empty.
     pub fn begin(&mut self)
-        ensures only { self.new ≡ with_leg self.old }
+        ensures only { self.new ≡ at_leg_start self.old }
         ensures stands { StandsAtLeg self.old self.new }
     {
         self.journal.clear();
