@@ -1,5 +1,5 @@
 -- What the state of a group is seen as, and the rows that it stands for.
-use Rattle.std.specs.Prelude.{◌≡◌, ℕ, ◌+◌, List, [], ◌∷◌, ◌++◌, length, map, Bool}
+use Rattle.std.specs.Prelude.{◌≡◌, ℕ, ◌+◌, List, [], ◌∷◌, ◌++◌, length, map}
 use Rattle.amber_rows.specs.Operators.{first_keys, group_result, rows_with}
 use Rattle.amber_rows.specs.declared.value.Value.{Value}
 use Rattle.amber_rows.specs.declared.agg.Agg.{Agg}
@@ -7,15 +7,12 @@ use Rattle.amber_keys.specs.Tables.{table_entries}
 use Rattle.amber_group.specs.Running.{running_of}
 use Rattle.amber_group.specs.declared.running.Running.{Running}
 
--- the columns of the key, the aggregates, how many rows came, each group's key beside what is kept for each aggregate, and whether
--- the state is ready for the row that was prepared
+-- the columns of the key, the aggregates, how many rows came, and each group's key beside what is kept for each aggregate
 pub record Group : Type 0 where
   pub keys : List ℕ
   pub aggs : List Agg
   pub fed : ℕ
   pub groups : List (List Value × List Running)
-  -- whether a row is prepared
-  pub ready : Bool
 
 -- the groups of rows, in the order in which their keys stand first
 unfoldable pub groups_of : List ℕ → List Agg → List (List Value) → List (List Value × List Running)

@@ -1,5 +1,5 @@
 pub mod Finished
 pub mod Group
-pub mod Places
 pub mod Running
 pub mod Steps
+pub mod Taking

@@ -5,8 +5,8 @@ ghost use Rattle.std.specs.Map.{lookup};
 ghost use Rattle.indexmap.specs.IndexMap.{set_value_at, spare};
 ghost use Rattle.amber_rows.specs.Operators.{same_row};
 ghost use Rattle.amber_group.specs.Finished.{finished_rows};
-ghost use Rattle.amber_group.specs.Places.{TakesIn};
 ghost use Rattle.amber_group.specs.Steps.{GroupsWithin};
+ghost use Rattle.amber_group.specs.Taking.{TakesIn};
 
 use crate::finish::{add_group, finish};
 use crate::totals::Totals;
@@ -48,7 +48,6 @@ fn change_group(
         ≡ out.old.items ++ finished_rows groups.new.entries) }
     ensures groups_on_err { OnErr result (groups.new.entries ≡ groups.old.entries) }
     ensures rows_on_err { OnErr result (out.new.items ≡ out.old.items) }
-    ensures still { spare groups.new ≡ spare groups.old }
 {
     let before = mem::replace(&mut groups[place], totals);
     if let Err(error) = append_finished(alloc, groups, out) {
@@ -74,7 +73,6 @@ fn begin_group(
         ≡ out.old.items ++ finished_rows groups.new.entries) }
     ensures groups_on_err { OnErr result (groups.new.entries ≡ groups.old.entries) }
     ensures rows_on_err { OnErr result (out.new.items ≡ out.old.items) }
-    ensures still { OnErr result (spare groups.new ≡ spare groups.old) }
 {
     let mut rows = finish(alloc, groups)?.rows.into_inner();
     let mut refused = Vec::new(alloc);
@@ -105,7 +103,6 @@ pub(crate) fn take_last(
         ≡ out.old.items ++ finished_rows groups.new.entries) }
     ensures groups_on_err { OnErr result (groups.new.entries ≡ groups.old.entries) }
     ensures rows_on_err { OnErr result (out.new.items ≡ out.old.items) }
-    ensures still { OnErr result (0 < spare groups.old → 0 < spare groups.new) }
 {
     groups.reserve(1)?;
     match groups.get_index_of(&key) {

@@ -13,12 +13,11 @@
 
 mod finish;
 mod last_row;
-pub mod placing;
 mod running;
 pub mod state;
+mod taking;
 mod totals;
 
 pub use finish::Grouped;
-pub use placing::Prepared;
 pub use state::GroupState;
 pub use std::alloc::AllocError as NoMemory;

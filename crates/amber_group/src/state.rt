@@ -1,12 +1,11 @@
-ghost use Rattle.std.specs.Prelude.{◌≡◌, ◌^◌, ◌<◌, ◌++◌, [], List, true, false, IfOk, OnErr, OnOk, length};
+ghost use Rattle.std.specs.Prelude.{◌≡◌, ◌^◌, ◌<◌, ◌++◌, [], List, IfOk, OnErr, OnOk, length};
 ghost use Rattle.amber_rows.specs.Operators.{first_keys, refused_keys};
 ghost use Rattle.amber_rows.specs.declared.value.Value.{Value as Cell};
 ghost use Rattle.amber_group.specs.Group.{AreRowsOf, FeedsRow, IsFedWith};
-ghost use Rattle.amber_group.specs.Places.{IsReadyFor};
 
 use crate::finish::{Grouped, finish};
 use crate::last_row::take_last;
-use crate::placing::{Prepared, find_place, take_in, take_to};
+use crate::taking::take_in;
 use crate::totals::Totals;
 use amber_keys::Key;
 use amber_rows::{Aggs, Cols, Row, Value};
@@ -27,8 +26,6 @@ pub struct GroupState {
     groups: IndexMap<Key, Totals>,
     // Room that each feed uses anew.
     changes: Vec<Option<Value>>,
-    // Whether a row is prepared: then there is room for a group more.
-    ready: bool,
     // Cells of a key that is done with, in whose room `feed` makes the next one.
     room: Vec<Value>,
 }
@@ -36,16 +33,13 @@ pub struct GroupState {
 impl Model for GroupState {
     ghost use Rattle.amber_group.specs.Group.{Group};
     ghost use Rattle.amber_group.specs.Steps.{GroupsWithin};
-    ghost use Rattle.indexmap.specs.IndexMap.{spare};
-    ghost use Rattle.std.specs.Prelude.{◌≡◌, ◌<◌, true};
 
     ghost Value = { Group };
 
     ghost view = { λ a.
-        record { keys = a.keys; aggs = a.aggs; fed = a.fed; groups = a.groups.entries; ready = a.ready } };
+        record { keys = a.keys; aggs = a.aggs; fed = a.fed; groups = a.groups.entries } };
 
-    ghost invariant = { λ a.
-        GroupsWithin a.fed a.groups.entries × (a.ready ≡ true → 0 < spare a.groups) };
+    ghost invariant = { λ a. GroupsWithin a.fed a.groups.entries };
 }
 
 impl GroupState {
@@ -63,7 +57,6 @@ impl GroupState {
             fed: 0,
             groups: IndexMap::new(alloc),
             changes: Vec::new(alloc),
-            ready: false,
             room: Vec::new(alloc),
         }
     }
@@ -86,7 +79,6 @@ impl GroupState {
             &mut self.room,
         )?;
         self.fed += 1;
-        self.ready = false;
         Ok(())
     }
 
@@ -111,52 +103,7 @@ impl GroupState {
             out,
         )?;
         self.fed += 1;
-        self.ready = false;
         Ok(())
-    }
-
-    /// Prepares a row: finds where it goes, and makes all that it wants memory for. Nothing else that is seen changes.
-    pub fn prepare(&mut self, row: &Row) -> Result<Prepared, AllocError>
-        ensures made { IfOk result (λ prepared. IsReadyFor prepared self.new row.now) }
-        ensures ready { OnOk result (self.new ≡ record self.old { ready = true }) }
-        ensures same_on_err { OnErr result (self.new ≡ self.old) }
-    {
-        let key = Key::of(self.alloc, row, &self.keys)?;
-        let mut changes = mem::replace(&mut self.changes, Vec::new(self.alloc));
-        let found = find_place(
-            self.alloc,
-            &mut self.groups,
-            key,
-            &self.aggs,
-            row,
-            &mut changes,
-            &mut self.room,
-        );
-        let place = found?;
-        self.ready = true;
-        Ok(Prepared { place, changes })
-    }
-
-    /// Takes in the row that was prepared. It wants no memory.
-    pub fn commit(&mut self, prepared: Prepared, row: &Row)
-        requires few { self.old.fed < 2 ^ 40 }
-        requires made { IsReadyFor prepared self.old row.now }
-        ensures row { FeedsRow row.now self.old self.new }
-        ensures ready { self.new.ready ≡ false }
-    {
-        let Prepared { place, mut changes } = prepared;
-        take_to(&mut self.groups, place, row, &mut changes);
-        self.changes = changes;
-        self.fed += 1;
-        self.ready = false;
-    }
-
-    /// Gives up a row that was prepared.
-    pub fn cancel(&mut self, prepared: Prepared)
-        ensures { self.new ≡ record self.old { ready = false } }
-    {
-        self.changes = prepared.changes;
-        self.ready = false;
     }
 
     /// A row for each key of the rows that it was fed: the key, and then its aggregates. A key with a sum that 64

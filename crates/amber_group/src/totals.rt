@@ -72,24 +72,6 @@ impl Totals {
         Ok(())
     }
 
-    // The new best cells of a row.
-    pub(crate) fn find(&self, row: &Row, changes: &mut Vec<Option<Value>>) -> Result<(), AllocError>
-        ensures { OnOk result (changes.new.items ≡ map (change_of row.now) self.now) }
-    {
-        find_changes(self.inner.as_slice(), row, changes)?;
-        Ok(())
-    }
-
-    // Takes in a row more, whose new best cells these are.
-    pub(crate) fn settle(&mut self, row: &Row, changes: &mut Vec<Option<Value>>)
-        requires changes { changes.old.items ≡ map (change_of row.now) self.old }
-        requires within { (rows : ℕ) × (rows < 2 ^ 40) × AreWithin rows self.old }
-        ensures value { self.new ≡ map (running_after row.now) self.old }
-        ensures within { (rows : ℕ) → AreWithin rows self.old → AreWithin (rows + 1) self.new }
-    {
-        settle_all(&mut self.inner, row, changes);
-    }
-
     /// For each aggregate what is kept.
     pub fn get(&self) -> &[Running]
         ensures { result.now ≡ self.now }

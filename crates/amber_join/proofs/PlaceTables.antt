@@ -1,5 +1,5 @@
 -- The table of the places as a row is added, and what the places of a key lead to.
-use Rattle.std.proofs.Common.{◌≡◌, ℕ, zero, suc, ◌+◌, ◌<◌, ◌||◌, if◌then◌else◌, Bool, true, false, cond, List, [], ◌∷◌, ◌++◌, length, filter, map, Some, None, position, slice_get, refl, sym, ap, ◌∙◌, append_assoc, arith, length-append}
+use Rattle.std.proofs.Common.{◌≡◌, ℕ, zero, suc, ◌+◌, ◌||◌, Bool, true, false, cond, List, [], ◌∷◌, ◌++◌, length, filter, map, Some, None, position, slice_get, refl, sym, ap, ◌∙◌, append_assoc, arith, length-append}
 use Rattle.std.specs.List.{filter_map, list_any, IsDistinct}
 use Rattle.std.specs.Map.{keys_of, lookup, values_of}
 use Rattle.std.proofs.lemmas.List.{append-nil, length-map}
@@ -7,11 +7,8 @@ use Rattle.indexmap.specs.IndexMap.{set_value_at}
 use Rattle.amber_rows.specs.Operators.{first_keys, matches_of, pick_cells, same_row}
 use Rattle.amber_rows.specs.declared.value.Value.{Value}
 use Rattle.amber_keys.specs.SameRows.{same-itself}
-use Rattle.amber_keys.proofs.FirstKeys.{among, among-first_keys, first_keys-push, rows_with-absent}
-use Rattle.amber_keys.specs.Tables.{table_entries}
-use Rattle.std.proofs.lemmas.Bool.{false≢true, or_right}
-use Rattle.std.proofs.lemmas.List.{map-append}
-use Rattle.amber_keys.proofs.Tables.{cond_none, entries-absent, entries-known, entries-new, entries-set, entry-place, lookup-entries}
+use Rattle.amber_keys.proofs.FirstKeys.{among, among-first_keys, rows_with-absent}
+use Rattle.amber_keys.proofs.Tables.{cond_none, entries-known, entries-new, lookup-entries}
 use Rattle.amber_join.specs.Places.{places_from, places_of, table_of}
 
 abbrev Row : Type 0
@@ -149,114 +146,3 @@ pub set-same : {A : Type 0} (entries : List (Row × A)) (i : ℕ) (v : A) → sl
 set-same [] i v e = absurd (cc)
 set-same (x ∷ xs) zero v e = let same : v ≡ x.1 = cc in ap (λ w. (x.0, w) ∷ xs) same
 set-same (x ∷ xs) (suc i) v e = ap (λ es. x ∷ es) (set-same xs i v e)
-
--- ---- a step back
-
--- where some row passes, it has a place
-pub places-some : {A : Type 0} (test : A → Bool) (n : ℕ) (xs : List A) → list_any test xs ≡ true → 0 < length (places_from test n xs)
-unfolding places_from
-places-some test n [] some = absurd (false≢true some)
-places-some test n (x ∷ xs) some = by (test x) some (places-some test (n + 1) xs)
-  where
-    by : (b : Bool) → (b || list_any test xs) ≡ true → (list_any test xs ≡ true → 0 < length (places_from test (n + 1) xs))
-        → 0 < length (if b then n ∷ places_from test (n + 1) xs else places_from test (n + 1) xs)
-    by true here more = omega arith
-    by false here more = more here
-
-in_place : (k : Row) (ks : List Row) (i : ℕ) → slice_get ks i ≡ Some k → among k ks ≡ true
-in_place k [] i e = absurd (cc)
-in_place k (x ∷ xs) zero e = let same : x ≡ k = cc in rw (same, same-itself k) refl
-in_place k (x ∷ xs) (suc i) e = or_right (same_row x k) (among k xs) (in_place k xs i e)
-
-value_at : {A : Type 0} (f : Row → A) (k : Row) (ks : List Row) (i : ℕ) → slice_get ks i ≡ Some k → slice_get (values_of (table_entries f ks)) i ≡ Some (f k)
-value_at f k [] i e = absurd (cc)
-value_at f k (x ∷ xs) zero e = let same : x ≡ k = cc in ap (λ z. Some (f z)) same
-value_at f k (x ∷ xs) (suc i) e = value_at f k xs i e
-
-pub below : {A : Type 0} (xs : List A) (i : ℕ) (x : A) → slice_get xs i ≡ Some x → i < length xs
-below [] i x e = absurd (cc)
-below (y ∷ ys) zero x e = omega arith
-below (y ∷ ys) (suc i) x e = let less = below ys i x e in omega arith
-
-last-apart : {A : Type 0} (xs ys : List A) (x y : A) → xs ++ x ∷ [] ≡ ys ++ y ∷ [] → xs ≡ ys
-last-apart [] [] x y e = refl
-last-apart [] (z ∷ []) x y e = absurd (cc)
-last-apart [] (z ∷ w ∷ ys) x y e = absurd (cc)
-last-apart (z ∷ []) [] x y e = absurd (cc)
-last-apart (z ∷ w ∷ xs) [] x y e = absurd (cc)
-last-apart (z ∷ xs) (w ∷ ys) x y e = let first : z ≡ w = cc in let rest : xs ++ x ∷ [] ≡ ys ++ y ∷ [] = cc in rw first (ap (λ l. w ∷ l) (last-apart xs ys x y rest))
-
-module _ (keys : List ℕ) (rows : List Row) (row : Row) where
-  same_keys : among (pick_cells keys row) (first_keys keys rows) ≡ true → first_keys keys (rows ++ row ∷ []) ≡ first_keys keys rows
-  same_keys there = first_keys-push keys rows row ∙ ap (λ t. cond t (first_keys keys rows) (first_keys keys rows ++ pick_cells keys row ∷ [])) there
-
-  -- the last place of a key that was there before
-  pub last-place : (entries : List (Row × List ℕ)) (i : ℕ) (old : List ℕ) → slice_get (first_keys keys rows) i ≡ Some (pick_cells keys row)
-      → entries ≡ table_of keys (rows ++ row ∷ []) → slice_get (values_of entries) i ≡ Some old → old ≡ places_of keys rows (pick_cells keys row) ++ length rows ∷ []
-  unfolding table_of
-  last-place entries i old place is found =
-      let k = pick_cells keys row in
-      let f = places_of keys (rows ++ row ∷ []) in
-      let all : entries ≡ table_entries f (first_keys keys rows) = is ∙ ap (table_entries f) (same_keys (in_place k (first_keys keys rows) i place)) in
-      let both : Some old ≡ Some (f k) = sym found ∙ ap (λ es. slice_get (values_of es) i) all ∙ value_at f k (first_keys keys rows) i place in
-      let same : old ≡ f k = cc in
-      same ∙ own keys rows row
-
-  pub table-back_known : (entries : List (Row × List ℕ)) (i : ℕ) (new : List ℕ) → slice_get (first_keys keys rows) i ≡ Some (pick_cells keys row) → IsDistinct same_row (first_keys keys rows)
-      → entries ≡ table_of keys (rows ++ row ∷ []) → new ≡ places_of keys rows (pick_cells keys row) → set_value_at entries i new ≡ table_of keys rows
-  unfolding table_of
-  table-back_known entries i new place apart is less =
-      let k = pick_cells keys row in
-      let f = places_of keys (rows ++ row ∷ []) in
-      let all : entries ≡ table_entries f (first_keys keys rows) = is ∙ ap (table_entries f) (same_keys (in_place k (first_keys keys rows) i place)) in
-      ap (λ es. set_value_at es i new) all ∙ ap (set_value_at (table_entries f (first_keys keys rows)) i) less
-      ∙ entries-set f (places_of keys rows) k (λ x e. sym (agree keys rows row x e)) (first_keys keys rows) i apart place
-
-  pub table-back_new : (entries rest : List (Row × List ℕ)) (last : Row × List ℕ) → list_any (λ other. same_row (pick_cells keys other) (pick_cells keys row)) rows ≡ false
-      → entries ≡ table_of keys (rows ++ row ∷ []) → entries ≡ rest ++ last ∷ [] → rest ≡ table_of keys rows
-  unfolding table_of
-  table-back_new entries rest last none is split =
-      let k = pick_cells keys row in
-      let f = places_of keys (rows ++ row ∷ []) in
-      let absent : among k (first_keys keys rows) ≡ false = among-first_keys keys rows k ∙ none in
-      let longer : first_keys keys (rows ++ row ∷ []) ≡ first_keys keys rows ++ k ∷ [] =
-      first_keys-push keys rows row ∙ ap (λ t. cond t (first_keys keys rows) (first_keys keys rows ++ k ∷ [])) absent in
-      let all : entries ≡ table_entries f (first_keys keys rows) ++ (k, f k) ∷ [] = is ∙ ap (table_entries f) longer ∙ map-append (λ key. (key, f key)) (first_keys keys rows) (k ∷ []) in
-      last-apart rest (table_entries f (first_keys keys rows)) last (k, f k) (sym split ∙ all)
-      ∙ entries-absent f (places_of keys rows) k (λ x e. sym (agree keys rows row x e)) (first_keys keys rows) absent
-
-  -- where the key of a row that comes stands
-  pub known-place : (entries : List (Row × List ℕ)) (i : ℕ) (old : List ℕ) → entries ≡ table_of keys rows → position (same_row (pick_cells keys row)) (keys_of entries) ≡ Some i
-      → IsDistinct same_row (keys_of entries) → slice_get (values_of entries) i ≡ Some old
-      → (slice_get (first_keys keys rows) i ≡ Some (pick_cells keys row)) × IsDistinct same_row (first_keys keys rows)
-  unfolding table_of
-  known-place entries i old is at distinct found = entry-place (places_of keys rows) (first_keys keys rows) (pick_cells keys row) entries i old is at distinct found
-
-  -- no row before has the key
-  pub new-place : (entries : List (Row × List ℕ)) → entries ≡ table_of keys rows → lookup (same_row (pick_cells keys row)) entries ≡ None
-      → list_any (λ other. same_row (pick_cells keys other) (pick_cells keys row)) rows ≡ false
-  unfolding table_of
-  new-place entries is none =
-      let k = pick_cells keys row in
-      let ks = first_keys keys rows in
-      sym (among-first_keys keys rows k) ∙ cond_none (among k ks) (places_of keys rows k) (sym (lookup-entries (places_of keys rows) k ks) ∙ ap (lookup (same_row k)) (sym is) ∙ none)
-
-  pub place-known : (i : ℕ) → slice_get (first_keys keys rows) i ≡ Some (pick_cells keys row) → 0 < length (places_of keys rows (pick_cells keys row))
-  place-known i place =
-      let k = pick_cells keys row in
-      places-some (λ other. same_row (pick_cells keys other) k) 0 rows (sym (among-first_keys keys rows k) ∙ in_place k (first_keys keys rows) i place)
-
-  pub place-within : (entries : List (Row × List ℕ)) (i : ℕ) → slice_get (first_keys keys rows) i ≡ Some (pick_cells keys row) → entries ≡ table_of keys (rows ++ row ∷ []) → i < length entries
-  place-within entries i place is =
-      let less = below (first_keys keys rows) i (pick_cells keys row) place in
-      let same = ap length (same_keys (in_place (pick_cells keys row) (first_keys keys rows) i place)) in
-      omega (arith, ap length is, length-table keys (rows ++ row ∷ []))
-
-  pub some-entries : (entries : List (Row × List ℕ)) → list_any (λ other. same_row (pick_cells keys other) (pick_cells keys row)) rows ≡ false → entries ≡ table_of keys (rows ++ row ∷ [])
-      → 0 < length entries
-  some-entries entries none is =
-      let k = pick_cells keys row in
-      let absent : among k (first_keys keys rows) ≡ false = among-first_keys keys rows k ∙ none in
-      let longer : first_keys keys (rows ++ row ∷ []) ≡ first_keys keys rows ++ k ∷ [] =
-      first_keys-push keys rows row ∙ ap (λ t. cond t (first_keys keys rows) (first_keys keys rows ++ k ∷ [])) absent in
-      omega (arith, ap length is, length-table keys (rows ++ row ∷ []), ap length longer, length-append (first_keys keys rows) (k ∷ []))

@@ -1,3 +1,2 @@
-pub mod Came
 pub mod Join
 pub mod Places

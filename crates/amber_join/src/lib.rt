@@ -13,6 +13,5 @@ mod matches;
 pub mod places;
 pub mod state;
 
-pub use places::Came;
 pub use state::JoinState;
 pub use std::alloc::AllocError as NoMemory;

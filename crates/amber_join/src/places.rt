@@ -1,7 +1,6 @@
-ghost use Rattle.std.specs.Prelude.{◌≡◌, ◌^◌, ◌-◌, ◌++◌, ◌∷◌, ◌<◌, [], ℕ, List, IfOk, OnErr, OnOk, length, min};
+ghost use Rattle.std.specs.Prelude.{◌≡◌, ◌^◌, ◌-◌, ◌++◌, ◌∷◌, [], ℕ, List, OnErr, OnOk, length, min};
 ghost use Rattle.amber_rows.specs.Operators.{pick_cells};
 ghost use Rattle.amber_rows.specs.declared.value.Value.{Value as Cell};
-ghost use Rattle.amber_join.specs.Came.{HasCome};
 ghost use Rattle.amber_join.specs.Places.{table_of};
 
 use amber_keys::Key;
@@ -45,14 +44,6 @@ impl Places {
         Ok(())
     }
 
-    /// Takes the last place away, where it is not the only one.
-    fn remove_last(&mut self)
-        ensures { (places : List ℕ) (last : ℕ) → 0 < length places
-            → self.old ≡ places ++ last ∷ [] → self.new ≡ places }
-    {
-        let _last = self.more.pop();
-    }
-
     /// How many places there are.
     pub fn len(&self) -> usize
         ensures { result ≡ min (length self.now) (2 ^ 64 - 1) }
@@ -79,14 +70,6 @@ impl Clone for Places {
     }
 }
 
-/// Where a row stands that came last: beside rows with an equal key, of which the first key stands at this place, or
-/// alone.
-#[derive(Clone, Copy, Debug, PartialEq, Eq)]
-pub enum Came {
-    Known(usize),
-    New,
-}
-
 /// Notes in a table where the row that comes next stands, which has this key. So a table of some rows becomes that
 /// of these rows and the next one.
 pub fn note(
@@ -94,10 +77,7 @@ pub fn note(
     table: &mut IndexMap<Key, Places>,
     key: Key,
     place: usize,
-) -> Result<Came, AllocError>
-    ensures came { IfOk result (λ came. (keys : List ℕ) (rows : List (List Cell)) (row : List Cell)
-        → table.old.entries ≡ table_of keys rows → key ≡ pick_cells keys row
-        → HasCome came keys rows row) }
+) -> Result<(), AllocError>
     ensures ok { OnOk result ((keys : List ℕ) (rows : List (List Cell)) (row : List Cell)
         → table.old.entries ≡ table_of keys rows → key ≡ pick_cells keys row → place ≡ length rows
         → table.new.entries ≡ table_of keys (rows ++ row ∷ [])) }
@@ -106,27 +86,11 @@ pub fn note(
     match table.get_index_of(&key) {
         Some(i) => {
             table[i].add(place)?;
-            Ok(Came::Known(i))
+            Ok(())
         }
         None => {
             table.insert(key, Places::one(alloc, place))?;
-            Ok(Came::New)
-        }
-    }
-}
-
-/// Forgets where the row stands that came last. So a table of some rows and one more becomes that of these rows.
-pub fn forget(table: &mut IndexMap<Key, Places>, came: Came)
-    requires { (keys : List ℕ) × (rows : List (List Cell)) × (row : List Cell)
-        × (table.old.entries ≡ table_of keys (rows ++ row ∷ [])) × HasCome came keys rows row }
-    ensures { (keys : List ℕ) (rows : List (List Cell)) (row : List Cell)
-        → table.old.entries ≡ table_of keys (rows ++ row ∷ []) → HasCome came keys rows row
-        → table.new.entries ≡ table_of keys rows }
-{
-    match came {
-        Came::Known(i) => table[i].remove_last(),
-        Came::New => {
-            let _last = table.pop();
+            Ok(())
         }
     }
 }

@@ -1,10 +1,8 @@
-ghost use Rattle.std.specs.Prelude.{◌≡◌, ◌++◌, ◌∷◌, [], List, IfErr, IfOk, OnErr, OnOk, false, length, true};
+ghost use Rattle.std.specs.Prelude.{◌≡◌, ◌++◌, ◌∷◌, [], IfErr, IfOk, OnErr, OnOk, false, length, true};
 ghost use Rattle.amber_rows.specs.Operators.{first_keys, matches_of};
-ghost use Rattle.amber_rows.specs.declared.value.Value.{Value as Cell};
-ghost use Rattle.amber_join.specs.Came.{HasCome};
 
 use crate::matches::matches;
-use crate::places::{Came, Places, forget, note};
+use crate::places::{Places, note};
 use amber_keys::Key;
 use amber_rows::{Cols, Row, Rows};
 use indexmap::IndexMap;
@@ -62,10 +60,9 @@ impl JoinState {
         }
     }
 
-    /// Keeps a build row, and says where it stands. It gives the row back for want of memory alone.
-    pub fn stage(&mut self, row: Row) -> Result<Came, Row>
+    /// Keeps a build row. It gives the row back for want of memory alone.
+    pub fn build(&mut self, row: Row) -> Result<(), Row>
         requires { self.old.sealed ≡ false }
-        ensures came { IfOk result (λ came. HasCome came self.old.build_keys self.old.rows row) }
         ensures ok { OnOk result (self.new ≡ record self.old { rows = self.old.rows ++ row ∷ [] }) }
         ensures err { IfErr result (λ back. back ≡ row) }
         ensures same_on_err { OnErr result (self.new ≡ self.old) }
@@ -76,38 +73,10 @@ impl JoinState {
         if self.rows.reserve(1).is_err() {
             return Err(row);
         }
-        let Ok(came) = note(self.alloc, &mut self.table, key, self.rows.len()) else {
+        if note(self.alloc, &mut self.table, key, self.rows.len()).is_err() {
             return Err(row);
-        };
+        }
         self.rows.push_reserved(row);
-        Ok(came)
-    }
-
-    /// Gives back the build row that came last, as if it had not come.
-    pub fn unstage(&mut self, came: Came) -> Row
-        requires { (rows : List (List Cell)) × (row : List Cell)
-            × (self.old.rows ≡ rows ++ row ∷ []) × HasCome came self.old.build_keys rows row }
-        ensures row { (rows : List (List Cell)) (row : List Cell)
-            → self.old.rows ≡ rows ++ row ∷ [] → result ≡ row }
-        ensures state { (rows : List (List Cell)) (row : List Cell)
-            → self.old.rows ≡ rows ++ row ∷ [] → HasCome came self.old.build_keys rows row
-            → self.new ≡ record self.old { rows = rows } }
-    {
-        forget(&mut self.table, came);
-        let Some(row) = self.rows.pop() else {
-            unreachable!()
-        };
-        row
-    }
-
-    /// Keeps a build row. It gives the row back for want of memory alone.
-    pub fn build(&mut self, row: Row) -> Result<(), Row>
-        requires { self.old.sealed ≡ false }
-        ensures ok { OnOk result (self.new ≡ record self.old { rows = self.old.rows ++ row ∷ [] }) }
-        ensures err { IfErr result (λ back. back ≡ row) }
-        ensures same_on_err { OnErr result (self.new ≡ self.old) }
-    {
-        self.stage(row)?;
         Ok(())
     }
 

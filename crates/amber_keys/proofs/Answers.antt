@@ -1,13 +1,5 @@
 -- What follows of a call's answer, where one fact follows from another.
-use Rattle.std.proofs.Common.{◌≡◌, false, Option, Some, None, is_some, Result, Ok, Err, IfOk, OnErr, OnOk, refl}
-
-pub on_ok : {T E : Type 0} (r : Result T E) (P Q : Type 0) → OnOk r P → (P → Q) → OnOk r Q
-on_ok (Ok x) P Q h f = f h
-on_ok (Err e) P Q h f = tt
-
-pub on_err : {T E : Type 0} (r : Result T E) (P Q : Type 0) → OnErr r P → (P → Q) → OnErr r Q
-on_err (Ok x) P Q h f = tt
-on_err (Err e) P Q h f = f h
+use Rattle.std.proofs.Common.{◌≡◌, false, Option, Some, None, is_some, Result, Ok, Err, IfOk, OnErr, refl}
 
 pub if_ok : {T E : Type 0} (r : Result T E) (P Q : T → Type 0) → IfOk r P → ((x : T) → P x → Q x) → IfOk r Q
 if_ok (Ok x) P Q h f = f x h

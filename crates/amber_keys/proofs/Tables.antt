@@ -82,18 +82,6 @@ module _ {A : Type 0} where
   lookup_key-entries f k [] = refl
   lookup_key-entries f k (x ∷ xs) = key_by f k x xs (same_row x k) refl (lookup_key-entries f k xs)
 
-  -- where a key stands among distinct ones
-  pub entry-place : (f : Row → A) (ks : List Row) (k : Row) (entries : List (Row × A)) (i : ℕ) (old : A) → entries ≡ table_entries f ks
-      → position (same_row k) (keys_of entries) ≡ Some i → IsDistinct same_row (keys_of entries) → slice_get (values_of entries) i ≡ Some old
-      → (slice_get ks i ≡ Some k) × IsDistinct same_row ks
-  entry-place f ks k entries i old is at distinct found =
-      let here = Found-position (same_row k) entries i at in
-      let value : cond (among k ks) (Some (f k)) None ≡ Some old = sym (lookup-entries f k ks) ∙ ap (lookup (same_row k)) (sym is) ∙ here.value ∙ found in
-      let both = cond_some (among k ks) (f k) old value in
-      let key : slice_get (keys_of entries) i ≡ Some k = sym here.key ∙ ap (lookup_key (same_row k)) is ∙ lookup_key-entries f k ks ∙ ap (λ t. cond t (Some k) None) both.0 in
-      let all : keys_of entries ≡ ks = ap keys_of is ∙ keys-entries f ks in
-      (ap (λ xs. slice_get xs i) (sym all) ∙ key, subst (IsDistinct same_row) all distinct)
-
   module _ (of_rows : List Row → Row → A) (keys : List ℕ) (rows : List Row) (row : Row)
       (agree : (x : Row) → same_row (pick_cells keys row) x ≡ false → of_rows (rows ++ row ∷ []) x ≡ of_rows rows x) where
     -- a row more whose key is there: what the key stands for is written at the key's place

@@ -84,7 +84,7 @@ abbrev pub worker : Ends → WorkerState
 worker e = record empty_worker_state {
   op = 2;
   number = 3;
-  operator_state = operator_state.Group (record { keys = 1 ∷ []; aggs = []; fed = 0; groups = []; ready = false });
+  operator_state = operator_state.Group (record { keys = 1 ∷ []; aggs = []; fed = 0; groups = [] });
   columns = numbers;
   ins = from 0 e.in0 ∷ from 1 e.in1 ∷ from 2 e.in2 ∷ [];
   outs = to 5 e.out5 ∷ to 6 e.out6 ∷ to 7 e.out7 ∷ to 8 e.out8 ∷ [];

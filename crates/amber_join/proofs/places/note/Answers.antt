@@ -1,17 +1,12 @@
 -- Either the key is there, or it comes last.
-use Rattle.std.proofs.Common.{◌≡◌, ◌∙◌, ◌++◌, ◌∷◌, [], None, Result, Ok, Err, ap, position, sym}
+use Rattle.std.proofs.Common.{◌≡◌, ◌∙◌, ◌++◌, ◌∷◌, [], None, ap, position, sym}
 use Rattle.std.specs.Map.{keys_of, lookup}
-use Rattle.std.specs.Result.{OnErr}
 use Rattle.indexmap.specs.IndexMap.{set_value_at}
 use Rattle.indexmap.proofs.CallerLemmas.{insert_entry-new}
 use Rattle.amber_rows.specs.Operators.{same_row}
-use Rattle.amber_join.proofs.PlaceTables.{known-place, new-place, set-same, table-known, table-new}
-use Rattle.amber_keys.proofs.Answers.{none_is}
+use Rattle.amber_join.proofs.PlaceTables.{set-same, table-known, table-new}
+use Rattle.amber_keys.proofs.Answers.{err_so, none_is}
 use Rattle.amber_join.proofs.places.note.Goals as goal
-
-err_so : {T E : Type 0} (r : Result T E) (P : Type 0) → P → OnErr r P
-err_so (Ok x) P h = tt
-err_so (Err x) P h = h
 
 pub returns-in_ok-add-in-Some-clause-ok : goal.returns-in_ok-add-in-Some-clause-ok
 returns-in_ok-add-in-Some-clause-ok c = λ keys rows row is key place.
@@ -21,23 +16,11 @@ returns-in_ok-add-in-Some-clause-ok c = λ keys rows row is key place.
     (ap (λ k. position (same_row k) (keys_of entries)) (sym key) ∙ sym c.in-Some.ensures.index) c.in-Some.ensures.unique c.index_mut.ensures.value
     (c.in_ok-add-in-Some.ensures.ok ∙ ap (λ n. old ++ n ∷ []) place)
 
-pub returns-in_ok-add-in-Some-clause-came : goal.returns-in_ok-add-in-Some-clause-came
-returns-in_ok-add-in-Some-clause-came c = λ keys rows row is key.
-    let entries = c.args.table.now.entries in
-    known-place keys rows row entries c.in-Some.i c.index_mut.result.now is
-    (ap (λ k. position (same_row k) (keys_of entries)) (sym key) ∙ sym c.in-Some.ensures.index) c.in-Some.ensures.unique c.index_mut.ensures.value
-
 pub returns-in_err-add-in-Some-clause-same : goal.returns-in_err-add-in-Some-clause-same
 returns-in_err-add-in-Some-clause-same c =
     let entries = c.args.table.now.entries in
     err_so c.from_residual.result _
     (ap (set_value_at entries c.in-Some.i) c.in_err-add-in-Some.ensures.same ∙ set-same entries c.in-Some.i c.index_mut.result.now c.index_mut.ensures.value)
-
-pub returns-in_ok-insert-in-None-clause-came : goal.returns-in_ok-insert-in-None-clause-came
-returns-in_ok-insert-in-None-clause-came c = λ keys rows row is key.
-    let entries = c.args.table.now.entries in
-    let none : lookup (same_row c.args.key) entries ≡ None = none_is (lookup (same_row c.args.key) entries) c.in-None.ensures.found in
-    new-place keys rows row entries is (ap (λ k. lookup (same_row k) entries) (sym key) ∙ none)
 
 pub returns-in_ok-insert-in-None-clause-ok : goal.returns-in_ok-insert-in-None-clause-ok
 returns-in_ok-insert-in-None-clause-ok c = λ keys rows row is key place.

@@ -1,13 +1,12 @@
 -- The bound is that of the rows so far.
 use Rattle.std.proofs.Common.{◌≡◌, ap, arith}
-use Rattle.std.proofs.lemmas.Bool.{false≢true}
 use Rattle.amber_group.specs.Group.{Group}
 use Rattle.amber_group.proofs.state.GroupState.feed.Goals as goal
 
 pub take_in-requires : goal.take_in-requires
 take_in-requires c =
     let same : c.self.inside.fed ≡ c.args.self.now.fed = ap (λ (state : Group). state.fed) c.self.view_is in
-    (c.self.inside.fed, omega (arith, c.requires), c.self.invariant.0)
+    (c.self.inside.fed, omega (arith, c.requires), c.self.invariant)
 
 pub invariant_of-self-2 : goal.invariant_of-self-2
-invariant_of-self-2 c = (c.in_ok-take_in.ensures.ok.within c.self.inside.fed c.self.invariant.0, λ e. absurd (false≢true e))
+invariant_of-self-2 c = c.in_ok-take_in.ensures.ok.within c.self.inside.fed c.self.invariant
