@@ -1,11 +1,13 @@
-ghost use Rattle.std.specs.Prelude.{◌≡◌, ◌<◌, ◌≤◌, ◌^◌, ◌++◌, ◌∷◌, [], ℕ, false, true, length, replicate, vec_len, slice_index_or, slice_set, IfOk, IfErr, OnOk};
-ghost use Rattle.amber_rows.specs.Record.{has_header, typed_records};
+ghost use Rattle.std.specs.Prelude.{◌≡◌, ◌<◌, ◌≤◌, ◌^◌, ◌++◌, ◌∷◌, [], List, ℕ, false, true, length, replicate, vec_len, slice_index_or, slice_set, IfOk, IfErr, OnOk};
+ghost use Rattle.csv.specs.Records.{fields_of};
+ghost use Rattle.amber_rows.specs.Reading.{HasRead};
+ghost use Rattle.amber_rows.specs.Record.{has_header, row_of, typed_records};
 ghost use Rattle.amber_rows.specs.Shares.{share_of, turn_of};
-ghost use Rattle.amber_scan.specs.Shares.{scanned_number, scanned_records};
+ghost use Rattle.amber_scan.specs.Shares.{scanned_number, scanned_record, scanned_records};
 ghost use Rattle.amber_scan.specs.declared.dealing.ScanErr.TheVariants as scan_err;
 
-use crate::share::{Scanned, Share};
-use amber_rows::{RecordReader, Schema, are_names, type_record};
+use crate::share::Share;
+use amber_rows::{RecordReader, Schema, are_names};
 use csv::ByteRecord;
 use std::alloc::{AllocError, Global};
 
@@ -26,29 +28,61 @@ impl From<AllocError> for ScanErr {
     }
 }
 
+// A reader of a file that has read its header, which is that of these columns.
+fn open_behind_header<'a>(
+    alloc: Global,
+    bytes: &'a [u8],
+    schema: &Schema,
+) -> Result<RecordReader<'a>, ScanErr>
+    ensures read { IfOk result (λ reader. (header : List (List ℕ))
+        × HasRead bytes.now reader (header ∷ [])) }
+    ensures headed { IfOk result (λ _. has_header schema.now bytes.now ≡ true) }
+    ensures header { IfErr result
+        (λ why. why ≡ ScanErr.Header → has_header schema.now bytes.now ≡ false) }
+{
+    let mut reader = RecordReader::open(alloc, bytes);
+    let mut fields = ByteRecord::new(alloc);
+    let found = reader.next(&mut fields)?;
+    if !found {
+        return Err(ScanErr::Header);
+    }
+    let right = are_names(&fields, schema);
+    if !right {
+        return Err(ScanErr::Header);
+    }
+    Ok(reader)
+}
+
 // As many shares of no records as there are workers.
 fn empty_shares(alloc: Global, workers: u32) -> Result<Vec<Share>, AllocError>
     ensures { IfOk result (λ shares. shares.items ≡ replicate workers []) }
 {
     let mut shares = Vec::with_capacity(alloc, workers as usize)?;
     for _ in 0..workers {
-        shares.push(Share::new(alloc))?;
+        shares.push(Share::new(alloc, workers == 1))?;
     }
     Ok(shares)
 }
 
-// Puts a record behind the others of the worker whose turn it is.
-fn give(shares: &mut [Share], workers: u32, one: Scanned) -> Result<(), AllocError>
-    requires some { 0 < workers }
-    requires one_each { length shares.old ≡ workers }
-    requires nth { 0 < one.number }
-    ensures { let turn = turn_of workers one.number in
+// Types a record and puts it behind the others of the worker whose turn it is.
+fn give(
+    alloc: Global,
+    shares: &mut [Share],
+    number: u64,
+    fields: &ByteRecord,
+    schema: &Schema,
+) -> Result<(), AllocError>
+    requires some { 0 < length shares.old }
+    requires few { length shares.old ≤ 16 }
+    requires nth { 0 < number }
+    requires columns { length schema.now < 2 ^ 32 }
+    ensures { let turn = turn_of (length shares.old) number in
         OnOk result (shares.new
-        ≡ slice_set shares.old turn (slice_index_or shares.old turn [] ++ one ∷ [])) }
+        ≡ slice_set shares.old turn (slice_index_or shares.old turn []
+        ++ scanned_record number (row_of schema.now (fields_of fields.now)) ∷ [])) }
 {
-    let turn = (one.number - 1) % u64::from(workers);
-    let share = &mut shares[turn as usize];
-    share.push(one)
+    let turn = (number - 1) % shares.len() as u64;
+    shares[turn as usize].add(alloc, number, fields, schema)
 }
 
 /// Reads a file once and deals its records to 1 to 16 workers: of W workers, worker w, from 0, gets the records
@@ -73,24 +107,15 @@ pub fn deal(
     ensures header { IfErr result
         (λ why. why ≡ ScanErr.Header → has_header schema.now bytes.now ≡ false) }
 {
-    let mut reader = RecordReader::open(alloc, bytes);
+    let mut reader = open_behind_header(alloc, bytes, schema)?;
     let mut fields = ByteRecord::new(alloc);
-    let found = reader.next(&mut fields)?;
-    if !found {
-        return Err(ScanErr::Header);
-    }
-    let right = are_names(&fields, schema);
-    if !right {
-        return Err(ScanErr::Header);
-    }
     let mut shares = empty_shares(alloc, workers)?;
     'records: for number in 1..u64::MAX {
         let more = reader.next(&mut fields)?;
         if !more {
             return Ok(shares);
         }
-        let what = type_record(alloc, &fields, schema)?;
-        give(&mut shares, workers, Scanned { number, what })?;
+        give(alloc, &mut shares, number, &fields, schema)?;
     }
     // No memory holds as many records as that.
     Err(ScanErr::NoMemory)

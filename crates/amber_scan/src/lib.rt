@@ -9,6 +9,7 @@
 #![tactic(auto)]
 
 mod dealing;
+mod rooms;
 pub mod share;
 
 pub use dealing::{ScanErr, deal};

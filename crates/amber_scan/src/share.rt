@@ -1,12 +1,17 @@
-ghost use Rattle.std.specs.Prelude.{◌≡◌, [], ◌∷◌, ◌++◌, length, IfOk, MatchOption, OnOk};
+ghost use Rattle.std.specs.Prelude.{◌≡◌, ◌<◌, ◌^◌, [], ◌∷◌, ◌++◌, length, IfOk, MatchOption, OnOk};
+ghost use Rattle.csv.specs.Records.{fields_of};
+ghost use Rattle.amber_rows.specs.Record.{row_of};
+ghost use Rattle.amber_scan.specs.Shares.{scanned_record};
 
-use amber_rows::{Row, RowFault};
+use crate::rooms::Rooms;
+use amber_rows::{Row, RowFault, Schema, type_over, type_record};
+use csv::ByteRecord;
 use std::alloc::{AllocError, Global};
 use std::collections::VecDeque;
 use std::marker::Model;
 
 /// A record of a scan's file: its number, from 1 behind the header, and its row or why it is none.
-#[derive(Debug, Drop)]
+#[derive(Drop)]
 pub struct Scanned {
     pub number: u64,
     pub what: Result<Row, RowFault>,
@@ -28,9 +33,11 @@ impl Clone for Scanned {
 }
 
 /// The records of one worker that it has not taken yet, seen as their list.
-#[derive(Debug, Drop)]
+#[derive(Drop)]
 pub struct Share {
     records: VecDeque<Scanned>,
+    // Where the next rows are typed. The rows of one worker alone lie side by side anyway.
+    rooms: Option<Rooms>,
 }
 
 impl Model for Share {
@@ -43,20 +50,38 @@ impl Model for Share {
 }
 
 impl Share {
-    // A share of no records.
-    pub(crate) fn new(alloc: Global) -> Self
+    // A share of no records, of one worker alone or of one among several.
+    pub(crate) fn new(alloc: Global, is_alone: bool) -> Self
         ensures { result ≡ [] }
     {
+        let rooms = if is_alone {
+            None
+        } else {
+            Some(Rooms::new(alloc))
+        };
         Share {
             records: VecDeque::new(alloc),
+            rooms,
         }
     }
 
-    // Puts a record behind the others.
-    pub(crate) fn push(&mut self, one: Scanned) -> Result<(), AllocError>
-        ensures { OnOk result (self.new ≡ self.old ++ one ∷ []) }
+    // Types a record by these columns, and puts it with its number behind the others.
+    pub(crate) fn add(
+        &mut self,
+        alloc: Global,
+        number: u64,
+        fields: &ByteRecord,
+        schema: &Schema,
+    ) -> Result<(), AllocError>
+        requires { length schema.now < 2 ^ 32 }
+        ensures { OnOk result (self.new ≡ self.old
+            ++ scanned_record number (row_of schema.now (fields_of fields.now)) ∷ []) }
     {
-        self.records.push_back(one)?;
+        let what = match &mut self.rooms {
+            None => type_record(alloc, fields, schema)?,
+            Some(rooms) => type_over(alloc, rooms.take(alloc, schema.len())?, fields, schema)?,
+        };
+        self.records.push_back(Scanned { number, what })?;
         Ok(())
     }
 
@@ -82,6 +107,7 @@ impl Clone for Share {
     fn clone(&self) -> Result<Self, AllocError> {
         Ok(Share {
             records: self.records.clone()?,
+            rooms: None,
         })
     }
 }
