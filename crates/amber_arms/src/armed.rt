@@ -6,7 +6,7 @@ use std::alloc::AllocError;
 use std::marker::Model;
 
 /// An armed count: how many rows it asks for, and how many rows of each of its operator's workers were gone when it was armed.
-#[derive(Debug, Drop)]
+#[derive(Drop)]
 pub struct Counting {
     target: u64,
     base: Vec<u64>,
@@ -21,7 +21,7 @@ impl Model for Counting {
 }
 
 /// What is in force at one operator: its pause in rows, its count, its condition, and a filter's constant.
-#[derive(Debug, Drop)]
+#[derive(Drop)]
 pub struct Armed {
     pause: Option<u64>,
     count: Option<Counting>,

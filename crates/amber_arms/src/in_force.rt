@@ -8,7 +8,7 @@ use std::alloc::{AllocError, Global};
 use std::marker::Model;
 
 /// What is in force at each operator of a workflow. Operators are numbered from 1.
-#[derive(Debug, Drop)]
+#[derive(Drop)]
 pub struct InForce {
     arms: Vec<Armed>,
 }

@@ -6,7 +6,7 @@ use amber_rows::{Bytes, Rows};
 use std::alloc::AllocError;
 
 /// What came of a command.
-#[derive(Debug, Drop)]
+#[derive(Drop)]
 pub struct Done {
     /// The text of the item by which the log grew.
     pub item: Bytes,
@@ -37,7 +37,7 @@ impl From<AllocError> for DebugErr {
 }
 
 // Why a leg to the end gave no answer.
-#[derive(Debug, Drop)]
+#[derive(Drop)]
 pub(crate) enum EndErr {
     // The leg stands in the log, closed as too long; this is its text.
     Long { item: Bytes },

@@ -10,7 +10,7 @@ use indexmap::IndexMap;
 use std::alloc::{AllocError, Global};
 
 /// What a group gives at the end. Both parts stand in the order in which the keys came first.
-#[derive(Debug, Drop)]
+#[derive(Drop)]
 pub struct Grouped {
     /// A row for each group whose numbers 64 bits hold: its key, and then its aggregates.
     pub rows: Rows,

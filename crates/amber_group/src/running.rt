@@ -10,7 +10,7 @@ use amber_rows::{Agg, Row, Value};
 use std::alloc::AllocError;
 
 /// What is kept of the rows of a group for one aggregate. A column is a number from 1.
-#[derive(Debug, Drop)]
+#[derive(Drop)]
 pub enum Running {
     /// How many rows there are.
     Count(u64),

@@ -17,7 +17,7 @@ use std::mem;
 
 /// What a group keeps: the columns of its key, its aggregates, how many rows it was fed, and what it needs of
 /// these. `IsFedWith` says which rows a state stands for.
-#[derive(Debug, Drop)]
+#[derive(Drop)]
 pub struct GroupState {
     alloc: Global,
     keys: Cols,

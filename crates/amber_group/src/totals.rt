@@ -13,7 +13,7 @@ use std::alloc::{AllocError, Global};
 use std::marker::Model;
 
 /// What is kept of the rows of a group, for one aggregate after the other. Seen as the list.
-#[derive(Debug, Drop)]
+#[derive(Drop)]
 pub struct Totals {
     inner: Vec<Running>,
 }

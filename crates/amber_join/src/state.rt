@@ -11,7 +11,7 @@ use std::marker::Model;
 
 /// What a join keeps: the columns by which the rows of both sides are compared, the build rows in the order in
 /// which they came, and whether these are all. The state is seen as just these.
-#[derive(Debug, Drop)]
+#[derive(Drop)]
 pub struct JoinState {
     alloc: Global,
     build_keys: Cols,

@@ -12,7 +12,7 @@ use std::hash::{Hash, Hasher};
 use std::marker::Model;
 
 /// The cells of some columns of a row, seen as their list. Equal keys have equal cells in the same order.
-#[derive(Debug, Drop)]
+#[derive(Drop)]
 pub struct Key {
     row: Row,
 }

@@ -74,7 +74,7 @@ fn cut(waiting: &mut VecDeque<Batch>, partial: &mut Vec<Row>, next: Vec<Row>, se
 }
 
 /// What a worker keeps of one to which it sends.
-#[derive(Debug, Drop)]
+#[derive(Drop)]
 pub struct Outbox {
     alloc: Global,
     size: u32,

@@ -21,7 +21,7 @@ pub struct Sender {
 }
 
 /// A batch that was taken, its sender, whether that is of the build side, and its number.
-#[derive(Debug, Drop)]
+#[derive(Drop)]
 pub struct Found {
     pub from: u32,
     pub builds: bool,

@@ -24,7 +24,7 @@ pub enum Entry {
 }
 
 /// A worker's steps in their order, seen as a list.
-#[derive(Debug, Drop)]
+#[derive(Drop)]
 pub struct Entries {
     inner: Vec<Entry>,
 }

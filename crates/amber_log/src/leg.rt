@@ -4,14 +4,14 @@ use crate::entry::Entries;
 use std::marker::Model;
 
 /// What one worker did in a leg. Workers are numbered through the whole workflow, from 0.
-#[derive(Debug, Drop)]
+#[derive(Drop)]
 pub struct Part {
     pub worker: u32,
     pub entries: Entries,
 }
 
 /// The workers' parts of a leg, seen as a list.
-#[derive(Debug, Drop)]
+#[derive(Drop)]
 pub struct Parts {
     inner: Vec<Part>,
 }
@@ -59,7 +59,7 @@ pub enum Close {
 }
 
 /// A stretch of the run between two commands: what each worker did, by rising numbers, and how it ended.
-#[derive(Debug, Drop)]
+#[derive(Drop)]
 pub struct Leg {
     pub parts: Parts,
     pub close: Close,

@@ -3,7 +3,7 @@ use crate::entry::Entry;
 use crate::leg::Close;
 
 /// A line of a log's text.
-#[derive(Debug, Drop)]
+#[derive(Drop)]
 pub enum Line {
     /// The first line: the batch size, from 1 to 65,536.
     Head(u32),

@@ -6,7 +6,7 @@ use std::alloc::AllocError;
 use std::marker::Model;
 
 /// An item of a log: a command, or a leg that a command to run began.
-#[derive(Debug, Drop)]
+#[derive(Drop)]
 pub enum Item {
     /// A command other than those that run.
     Do(Command),
@@ -17,7 +17,7 @@ pub enum Item {
 }
 
 /// The items of a log in their order, seen as a list.
-#[derive(Debug, Drop)]
+#[derive(Drop)]
 pub struct Items {
     inner: Vec<Item>,
 }
@@ -65,7 +65,7 @@ impl Items {
 }
 
 /// A log: how many rows a batch has, from 1 to 65,536, and what happened.
-#[derive(Debug, Drop)]
+#[derive(Drop)]
 pub struct Log {
     pub batch: u32,
     pub items: Items,

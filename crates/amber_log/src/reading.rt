@@ -3,7 +3,7 @@ use crate::leg::Parts;
 use crate::log::Items;
 
 /// Where a reader of a log's text stands.
-#[derive(Debug, Drop)]
+#[derive(Drop)]
 pub enum Place {
     /// Behind the head or an item, and another item may follow.
     Outside,
@@ -25,7 +25,7 @@ pub enum Place {
 }
 
 /// What was read of a log's text so far.
-#[derive(Debug, Drop)]
+#[derive(Drop)]
 pub struct Reading {
     pub batch: u32,
     pub items: Items,

@@ -7,7 +7,7 @@ use std::alloc::AllocError;
 use std::marker::Model;
 
 /// Something that gave no row.
-#[derive(Debug, Drop)]
+#[derive(Drop)]
 pub enum Refusal {
     /// A record of a scan: the operator's number, the record's number in its file (from 1, after the header), and
     /// why it is no row.
@@ -42,7 +42,7 @@ impl Clone for Refusal {
 }
 
 /// What a query refused, in the order of the operators and their records, seen as a list.
-#[derive(Debug, Drop)]
+#[derive(Drop)]
 pub struct Refusals {
     inner: Vec<Refusal>,
 }
@@ -81,7 +81,7 @@ impl Refusals {
 }
 
 /// The answer of a query: what was refused, and the sink's columns and rows.
-#[derive(Debug, Drop)]
+#[derive(Drop)]
 pub struct Answer {
     pub refused: Refusals,
     pub columns: Schema,

@@ -5,7 +5,7 @@ use std::alloc::AllocError;
 use std::marker::Model;
 
 /// Why a run has stopped. Operators are numbered from 1, an operator's workers from 0.
-#[derive(Debug, Drop)]
+#[derive(Drop)]
 pub enum Stop {
     /// A worker stands before this row, which meets the operator's condition.
     Held { op: u32, worker: u32, row: Row },
@@ -42,7 +42,7 @@ impl Clone for Stop {
 }
 
 /// The stops of a run, seen as a list.
-#[derive(Debug, Drop)]
+#[derive(Drop)]
 pub struct Stops {
     inner: Vec<Stop>,
 }
@@ -106,7 +106,7 @@ pub enum Extra {
 
 /// What one worker shows: rows taken, rows of its batches not yet taken, rows emitted, rows produced and not yet
 /// emitted, how it stands, and its first pending row.
-#[derive(Debug, Drop)]
+#[derive(Drop)]
 pub struct WorkerView {
     pub taken: u64,
     pub rest: u64,
@@ -118,7 +118,7 @@ pub struct WorkerView {
 }
 
 /// The views of an operator's workers, seen as a list.
-#[derive(Debug, Drop)]
+#[derive(Drop)]
 pub struct Views {
     inner: Vec<WorkerView>,
 }
@@ -156,7 +156,7 @@ pub struct Counted {
 }
 
 /// What an operator shows: a filter's constant, what is armed, and its workers.
-#[derive(Debug, Drop)]
+#[derive(Drop)]
 pub struct Inspected {
     pub op: u32,
     pub constant: Option<Value>,

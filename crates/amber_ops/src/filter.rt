@@ -6,7 +6,7 @@ use std::alloc::AllocError;
 use std::marker::Model;
 
 /// What a filter keeps: its condition. The state is seen as that condition.
-#[derive(Debug, Drop)]
+#[derive(Drop)]
 pub struct FilterState {
     cond: Cond,
 }

@@ -7,7 +7,7 @@ use std::marker::Model;
 
 /// What a projection keeps: the numbers of the columns that it takes, in the order in which it gives them.
 /// The state is seen as that list.
-#[derive(Debug, Drop)]
+#[derive(Drop)]
 pub struct ProjectState {
     // Each row that it gives is made anew.
     alloc: Global,

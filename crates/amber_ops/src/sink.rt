@@ -6,7 +6,7 @@ use std::alloc::{AllocError, Global};
 use std::marker::Model;
 
 /// What a sink keeps: the rows that it was fed. The state is seen as the list of these, in that order.
-#[derive(Debug, Drop)]
+#[derive(Drop)]
 pub struct SinkState {
     rows: Vec<Row>,
 }

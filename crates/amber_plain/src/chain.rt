@@ -10,7 +10,7 @@ use amber_rows::{Row, holds};
 use std::alloc::Global;
 
 /// Stages, what stands behind the last of them, and how many rows may still come.
-#[derive(Debug, Drop)]
+#[derive(Drop)]
 pub struct Chain {
     pub stages: Vec<Stage>,
     pub holder: Holder,

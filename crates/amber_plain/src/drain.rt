@@ -24,7 +24,7 @@ use amber_rows::{Aggs, Cols, Files, Flow, Operator, Row, Rows};
 use std::alloc::Global;
 
 /// What was refused, a list for each operator so far, and how many rows may still come.
-#[derive(Debug, Drop)]
+#[derive(Drop)]
 pub struct Tally {
     pub told: Vec<Refusals>,
     pub left: u64,

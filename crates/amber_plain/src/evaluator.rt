@@ -21,7 +21,7 @@ use amber_rows::{Cols, Files, Flow, Row, Rows, What, sort};
 use std::alloc::{AllocError, Global};
 
 /// What is unread for an operator, and what it refused at once.
-#[derive(Debug, Drop)]
+#[derive(Drop)]
 pub struct Evaluated {
     pub unread: Unread,
     pub refused: Refusals,

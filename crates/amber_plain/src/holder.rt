@@ -9,7 +9,7 @@ use std::alloc::{AllocError, Global};
 use std::mem;
 
 /// What keeps the rows that come.
-#[derive(Debug, Drop)]
+#[derive(Drop)]
 pub enum Holder {
     /// A list.
     Rows(Vec<Row>),

@@ -8,7 +8,7 @@ use std::alloc::{AllocError, Global};
 use std::marker::Model;
 
 /// The state of a join that has all build rows. It is seen as the join's state.
-#[derive(Debug, Drop)]
+#[derive(Drop)]
 pub struct Built {
     state: JoinState,
 }

@@ -7,7 +7,7 @@ use amber_rows::{Cols, Cond, Rows};
 use std::alloc::AllocError;
 
 /// Where rows come from.
-#[derive(Debug, Drop)]
+#[derive(Drop)]
 pub enum Source {
     /// A list of rows.
     Rows(Rows),
@@ -16,7 +16,7 @@ pub enum Source {
 }
 
 /// What a row passes through on its way from its source.
-#[derive(Debug, Drop)]
+#[derive(Drop)]
 pub enum Stage {
     /// A filter: the row, where the condition holds of it.
     Filter(Cond),

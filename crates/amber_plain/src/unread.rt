@@ -10,7 +10,7 @@ use std::marker::Model;
 use std::mem;
 
 /// Rows that are yet to be read: their source, and the stages through which they pass, in order.
-#[derive(Debug, Drop)]
+#[derive(Drop)]
 pub struct Unread {
     source: Source,
     stages: Vec<Stage>,

@@ -33,7 +33,7 @@ pub struct Order {
 }
 
 /// The principal of one operator, seen as the number of its workers.
-#[derive(Debug, Drop)]
+#[derive(Drop)]
 pub struct Principal {
     workers: u32,
 }

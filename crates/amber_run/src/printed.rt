@@ -8,7 +8,7 @@ use std::marker::Model;
 ///
 /// Freeing a million rows takes longer than printing them. A program that ends behind the call may forget them, since the
 /// system takes all its memory back at once; any other drops them.
-#[derive(Debug, Drop)]
+#[derive(Drop)]
 pub struct Printed {
     rows: Option<Rows>,
 }

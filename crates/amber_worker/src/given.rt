@@ -9,7 +9,7 @@ use std::alloc::{AllocError, Global};
 
 /// What a worker gives for the answer: what it has refused, and of a sink the rows that it took, in
 /// the order of rows.
-#[derive(Debug, Drop)]
+#[derive(Drop)]
 pub struct Given {
     pub refused: Refusals,
     pub rows: Rows,

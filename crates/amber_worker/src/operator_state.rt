@@ -3,7 +3,7 @@ use amber_join::JoinState;
 use amber_ops::{FilterState, ProjectState};
 
 /// What a worker does with a row that suits its columns.
-#[derive(Debug, Drop)]
+#[derive(Drop)]
 pub enum OperatorState {
     /// Passes it on.
     Scan,

@@ -7,7 +7,7 @@ use amber_rows::{Cols, Row, route_row};
 
 /// To whom the rows of a worker go: all to one worker, or by their keys to so many from the first
 /// one on.
-#[derive(Debug, Drop)]
+#[derive(Drop)]
 pub enum Route {
     One(u32),
     ByKeys {

@@ -21,7 +21,7 @@ use std::alloc::{AllocError, Global};
 use std::collections::VecDeque;
 
 // What a worker has not taken yet: of a scan's share, or of the batch at hand.
-#[derive(Debug, Drop)]
+#[derive(Drop)]
 pub(crate) struct Rest {
     pub share: Option<Share>,
     pub from: u32,
@@ -52,7 +52,7 @@ impl Rest {
 
 // What rows give: those that go on, records that were refused, and rows that are kept for the
 // answer.
-#[derive(Debug, Drop)]
+#[derive(Drop)]
 pub(crate) struct Gains {
     pub pending: VecDeque<Row>,
     pub refused: Vec<Refusal>,
@@ -60,7 +60,7 @@ pub(crate) struct Gains {
 }
 
 // What becomes of a row that was taken.
-#[derive(Debug, Drop)]
+#[derive(Drop)]
 pub(crate) enum Fate {
     Dropped,
     Passed,
