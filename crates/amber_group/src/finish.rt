@@ -18,6 +18,18 @@ pub struct Grouped {
     pub refused: Rows,
 }
 
+// The cells of a key, in a list that has room for as many more.
+fn cells_with_room(alloc: Global, key: &Row, more: usize) -> Result<Vec<Value>, AllocError>
+    ensures { IfOk result (λ cells. cells.items ≡ key.now) }
+{
+    let mut cells = Vec::with_capacity(alloc, key.len().saturating_add(more))?;
+    let of_key = key.get();
+    for cell in of_key {
+        cells.push(cell.clone()?)?;
+    }
+    Ok(cells)
+}
+
 // These cells, and then a value for each aggregate; nothing where one has none.
 fn with_values(
     mut cells: Vec<Value>,
@@ -39,6 +51,7 @@ fn with_values(
 
 // Puts the row of a group behind the others, or its key behind those that have none.
 pub(crate) fn add_group(
+    alloc: Global,
     key: &Row,
     runnings: &[Running],
     rows: &mut Vec<Row>,
@@ -49,7 +62,7 @@ pub(crate) fn add_group(
     ensures refused { OnOk result (refused.new.items
         ≡ refused.old.items ++ refused_of ((key.now, runnings.now) ∷ [])) }
 {
-    let cells = key.clone()?.into_inner();
+    let cells = cells_with_room(alloc, key, runnings.len())?;
     let values = with_values(cells, runnings)?;
     match values {
         Some(cells) => rows.push(Row::new(cells))?,
@@ -60,6 +73,7 @@ pub(crate) fn add_group(
 
 // The same for the group at a place.
 fn add_group_at(
+    alloc: Global,
     groups: &IndexMap<Key, Totals>,
     place: usize,
     rows: &mut Vec<Row>,
@@ -71,7 +85,7 @@ fn add_group_at(
         ≡ refused.old.items ++ refused_of (option_to_list (slice_get groups.now.entries place))) }
 {
     match groups.get_index(place) {
-        Some((key, totals)) => add_group(key.row(), totals.get(), rows, refused),
+        Some((key, totals)) => add_group(alloc, key.row(), totals.get(), rows, refused),
         None => Ok(()),
     }
 }
@@ -86,7 +100,7 @@ pub fn finish(alloc: Global, groups: &IndexMap<Key, Totals>) -> Result<Grouped, 
     let mut rows = Vec::with_capacity(alloc, groups.len())?;
     let mut refused = Vec::new(alloc);
     for place in 0..groups.len() {
-        add_group_at(groups, place, &mut rows, &mut refused)?;
+        add_group_at(alloc, groups, place, &mut rows, &mut refused)?;
     }
     Ok(Grouped {
         rows: Rows::new(rows),

@@ -76,7 +76,7 @@ fn begin_group(
 {
     let mut rows = finish(alloc, groups)?.rows.into_inner();
     let mut refused = Vec::new(alloc);
-    add_group(key.row(), totals.get(), &mut rows, &mut refused)?;
+    add_group(alloc, key.row(), totals.get(), &mut rows, &mut refused)?;
     let mut rows = VecDeque::from_vec(rows);
     out.append(&mut rows)?;
     let Ok(_) = groups.insert(key, totals) else {
