@@ -7,9 +7,20 @@ ghost use Rattle.amber_worker.specs.RowsTaken.{AddsGroups, GroupsRow};
 ghost use Rattle.amber_worker.specs.Steps.{Feeds, GivesGroups};
 
 use amber_group::GroupState;
-use amber_rows::{Row, Schema, suits};
+use amber_rows::{Row, Schema, Value, suits};
 use std::alloc::{AllocError, Global};
 use std::collections::VecDeque;
+
+// How many rows are looked at ahead.
+const AHEAD: usize = 16;
+
+// How many of a row's first and last cell are numbers.
+fn outer_numbers_of(row: &Row) -> usize {
+    let cells = row.get();
+    let first = matches!(cells.first(), Some(Value::Int(_)));
+    let last = matches!(cells.last(), Some(Value::Int(_)));
+    usize::from(first) + usize::from(last)
+}
 
 // Feeds a row, if it suits.
 fn feed(state: &mut GroupState, columns: &Schema, row: &Row) -> Result<(), AllocError>
@@ -85,6 +96,25 @@ fn feed_next(
     Ok(())
 }
 
+// The first cells of rows that are numbers, and their last ones, counted.
+fn outer_numbers(rows: &VecDeque<Row>) -> Option<usize> {
+    let mut total: usize = 0;
+    for row in rows.iter().take(AHEAD) {
+        total = total.checked_add(outer_numbers_of(row))?;
+    }
+    Some(total)
+}
+
+// Looks at the next rows from time to time. The rows of one worker of several lie apart in memory, so each would wait
+// for its cells. Looking at those of the next rows together lets these waits overlap.
+fn read_ahead(rows: &VecDeque<Row>) -> Result<(), AllocError> {
+    // There are few rows, so the sum is never refused.
+    if rows.len() % AHEAD == 0 && outer_numbers(rows).is_none() {
+        return Err(AllocError);
+    }
+    Ok(())
+}
+
 // Takes the first of these rows, the last one where nothing more can come.
 pub(crate) fn take_grouped(
     rows: &mut VecDeque<Row>,
@@ -102,6 +132,7 @@ pub(crate) fn take_grouped(
     ensures state_on_err { OnErr result (state.new ≡ state.old) }
     ensures pending_on_err { OnErr result (pending.new.items ≡ pending.old.items) }
 {
+    read_ahead(rows)?;
     let Some(next) = rows.front() else {
         unreachable!()
     };
