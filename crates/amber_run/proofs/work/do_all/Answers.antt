@@ -38,3 +38,37 @@ returns-clause-did g c =
     λ t left same h.
     subst (λ commands. IsAt t commands c.loop-command.debugger (showing (g.F.Folder.files c.loop-command.folder) (g.O.Sink.written c.loop-command.out)))
     (none-left c.args.commands.now left c.loop-command.command-index c.loop-command-test.false) (c.loop-command.invariant.at t left same h)
+
+pub do_command-requires-clause-there : goal.do_command-requires-clause-there
+do_command-requires-clause-there g c = c.loop-command.invariant.there
+
+pub do_command-requires-clause-open : goal.do_command-requires-clause-open
+do_command-requires-clause-open g c = c.loop-command.invariant.more
+
+pub returns-in_err-do_command-clause-writes : goal.returns-in_err-do_command-clause-writes
+returns-in_err-do_command-clause-writes g c =
+    let e : c.from_residual.result ≡ Err c.in_err-do_command.field-0.0 = search rules in
+    rw e (rw c.loop-command.invariant.writes at c.in_err-do_command.ensures.writes)
+
+pub returns-in_err-do_command-clause-puts : goal.returns-in_err-do_command-clause-puts
+returns-in_err-do_command-clause-puts g c =
+    let e : c.from_residual.result ≡ Err c.in_err-do_command.field-0.0 = search rules in
+    rw e (rw c.loop-command.invariant.puts at c.in_err-do_command.ensures.puts)
+
+pub returns-in_err-do_command-clause-loads : goal.returns-in_err-do_command-clause-loads
+returns-in_err-do_command-clause-loads g c = c.in_err-do_command.ensures.loads ∙ c.loop-command.invariant.loads
+
+pub returns-clause-open : goal.returns-clause-open
+returns-clause-open g c = c.loop-command.invariant.more
+
+pub returns-clause-there : goal.returns-clause-there
+returns-clause-there g c = c.loop-command.invariant.there
+
+pub returns-clause-writes : goal.returns-clause-writes
+returns-clause-writes g c = c.loop-command.invariant.writes
+
+pub returns-clause-puts : goal.returns-clause-puts
+returns-clause-puts g c = c.loop-command.invariant.puts
+
+pub returns-clause-loads : goal.returns-clause-loads
+returns-clause-loads g c = c.loop-command.invariant.loads
