@@ -128,13 +128,9 @@ fn reply_at_rest(alloc: Global, home: &Home, command: &Command) -> Result<Bytes,
     match command {
         Command::Inspect { op } => {
             let seen = home.inspect(alloc, *op)?;
-            let reply = inspect_lines(alloc, home.flow(), &seen)?;
-            Ok(reply)
+            inspect_lines(alloc, home.flow(), &seen)
         }
-        _ => {
-            let reply = ok_line(alloc, home.flow(), command, None)?;
-            Ok(reply)
-        }
+        _ => ok_line(alloc, home.flow(), command, None),
     }
 }
 
