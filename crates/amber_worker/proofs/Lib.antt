@@ -1,3 +1,4 @@
+pub mod Both
 pub mod Bounds
 pub mod Fresh
 pub mod GoOn

@@ -70,8 +70,7 @@ pub(crate) fn final_keys(
     if !finished {
         return Ok(Vec::new(alloc));
     }
-    let keys = refused_keys(alloc, operator_state)?;
-    Ok(keys)
+    refused_keys(alloc, operator_state)
 }
 
 // What was refused, the keys behind the records, and the rows, both in the order of rows.

@@ -31,8 +31,7 @@ fn feed(state: &mut GroupState, columns: &Schema, row: &Row) -> Result<(), Alloc
     if !suits(row, columns) {
         return Ok(());
     }
-    state.feed(row)?;
-    Ok(())
+    state.feed(row)
 }
 
 // The rows of the groups.
@@ -49,8 +48,7 @@ fn add_groups(state: &GroupState, pending: &mut VecDeque<Row>) -> Result<(), All
     ensures err { OnErr result (pending.new.items ≡ pending.old.items) }
 {
     let mut last = rows_of_groups(*pending.allocator(), state)?;
-    pending.append(&mut last)?;
-    Ok(())
+    pending.append(&mut last)
 }
 
 // Feeds the last row, if it suits: the rows of the groups are pending. Want of memory changes nothing.
@@ -67,11 +65,9 @@ fn feed_last(
     ensures pending_on_err { OnErr result (pending.new.items ≡ pending.old.items) }
 {
     if !suits(row, columns) {
-        add_groups(state, pending)?;
-        return Ok(());
+        return add_groups(state, pending);
     }
-    state.feed_last(row, pending)?;
-    Ok(())
+    state.feed_last(row, pending)
 }
 
 // Feeds a row, the last one where nothing more can come.
@@ -89,11 +85,9 @@ fn feed_next(
     ensures pending_on_err { OnErr result (pending.new.items ≡ pending.old.items) }
 {
     if over {
-        feed_last(state, columns, row, pending)?;
-        return Ok(());
+        return feed_last(state, columns, row, pending);
     }
-    feed(state, columns, row)?;
-    Ok(())
+    feed(state, columns, row)
 }
 
 // The first cells of rows that are numbers, and their last ones, counted.

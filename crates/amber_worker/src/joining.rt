@@ -81,9 +81,7 @@ pub(crate) fn take_joined(
         return Ok(());
     }
     if builds {
-        build_first(rows, state)?;
-        return Ok(());
+        return build_first(rows, state);
     }
-    probe_first(rows, state, pending)?;
-    Ok(())
+    probe_first(rows, state, pending)
 }

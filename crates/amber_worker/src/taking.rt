@@ -226,21 +226,12 @@ fn take_any(
     ensures gains_on_err { OnErr result (AreSame gains.old gains.new) }
 {
     match operator_state {
-        OperatorState::Join(state) => {
-            take_joined(rows, columns, builds, state, &mut gains.pending)?;
-            Ok(())
-        }
-        OperatorState::Group(state) => {
-            take_grouped(rows, columns, over, state, &mut gains.pending)?;
-            Ok(())
-        }
+        OperatorState::Join(state) => take_joined(rows, columns, builds, state, &mut gains.pending),
+        OperatorState::Group(state) => take_grouped(rows, columns, over, state, &mut gains.pending),
         OperatorState::Scan
         | OperatorState::Filter(_)
         | OperatorState::Project(_)
-        | OperatorState::Sink => {
-            take_arrival(rows, operator_state, columns, gains)?;
-            Ok(())
-        }
+        | OperatorState::Sink => take_arrival(rows, operator_state, columns, gains),
     }
 }
 
@@ -267,14 +258,8 @@ pub(crate) fn take_next(
     ensures gains_on_err { OnErr result (AreSame gains.old gains.new) }
 {
     match &mut rest.share {
-        Some(share) => {
-            take_record(share, op, columns, gains)?;
-            Ok(())
-        }
-        None => {
-            take_any(&mut rest.rows, columns, builds, over, operator_state, gains)?;
-            Ok(())
-        }
+        Some(share) => take_record(share, op, columns, gains),
+        None => take_any(&mut rest.rows, columns, builds, over, operator_state, gains),
     }
 }
 
@@ -308,10 +293,7 @@ pub(crate) fn closing_of(
         return Ok(VecDeque::new(alloc));
     }
     match operator_state {
-        OperatorState::Group(state) => {
-            let last = rows_of_groups(alloc, state)?;
-            Ok(last)
-        }
+        OperatorState::Group(state) => rows_of_groups(alloc, state),
         OperatorState::Scan
         | OperatorState::Filter(_)
         | OperatorState::Project(_)

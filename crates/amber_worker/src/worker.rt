@@ -138,8 +138,7 @@ impl Worker {
         ensures journal { IfOk result (λ made. made.journal ≡ []) }
     {
         let _operators = flow.get();
-        let made = Self::make(alloc, flow, worker, batch, share, outs, ins)?;
-        Ok(made)
+        Self::make(alloc, flow, worker, batch, share, outs, ins)
     }
 
     /// How many steps the worker has made: rows and batches taken, rows emitted, and the end.

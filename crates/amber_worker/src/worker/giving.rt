@@ -18,8 +18,7 @@ impl Worker {
     pub fn view(&self) -> Result<WorkerView, AllocError>
         ensures { IfOk result (λ view. IsViewOf self.now view) }
     {
-        let view = self.shown()?;
-        Ok(view)
+        self.shown()
     }
 
     // What the worker keeps, as it is shown.
@@ -47,8 +46,7 @@ impl Worker {
         let keys = final_keys(self.alloc, self.finished, &self.operator_state)?;
         let refused = refusal_copies(&self.gains.refused)?;
         let kept = row_copies(&self.gains.kept)?;
-        let given = given_of(self.op, keys, refused, kept)?;
-        Ok(given)
+        given_of(self.op, keys, refused, kept)
     }
 
     /// The same, where nothing more is asked of the worker: nothing is copied.
@@ -81,6 +79,5 @@ fn gains_given(
 {
     let keys = final_keys(alloc, finished, operator_state)?;
     let Gains { refused, kept, .. } = gains;
-    let given = given_of(op, keys, refused, kept)?;
-    Ok(given)
+    given_of(op, keys, refused, kept)
 }

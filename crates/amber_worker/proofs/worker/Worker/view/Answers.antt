@@ -1,5 +1,6 @@
+use Rattle.std.proofs.lemmas.Result.{IfOk-weaker}
 use Rattle.amber_worker.proofs.Seen.{view-is}
 use Rattle.amber_worker.proofs.worker.Worker.view.Goals as goal
 
 pub returns : goal.returns
-returns c = view-is c.args.self.now c.in_ok-view.view c.in_ok-view.ensures.shown c.in_ok-view.ensures.loose
+returns c = IfOk-weaker c.shown.result _ _ (λ view is. view-is c.args.self.now view is c.shown.ensures.loose) c.shown.ensures.shown
