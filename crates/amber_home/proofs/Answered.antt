@@ -1,6 +1,7 @@
 -- What the workers give together is the answer in the state that they reached.
-use Rattle.std.proofs.Common.{◌≡◌, refl, sym, ap, ◌∙◌, ℕ, zero, suc, ◌+◌, ◌-◌, ◌<◌, List, [], ◌∷◌, length, true, append-nil, arith}
+use Rattle.std.proofs.Common.{◌≡◌, refl, sym, ap, ◌∙◌, ℕ, zero, suc, ◌+◌, ◌-◌, ◌<◌, List, [], ◌∷◌, length, true, Result, Ok, Err, append-nil, arith}
 use Rattle.std.specs.List.{flat_map}
+use Rattle.std.specs.Result.{IfOk}
 use Rattle.std.proofs.lemmas.Bool.{false≢true}
 use Rattle.amber_rows.specs.Columns.{columns_at}
 use Rattle.amber_rows.specs.Crew.{crew_of, first_worker_of, kind_at, op_of, what_at, worker_count, workers_in, workers_of}
@@ -109,3 +110,10 @@ answered flow crew refused rows answer given refused-is columns-are rows-is quer
       columns = (columns-are ∙ ap (λ f. columns_at f (length f)) (sym same)) i;
       rows = (rows-is ∙ gives.1 ∙ ap (rows_before query positions) all ∙ rows-all query positions state (crew_of query.flow) work.at.flow refl here) i;
     }
+
+-- the same, where there is an answer
+pub answered-if : {E : Type 0} (flow : List Operator) (crew : List WorkerState) (refused : List Refusal) (rows : List (List Value)) (result : Result Answer E) → HaveGiven crew refused rows
+    → IfOk result (λ answer. answer.refused ≡ sort_refusals refused) → IfOk result (λ answer. answer.columns ≡ columns_at flow (length flow)) → IfOk result (λ answer. answer.rows ≡ rows)
+    → IfOk result (IsAnswerOf flow crew)
+answered-if flow crew refused rows (Ok answer) given refused-is columns-are rows-is = answered flow crew refused rows answer given refused-is columns-are rows-is
+answered-if flow crew refused rows (Err why) given refused-is columns-are rows-is = tt

@@ -124,8 +124,7 @@ pub(crate) fn gather_all(
     ensures { IfOk result (IsAnswerOf flow.now crew.items) }
 {
     let given = collect(alloc, crew)?;
-    let answer = answer_of(flow, given)?;
-    Ok(answer)
+    answer_of(flow, given)
 }
 
 /// The answer, from workers that stay as they are: their rows are copied.
@@ -133,6 +132,5 @@ pub(crate) fn gather(alloc: Global, flow: &Flow, crew: &[Worker]) -> Result<Answ
     ensures { IfOk result (IsAnswerOf flow.now crew.now) }
 {
     let given = copied(alloc, crew)?;
-    let answer = answer_of(flow, given)?;
-    Ok(answer)
+    answer_of(flow, given)
 }

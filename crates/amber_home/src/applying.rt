@@ -46,8 +46,7 @@ pub(crate) fn push_command(command: &Command, items: &mut Items) -> Result<(), A
     ensures ok { OnOk result (items.new ≡ items.old ++ item.Do command.now ∷ []) }
     ensures err { OnErr result (items.new ≡ items.old) }
 {
-    items.push(Item::Do(command.clone()?))?;
-    Ok(())
+    items.push(Item::Do(command.clone()?))
 }
 
 // ---- what it changes

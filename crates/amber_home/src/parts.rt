@@ -60,8 +60,7 @@ pub(crate) fn push_leg(
     ensures err { OnErr result (items.new ≡ items.old) }
 {
     let parts = take_parts(alloc, crew)?;
-    items.push(item_of_leg(to_end, parts, close))?;
-    Ok(())
+    items.push(item_of_leg(to_end, parts, close))
 }
 
 /// Whether nothing may follow an item: a leg to the end, or one that was closed as too long.

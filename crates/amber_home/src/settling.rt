@@ -33,8 +33,7 @@ fn pass_on(crew: &mut [Worker], from: usize, to: usize) -> Result<(), AllocError
     requires sends { list_any (λ one. one.to == to) (worker_state_at crew.old from).outs ≡ true }
     ensures { OnOk result (PassedOn crew.old from to crew.new) }
 {
-    pass_between(crew, from, to)?;
-    Ok(())
+    pass_between(crew, from, to)
 }
 
 // Moves on what waits for the receiver at a place.
@@ -57,10 +56,7 @@ fn pass_waiting(crew: &mut [Worker], number: usize, place: usize) -> Result<(), 
 {
     match crew[number].waiting_at(place) {
         None => Ok(()),
-        Some(to) => {
-            pass_on(crew, number, to as usize)?;
-            Ok(())
-        }
+        Some(to) => pass_on(crew, number, to as usize),
     }
 }
 

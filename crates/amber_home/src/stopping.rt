@@ -172,6 +172,5 @@ pub(crate) fn run_leg(
     if any_paused(flow, arms, crew) {
         return Ok(Close::Cut);
     }
-    let close = run_crew(flow, arms, crew, budget)?;
-    Ok(close)
+    run_crew(flow, arms, crew, budget)
 }
