@@ -1,6 +1,7 @@
 // The records of a scan's file, sent through a chain one by one.
-ghost use Rattle.std.specs.Prelude.{◌≡◌, ◌<◌, ◌^◌, ◌++◌, ◌∷◌, [], length, IfOk, OnOk};
+ghost use Rattle.std.specs.Prelude.{◌≡◌, ◌<◌, ◌^◌, ◌++◌, ◌∷◌, [], List, ℕ, length, IfOk, OnOk};
 ghost use Rattle.std.specs.List.{filter_map};
+ghost use Rattle.amber_rows.specs.Reading.{HasRead};
 ghost use Rattle.amber_rows.specs.Record.{ok_of, typed_records};
 ghost use Rattle.amber_meaning.specs.Refused.{refused_records};
 ghost use Rattle.amber_plain.specs.Holding.{Fills, Spends};
@@ -49,6 +50,45 @@ fn add_record(
     }
 }
 
+// Sends the rows of the records that are to be read through a chain. Those that are no rows are refused, in order. The
+// first record is the header.
+fn read_records(
+    alloc: Global,
+    op: u32,
+    schema: &Schema,
+    reader: &mut RecordReader,
+    fields: &mut ByteRecord,
+    chain: &mut Chain,
+) -> Result<Vec<Refusal>, PlainErr>
+    requires { length schema.now < 2 ^ 32 }
+    ensures moved { (file : List ℕ) → HasRead file reader.old []
+        → OnOk result (Fills chain.old chain.new
+        (filter_map ok_of (typed_records schema.now file))) }
+    ensures left { (file : List ℕ) → HasRead file reader.old []
+        → Spends result chain.old.left chain.new.left (count_through chain.old.stages.items
+        (filter_map ok_of (typed_records schema.now file))) }
+    ensures refused { (file : List ℕ) → HasRead file reader.old []
+        → IfOk result (λ refused. refused.items
+        ≡ refused_records op 1 (typed_records schema.now file)) }
+{
+    let headed = reader.next(fields)?;
+    if !headed {
+        return Ok(Vec::new(alloc));
+    }
+    let mut refused = Vec::new(alloc);
+    let mut room = Vec::new(alloc);
+    'records: for number in 1..u64::MAX {
+        let found = reader.next(fields)?;
+        if !found {
+            return Ok(refused);
+        }
+        let typed = type_over(alloc, room, fields, schema)?;
+        room = add_record(alloc, op, number, typed, chain, &mut refused)?;
+    }
+    // No memory holds as many records as that.
+    Err(PlainErr::NoMemory)
+}
+
 /// Sends the rows of a scan's file through a chain. The records that are no rows are refused, in order.
 pub fn scan(
     alloc: Global,
@@ -66,21 +106,7 @@ pub fn scan(
     ensures refused { IfOk result
         (λ refused. refused.items ≡ refused_records op 1 (typed_records schema.now file.now)) }
 {
-    let mut refused = Vec::new(alloc);
     let mut reader = RecordReader::open(alloc, file);
     let mut fields = ByteRecord::new(alloc);
-    let headed = reader.next(&mut fields)?;
-    if !headed {
-        return Ok(refused);
-    }
-    let mut room = Vec::new(alloc);
-    'records: for number in 1..u64::MAX {
-        let found = reader.next(&mut fields)?;
-        if !found {
-            return Ok(refused);
-        }
-        let typed = type_over(alloc, room, &fields, schema)?;
-        room = add_record(alloc, op, number, typed, chain, &mut refused)?;
-    }
-    Err(PlainErr::NoMemory)
+    read_records(alloc, op, schema, &mut reader, &mut fields, chain)
 }
