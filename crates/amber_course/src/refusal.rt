@@ -18,6 +18,17 @@ fn put_piece<O: Sink>(out: &mut O, piece: &[u8]) -> Result<(), IoErr>
     out.put(piece)
 }
 
+// The line for a file, or the end of a line: these words, and a text.
+fn put_text_line<O: Sink>(out: &mut O, words: &[u8], text: &str) -> Result<(), IoErr>
+    ensures { Lined result
+        (putting (O.written out.old) (O.written out.new) (O.faults out.old) (O.faults out.new))
+        (words.now ++ (text.now ++ codes "\n")) }
+{
+    put_piece(out, words)?;
+    put_piece(out, text.as_bytes())?;
+    put_piece(out, b"\n")
+}
+
 // The line for a workflow or a script: these words, a number and the reason. It takes no memory.
 fn put_reason_line<O: Sink>(out: &mut O, words: &[u8], number: u64, why: &str) -> Result<(), IoErr>
     ensures { Lined result
@@ -27,22 +38,7 @@ fn put_reason_line<O: Sink>(out: &mut O, words: &[u8], number: u64, why: &str) -
     let mut buffer = Buffer::new();
     put_piece(out, words)?;
     put_piece(out, buffer.format(number).as_bytes())?;
-    put_piece(out, b" ")?;
-    put_piece(out, why.as_bytes())?;
-    put_piece(out, b"\n")?;
-    Ok(())
-}
-
-// The line for a file: these words, and its name.
-fn put_file_line<O: Sink>(out: &mut O, words: &[u8], name: &str) -> Result<(), IoErr>
-    ensures { Lined result
-        (putting (O.written out.old) (O.written out.new) (O.faults out.old) (O.faults out.new))
-        (words.now ++ (name.now ++ codes "\n")) }
-{
-    put_piece(out, words)?;
-    put_piece(out, name.as_bytes())?;
-    put_piece(out, b"\n")?;
-    Ok(())
+    put_text_line(out, b" ", why)
 }
 
 // The line of a failure; a sink that failed gets none.
@@ -63,11 +59,11 @@ fn put_line<O: Sink>(out: &mut O, failure: &Failure) -> Result<(), IoErr>
             *line,
             why.word(),
         ),
-        Failure::ReadFault { name } => put_file_line(out, b"error 4 read ", name.get()),
+        Failure::ReadFault { name } => put_text_line(out, b"error 4 read ", name.get()),
         Failure::LogFault => put_piece(out, b"error 5 log write\n"),
         Failure::OutFault => Ok(()),
         Failure::Long => put_piece(out, b"error 8 long\n"),
-        Failure::TooLarge { name } => put_file_line(out, b"error 9 large ", name.get()),
+        Failure::TooLarge { name } => put_text_line(out, b"error 9 large ", name.get()),
         Failure::NoMemory => put_piece(out, b"error 10 memory\n"),
     }
 }
