@@ -1,6 +1,7 @@
 -- There is room for as many rows.
 use Rattle.std.proofs.Common.{◌≡◌, ◌+◌, ◌-◌, ◌*◌, ◌≤◌, ap, arith, subst, sym, vec_capacity, vec_len}
 use Rattle.std.specs.VecDeque.{deque_capacity}
+use Rattle.amber_link.specs.Outgoing.{Outgoing}
 use Rattle.amber_link.specs.Rooms.{HasRoom}
 use Rattle.amber_link.proofs.Rooms.{room-more}
 use Rattle.amber_link.proofs.outbox.Outbox.reserve.Goals as goal
@@ -33,3 +34,13 @@ invariant_of-self-2 c =
           some (omega (arith, lists)) filled (omega arith) (λ small. omega (arith, rows, least, held_is, size_is, c.reserve.ensures.len))),
       c.reserve_spares.ensures.spare,
     )
+
+pub returns : goal.returns
+returns c =
+    let room : c.self.inside.room ≡ c.args.self.now.room = ap (λ (kept : Outgoing). kept.room) c.self.view_is in
+    record {
+      only = rw (c.reserve-2.ensures.items, c.reserve.ensures.items) (ap (λ (kept : Outgoing). record kept { room = c.max-self-inside.result }) c.self.view_is);
+      more = omega (arith, room, c.max-self-inside.ensures);
+      ok = omega (arith, c.max-self-inside.ensures);
+      err = tt;
+    }
