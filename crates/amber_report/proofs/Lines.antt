@@ -1,8 +1,9 @@
 -- Lines, word by word.
-use Rattle.std.proofs.Common.{◌≡◌, ◌==◌, ℕ, List, [], ◌∷◌, ◌++◌, length, codes, drop, get_or, ◌+◌, ◌<◌, ◌≤◌, true, false, refl, ap, ◌∙◌, sym, append_assoc, arith}
+use Rattle.std.proofs.Common.{◌≡◌, ◌==◌, ℕ, List, [], ◌∷◌, ◌++◌, length, codes, drop, get_or, take, ◌+◌, ◌<◌, ◌≤◌, true, false, refl, ap, ◌∙◌, sym, append_assoc, arith}
 use Rattle.std.specs.List.{flat_map}
 use Rattle.std.proofs.lemmas.Bool.Decides.{nat_tests}
-use Rattle.std.proofs.lemmas.List.{append-nil, drop_all, drop_more}
+use Rattle.std.proofs.lemmas.Grind.{flat_map-append}
+use Rattle.std.proofs.lemmas.List.{append-nil, drop_all, drop_more, take_all, take_more}
 use Rattle.amber_rows.specs.RowText.{row_text_of}
 use Rattle.amber_rows.specs.declared.value.Value.{Value}
 use Rattle.amber_meaning.specs.declared.view.WorkerView.{WorkerView}
@@ -70,3 +71,16 @@ views_step old told views worker view less is so =
 pub views_end : (told : List ℕ) (views : List WorkerView) (worker : ℕ) → length views ≤ worker → told ++ views_text worker (drop worker views) ≡ told
 unfolding views_text
 views_end told views worker most = ap (λ more. told ++ views_text worker more) (drop_all worker views most) ∙ append-nil told
+
+-- one more is told behind those so far
+pub told_more : {X : Type 0} (f : X → List ℕ) (old text more : List ℕ) (xs : List X) (i : ℕ) (x d : X) → i < length xs → x ≡ get_or xs i d
+    → text ≡ old ++ flat_map f (take i xs) → more ≡ text ++ f x → more ≡ old ++ flat_map f (take (i + 1) xs)
+told_more f old text more xs i x d less is told so =
+    let last : List ℕ = flat_map f (take i xs) in
+    let step : flat_map f (take (i + 1) xs) ≡ last ++ f x =
+    ap (flat_map f) (take_more xs i d less) ∙ flat_map-append f (take i xs) (get_or xs i d ∷ []) ∙ ap (λ (end : List ℕ). last ++ end) (append-nil (f (get_or xs i d)) ∙ ap f (sym is)) in
+    so ∙ ap (λ (begun : List ℕ). begun ++ f x) told ∙ append_assoc old last (f x) ∙ ap (λ (end : List ℕ). old ++ end) (sym step)
+
+-- all are told
+pub told_all : {X : Type 0} (f : X → List ℕ) (old text : List ℕ) (xs : List X) (i : ℕ) → length xs ≤ i → text ≡ old ++ flat_map f (take i xs) → text ≡ old ++ flat_map f xs
+told_all f old text xs i most told = told ∙ ap (λ ys. old ++ flat_map f ys) (take_all i xs most)
