@@ -9,13 +9,18 @@ use crate::running::Running;
 use amber_keys::Key;
 use amber_rows::{Agg, Aggs, Row, Value};
 use indexmap::IndexMap;
+use smallvec::SmallVec;
 use std::alloc::{AllocError, Global};
 use std::marker::Model;
+
+// As many aggregates as most groups have.
+const FEW: usize = 4;
 
 /// What is kept of the rows of a group, for one aggregate after the other. Seen as the list.
 #[derive(Drop)]
 pub struct Totals {
-    inner: Vec<Running>,
+    // A few lie in the groups' table itself, so that a row which is taken in waits for memory once less.
+    inner: SmallVec<Running, FEW>,
 }
 
 impl Model for Totals {
@@ -32,7 +37,7 @@ impl Totals {
     fn new(alloc: Global, aggs: &[Agg]) -> Result<Self, AllocError>
         ensures { IfOk result (λ totals. totals ≡ map (running_of []) aggs.now) }
     {
-        let mut inner = Vec::with_capacity(alloc, aggs.len())?;
+        let mut inner = SmallVec::with_capacity(alloc, aggs.len())?;
         for agg in aggs {
             inner.push(Running::new(*agg))?;
         }
@@ -68,7 +73,7 @@ impl Totals {
         ensures same { OnErr result (self.new ≡ self.old) }
     {
         find_changes(self.inner.as_slice(), row, changes)?;
-        settle_all(&mut self.inner, row, changes);
+        settle_all(self.inner.as_mut_slice(), row, changes);
         Ok(())
     }
 
@@ -106,12 +111,12 @@ fn find_changes(
 }
 
 // Takes in a row more, whose new best cells these are.
-fn settle_all(runnings: &mut Vec<Running>, row: &Row, changes: &mut Vec<Option<Value>>)
-    requires changes { changes.old.items ≡ map (change_of row.now) runnings.old.items }
-    requires within { (rows : ℕ) × (rows < 2 ^ 40) × AreWithin rows runnings.old.items }
-    ensures value { runnings.new.items ≡ map (running_after row.now) runnings.old.items }
-    ensures within { (rows : ℕ) → AreWithin rows runnings.old.items
-        → AreWithin (rows + 1) runnings.new.items }
+fn settle_all(runnings: &mut [Running], row: &Row, changes: &mut Vec<Option<Value>>)
+    requires changes { changes.old.items ≡ map (change_of row.now) runnings.old }
+    requires within { (rows : ℕ) × (rows < 2 ^ 40) × AreWithin rows runnings.old }
+    ensures value { runnings.new ≡ map (running_after row.now) runnings.old }
+    ensures within { (rows : ℕ) → AreWithin rows runnings.old
+        → AreWithin (rows + 1) runnings.new }
 {
     for i in 0..runnings.len() {
         let change = changes[i].take();

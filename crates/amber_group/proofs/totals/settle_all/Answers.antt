@@ -2,7 +2,7 @@
 use Rattle.std.proofs.Common.{◌≡◌, ◌∙◌, ◌+◌, ◌<◌, ◌≤◌, Option, ap, arith, get_or, length, map, refl, rules, set, subst, sym, take_all}
 use Rattle.std.proofs.lemmas.List.{length-map, length-set}
 use Rattle.amber_rows.specs.declared.value.Value.{Value}
-use Rattle.amber_group.specs.Steps.{AreWithin, change_of, running_after}
+use Rattle.amber_group.specs.Steps.{AreWithin, IsWithin, change_of, running_after}
 use Rattle.amber_group.proofs.Settling.{Settled, with_best-next}
 use Rattle.amber_group.proofs.Within.{within-at, within-more}
 use Rattle.amber_group.proofs.totals.settle_all.Goals as goal
@@ -10,7 +10,7 @@ use Rattle.amber_group.proofs.totals.settle_all.Goals as goal
 pub loop-i-init : goal.loop-i-init
 loop-i-init c = record {
   count = refl;
-  room = ap length c.requires.changes ∙ length-map c.args.runnings.now.items (change_of c.args.row.now);
+  room = ap length c.requires.changes ∙ length-map c.args.runnings.now (change_of c.args.row.now);
   with_best = record { done = refl; rest = refl; left = c.requires.changes };
   within = λ rows h. tt;
 }
@@ -18,21 +18,21 @@ loop-i-init c = record {
 pub settle-requires : goal.settle-requires
 settle-requires c =
     let inv = c.loop-i.invariant in
-    let less : c.loop-i.i < length c.loop-i.runnings.items = search rules in (
+    let less : c.loop-i.i < length c.loop-i.runnings = search rules in (
       c.requires.within.0,
       c.requires.within.1,
-      within-at c.requires.within.0 c.loop-i.i c.args.runnings.now.items c.loop-i.runnings.items c.index_mut-in-loop-i.result.now c.requires.within.2 inv.with_best.rest less
-          c.index_mut-in-loop-i.ensures.value,
+      subst (IsWithin c.requires.within.0) c.index-runnings-i.is
+          (within-at c.requires.within.0 c.loop-i.i c.args.runnings.now c.loop-i.runnings c.index-runnings-i.result c.requires.within.2 inv.with_best.rest less c.index-runnings-i.is),
     )
 
 pub loop-i-preserved : goal.loop-i-preserved
 loop-i-preserved c =
     let inv = c.loop-i.invariant in
     let i = c.loop-i.i in
-    let first = c.args.runnings.now.items in
-    let runnings = c.loop-i.runnings.items in
+    let first = c.args.runnings.now in
+    let runnings = c.loop-i.runnings in
     let changes = c.loop-i.changes.items in
-    let running = c.index_mut-in-loop-i.result.now in
+    let running = c.index-runnings-i.result in
     let new = c.settle.new.self in
     let change = c.take-change.result in
     let less : i < length runnings = search rules in
@@ -45,18 +45,18 @@ loop-i-preserved c =
       room = length-set changes i c.take-change.new.self ∙ inv.room;
       with_best =
           subst (λ (cell : Option Value). Settled c.args.row.now (i + 1) first (set runnings i new) (set changes i cell)) (sym c.take-change.ensures.after)
-          (with_best-next c.args.row.now i first runnings changes running new change in_first less in_changes c.index_mut-in-loop-i.ensures.value change_is inv.with_best c.settle.ensures.value);
+          (with_best-next c.args.row.now i first runnings changes running new change in_first less in_changes c.index-runnings-i.is change_is inv.with_best (rw (← c.index-runnings-i.is) at c.settle.ensures.value));
       within = λ rows h.
           within-more (rows + 1) i runnings new less (inv.within rows h)
-          (c.settle.ensures.within rows (within-at rows i first runnings running h inv.with_best.rest less c.index_mut-in-loop-i.ensures.value));
+          (c.settle.ensures.within rows (subst (IsWithin rows) c.index-runnings-i.is (within-at rows i first runnings running h inv.with_best.rest less c.index-runnings-i.is)));
     }
 
 pub returns : goal.returns
 returns c =
     let inv = c.loop-i.invariant in
     let i = c.loop-i.i in
-    let first = c.args.runnings.now.items in
-    let runnings = c.loop-i.runnings.items in
+    let first = c.args.runnings.now in
+    let runnings = c.loop-i.runnings in
     let all : length first ≤ i = search rules in
     let done : length runnings ≤ i = omega (arith, inv.count, all) in
     record {

@@ -6,8 +6,8 @@ use Rattle.amber_group.proofs.totals.settle_all.Given as goal
 
 abbrev pub invariant-loop-i : goal.invariant-loop-i
 invariant-loop-i l = record {
-  count : length l.runnings.items ≡ length l.fn.runnings.items;
-  room : length l.changes.items ≡ length l.fn.runnings.items;
-  with_best : Settled l.row l.i l.fn.runnings.items l.runnings.items l.changes.items;
-  within : (rows : ℕ) → AreWithin rows l.fn.runnings.items → AreWithin (rows + 1) (take l.i l.runnings.items);
+  count : length l.runnings ≡ length l.fn.runnings;
+  room : length l.changes.items ≡ length l.fn.runnings;
+  with_best : Settled l.row l.i l.fn.runnings l.runnings l.changes.items;
+  within : (rows : ℕ) → AreWithin rows l.fn.runnings → AreWithin (rows + 1) (take l.i l.runnings);
 }

@@ -15,7 +15,7 @@ totals_more kept more running aggs i d less so one put =
 
 pub loop-agg-preserved : goal.loop-agg-preserved
 loop-agg-preserved c =
-    totals_more c.loop-agg.inner.items c.push.new.self.items c.new.result c.args.aggs.now c.loop-agg.agg-index _ c.loop-agg-test.true c.loop-agg.invariant c.new.ensures c.in_ok-push.ensures.items
+    totals_more c.loop-agg.inner.items c.push.new.self.items c.new.result c.args.aggs.now c.loop-agg.agg-index _ c.loop-agg-test.true c.loop-agg.invariant c.new.ensures c.in_ok-push.ensures.ok
 
 pub returns : goal.returns
 returns c = c.loop-agg.invariant ∙ ap (map (running_of [])) (take_all c.loop-agg.agg-index c.args.aggs.now c.loop-agg-test.false)
