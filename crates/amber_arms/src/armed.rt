@@ -6,10 +6,15 @@ use std::alloc::AllocError;
 use std::marker::Model;
 
 /// An armed count: how many rows it asks for, and how many rows of each of its operator's workers were gone when it was armed.
-#[derive(Drop)]
 pub struct Counting {
     target: u64,
     base: Vec<u64>,
+}
+
+impl Drop for Counting {
+    fn drop(self) {
+        let Counting { target: _, base: _ } = self;
+    }
 }
 
 impl Model for Counting {
@@ -21,12 +26,22 @@ impl Model for Counting {
 }
 
 /// What is in force at one operator: its pause in rows, its count, its condition, and a filter's constant.
-#[derive(Drop)]
 pub struct Armed {
     pause: Option<u64>,
     count: Option<Counting>,
     watch: Option<Cond>,
     constant: Option<Value>,
+}
+
+impl Drop for Armed {
+    fn drop(self) {
+        let Armed {
+            pause: _,
+            count: _,
+            watch: _,
+            constant: _,
+        } = self;
+    }
 }
 
 impl Model for Armed {

@@ -8,9 +8,14 @@ use std::alloc::{AllocError, Global};
 use std::marker::Model;
 
 /// What is in force at each operator of a workflow. Operators are numbered from 1.
-#[derive(Drop)]
 pub struct InForce {
     arms: Vec<Armed>,
+}
+
+impl Drop for InForce {
+    fn drop(self) {
+        let InForce { arms: _ } = self;
+    }
 }
 
 impl Model for InForce {

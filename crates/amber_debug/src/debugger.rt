@@ -21,11 +21,20 @@ use std::alloc::{AllocError, Global};
 use std::marker::Model;
 
 /// A run to which commands are given, seen as a `Session`.
-#[derive(Drop)]
 pub struct Debugger {
     home: Home,
     threads: u32,
     spent: bool,
+}
+
+impl Drop for Debugger {
+    fn drop(self) {
+        let Debugger {
+            home: _,
+            threads: _,
+            spent: _,
+        } = self;
+    }
 }
 
 impl Model for Debugger {

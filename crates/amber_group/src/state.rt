@@ -17,7 +17,6 @@ use std::mem;
 
 /// What a group keeps: the columns of its key, its aggregates, how many rows it was fed, and what it needs of
 /// these. `IsFedWith` says which rows a state stands for.
-#[derive(Drop)]
 pub struct GroupState {
     alloc: Global,
     keys: Cols,
@@ -28,6 +27,20 @@ pub struct GroupState {
     changes: Vec<Option<Value>>,
     // Cells of a key that is done with, in whose room `feed` makes the next one.
     room: Vec<Value>,
+}
+
+impl Drop for GroupState {
+    fn drop(self) {
+        let GroupState {
+            alloc: _,
+            keys: _,
+            aggs: _,
+            fed: _,
+            groups: _,
+            changes: _,
+            room: _,
+        } = self;
+    }
 }
 
 impl Model for GroupState {

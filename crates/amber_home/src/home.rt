@@ -30,7 +30,6 @@ use std::marker::Model;
 use std::mem;
 
 /// The home of a run, seen as a `HomeState`.
-#[derive(Drop)]
 pub struct Home {
     flow: Flow,
     files: Files,
@@ -42,6 +41,21 @@ pub struct Home {
     arms: InForce,
     // The stops of the last leg, as they stood before its end took any away.
     stops: Stops,
+}
+
+impl Drop for Home {
+    fn drop(self) {
+        let Home {
+            flow: _,
+            files: _,
+            most: _,
+            log: _,
+            phase: _,
+            crew: _,
+            arms: _,
+            stops: _,
+        } = self;
+    }
 }
 
 impl Model for Home {

@@ -11,7 +11,6 @@ use std::marker::Model;
 
 /// What a join keeps: the columns by which the rows of both sides are compared, the build rows in the order in
 /// which they came, and whether these are all. The state is seen as just these.
-#[derive(Drop)]
 pub struct JoinState {
     alloc: Global,
     build_keys: Cols,
@@ -20,6 +19,19 @@ pub struct JoinState {
     // The places of the rows with each key.
     table: IndexMap<Key, Places>,
     sealed: bool,
+}
+
+impl Drop for JoinState {
+    fn drop(self) {
+        let JoinState {
+            alloc: _,
+            build_keys: _,
+            probe_keys: _,
+            rows: _,
+            table: _,
+            sealed: _,
+        } = self;
+    }
 }
 
 impl Model for JoinState {

@@ -16,17 +16,27 @@ use std::collections::VecDeque;
 const SLOTS: usize = 8;
 
 /// The end of a link into which rows are pushed.
-#[derive(Drop)]
 pub struct Out {
     ring: Producer<Batch>,
     kept: Outbox,
 }
 
+impl Drop for Out {
+    fn drop(self) {
+        let Out { ring: _, kept: _ } = self;
+    }
+}
+
 /// The end of a link of which batches are taken.
-#[derive(Drop)]
 pub struct In {
     ring: Consumer<Batch>,
     inbox: VecDeque<Batch>,
+}
+
+impl Drop for In {
+    fn drop(self) {
+        let In { ring: _, inbox: _ } = self;
+    }
 }
 
 /// Whether all batches that waited were sent.

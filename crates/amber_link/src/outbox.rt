@@ -74,7 +74,6 @@ fn cut(waiting: &mut VecDeque<Batch>, partial: &mut Vec<Row>, next: Vec<Row>, se
 }
 
 /// What a worker keeps of one to which it sends.
-#[derive(Drop)]
 pub struct Outbox {
     alloc: Global,
     size: u32,
@@ -84,6 +83,21 @@ pub struct Outbox {
     partial: Vec<Row>,
     room: u64,
     spare: Vec<Vec<Row>>,
+}
+
+impl Drop for Outbox {
+    fn drop(self) {
+        let Outbox {
+            alloc: _,
+            size: _,
+            made: _,
+            ended: _,
+            waiting: _,
+            partial: _,
+            room: _,
+            spare: _,
+        } = self;
+    }
 }
 
 impl Model for Outbox {

@@ -12,10 +12,15 @@ use amber_rows::Row;
 use std::alloc::AllocError;
 
 /// What a worker keeps of one to which it sends: its running number, and the end of the link.
-#[derive(Drop)]
 pub struct Receiver {
     to: u32,
     pub(crate) link: Out,
+}
+
+impl Drop for Receiver {
+    fn drop(self) {
+        let Receiver { to: _, link: _ } = self;
+    }
 }
 
 impl Receiver {

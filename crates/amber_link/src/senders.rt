@@ -11,13 +11,24 @@ use amber_rows::Batch;
 
 /// What a worker keeps of one that sends to it: its running number, whether it is of the build side of a join, how many of
 /// its batches were taken, whether the last was, and the end of the link.
-#[derive(Drop)]
 pub struct Sender {
     from: u32,
     builds: bool,
     taken: u64,
     ended: bool,
     pub(crate) link: In,
+}
+
+impl Drop for Sender {
+    fn drop(self) {
+        let Sender {
+            from: _,
+            builds: _,
+            taken: _,
+            ended: _,
+            link: _,
+        } = self;
+    }
 }
 
 /// A batch that was taken, its sender, whether that is of the build side, and its number.

@@ -5,7 +5,7 @@ use std::alloc::AllocError;
 use std::marker::Model;
 
 /// A command to a paused run. Operators and columns are numbered from 1, an operator's workers from 0.
-#[derive(Debug, Drop, PartialEq, Eq)]
+#[derive(Debug, PartialEq, Eq)]
 pub enum Command {
     /// Runs until something stops the workers. A log keeps this as a leg.
     Run,
@@ -27,6 +27,23 @@ pub enum Command {
     Inspect { op: u32 },
     /// Loses a worker, which is then built again from the log.
     Lose { op: u32, worker: u32 },
+}
+
+impl Drop for Command {
+    fn drop(self) {
+        match self {
+            Command::Run => {}
+            Command::End => {}
+            Command::Pause { op: _, n: _ } => {}
+            Command::Count { op: _, n: _ } => {}
+            Command::When { op: _, cond: _ } => {}
+            Command::Clear { op: _ } => {}
+            Command::Set { op: _, value: _ } => {}
+            Command::Drop { op: _, worker: _ } => {}
+            Command::Inspect { op: _ } => {}
+            Command::Lose { op: _, worker: _ } => {}
+        }
+    }
 }
 
 impl Command {
@@ -70,9 +87,15 @@ impl Clone for Command {
 }
 
 /// Commands in the order in which they are given, seen as a list.
-#[derive(Debug, Drop)]
+#[derive(Debug)]
 pub struct Commands {
     inner: Vec<Command>,
+}
+
+impl Drop for Commands {
+    fn drop(self) {
+        let Commands { inner: _ } = self;
+    }
 }
 
 impl Model for Commands {

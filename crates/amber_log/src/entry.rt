@@ -24,9 +24,14 @@ pub enum Entry {
 }
 
 /// A worker's steps in their order, seen as a list.
-#[derive(Drop)]
 pub struct Entries {
     inner: Vec<Entry>,
+}
+
+impl Drop for Entries {
+    fn drop(self) {
+        let Entries { inner: _ } = self;
+    }
 }
 
 impl Model for Entries {

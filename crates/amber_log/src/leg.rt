@@ -4,16 +4,29 @@ use crate::entry::Entries;
 use std::marker::Model;
 
 /// What one worker did in a leg. Workers are numbered through the whole workflow, from 0.
-#[derive(Drop)]
 pub struct Part {
     pub worker: u32,
     pub entries: Entries,
 }
 
+impl Drop for Part {
+    fn drop(self) {
+        let Part {
+            worker: _,
+            entries: _,
+        } = self;
+    }
+}
+
 /// The workers' parts of a leg, seen as a list.
-#[derive(Drop)]
 pub struct Parts {
     inner: Vec<Part>,
+}
+
+impl Drop for Parts {
+    fn drop(self) {
+        let Parts { inner: _ } = self;
+    }
 }
 
 impl Model for Parts {
@@ -59,8 +72,13 @@ pub enum Close {
 }
 
 /// A stretch of the run between two commands: what each worker did, by rising numbers, and how it ended.
-#[derive(Drop)]
 pub struct Leg {
     pub parts: Parts,
     pub close: Close,
+}
+
+impl Drop for Leg {
+    fn drop(self) {
+        let Leg { parts: _, close: _ } = self;
+    }
 }

@@ -6,7 +6,6 @@ use std::alloc::AllocError;
 use std::marker::Model;
 
 /// An item of a log: a command, or a leg that a command to run began.
-#[derive(Drop)]
 pub enum Item {
     /// A command other than those that run.
     Do(Command),
@@ -16,10 +15,25 @@ pub enum Item {
     End(Leg),
 }
 
+impl Drop for Item {
+    fn drop(self) {
+        match self {
+            Item::Do(_) => {}
+            Item::Run(_) => {}
+            Item::End(_) => {}
+        }
+    }
+}
+
 /// The items of a log in their order, seen as a list.
-#[derive(Drop)]
 pub struct Items {
     inner: Vec<Item>,
+}
+
+impl Drop for Items {
+    fn drop(self) {
+        let Items { inner: _ } = self;
+    }
 }
 
 impl Model for Items {
@@ -65,8 +79,13 @@ impl Items {
 }
 
 /// A log: how many rows a batch has, from 1 to 65,536, and what happened.
-#[derive(Drop)]
 pub struct Log {
     pub batch: u32,
     pub items: Items,
+}
+
+impl Drop for Log {
+    fn drop(self) {
+        let Log { batch: _, items: _ } = self;
+    }
 }

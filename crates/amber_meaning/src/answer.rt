@@ -7,7 +7,6 @@ use std::alloc::AllocError;
 use std::marker::Model;
 
 /// Something that gave no row.
-#[derive(Drop)]
 pub enum Refusal {
     /// A record of a scan: the operator's number, the record's number in its file (from 1, after the header), and
     /// why it is no row.
@@ -21,6 +20,19 @@ pub enum Refusal {
         op: u32,
         key: Row,
     },
+}
+
+impl Drop for Refusal {
+    fn drop(self) {
+        match self {
+            Refusal::Record {
+                op: _,
+                number: _,
+                fault: _,
+            } => {}
+            Refusal::Group { op: _, key: _ } => {}
+        }
+    }
 }
 
 impl Clone for Refusal {
@@ -42,9 +54,14 @@ impl Clone for Refusal {
 }
 
 /// What a query refused, in the order of the operators and their records, seen as a list.
-#[derive(Drop)]
 pub struct Refusals {
     inner: Vec<Refusal>,
+}
+
+impl Drop for Refusals {
+    fn drop(self) {
+        let Refusals { inner: _ } = self;
+    }
 }
 
 impl Model for Refusals {

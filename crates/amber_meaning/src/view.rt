@@ -5,7 +5,6 @@ use std::alloc::AllocError;
 use std::marker::Model;
 
 /// Why a run has stopped. Operators are numbered from 1, an operator's workers from 0.
-#[derive(Drop)]
 pub enum Stop {
     /// A worker stands before this row, which meets the operator's condition.
     Held { op: u32, worker: u32, row: Row },
@@ -15,6 +14,25 @@ pub enum Stop {
     Pause { op: u32, n: u64, emitted: u64 },
     /// All workers have finished.
     End,
+}
+
+impl Drop for Stop {
+    fn drop(self) {
+        match self {
+            Stop::Held {
+                op: _,
+                worker: _,
+                row: _,
+            } => {}
+            Stop::Count { op: _, target: _ } => {}
+            Stop::Pause {
+                op: _,
+                n: _,
+                emitted: _,
+            } => {}
+            Stop::End => {}
+        }
+    }
 }
 
 impl Clone for Stop {
@@ -42,9 +60,14 @@ impl Clone for Stop {
 }
 
 /// The stops of a run, seen as a list.
-#[derive(Drop)]
 pub struct Stops {
     inner: Vec<Stop>,
+}
+
+impl Drop for Stops {
+    fn drop(self) {
+        let Stops { inner: _ } = self;
+    }
 }
 
 impl Model for Stops {
@@ -106,7 +129,6 @@ pub enum Extra {
 
 /// What one worker shows: rows taken, rows of its batches not yet taken, rows emitted, rows produced and not yet
 /// emitted, how it stands, and its first pending row.
-#[derive(Drop)]
 pub struct WorkerView {
     pub taken: u64,
     pub rest: u64,
@@ -117,10 +139,29 @@ pub struct WorkerView {
     pub extra: Extra,
 }
 
+impl Drop for WorkerView {
+    fn drop(self) {
+        let WorkerView {
+            taken: _,
+            rest: _,
+            out: _,
+            pending: _,
+            stand: _,
+            next: _,
+            extra: _,
+        } = self;
+    }
+}
+
 /// The views of an operator's workers, seen as a list.
-#[derive(Drop)]
 pub struct Views {
     inner: Vec<WorkerView>,
+}
+
+impl Drop for Views {
+    fn drop(self) {
+        let Views { inner: _ } = self;
+    }
 }
 
 impl Model for Views {
@@ -156,7 +197,6 @@ pub struct Counted {
 }
 
 /// What an operator shows: a filter's constant, what is armed, and its workers.
-#[derive(Drop)]
 pub struct Inspected {
     pub op: u32,
     pub constant: Option<Value>,
@@ -164,4 +204,17 @@ pub struct Inspected {
     pub count: Option<Counted>,
     pub when: Option<Cond>,
     pub workers: Views,
+}
+
+impl Drop for Inspected {
+    fn drop(self) {
+        let Inspected {
+            op: _,
+            constant: _,
+            pause: _,
+            count: _,
+            when: _,
+            workers: _,
+        } = self;
+    }
 }

@@ -6,9 +6,14 @@ use std::alloc::AllocError;
 use std::marker::Model;
 
 /// What a filter keeps: its condition. The state is seen as that condition.
-#[derive(Drop)]
 pub struct FilterState {
     cond: Cond,
+}
+
+impl Drop for FilterState {
+    fn drop(self) {
+        let FilterState { cond: _ } = self;
+    }
 }
 
 impl Model for FilterState {

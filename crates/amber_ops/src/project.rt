@@ -7,11 +7,16 @@ use std::marker::Model;
 
 /// What a projection keeps: the numbers of the columns that it takes, in the order in which it gives them.
 /// The state is seen as that list.
-#[derive(Drop)]
 pub struct ProjectState {
     // Each row that it gives is made anew.
     alloc: Global,
     from: Cols,
+}
+
+impl Drop for ProjectState {
+    fn drop(self) {
+        let ProjectState { alloc: _, from: _ } = self;
+    }
 }
 
 impl Model for ProjectState {

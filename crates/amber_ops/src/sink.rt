@@ -6,9 +6,14 @@ use std::alloc::{AllocError, Global};
 use std::marker::Model;
 
 /// What a sink keeps: the rows that it was fed. The state is seen as the list of these, in that order.
-#[derive(Drop)]
 pub struct SinkState {
     rows: Vec<Row>,
+}
+
+impl Drop for SinkState {
+    fn drop(self) {
+        let SinkState { rows: _ } = self;
+    }
 }
 
 impl Model for SinkState {

@@ -17,9 +17,15 @@ pub enum Agg {
 }
 
 /// The aggregates of a group, seen as a list.
-#[derive(Debug, Drop)]
+#[derive(Debug)]
 pub struct Aggs {
     inner: Vec<Agg>,
+}
+
+impl Drop for Aggs {
+    fn drop(self) {
+        let Aggs { inner: _ } = self;
+    }
 }
 
 impl Model for Aggs {

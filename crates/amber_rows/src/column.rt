@@ -27,10 +27,16 @@ impl ColKind {
 }
 
 /// A column: its name, and what its cells are.
-#[derive(Debug, Drop)]
+#[derive(Debug)]
 pub struct Column {
     pub name: Text,
     pub kind: ColKind,
+}
+
+impl Drop for Column {
+    fn drop(self) {
+        let Column { name: _, kind: _ } = self;
+    }
 }
 
 impl Clone for Column {
@@ -45,9 +51,15 @@ impl Clone for Column {
 }
 
 /// The columns of an operator, seen as a list. They are numbered from 1.
-#[derive(Debug, Drop)]
+#[derive(Debug)]
 pub struct Schema {
     inner: Vec<Column>,
+}
+
+impl Drop for Schema {
+    fn drop(self) {
+        let Schema { inner: _ } = self;
+    }
 }
 
 impl Model for Schema {
@@ -93,9 +105,15 @@ impl Clone for Schema {
 }
 
 /// Numbers of columns, seen as a list.
-#[derive(Debug, Drop)]
+#[derive(Debug)]
 pub struct Cols {
     inner: Vec<u32>,
+}
+
+impl Drop for Cols {
+    fn drop(self) {
+        let Cols { inner: _ } = self;
+    }
 }
 
 impl Model for Cols {

@@ -34,11 +34,21 @@ impl Cmp {
 }
 
 /// A condition on one column of a row. Columns are numbered from 1.
-#[derive(Debug, Drop, PartialEq, Eq)]
+#[derive(Debug, PartialEq, Eq)]
 pub struct Cond {
     pub column: u32,
     pub op: Cmp,
     pub constant: Value,
+}
+
+impl Drop for Cond {
+    fn drop(self) {
+        let Cond {
+            column: _,
+            op: _,
+            constant: _,
+        } = self;
+    }
 }
 
 impl Clone for Cond {

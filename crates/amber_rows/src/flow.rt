@@ -9,7 +9,7 @@ use crate::text::{Bytes, Text};
 use std::marker::Model;
 
 /// What an operator does with the rows of its input. An input is an operator's number; they are numbered from 1.
-#[derive(Debug, Drop)]
+#[derive(Debug)]
 pub enum What {
     /// Gives the typed records of a file.
     Scan {
@@ -44,8 +44,30 @@ pub enum What {
     },
 }
 
+impl Drop for What {
+    fn drop(self) {
+        match self {
+            What::Scan { file: _ } => {}
+            What::Filter { input: _, cond: _ } => {}
+            What::Project { input: _, from: _ } => {}
+            What::Join {
+                build: _,
+                probe: _,
+                build_keys: _,
+                probe_keys: _,
+            } => {}
+            What::Group {
+                input: _,
+                keys: _,
+                aggs: _,
+            } => {}
+            What::Sink { input: _ } => {}
+        }
+    }
+}
+
 /// One operator of a workflow: its id, what it does, the columns that it gives, and how many workers do it.
-#[derive(Debug, Drop)]
+#[derive(Debug)]
 pub struct Operator {
     pub id: Text,
     pub what: What,
@@ -53,10 +75,27 @@ pub struct Operator {
     pub workers: u32,
 }
 
+impl Drop for Operator {
+    fn drop(self) {
+        let Operator {
+            id: _,
+            what: _,
+            schema: _,
+            workers: _,
+        } = self;
+    }
+}
+
 /// A workflow, seen as the list of its operators.
-#[derive(Debug, Drop)]
+#[derive(Debug)]
 pub struct Flow {
     inner: Vec<Operator>,
+}
+
+impl Drop for Flow {
+    fn drop(self) {
+        let Flow { inner: _ } = self;
+    }
 }
 
 impl Model for Flow {
@@ -100,9 +139,15 @@ impl Flow {
 }
 
 /// The bytes of the scans' files, one for each scan in the order of the operators, seen as a list.
-#[derive(Debug, Drop)]
+#[derive(Debug)]
 pub struct Files {
     inner: Vec<Bytes>,
+}
+
+impl Drop for Files {
+    fn drop(self) {
+        let Files { inner: _ } = self;
+    }
 }
 
 impl Model for Files {

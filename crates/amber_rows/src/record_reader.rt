@@ -8,9 +8,14 @@ use std::alloc::{AllocError, Global};
 
 /// Reads the records of a scan's file one after the other, the header first: RFC 4180 with commas and double
 /// quotes, any number of fields in a record, nothing trimmed, and a byte order mark at the front dropped.
-#[derive(Drop)]
 pub struct RecordReader<'a> {
     reader: Reader<&'a [u8]>,
+}
+
+impl Drop for RecordReader<'_> {
+    fn drop(self) {
+        let RecordReader { reader: _ } = self;
+    }
 }
 
 impl<'a> RecordReader<'a> {

@@ -17,11 +17,17 @@ use std::cmp::Ordering;
 use std::marker::Model;
 
 /// A row, seen as the list of its cells.
-#[derive(Debug, Drop)]
+#[derive(Debug)]
 pub struct Row {
     // Made once from the cells, so that most comparisons look at no cell.
     key: u64,
     inner: Vec<Value>,
+}
+
+impl Drop for Row {
+    fn drop(self) {
+        let Row { key: _, inner: _ } = self;
+    }
 }
 
 impl Model for Row {
@@ -56,7 +62,7 @@ impl Row {
     pub fn into_inner(self) -> Vec<Value>
         ensures { result.items ≡ self }
     {
-        let Row { inner, .. } = self;
+        let Row { key: _, inner } = self;
         inner
     }
 
@@ -184,9 +190,15 @@ impl Ord for Row {
 }
 
 /// Rows in a certain order, seen as a list.
-#[derive(Debug, Drop)]
+#[derive(Debug)]
 pub struct Rows {
     inner: Vec<Row>,
+}
+
+impl Drop for Rows {
+    fn drop(self) {
+        let Rows { inner: _ } = self;
+    }
 }
 
 impl Model for Rows {

@@ -8,9 +8,14 @@ use std::marker::Model;
 ///
 /// Freeing a million rows takes longer than printing them. A program that ends behind the call may forget them, since the
 /// system takes all its memory back at once; any other drops them.
-#[derive(Drop)]
 pub struct Printed {
     rows: Option<Rows>,
+}
+
+impl Drop for Printed {
+    fn drop(self) {
+        let Printed { rows: _ } = self;
+    }
 }
 
 impl Model for Printed {

@@ -7,9 +7,14 @@ const ROWS: usize = 64;
 
 /// Room for the next rows of a worker. It is made for many rows at once: the rows of one worker then lie side by side,
 /// although those of all workers are typed in turn. What its cells are does not matter, so nothing is said of them.
-#[derive(Drop)]
 pub struct Rooms {
     rooms: VecDeque<Vec<Value>>,
+}
+
+impl Drop for Rooms {
+    fn drop(self) {
+        let Rooms { rooms: _ } = self;
+    }
 }
 
 impl Rooms {

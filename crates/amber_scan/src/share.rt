@@ -33,11 +33,19 @@ impl Clone for Scanned {
 }
 
 /// The records of one worker that it has not taken yet, seen as their list.
-#[derive(Drop)]
 pub struct Share {
     records: VecDeque<Scanned>,
     // Where the next rows are typed. The rows of one worker alone lie side by side anyway.
     rooms: Option<Rooms>,
+}
+
+impl Drop for Share {
+    fn drop(self) {
+        let Share {
+            records: _,
+            rooms: _,
+        } = self;
+    }
 }
 
 impl Model for Share {

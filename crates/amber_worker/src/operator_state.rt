@@ -3,7 +3,6 @@ use amber_join::JoinState;
 use amber_ops::{FilterState, ProjectState};
 
 /// What a worker does with a row that suits its columns.
-#[derive(Drop)]
 pub enum OperatorState {
     /// Passes it on.
     Scan,
@@ -17,4 +16,17 @@ pub enum OperatorState {
     Group(GroupState),
     /// Keeps it for the answer.
     Sink,
+}
+
+impl Drop for OperatorState {
+    fn drop(self) {
+        match self {
+            OperatorState::Scan => {}
+            OperatorState::Filter(_) => {}
+            OperatorState::Project(_) => {}
+            OperatorState::Join(_) => {}
+            OperatorState::Group(_) => {}
+            OperatorState::Sink => {}
+        }
+    }
 }

@@ -7,7 +7,6 @@ use amber_rows::{Cols, Row, route_row};
 
 /// To whom the rows of a worker go: all to one worker, or by their keys to so many from the first
 /// one on.
-#[derive(Drop)]
 pub enum Route {
     One(u32),
     ByKeys {
@@ -15,6 +14,19 @@ pub enum Route {
         first: u32,
         workers: u32,
     },
+}
+
+impl Drop for Route {
+    fn drop(self) {
+        match self {
+            Route::One(_) => {}
+            Route::ByKeys {
+                keys: _,
+                first: _,
+                workers: _,
+            } => {}
+        }
+    }
 }
 
 impl Route {

@@ -38,7 +38,6 @@ use std::mem;
 const MOST_STEPS: u64 = 1 << 40;
 
 /// A worker at rest or in a leg, seen as a `WorkerState`.
-#[derive(Drop)]
 pub struct Worker {
     alloc: Global,
     op: u32,
@@ -57,6 +56,30 @@ pub struct Worker {
     outs: Vec<Receiver>,
     route: Route,
     journal: Vec<Entry>,
+}
+
+impl Drop for Worker {
+    fn drop(self) {
+        let Worker {
+            alloc: _,
+            op: _,
+            number: _,
+            operator_state: _,
+            columns: _,
+            build_columns: _,
+            building: _,
+            rest: _,
+            taken: _,
+            emitted: _,
+            batches: _,
+            gains: _,
+            finished: _,
+            ins: _,
+            outs: _,
+            route: _,
+            journal: _,
+        } = self;
+    }
 }
 
 impl Model for Worker {

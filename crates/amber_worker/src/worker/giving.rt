@@ -56,10 +56,21 @@ impl Worker {
         let Worker {
             alloc,
             op,
+            number: _,
             operator_state,
+            columns: _,
+            build_columns: _,
+            building: _,
+            rest: _,
+            taken: _,
+            emitted: _,
+            batches: _,
             gains,
             finished,
-            ..
+            ins: _,
+            outs: _,
+            route: _,
+            journal: _,
         } = self;
         gains_given(alloc, op, finished, &operator_state, gains)
     }
