@@ -10,7 +10,6 @@ use amber_rows::{Agg, Row, Value};
 use std::alloc::AllocError;
 
 /// What is kept of the rows of a group for one aggregate. A column is a number from 1.
-#[derive(Drop)]
 pub enum Running {
     /// How many rows there are.
     Count(u64),
@@ -20,6 +19,20 @@ pub enum Running {
     Min { column: u32, best: Option<Value> },
     /// The greatest cell of a column so far.
     Max { column: u32, best: Option<Value> },
+}
+
+impl Drop for Running {
+    fn drop(self) {
+        match self {
+            Running::Count(_) => {}
+            Running::Sum {
+                column: _,
+                total: _,
+            } => {}
+            Running::Min { column: _, best: _ } => {}
+            Running::Max { column: _, best: _ } => {}
+        }
+    }
 }
 
 impl Running {

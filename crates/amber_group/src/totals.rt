@@ -17,10 +17,15 @@ use std::marker::Model;
 const FEW: usize = 4;
 
 /// What is kept of the rows of a group, for one aggregate after the other. Seen as the list.
-#[derive(Drop)]
 pub struct Totals {
     // A few lie in the groups' table itself, so that a row which is taken in waits for memory once less.
     inner: SmallVec<Running, FEW>,
+}
+
+impl Drop for Totals {
+    fn drop(self) {
+        let Totals { inner: _ } = self;
+    }
 }
 
 impl Model for Totals {

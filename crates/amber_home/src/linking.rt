@@ -9,9 +9,14 @@ use std::alloc::{AllocError, Global};
 use std::marker::Model;
 
 /// The ends of a worker's links to its receivers, by rising numbers, seen as their list.
-#[derive(Drop)]
 pub(crate) struct Outs {
     ends: Vec<Out>,
+}
+
+impl Drop for Outs {
+    fn drop(self) {
+        let Outs { ends: _ } = self;
+    }
 }
 
 impl Model for Outs {
@@ -45,14 +50,20 @@ impl Outs {
     pub(crate) fn into_inner(self) -> Vec<Out>
         ensures { result.items ≡ self }
     {
-        self.ends
+        let Outs { ends } = self;
+        ends
     }
 }
 
 /// The ends of a worker's links with its senders, by rising numbers, seen as their list.
-#[derive(Drop)]
 pub(crate) struct Ins {
     ends: Vec<In>,
+}
+
+impl Drop for Ins {
+    fn drop(self) {
+        let Ins { ends: _ } = self;
+    }
 }
 
 impl Model for Ins {
@@ -86,7 +97,8 @@ impl Ins {
     pub(crate) fn into_inner(self) -> Vec<In>
         ensures { result.items ≡ self }
     {
-        self.ends
+        let Ins { ends } = self;
+        ends
     }
 }
 

@@ -4,9 +4,14 @@ ghost use Rattle.std.specs.List.{list_any};
 use std::marker::Model;
 
 /// A list of numbers.
-#[derive(Drop)]
 pub struct Numbers {
     inner: Vec<u64>,
+}
+
+impl Drop for Numbers {
+    fn drop(self) {
+        let Numbers { inner: _ } = self;
+    }
 }
 
 impl Model for Numbers {
@@ -44,7 +49,6 @@ impl Numbers {
 ///
 /// Loads, writes and puts are each counted from 1. A call whose number stands in the list of its kind
 /// fails; a write or a put then does the first `keep` bytes of its piece, or all of a shorter one.
-#[derive(Drop)]
 pub struct Fails {
     /// The numbers of the loads that fail.
     pub loads: Numbers,
@@ -54,6 +58,17 @@ pub struct Fails {
     pub puts: Numbers,
     /// How many bytes of its piece a failing call still does.
     pub keep: u64,
+}
+
+impl Drop for Fails {
+    fn drop(self) {
+        let Fails {
+            loads: _,
+            writes: _,
+            puts: _,
+            keep: _,
+        } = self;
+    }
 }
 
 // The first `most` bytes, or all where there are fewer.

@@ -13,7 +13,6 @@ use crate::named_files::NamedFiles;
 use std::alloc::Global;
 
 /// A folder in memory, which tells its files and fails where its plan says so.
-#[derive(Drop)]
 pub struct MemFolder {
     files: NamedFiles,
     fails: Fails,
@@ -23,6 +22,20 @@ pub struct MemFolder {
     write_faults: u64,
     // The folder grows on it.
     alloc: Global,
+}
+
+impl Drop for MemFolder {
+    fn drop(self) {
+        let MemFolder {
+            files: _,
+            fails: _,
+            loads_made: _,
+            writes_made: _,
+            load_faults: _,
+            write_faults: _,
+            alloc: _,
+        } = self;
+    }
 }
 
 impl MemFolder {

@@ -10,12 +10,22 @@ use crate::sink::Sink;
 use std::alloc::Global;
 
 /// A sink in memory, which tells what was written and fails where its plan says so.
-#[derive(Drop)]
 pub struct MemSink {
     written: Vec<u8>,
     fails: Fails,
     puts_made: u64,
     faults: u64,
+}
+
+impl Drop for MemSink {
+    fn drop(self) {
+        let MemSink {
+            written: _,
+            fails: _,
+            puts_made: _,
+            faults: _,
+        } = self;
+    }
 }
 
 impl MemSink {

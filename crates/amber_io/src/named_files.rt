@@ -7,9 +7,14 @@ use std::alloc::{AllocError, Global};
 use std::marker::Model;
 
 /// Files with their names, in a list. Of two with one name the first counts.
-#[derive(Drop)]
 pub struct NamedFiles {
     inner: Vec<(String, Vec<u8>)>,
+}
+
+impl Drop for NamedFiles {
+    fn drop(self) {
+        let NamedFiles { inner: _ } = self;
+    }
 }
 
 impl Model for NamedFiles {

@@ -10,10 +10,15 @@ use std::marker::Model;
 
 /// Places of build rows in the order in which they came, seen as a list. There is one at least. Most keys have one row,
 /// so the first place stands beside the key and not elsewhere in memory.
-#[derive(Drop)]
 pub struct Places {
     first: usize,
     more: Vec<usize>,
+}
+
+impl Drop for Places {
+    fn drop(self) {
+        let Places { first: _, more: _ } = self;
+    }
 }
 
 impl Model for Places {

@@ -12,9 +12,14 @@ use std::hash::{Hash, Hasher};
 use std::marker::Model;
 
 /// The cells of some columns of a row, seen as their list. Equal keys have equal cells in the same order.
-#[derive(Drop)]
 pub struct Key {
     row: Row,
+}
+
+impl Drop for Key {
+    fn drop(self) {
+        let Key { row: _ } = self;
+    }
 }
 
 impl Model for Key {

@@ -8,9 +8,14 @@ use std::alloc::{AllocError, Global};
 use std::marker::Model;
 
 /// The state of a join that has all build rows. It is seen as the join's state.
-#[derive(Drop)]
 pub struct Built {
     state: JoinState,
+}
+
+impl Drop for Built {
+    fn drop(self) {
+        let Built { state: _ } = self;
+    }
 }
 
 impl Model for Built {

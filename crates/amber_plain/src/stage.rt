@@ -16,7 +16,6 @@ pub enum Source {
 }
 
 /// What a row passes through on its way from its source.
-#[derive(Drop)]
 pub enum Stage {
     /// A filter: the row, where the condition holds of it.
     Filter(Cond),
@@ -24,6 +23,16 @@ pub enum Stage {
     Project(Cols),
     /// A join that is probed: the row before each match.
     Probe(Built),
+}
+
+impl Drop for Stage {
+    fn drop(self) {
+        match self {
+            Stage::Filter(_) => {}
+            Stage::Project(_) => {}
+            Stage::Probe(_) => {}
+        }
+    }
 }
 
 impl Stage {

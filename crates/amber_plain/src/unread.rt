@@ -10,10 +10,18 @@ use std::marker::Model;
 use std::mem;
 
 /// Rows that are yet to be read: their source, and the stages through which they pass, in order.
-#[derive(Drop)]
 pub struct Unread {
     source: Source,
     stages: Vec<Stage>,
+}
+
+impl Drop for Unread {
+    fn drop(self) {
+        let Unread {
+            source: _,
+            stages: _,
+        } = self;
+    }
 }
 
 impl Model for Unread {

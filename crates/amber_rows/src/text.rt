@@ -12,9 +12,14 @@ use std::fmt;
 use std::marker::Model;
 
 /// A text, seen as the list of its UTF-8 bytes.
-#[derive(Drop)]
 pub struct Text {
     stored: Stored,
+}
+
+impl Drop for Text {
+    fn drop(self) {
+        let Text { stored: _ } = self;
+    }
 }
 
 // Where the bytes lie: those of a short text in the value itself, so that most cells own no memory.
@@ -146,9 +151,14 @@ impl fmt::Display for Text {
 }
 
 /// The bytes of a file, seen as a list.
-#[derive(Debug, Drop)]
 pub struct Bytes {
     inner: Vec<u8>,
+}
+
+impl Drop for Bytes {
+    fn drop(self) {
+        let Bytes { inner: _ } = self;
+    }
 }
 
 impl Model for Bytes {

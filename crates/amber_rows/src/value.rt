@@ -7,10 +7,19 @@ use std::alloc::{AllocError, Global};
 use std::fmt;
 
 /// One cell of a row: a whole number or a text. Numbers come before texts, numbers by size, texts by bytes.
-#[derive(Debug, Drop, PartialEq, Eq, PartialOrd, Ord)]
+#[derive(Debug, PartialEq, Eq, PartialOrd, Ord)]
 pub enum Value {
     Int(i64),
     Text(Text),
+}
+
+impl Drop for Value {
+    fn drop(self) {
+        match self {
+            Value::Int(_) => {}
+            Value::Text(_) => {}
+        }
+    }
 }
 
 impl Value {
