@@ -51,7 +51,7 @@ pub struct WorkSeat {
 }
 
 /// Where the units of a closed board are. The two add up to its target.
-#[derive(Clone, Copy, Debug, PartialEq, Eq)]
+#[derive(Clone, Copy, PartialEq, Eq)]
 pub struct Totals {
     /// The units that no worker counted.
     pub unassigned: u64,

@@ -9,7 +9,7 @@ use amber_script::ScriptWhy;
 use std::alloc::{AllocError, AllocFailed};
 
 /// Why a workflow is refused.
-#[derive(Clone, Copy, Debug, PartialEq, Eq)]
+#[derive(Clone, Copy, PartialEq, Eq)]
 pub enum Reason {
     /// Its text is no workflow.
     Flow(FlowWhy),
@@ -20,7 +20,7 @@ pub enum Reason {
 }
 
 /// Why a call ended early, with what its error line says.
-#[derive(Debug, Drop)]
+#[derive(Drop)]
 pub enum Failure {
     /// The words are no form of a call.
     Usage,

@@ -4,7 +4,7 @@ use amber_rows::{Files, Flow, Text};
 /// What a run is to do: the workflow over the files of its scans, by the commands of a script, with
 /// what was done written into the log of this name; on so many threads, from 1 to 64, with so many
 /// rows in a batch, from 1 to 65,536.
-#[derive(Debug, Drop)]
+#[derive(Drop)]
 pub struct RunJob {
     pub flow: Flow,
     pub files: Files,
@@ -15,7 +15,7 @@ pub struct RunJob {
 }
 
 /// What a call is to do, once nothing is left that refuses it.
-#[derive(Debug, Drop)]
+#[derive(Drop)]
 pub enum Job {
     /// To print the sequential answer of a workflow over the files of its scans.
     Plain { flow: Flow, files: Files },

@@ -16,7 +16,7 @@ const MOST_BATCH: u64 = 65_536;
 
 /// The words of a run: the names of its workflow, its script and its log, on how many threads it works, from 1 to
 /// 64, and how many rows a batch has, from 1 to 65,536.
-#[derive(Debug, Drop)]
+#[derive(Drop)]
 pub struct RunWords {
     pub workflow: Text,
     pub script: Text,
@@ -26,7 +26,7 @@ pub struct RunWords {
 }
 
 /// What the words of a call ask for.
-#[derive(Debug, Drop)]
+#[derive(Drop)]
 pub enum Words {
     /// To print the answer of the workflow in the file of this name.
     Plain { workflow: Text },

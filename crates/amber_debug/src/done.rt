@@ -18,7 +18,7 @@ pub struct Done {
 }
 
 /// Why a command was not done.
-#[derive(Debug, Drop)]
+#[derive(Drop)]
 pub enum DebugErr {
     /// The run has made as many steps as it may. The leg stands in the log; this is its text. Nothing may follow.
     Long { item: Bytes },

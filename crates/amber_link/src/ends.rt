@@ -40,7 +40,7 @@ impl Drop for In {
 }
 
 /// Whether all batches that waited were sent.
-#[derive(Clone, Copy, Debug, PartialEq, Eq)]
+#[derive(Clone, Copy, PartialEq, Eq)]
 pub enum Sent {
     All,
     /// The ring was full.

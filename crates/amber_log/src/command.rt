@@ -5,7 +5,7 @@ use std::alloc::AllocError;
 use std::marker::Model;
 
 /// A command to a paused run. Operators and columns are numbered from 1, an operator's workers from 0.
-#[derive(Debug, PartialEq, Eq)]
+#[derive(PartialEq, Eq)]
 pub enum Command {
     /// Runs until something stops the workers. A log keeps this as a leg.
     Run,
@@ -87,7 +87,6 @@ impl Clone for Command {
 }
 
 /// Commands in the order in which they are given, seen as a list.
-#[derive(Debug)]
 pub struct Commands {
     inner: Vec<Command>,
 }

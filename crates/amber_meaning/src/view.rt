@@ -106,7 +106,7 @@ impl Clone for Stops {
 }
 
 /// How a worker stands.
-#[derive(Clone, Copy, Debug, PartialEq, Eq)]
+#[derive(Clone, Copy, PartialEq, Eq)]
 pub enum Stand {
     Ready,
     Held,
@@ -114,7 +114,7 @@ pub enum Stand {
 }
 
 /// What a worker shows by the kind of its operator.
-#[derive(Clone, Copy, Debug, PartialEq, Eq)]
+#[derive(Clone, Copy, PartialEq, Eq)]
 pub enum Extra {
     Nothing,
     /// How many of the records taken were refused.
@@ -190,7 +190,7 @@ impl Views {
 }
 
 /// An armed count: how many rows have been counted, and how many it asks for.
-#[derive(Clone, Copy, Debug, PartialEq, Eq)]
+#[derive(Clone, Copy, PartialEq, Eq)]
 pub struct Counted {
     pub counted: u64,
     pub target: u64,

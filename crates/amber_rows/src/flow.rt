@@ -87,7 +87,6 @@ impl Drop for Operator {
 }
 
 /// A workflow, seen as the list of its operators.
-#[derive(Debug)]
 pub struct Flow {
     inner: Vec<Operator>,
 }
@@ -139,7 +138,6 @@ impl Flow {
 }
 
 /// The bytes of the scans' files, one for each scan in the order of the operators, seen as a list.
-#[derive(Debug)]
 pub struct Files {
     inner: Vec<Bytes>,
 }

@@ -190,7 +190,6 @@ impl Ord for Row {
 }
 
 /// Rows in a certain order, seen as a list.
-#[derive(Debug)]
 pub struct Rows {
     inner: Vec<Row>,
 }

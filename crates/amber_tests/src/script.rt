@@ -1,7 +1,9 @@
 // A script that is read, and one whose third line is bad.
 use crate::expected::expect_text;
 use amber_flow::read_flow;
-use amber_log::Commands;
+use amber_log::{Command, Commands};
+use amber_report::ok_line;
+use amber_rows::Flow;
 use amber_script::{ScriptErr, read_script};
 use std::alloc::{AllocError, Global};
 use std::test::Fail;
@@ -15,12 +17,25 @@ const SCRIPT: &str =
     "# a comment\n\tpause \"f\" 2\r\nrun\n\nset f \"a \\\"b\\\"\"\ninspect f\nclear f\nrun";
 
 const READ: &str =
-    r#"[Pause { op: 2, n: 2 }, Run, Set { op: 2, value: Text("a \"b\"") }, Inspect { op: 2 }, Clear { op: 2 }, Run]"#;
+    "ok pause f 2\nok run\nok set f \"a \\\"b\\\"\"\nok inspect f\nok clear f\nok run\n";
+
+// These commands, a line each.
+fn told(alloc: Global, flow: &Flow, commands: &[Command]) -> Result<String, AllocError> {
+    let mut text = Vec::new(alloc);
+    for command in commands {
+        text.extend_from_slice(ok_line(alloc, flow, command, None)?.get())?;
+    }
+    String::from_utf8_lossy(alloc, text.as_slice())
+}
 
 // The commands of a script, or why there are none.
-fn shown(alloc: Global, found: &Result<Commands, ScriptErr>) -> Result<String, AllocError> {
+fn shown(
+    alloc: Global,
+    flow: &Flow,
+    found: &Result<Commands, ScriptErr>,
+) -> Result<String, AllocError> {
     match found {
-        Ok(commands) => format!(in alloc; "{:?}", commands.get()),
+        Ok(commands) => told(alloc, flow, commands.get()),
         Err(error) => error.to_string(alloc),
     }
 }
@@ -29,7 +44,7 @@ fn shown(alloc: Global, found: &Result<Commands, ScriptErr>) -> Result<String, A
 fn read(alloc: Global, script: &str) -> Result<String, Fail> {
     let flow = read_flow(alloc, WORKFLOW.as_bytes())?;
     let found = read_script(alloc, script.as_bytes(), &flow);
-    Ok(shown(alloc, &found)?)
+    Ok(shown(alloc, &flow, &found)?)
 }
 
 #[test]

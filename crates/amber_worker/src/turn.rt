@@ -1,5 +1,5 @@
 /// What a turn of a worker came to.
-#[derive(Clone, Copy, Debug, PartialEq, Eq)]
+#[derive(Clone, Copy, PartialEq, Eq)]
 pub enum Turn {
     /// It did one step: it took a row or a batch, emitted a row, or finished.
     Moved,
