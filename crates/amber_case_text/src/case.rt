@@ -5,14 +5,18 @@ use crate::case_text::CaseText;
 use std::alloc::Global;
 
 /// A text under a name.
-#[derive(Debug, Drop)]
 pub struct NamedText {
     pub name: String,
     pub text: CaseText,
 }
 
+impl Drop for NamedText {
+    fn drop(self) {
+        let NamedText { name: _, text: _ } = self;
+    }
+}
+
 /// What is expected of a file after a run.
-#[derive(Debug, Drop)]
 pub enum Left {
     /// It has the bytes of this text.
     Text(CaseText),
@@ -22,15 +26,29 @@ pub enum Left {
     Unchanged,
 }
 
+impl Drop for Left {
+    fn drop(self) {
+        match self {
+            Left::Text(_) => {}
+            Left::Absent => {}
+            Left::Unchanged => {}
+        }
+    }
+}
+
 /// A file after a run.
-#[derive(Debug, Drop)]
 pub struct After {
     pub name: String,
     pub left: Left,
 }
 
+impl Drop for After {
+    fn drop(self) {
+        let After { name: _, left: _ } = self;
+    }
+}
+
 /// A case: what is given, what fails, and what is expected.
-#[derive(Debug, Drop)]
 pub struct Case {
     /// What the case shows.
     pub name: String,
@@ -47,6 +65,23 @@ pub struct Case {
     /// The outputs that are right; where there is none, nothing is printed.
     pub out: Vec<CaseText>,
     pub after: Vec<After>,
+}
+
+impl Drop for Case {
+    fn drop(self) {
+        let Case {
+            name: _,
+            words: _,
+            files: _,
+            loads: _,
+            writes: _,
+            puts: _,
+            keep: _,
+            status: _,
+            out: _,
+            after: _,
+        } = self;
+    }
 }
 
 impl Case {
@@ -82,11 +117,16 @@ impl Case {
 
     /// The text of the file of this name, where the case gives one.
     pub fn file(&self, name: &str) -> Option<&CaseText> {
-        for file in self.files.iter() {
-            if file.name.as_str() == name {
-                return Some(&file.text);
-            }
-        }
-        None
+        find_text(self.files.as_slice(), name)
     }
+}
+
+/// The text of this name.
+pub(crate) fn find_text<'a>(texts: &'a [NamedText], name: &str) -> Option<&'a CaseText> {
+    for one in texts {
+        if one.name.as_str() == name {
+            return Some(&one.text);
+        }
+    }
+    None
 }

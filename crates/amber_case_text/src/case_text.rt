@@ -4,7 +4,7 @@ ghost use Rattle.std.specs.Prelude.{◌≡◌, []};
 use std::alloc::{AllocError, Global};
 
 /// A piece of a text.
-#[derive(Clone, Debug, Drop)]
+#[derive(Clone)]
 pub enum Piece {
     /// These bytes.
     Bytes(Vec<u8>),
@@ -18,10 +18,31 @@ pub enum Piece {
     Front,
 }
 
+impl Drop for Piece {
+    fn drop(self) {
+        match self {
+            Piece::Bytes(_) => {}
+            Piece::Repeated { times: _, bytes: _ } => {}
+            Piece::Filled {
+                length: _,
+                bytes: _,
+            } => {}
+            Piece::Number { least: _, most: _ } => {}
+            Piece::Front => {}
+        }
+    }
+}
+
 /// A text of a case: of a file, or one that is expected.
-#[derive(Clone, Debug, Drop)]
+#[derive(Clone)]
 pub struct CaseText {
     pub pieces: Vec<Piece>,
+}
+
+impl Drop for CaseText {
+    fn drop(self) {
+        let CaseText { pieces: _ } = self;
+    }
 }
 
 impl CaseText {
@@ -34,24 +55,27 @@ impl CaseText {
         }
     }
 
+    /// The pieces of the text.
+    pub fn into_pieces(self) -> Vec<Piece>
+        ensures { result.items ≡ self.pieces.items }
+    {
+        let CaseText { pieces } = self;
+        pieces
+    }
+
     /// The bytes of the text where these were found and a failing call keeps so many.
     ///
     /// A number of the text is the one that was found at its place, where that is in the range.
     pub fn bytes(&self, alloc: Global, keep: u64, found: &[u8]) -> Result<Vec<u8>, AllocError> {
         let mut all = Vec::new(alloc);
-        let mut front = None;
+        let mut length = usize::MAX;
         for piece in self.pieces.iter() {
-            match piece {
-                Piece::Front => front = Some(all.len()),
-                Piece::Bytes(bytes) => all.extend_from_slice(bytes.as_slice())?,
-                Piece::Repeated { times, bytes } => repeat(&mut all, *times, bytes.as_slice())?,
-                Piece::Filled { length, bytes } => fill(&mut all, *length, bytes.as_slice())?,
-                Piece::Number { least, most } => add_number(alloc, &mut all, *least, *most, found)?,
+            if let Piece::Front = piece {
+                length = kept_length(all.len(), keep);
             }
+            add_piece(alloc, &mut all, piece, found)?;
         }
-        if let Some(start) = front {
-            all.truncate(kept_length(start, keep));
-        }
+        all.truncate(length);
         Ok(all)
     }
 }
@@ -61,6 +85,22 @@ fn kept_length(start: usize, keep: u64) -> usize {
     match usize::try_from(keep) {
         Ok(keep) => start.saturating_add(keep),
         Err(_) => usize::MAX,
+    }
+}
+
+// Adds the bytes of one piece.
+fn add_piece(
+    alloc: Global,
+    all: &mut Vec<u8>,
+    piece: &Piece,
+    found: &[u8],
+) -> Result<(), AllocError> {
+    match piece {
+        Piece::Front => Ok(()),
+        Piece::Bytes(bytes) => all.extend_from_slice(bytes.as_slice()),
+        Piece::Repeated { times, bytes } => repeat(all, *times, bytes.as_slice()),
+        Piece::Filled { length, bytes } => fill(all, *length, bytes.as_slice()),
+        Piece::Number { least, most } => add_number(alloc, all, *least, *most, found),
     }
 }
 
@@ -87,17 +127,26 @@ fn fill(all: &mut Vec<u8>, length: u64, piece: &[u8]) -> Result<(), AllocError> 
 // The digits at a place.
 fn digits_at(bytes: &[u8], place: usize) -> &[u8] {
     let rest = bytes.get(place..).unwrap_or(b"");
-    let count = rest.iter().take_while(|byte| byte.is_ascii_digit()).count();
-    rest.get(..count).unwrap_or(b"")
+    for (count, byte) in rest.iter().enumerate() {
+        if !byte.is_ascii_digit() {
+            return rest.get(..count).unwrap_or(b"");
+        }
+    }
+    rest
 }
 
-// The number that digits are, where it has no leading zero.
-fn number_of(digits: &[u8]) -> Option<u64> {
+// Whether digits are a number in the range, without a leading zero.
+fn is_between(digits: &[u8], least: u64, most: u64) -> bool {
     if digits.len() > 1 && digits[0] == b'0' {
-        return None;
+        return false;
     }
-    let text = str::from_utf8(digits).ok()?;
-    text.parse::<u64>().ok()
+    let Ok(text) = str::from_utf8(digits) else {
+        return false;
+    };
+    match text.parse::<u64>() {
+        Ok(number) => least <= number && number <= most,
+        Err(_) => false,
+    }
 }
 
 // Adds the number that was found at the end of `all`, or, where it is not in the range, the range.
@@ -109,11 +158,9 @@ fn add_number(
     found: &[u8],
 ) -> Result<(), AllocError> {
     let digits = digits_at(found, all.len());
-    match number_of(digits) {
-        Some(number) if least <= number && number <= most => all.extend_from_slice(digits),
-        _ => {
-            let range = format!(in alloc; "{{{least}..{most}}}")?;
-            all.extend_from_slice(range.as_bytes())
-        }
+    if is_between(digits, least, most) {
+        return all.extend_from_slice(digits);
     }
+    let range = format!(in alloc; "{{{least}..{most}}}")?;
+    all.extend_from_slice(range.as_bytes())
 }

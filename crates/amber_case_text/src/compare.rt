@@ -4,7 +4,7 @@ ghost use Rattle.std.specs.Prelude.{◌≡◌, ◌↔◌, IsOk};
 use std::fmt;
 
 /// The first line that differs, counted from 1, as it is expected and as it was found.
-#[derive(Clone, Copy, Debug)]
+#[derive(Clone, Copy)]
 pub struct LineDifference<'a> {
     pub line: u64,
     pub wanted: &'a [u8],
@@ -12,7 +12,7 @@ pub struct LineDifference<'a> {
 }
 
 /// What differs first in an answer.
-#[derive(Clone, Copy, Debug)]
+#[derive(Clone, Copy)]
 pub enum Difference<'a> {
     Status { wanted: u8, found: u8 },
     Output(LineDifference<'a>),
@@ -21,11 +21,9 @@ pub enum Difference<'a> {
 impl fmt::Display for LineDifference<'_> {
     fn fmt<W: fmt::Write>(&self, f: &mut fmt::Formatter<W>) -> fmt::Result {
         let line = self.line;
-        write!(f, "line {line} is `")?;
-        write!(f, "{}", shown(self.found).escape_ascii())?;
-        write!(f, "` and not `")?;
-        write!(f, "{}", shown(self.wanted).escape_ascii())?;
-        write!(f, "`")
+        let found = shown(self.found).escape_ascii();
+        let wanted = shown(self.wanted).escape_ascii();
+        write!(f, "line {line} is `{found}` and not `{wanted}`")
     }
 }
 
@@ -48,37 +46,32 @@ fn shown(line: &[u8]) -> &[u8] {
     line.get(..SHOWN).unwrap_or(line)
 }
 
-// How many first bytes two texts share.
-fn shared_length(first: &[u8], second: &[u8]) -> usize {
-    first.iter().zip(second).take_while(|(a, b)| a == b).count()
-}
-
-// Where the line begins in which a place stands.
-fn line_start(bytes: &[u8], place: usize) -> usize {
-    let before = bytes.get(..place).unwrap_or(bytes);
-    match before.iter().rposition(|byte| *byte == b'\n') {
-        Some(feed) => feed.saturating_add(1),
-        None => 0,
-    }
-}
-
 // The line that begins at a place, with its line feed.
 fn line_at(bytes: &[u8], start: usize) -> &[u8] {
     let rest = bytes.get(start..).unwrap_or(b"");
-    match rest.iter().position(|byte| *byte == b'\n') {
-        Some(feed) => rest.get(..=feed).unwrap_or(rest),
-        None => rest,
+    for (place, byte) in rest.iter().enumerate() {
+        if *byte == b'\n' {
+            return rest.get(..=place).unwrap_or(rest);
+        }
     }
+    rest
 }
 
 // The first line that differs.
 fn line_difference<'a>(wanted: &'a [u8], found: &'a [u8]) -> LineDifference<'a> {
-    let shared = shared_length(wanted, found);
-    let start = line_start(wanted, shared);
-    let before = wanted.get(..start).unwrap_or(wanted);
-    let feeds = before.iter().filter(|byte| **byte == b'\n').count() as u64;
+    let mut line = 1u64;
+    let mut start = 0;
+    for (place, (one, other)) in wanted.iter().zip(found).enumerate() {
+        if *one != *other {
+            break;
+        }
+        if *one == b'\n' {
+            line = line.saturating_add(1);
+            start = place.saturating_add(1);
+        }
+    }
     LineDifference {
-        line: feeds.saturating_add(1),
+        line,
         wanted: line_at(wanted, start),
         found: line_at(found, start),
     }

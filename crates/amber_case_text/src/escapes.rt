@@ -1,5 +1,5 @@
 // Texts with escapes.
-use crate::fault::Why;
+use crate::fault::{Why, push};
 use std::alloc::Global;
 
 // Where the reader of escapes stands.
@@ -38,23 +38,16 @@ fn escape(byte: u8) -> Result<u8, Why> {
 
 // Reads one byte.
 fn step(bytes: &mut Vec<u8>, reading: Reading, byte: u8) -> Result<Reading, Why> {
-    match reading {
-        Reading::Plain if byte == b'\\' => Ok(Reading::Escape),
-        Reading::Plain => {
-            bytes.push(byte)?;
-            Ok(Reading::Plain)
-        }
-        Reading::Escape if byte == b'x' => Ok(Reading::Digits),
-        Reading::Escape => {
-            bytes.push(escape(byte)?)?;
-            Ok(Reading::Plain)
-        }
-        Reading::Digits => Ok(Reading::LastDigit(digit(byte)?)),
-        Reading::LastDigit(first) => {
-            bytes.push(first << 4 | digit(byte)?)?;
-            Ok(Reading::Plain)
-        }
-    }
+    let whole = match reading {
+        Reading::Plain if byte == b'\\' => return Ok(Reading::Escape),
+        Reading::Escape if byte == b'x' => return Ok(Reading::Digits),
+        Reading::Digits => return Ok(Reading::LastDigit(digit(byte)?)),
+        Reading::Plain => byte,
+        Reading::Escape => escape(byte)?,
+        Reading::LastDigit(first) => first << 4 | digit(byte)?,
+    };
+    push(bytes, whole)?;
+    Ok(Reading::Plain)
 }
 
 /// The bytes that a text with escapes is.
@@ -70,13 +63,13 @@ pub(crate) fn unescaped(alloc: Global, text: &str) -> Result<Vec<u8>, Why> {
     }
 }
 
-// The word that is written so; `""` is the empty one.
-fn word(alloc: Global, written: &str) -> Result<String, Why> {
+// Adds the word that is written so; `""` is the empty one.
+fn add_word(alloc: Global, all: &mut Vec<String>, written: &str) -> Result<(), Why> {
     if written == "\"\"" {
-        return Ok(String::new(alloc));
+        return push(all, String::new(alloc));
     }
     match String::from_utf8(unescaped(alloc, written)?) {
-        Ok(word) => Ok(word),
+        Ok(word) => push(all, word),
         Err(_) => Err(Why::Escape),
     }
 }
@@ -85,7 +78,7 @@ fn word(alloc: Global, written: &str) -> Result<String, Why> {
 pub(crate) fn words(alloc: Global, written: &str) -> Result<Vec<String>, Why> {
     let mut all = Vec::new(alloc);
     for one in written.split_whitespace() {
-        all.push(word(alloc, one)?)?;
+        add_word(alloc, &mut all, one)?;
     }
     Ok(all)
 }

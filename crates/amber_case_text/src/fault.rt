@@ -67,6 +67,12 @@ impl<T: Drop> From<AllocFailed<T>> for Why {
     }
 }
 
+/// Adds one more, where memory is left for it.
+pub(crate) fn push<T: Drop>(all: &mut Vec<T>, item: T) -> Result<(), Why> {
+    all.push(item)?;
+    Ok(())
+}
+
 /// The first line that is refused, counted from 1, and why.
 #[derive(Clone, Copy, Debug, PartialEq, Eq)]
 pub struct Broken {

@@ -7,9 +7,14 @@ use std::alloc::Global;
 use std::collections::BTreeSet;
 
 /// The names of all cases that were read so far.
-#[derive(Drop)]
 pub(crate) struct Names {
     pub inner: BTreeSet<String>,
+}
+
+impl Drop for Names {
+    fn drop(self) {
+        let Names { inner: _ } = self;
+    }
 }
 
 impl Names {

@@ -1,5 +1,5 @@
 // The numbers of a line.
-use crate::fault::Why;
+use crate::fault::{Why, push};
 use std::alloc::Global;
 
 /// A number.
@@ -22,15 +22,15 @@ pub(crate) fn status(written: &str) -> Result<u8, Why> {
 pub(crate) fn add_numbers(all: &mut Vec<u64>, written: &str) -> Result<(), Why> {
     let mut found = false;
     for one in written.split_whitespace() {
-        all.push(number(one)?)?;
+        push(all, number(one)?)?;
         found = true;
     }
     if found { Ok(()) } else { Err(Why::Number) }
 }
 
-/// The first word, a number, and all that follows the blank behind it.
-pub(crate) fn number_and_rest(written: &str) -> Result<(u64, &str), Why> {
-    let Some((first, rest)) = written.split_once(' ') else {
+/// A number, and all that follows what ends it.
+pub(crate) fn number_and_rest<'a>(written: &'a str, end: &str) -> Result<(u64, &'a str), Why> {
+    let Some((first, rest)) = written.split_once(end) else {
         return Err(Why::Number);
     };
     match number(first) {
@@ -52,16 +52,12 @@ pub(crate) fn ranged(written: &str) -> Result<RangeLine<'_>, Why> {
     let Some((before, rest)) = written.split_once('{') else {
         return Err(Why::Number);
     };
-    let Some((range, behind)) = rest.split_once('}') else {
-        return Err(Why::Number);
-    };
-    let Some((least, most)) = range.split_once("..") else {
-        return Err(Why::Number);
-    };
+    let (least, rest) = number_and_rest(rest, "..")?;
+    let (most, behind) = number_and_rest(rest, "}")?;
     Ok(RangeLine {
         before,
-        least: number(least)?,
-        most: number(most)?,
+        least,
+        most,
         behind,
     })
 }

@@ -1,8 +1,8 @@
 // The reader of case files.
-use crate::case::{After, Case, Left, NamedText};
+use crate::case::{After, Case, Left, NamedText, find_text};
 use crate::case_text::{CaseText, Piece};
 use crate::escapes::{unescaped, words};
-use crate::fault::{Broken, Why};
+use crate::fault::{Broken, Why, push};
 use crate::names::Names;
 use crate::numbers::{RangeLine, add_numbers, number_and_rest, ranged, status};
 use std::alloc::Global;
@@ -21,7 +21,6 @@ enum Place {
 
 /// Reads files of cases, one after another. What is shared, and the names of all cases, are kept from
 /// file to file.
-#[derive(Drop)]
 pub struct Reader {
     alloc: Global,
     shared: Vec<NamedText>,
@@ -29,6 +28,18 @@ pub struct Reader {
     // The cases of the file that is being read.
     cases: Vec<Case>,
     place: Place,
+}
+
+impl Drop for Reader {
+    fn drop(self) {
+        let Reader {
+            alloc: _,
+            shared: _,
+            names: _,
+            cases: _,
+            place: _,
+        } = self;
+    }
 }
 
 impl Reader {
@@ -95,41 +106,24 @@ impl Reader {
         let name = named(rest)?;
         self.names.add(String::from_str(self.alloc, name)?)?;
         let name = String::from_str(self.alloc, name)?;
-        self.cases.push(Case::new(self.alloc, name))?;
         self.place = Place::Nowhere;
-        Ok(())
+        push(&mut self.cases, Case::new(self.alloc, name))
     }
 
     fn begin_shared(&mut self, rest: &str) -> Result<(), Why> {
         self.end_case()?;
-        let name = named(rest)?;
-        if self.find_shared(name).is_some() {
-            return Err(Why::Repeated);
-        }
-        self.shared.push(NamedText {
-            name: String::from_str(self.alloc, name)?,
-            text: CaseText::new(self.alloc),
-        })?;
         self.place = Place::Shared;
-        Ok(())
+        add_text(self.alloc, &mut self.shared, named(rest)?)
     }
 
     fn begin_file(&mut self, rest: &str) -> Result<(), Why> {
         let (name, shared) = name_and_shared(rest);
         let name = named(name)?;
-        let alloc = self.alloc;
         let Some(case) = self.cases.last_mut() else {
             return Err(Why::NoCase);
         };
-        if case.file(name).is_some() {
-            return Err(Why::Repeated);
-        }
-        case.files.push(NamedText {
-            name: String::from_str(alloc, name)?,
-            text: CaseText::new(alloc),
-        })?;
-        self.place = Place::File;
-        self.add_named(shared)
+        add_text(self.alloc, &mut case.files, name)?;
+        self.begin_text(Place::File, shared)
     }
 
     fn begin_out(&mut self, rest: &str) -> Result<(), Why> {
@@ -137,13 +131,11 @@ impl Reader {
         if shared.is_none() && !rest.trim().is_empty() {
             return Err(Why::Word);
         }
-        let text = CaseText::new(self.alloc);
-        match self.cases.last_mut() {
-            Some(case) => case.out.push(text)?,
-            None => return Err(Why::NoCase),
-        }
-        self.place = Place::Out;
-        self.add_named(shared)
+        let Some(case) = self.cases.last_mut() else {
+            return Err(Why::NoCase);
+        };
+        push(&mut case.out, CaseText::new(self.alloc))?;
+        self.begin_text(Place::Out, shared)
     }
 
     fn begin_after(&mut self, rest: &str) -> Result<(), Why> {
@@ -158,23 +150,13 @@ impl Reader {
             return Err(Why::Repeated);
         }
         let name = String::from_str(alloc, name)?;
-        case.after.push(After { name, left })?;
-        self.place = Place::After;
-        self.add_named(shared)
+        push(&mut case.after, After { name, left })?;
+        self.begin_text(Place::After, shared)
     }
 
-    // The shared text of this name.
-    fn find_shared(&self, name: &str) -> Option<&CaseText> {
-        for one in self.shared.iter() {
-            if one.name.as_str() == name {
-                return Some(&one.text);
-            }
-        }
-        None
-    }
-
-    // Adds the shared text that the first line of a text names, where it names one.
-    fn add_named(&mut self, shared: Option<&str>) -> Result<(), Why> {
+    // A text begins, with the shared text that its first line names, where it names one.
+    fn begin_text(&mut self, place: Place, shared: Option<&str>) -> Result<(), Why> {
+        self.place = place;
         match shared {
             Some(name) => self.add_shared(name),
             None => Ok(()),
@@ -183,11 +165,10 @@ impl Reader {
 
     // Adds a shared text to the text that has begun.
     fn add_shared(&mut self, name: &str) -> Result<(), Why> {
-        let copy = match self.find_shared(name.trim()) {
-            Some(text) => text.clone()?,
-            None => return Err(Why::Unknown),
+        let Some(text) = find_text(self.shared.as_slice(), name.trim()) else {
+            return Err(Why::Unknown);
         };
-        for piece in copy.pieces {
+        for piece in text.clone()?.into_pieces() {
             self.add_piece(piece)?;
         }
         Ok(())
@@ -210,37 +191,66 @@ impl Reader {
 
     // Adds a piece to the text that has begun.
     fn add_piece(&mut self, piece: Piece) -> Result<(), Why> {
-        if let Place::Shared = self.place {
-            return match self.shared.last_mut() {
-                Some(shared) => push_piece(&mut shared.text, piece),
-                None => Err(Why::NoText),
-            };
+        if matches!(self.place, Place::File) && is_open(&piece) {
+            return Err(Why::NotExpected);
         }
-        let Some(case) = self.cases.last_mut() else {
-            return Err(Why::NoText);
-        };
-        match self.place {
-            Place::File if is_open(&piece) => Err(Why::NotExpected),
-            Place::File => match case.files.last_mut() {
-                Some(file) => push_piece(&mut file.text, piece),
-                None => Err(Why::NoText),
-            },
-            Place::Out => match case.out.last_mut() {
-                Some(text) => push_piece(text, piece),
-                None => Err(Why::NoText),
-            },
-            Place::After => match case.after.last_mut() {
-                Some(
-                    After {
-                        left: Left::Text(text),
-                        ..
-                    },
-                ) => push_piece(text, piece),
-                _ => Err(Why::NoText),
-            },
-            Place::Shared | Place::Nowhere => Err(Why::NoText),
+        match self.open_text() {
+            Some(text) => push(&mut text.pieces, piece),
+            None => Err(Why::NoText),
         }
     }
+
+    // The text that has begun.
+    fn open_text(&mut self) -> Option<&mut CaseText> {
+        if let Place::Shared = self.place {
+            return last_text(&mut self.shared);
+        }
+        match self.cases.last_mut() {
+            Some(case) => open_text_of(case, self.place),
+            None => None,
+        }
+    }
+}
+
+// The text of a case that has begun there.
+fn open_text_of(case: &mut Case, place: Place) -> Option<&mut CaseText> {
+    match place {
+        Place::File => last_text(&mut case.files),
+        Place::Out => case.out.last_mut(),
+        Place::After => last_left(&mut case.after),
+        Place::Shared | Place::Nowhere => None,
+    }
+}
+
+// The last text.
+fn last_text(texts: &mut Vec<NamedText>) -> Option<&mut CaseText> {
+    match texts.last_mut() {
+        Some(last) => Some(&mut last.text),
+        None => None,
+    }
+}
+
+// The text that is expected of the last file, where one is.
+fn last_left(after: &mut Vec<After>) -> Option<&mut CaseText> {
+    match after.last_mut() {
+        Some(
+            After {
+                left: Left::Text(text),
+                ..
+            },
+        ) => Some(text),
+        _ => None,
+    }
+}
+
+// Adds a text without a piece, under a name that no earlier one has.
+fn add_text(alloc: Global, texts: &mut Vec<NamedText>, name: &str) -> Result<(), Why> {
+    if find_text(texts.as_slice(), name).is_some() {
+        return Err(Why::Repeated);
+    }
+    let name = String::from_str(alloc, name)?;
+    let text = CaseText::new(alloc);
+    push(texts, NamedText { name, text })
 }
 
 // A name, which is not empty.
@@ -277,18 +287,10 @@ fn is_open(piece: &Piece) -> bool {
     matches!(piece, Piece::Number { .. } | Piece::Front)
 }
 
-fn push_piece(text: &mut CaseText, piece: Piece) -> Result<(), Why> {
-    text.pieces.push(piece)?;
-    Ok(())
-}
-
 // A line of a case that is no text.
 fn read_values(case: &mut Case, alloc: Global, head: &str, rest: &str) -> Result<(), Why> {
     match head {
-        "words" => {
-            case.words.push(words(alloc, rest)?)?;
-            Ok(())
-        }
+        "words" => push(&mut case.words, words(alloc, rest)?),
         "status" => {
             case.status = status(rest)?;
             Ok(())
@@ -304,7 +306,7 @@ fn read_values(case: &mut Case, alloc: Global, head: &str, rest: &str) -> Result
 // A line of a text with its line feed.
 fn whole_line(alloc: Global, line: &str) -> Result<Vec<u8>, Why> {
     let mut bytes = Vec::from_slice(alloc, line.as_bytes())?;
-    bytes.push(b'\n')?;
+    push(&mut bytes, b'\n')?;
     Ok(bytes)
 }
 
@@ -315,13 +317,13 @@ fn read_piece(alloc: Global, head: &str, rest: &str) -> Result<Piece, Why> {
         "\\" => Ok(Piece::Bytes(unescaped(alloc, rest)?)),
         "front" => Ok(Piece::Front),
         "*" => {
-            let (times, piece) = number_and_rest(rest)?;
-            let bytes = unescaped(alloc, piece)?;
+            let (times, written) = number_and_rest(rest, " ")?;
+            let bytes = unescaped(alloc, written)?;
             Ok(Piece::Repeated { times, bytes })
         }
         "to" => {
-            let (length, piece) = number_and_rest(rest)?;
-            let bytes = unescaped(alloc, piece)?;
+            let (length, written) = number_and_rest(rest, " ")?;
+            let bytes = unescaped(alloc, written)?;
             Ok(Piece::Filled { length, bytes })
         }
         _ => Err(Why::Word),
