@@ -1,5 +1,5 @@
-ghost use Rattle.std.specs.Prelude.{◌≡◌, ◌++◌, [], OnOk, ◌+◌, ◌^◌, ◌≤◌, ◌<◌, true, length, map, option_map, position, bytes_eq, IfOk, IfSome, MatchResult, Ok, Err};
-ghost use Rattle.std.specs.List.{cons_option, filter_map, list_all, list_any};
+ghost use Rattle.std.specs.Prelude.{◌≡◌, ◌++◌, [], OnOk, ◌+◌, ◌^◌, ◌≤◌, ◌<◌, true, length, map, option_map, IfOk, IfSome, MatchResult, Ok, Err};
+ghost use Rattle.std.specs.List.{cons_option, filter_map, list_all};
 ghost use Rattle.serde_json.specs.View.{view};
 ghost use Rattle.amber_rows.specs.Columns.{names_of, are_apart, is_among, is_column_name, column_kind_at};
 ghost use Rattle.amber_rows.specs.Chain.{each};
@@ -58,19 +58,13 @@ pub fn read_columns(
     Ok(Ok(columns))
 }
 
-fn index_of(columns: &[Column], name: &str) -> Option<usize>
-    ensures { result ≡ position (λ column. bytes_eq column.name name.now) columns.now }
-{
-    columns.iter().position(|column| column.name.get() == name)
-}
-
 /// The number of the column with this name, from 1.
 pub fn find_column(columns: &[Column], name: &str) -> Option<u32>
     requires { length columns.now ≤ 64 }
     ensures number { result ≡ column_number columns.now name.now }
     ensures there { IfSome result (λ number. (0 < number) × (number ≤ length columns.now)) }
 {
-    match index_of(columns, name) {
+    match columns.iter().position(|column| column.name.get() == name) {
         None => None,
         Some(index) => Some(index as u32 + 1),
     }
@@ -168,16 +162,11 @@ pub fn add_named(
     Ok(())
 }
 
-fn has_named(columns: &[Column], name: &str) -> bool
-    ensures { result ≡ list_any (λ column. bytes_eq column.name name.now) columns.now }
-{
-    columns.iter().any(|column| column.name.get() == name)
-}
-
 fn has_column(columns: &[Column], name: &Text) -> bool
     ensures { result ≡ is_among name.now (names_of columns.now) }
 {
-    has_named(columns, name.get())
+    let name = name.get();
+    columns.iter().any(|column| column.name.get() == name)
 }
 
 /// Whether no name stands twice.

@@ -1,6 +1,6 @@
-ghost use Rattle.std.specs.Prelude.{◌≡◌, IfOk, map, option_and_then, option_map};
-ghost use Rattle.serde_json.specs.Find.{as_array, as_str, get};
-ghost use Rattle.serde_json.specs.View.{items_view, view};
+ghost use Rattle.std.specs.Prelude.{◌≡◌, IfOk, map, option_map};
+ghost use Rattle.serde_json.specs.Find.{as_str};
+ghost use Rattle.serde_json.specs.View.{view};
 ghost use Rattle.amber_rows.specs.Chain.{each};
 ghost use Rattle.amber_flow.specs.Fields.{array_at, text_at, text_in, texts_at};
 
@@ -14,19 +14,12 @@ pub fn text_field<'v>(object: &'v Value, key: &str) -> Option<&'v str>
     object.get(key).and_then(Value::as_str)
 }
 
-fn items_field<'v>(object: &'v Value, key: &str) -> Option<&'v Vec<Value>>
-    ensures { option_map (λ list. items_view list.now.items) result
-        ≡ option_and_then as_array (get key.now (view object.now)) }
-{
-    object.get(key).and_then(Value::as_array)
-}
-
 /// The list at a key of an object.
 pub fn list_field<'v>(object: &'v Value, key: &str) -> Option<&'v Vec<Value>>
     ensures { option_map (λ list. map view list.now.items) result
         ≡ array_at key.now (view object.now) }
 {
-    items_field(object, key)
+    object.get(key).and_then(Value::as_array)
 }
 
 /// The texts of a list, if each value is one.

@@ -1,8 +1,7 @@
-ghost use Rattle.std.specs.Prelude.{◌≡◌, ◌<◌, ◌≤◌, true, false, bytes_eq, IfOk, IfSome, option_map};
-ghost use Rattle.std.specs.List.{list_any};
+ghost use Rattle.std.specs.Prelude.{◌≡◌, ◌<◌, ◌≤◌, true, false, IfOk, IfSome, option_map};
 ghost use Rattle.serde_json.specs.View.{view};
 ghost use Rattle.amber_rows.specs.Columns.{is_among, is_id};
-ghost use Rattle.amber_flow.specs.Operators.{head_of, ids_of, is_placed, most_workers, new_id, workers_from};
+ghost use Rattle.amber_flow.specs.Operators.{head_of, ids_of, most_workers, new_id, workers_from};
 ghost use Rattle.amber_flow.specs.Names.{is_sink_kind};
 
 use crate::error::FlowWhy;
@@ -17,16 +16,10 @@ pub struct Head {
     pub workers: u32,
 }
 
-fn has_id(before: &[Operator], id: &str) -> bool
-    ensures { result ≡ list_any (λ operator. bytes_eq operator.id id.now) before.now }
-{
-    before.iter().any(|operator| operator.id.get() == id)
-}
-
 fn is_taken(before: &[Operator], id: &str) -> bool
     ensures { result ≡ is_among id.now (ids_of before.now) }
 {
-    has_id(before, id)
+    before.iter().any(|operator| operator.id.get() == id)
 }
 
 /// Whether an id is a name that no earlier operator has.
@@ -75,16 +68,6 @@ fn read_workers(most: u64, tree: Option<&Value>) -> Option<u32>
     }
 }
 
-fn stands_right(kind: Kind, is_last: bool) -> bool
-    ensures { result ≡ is_placed kind is_last }
-{
-    if is_last {
-        kind.is_sink()
-    } else {
-        !kind.is_sink()
-    }
-}
-
 /// The kind and the workers of an operator.
 #[tactic(auto, unfolding(crate::specs::Operators::head_of))]
 pub fn read_head(is_last: bool, word: &str, tree: &Value) -> Result<Head, FlowWhy>
@@ -100,7 +83,7 @@ pub fn read_head(is_last: bool, word: &str, tree: &Value) -> Result<Head, FlowWh
     let Some(workers) = read_workers(most_of(kind), tree.get("workers")) else {
         return Err(FlowWhy::Workers);
     };
-    if !stands_right(kind, is_last) {
+    if kind.is_sink() != is_last {
         return Err(FlowWhy::SinkPlace);
     }
     Ok(Head { kind, workers })

@@ -1,14 +1,8 @@
-ghost use Rattle.std.specs.Prelude.{◌≡◌, ◌<◌, ◌≤◌, All, IfSome, Some, bytes_eq, length, option_map, position};
+ghost use Rattle.std.specs.Prelude.{◌≡◌, ◌<◌, ◌≤◌, All, IfSome, Some, length};
 ghost use Rattle.amber_rows.specs.Columns.{HasInput};
 ghost use Rattle.amber_flow.specs.Inputs.{IsNarrow, operator_columns, operator_number};
 
 use amber_rows::{Operator, Schema};
-
-fn index_of_operator(before: &[Operator], id: &str) -> Option<usize>
-    ensures { result ≡ position (λ operator. bytes_eq operator.id id.now) before.now }
-{
-    before.iter().position(|operator| operator.id.get() == id)
-}
 
 /// The number of the earlier operator with this id, from 1.
 pub fn find_operator(before: &[Operator], id: &str) -> Option<u32>
@@ -16,7 +10,7 @@ pub fn find_operator(before: &[Operator], id: &str) -> Option<u32>
     ensures number { result ≡ operator_number before.now id.now }
     ensures there { IfSome result (λ number. (0 < number) × (number ≤ length before.now)) }
 {
-    match index_of_operator(before, id) {
+    match before.iter().position(|operator| operator.id.get() == id) {
         None => None,
         Some(index) => Some(index as u32 + 1),
     }

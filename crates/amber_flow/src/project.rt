@@ -2,8 +2,7 @@ ghost use Rattle.std.specs.Prelude.{◌≡◌, ◌<◌, ◌≤◌, All, IfOk, fa
 ghost use Rattle.std.specs.List.{filter_map};
 ghost use Rattle.serde_json.specs.View.{view};
 ghost use Rattle.amber_rows.specs.Chain.{each};
-ghost use Rattle.amber_flow.specs.Columns.{is_new_name, renaming_of, source_of};
-ghost use Rattle.amber_flow.specs.Fields.{text_in};
+ghost use Rattle.amber_flow.specs.Columns.{renaming_of, source_of};
 ghost use Rattle.amber_flow.specs.Inputs.{IsNarrow};
 ghost use Rattle.amber_flow.specs.Operators.{project_of};
 ghost use Rattle.amber_flow.specs.Parts.{IsMeant};
@@ -18,23 +17,13 @@ use amber_rows::{Cols, Column, Operator, Schema, Text, What};
 use serde_json::Value;
 use std::alloc::{AllocError, Global};
 
-fn has_new_name(tree: &Value) -> bool
-    ensures { result ≡ is_new_name (text_in 1 (view tree.now)) }
-{
-    match text_item(tree, 1) {
-        None => false,
-        Some(name) => may_name_column(name),
-    }
-}
-
 /// The name of the column that a pair of texts renames, if its other text may name a column.
 fn source(pair: &Value) -> Option<&str>
     ensures { option_map (λ name. name.now) result ≡ source_of (view pair.now) }
 {
-    if pair.get(2).is_none() && has_new_name(pair) {
-        text_item(pair, 0)
-    } else {
-        None
+    match text_item(pair, 1) {
+        Some(name) if may_name_column(name) && pair.get(2).is_none() => text_item(pair, 0),
+        _ => None,
     }
 }
 
