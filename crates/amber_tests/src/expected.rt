@@ -29,17 +29,27 @@ pub fn expect_bytes(alloc: Global, found: &[u8], want: &str) -> Result<(), Fail>
     Err(Fail::new(format_args!("not UTF-8, not: {want}")))
 }
 
+// Whether it is the row of a text.
+fn is_row(alloc: Global, found: &Row, want: &str) -> Result<bool, Fail> {
+    Ok(*found == row(alloc, want)?)
+}
+
 /// Expects a row.
 pub fn expect_row(alloc: Global, found: &Row, want: &str) -> Result<(), Fail> {
-    if *found == row(alloc, want)? {
+    if is_row(alloc, found, want)? {
         return Ok(());
     }
     Err(Fail::new(format_args!("found: {found:?}\nnot: {want}")))
 }
 
+// Whether these are the rows of a text.
+fn are_rows(alloc: Global, found: &[Row], want: &str) -> Result<bool, Fail> {
+    Ok(found == rows(alloc, want)?.as_slice())
+}
+
 /// Expects rows in this order.
 pub fn expect_rows(alloc: Global, found: &[Row], want: &str) -> Result<(), Fail> {
-    if found == rows(alloc, want)?.as_slice() {
+    if are_rows(alloc, found, want)? {
         return Ok(());
     }
     Err(Fail::new(format_args!("found: {found:?}\nnot: {want}")))
