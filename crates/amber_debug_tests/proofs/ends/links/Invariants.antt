@@ -1,7 +1,7 @@
 -- Through the links so far nothing went.
 use Rattle.std.specs.Prelude.{All}
 use Rattle.amber_worker.specs.Made.{IsFreshIn, IsFreshOut}
-use Rattle.amber_worker_tests.proofs.ends.links.Given as goal
+use Rattle.amber_debug_tests.proofs.ends.links.Given as goal
 
 abbrev pub invariant-links : goal.invariant-links
 invariant-links l = record {

@@ -1,6 +1,6 @@
 -- No more batches were made than rows were pushed.
 use Rattle.std.proofs.Common.{◌≡◌, ◌+◌, ◌≤◌, false}
-use Rattle.amber_worker_tests.proofs.both_ends.fill.Given as goal
+use Rattle.amber_debug_tests.proofs.both_ends.fill.Given as goal
 
 abbrev pub invariant-loop-number : goal.invariant-loop-number
 invariant-loop-number l = record {

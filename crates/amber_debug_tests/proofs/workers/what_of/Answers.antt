@@ -3,7 +3,7 @@ use Rattle.std.proofs.Common.{◌≡◌, ◌∙◌, ◌-◌, ◌<◌, ℕ, List,
 use Rattle.amber_rows.specs.Crew.{crew_of, op_of, what_at}
 use Rattle.amber_rows.specs.declared.flow.Operator.{Operator}
 use Rattle.amber_rows.proofs.CrewFacts.{kind-there, placed}
-use Rattle.amber_worker_tests.proofs.workers.what_of.Goals as goal
+use Rattle.amber_debug_tests.proofs.workers.what_of.Goals as goal
 
 -- the kind of a worker's operator, looked up by its place
 kind-here : (flow operators : List Operator) (worker op : ℕ) (d : Operator) → worker < crew_of flow → operators ≡ flow → op ≡ op_of flow worker
