@@ -1,11 +1,10 @@
-ghost use Rattle.std.specs.Prelude.{◌≡◌, ◌↔◌, IsTrue};
+ghost use Rattle.std.specs.Prelude.{◌≡◌};
 
 use amber_rows::{Cond, Value};
 use std::alloc::AllocError;
 use std::marker::Model;
 
 /// A command to a paused run. Operators and columns are numbered from 1, an operator's workers from 0.
-#[derive(PartialEq, Eq)]
 pub enum Command {
     /// Runs until something stops the workers. A log keeps this as a leg.
     Run,
@@ -43,15 +42,6 @@ impl Drop for Command {
             Command::Inspect { op: _ } => {}
             Command::Lose { op: _, worker: _ } => {}
         }
-    }
-}
-
-impl Command {
-    /// Whether another command is the same: `==`, as a fact on what both say.
-    pub fn is_same(&self, other: &Command) -> bool
-        ensures { IsTrue result ↔ (self.now ≡ other.now) }
-    {
-        self == other
     }
 }
 

@@ -3,7 +3,7 @@ ghost use Rattle.std.specs.Prelude.{◌≡◌};
 use std::marker::Model;
 
 /// One step of a worker in a leg. Workers are numbered through the whole workflow, from 0.
-#[derive(Clone, Copy, PartialEq, Eq)]
+#[derive(Clone, Copy)]
 pub enum Entry {
     /// Takes a batch of a sender. A sender's batches are numbered from 0.
     Take { from: u32, batch: u64 },

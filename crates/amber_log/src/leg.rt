@@ -63,7 +63,7 @@ impl Parts {
 }
 
 /// How a leg ended.
-#[derive(Clone, Copy, PartialEq, Eq)]
+#[derive(Clone, Copy)]
 pub enum Close {
     /// Something stopped the run, or it came to its end.
     Cut,

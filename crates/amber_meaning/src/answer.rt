@@ -106,7 +106,7 @@ pub struct Answer {
 }
 
 /// Why a query has no answer.
-#[derive(Clone, Copy, PartialEq, Eq)]
+#[derive(Clone, Copy)]
 pub enum PlainErr {
     /// The file of the scan with this number does not begin with the names of its columns; it is the first such scan.
     Header(u32),

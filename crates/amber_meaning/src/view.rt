@@ -106,7 +106,7 @@ impl Clone for Stops {
 }
 
 /// How a worker stands.
-#[derive(Clone, Copy, PartialEq, Eq)]
+#[derive(Clone, Copy)]
 pub enum Stand {
     Ready,
     Held,
@@ -114,7 +114,7 @@ pub enum Stand {
 }
 
 /// What a worker shows by the kind of its operator.
-#[derive(Clone, Copy, PartialEq, Eq)]
+#[derive(Clone, Copy)]
 pub enum Extra {
     Nothing,
     /// How many of the records taken were refused.
@@ -190,7 +190,7 @@ impl Views {
 }
 
 /// An armed count: how many rows have been counted, and how many it asks for.
-#[derive(Clone, Copy, PartialEq, Eq)]
+#[derive(Clone, Copy)]
 pub struct Counted {
     pub counted: u64,
     pub target: u64,

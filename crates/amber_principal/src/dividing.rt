@@ -6,7 +6,7 @@ ghost use Rattle.amber_principal.specs.Turns.{after_share, next_share};
 use crate::PLACES;
 
 /// What the worker at a place needs.
-#[derive(Clone, Copy, Debug, PartialEq, Eq)]
+#[derive(Clone, Copy)]
 pub enum Need {
     /// There is no such worker.
     Absent,
@@ -50,7 +50,7 @@ fn able_count(needs: &[Need; PLACES]) -> u64
 
 // How an even division goes on: what each gets, how many units are left over, and how many come before the next starved
 // and the next able one.
-#[derive(Clone, Copy, Debug)]
+#[derive(Clone, Copy)]
 struct Turns {
     each: u64,
     left: u64,

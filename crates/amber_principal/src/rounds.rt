@@ -13,7 +13,7 @@ use amber_board::{Board, ChiefSeat};
 use std::marker::Model;
 
 /// Whether all units of the target were seen counted.
-#[derive(Clone, Copy, Debug, PartialEq, Eq)]
+#[derive(Clone, Copy, PartialEq, Eq)]
 pub enum Seen {
     /// Every unit is counted.
     Hit,
@@ -22,7 +22,7 @@ pub enum Seen {
 }
 
 /// What a round found, and what the workers are asked to do, by their places.
-#[derive(Clone, Copy, Debug, PartialEq, Eq)]
+#[derive(Clone, Copy)]
 pub struct Order {
     /// Whether the target is reached.
     pub seen: Seen,

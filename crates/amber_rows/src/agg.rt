@@ -4,7 +4,7 @@ use std::alloc::AllocError;
 use std::marker::Model;
 
 /// What a group says of the rows with one key. A column is a number from 1.
-#[derive(Clone, Copy, Debug, PartialEq, Eq)]
+#[derive(Clone, Copy)]
 pub enum Agg {
     /// How many rows there are.
     Count,
@@ -17,7 +17,6 @@ pub enum Agg {
 }
 
 /// The aggregates of a group, seen as a list.
-#[derive(Debug)]
 pub struct Aggs {
     inner: Vec<Agg>,
 }

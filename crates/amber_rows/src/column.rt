@@ -8,7 +8,7 @@ use std::alloc::{AllocError, Global};
 use std::marker::Model;
 
 /// What the cells of a column are.
-#[derive(Clone, Copy, Debug, PartialEq, Eq)]
+#[derive(Clone, Copy, PartialEq, Eq)]
 pub enum ColKind {
     Int,
     Text,
@@ -27,7 +27,6 @@ impl ColKind {
 }
 
 /// A column: its name, and what its cells are.
-#[derive(Debug)]
 pub struct Column {
     pub name: Text,
     pub kind: ColKind,
@@ -51,7 +50,6 @@ impl Clone for Column {
 }
 
 /// The columns of an operator, seen as a list. They are numbered from 1.
-#[derive(Debug)]
 pub struct Schema {
     inner: Vec<Column>,
 }
@@ -105,7 +103,6 @@ impl Clone for Schema {
 }
 
 /// Numbers of columns, seen as a list.
-#[derive(Debug)]
 pub struct Cols {
     inner: Vec<u32>,
 }

@@ -7,7 +7,7 @@ use std::alloc::AllocError;
 use std::cmp::Ordering;
 
 /// How a cell is compared with a constant.
-#[derive(Clone, Copy, Debug, PartialEq, Eq)]
+#[derive(Clone, Copy)]
 pub enum Cmp {
     Eq,
     Ne,
@@ -34,7 +34,6 @@ impl Cmp {
 }
 
 /// A condition on one column of a row. Columns are numbered from 1.
-#[derive(Debug, PartialEq, Eq)]
 pub struct Cond {
     pub column: u32,
     pub op: Cmp,

@@ -9,7 +9,6 @@ use crate::text::{Bytes, Text};
 use std::marker::Model;
 
 /// What an operator does with the rows of its input. An input is an operator's number; they are numbered from 1.
-#[derive(Debug)]
 pub enum What {
     /// Gives the typed records of a file.
     Scan {
@@ -67,7 +66,6 @@ impl Drop for What {
 }
 
 /// One operator of a workflow: its id, what it does, the columns that it gives, and how many workers do it.
-#[derive(Debug)]
 pub struct Operator {
     pub id: Text,
     pub what: What,

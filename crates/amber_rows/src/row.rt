@@ -17,7 +17,6 @@ use std::cmp::Ordering;
 use std::marker::Model;
 
 /// A row, seen as the list of its cells.
-#[derive(Debug)]
 pub struct Row {
     // Made once from the cells, so that most comparisons look at no cell.
     key: u64,

@@ -97,12 +97,6 @@ impl Clone for Text {
     }
 }
 
-impl fmt::Debug for Text {
-    fn fmt<W: fmt::Write>(&self, f: &mut fmt::Formatter<W>) -> fmt::Result {
-        fmt::Debug::fmt(self.get(), f)
-    }
-}
-
 impl PartialEq for Text {
     ghost eq = { pointwise ◌==◌ };
 

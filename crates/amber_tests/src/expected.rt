@@ -1,6 +1,6 @@
 // What is expected of numbers, texts and rows. A test fails by what was found, not by its line.
 use crate::written::{row, rows};
-use amber_rows::Row;
+use amber_rows::{NoMemory, Row, append_rows, row_text};
 use std::alloc::Global;
 use std::test::Fail;
 
@@ -34,12 +34,12 @@ fn is_row(alloc: Global, found: &Row, want: &str) -> Result<bool, Fail> {
     Ok(*found == row(alloc, want)?)
 }
 
-/// Expects a row.
+/// Expects a row. One that differs is shown as the record of a file.
 pub fn expect_row(alloc: Global, found: &Row, want: &str) -> Result<(), Fail> {
     if is_row(alloc, found, want)? {
         return Ok(());
     }
-    Err(Fail::new(format_args!("found: {found:?}\nnot: {want}")))
+    expect_bytes(alloc, &row_text(alloc, found)?, want)
 }
 
 // Whether these are the rows of a text.
@@ -47,10 +47,15 @@ fn are_rows(alloc: Global, found: &[Row], want: &str) -> Result<bool, Fail> {
     Ok(found == rows(alloc, want)?.as_slice())
 }
 
-/// Expects rows in this order.
+// Rows as the records of a file.
+fn records(alloc: Global, rows: &[Row]) -> Result<Vec<u8>, NoMemory> {
+    append_rows(alloc, Vec::new(alloc), rows)
+}
+
+/// Expects rows in this order. Others are shown as the records of a file.
 pub fn expect_rows(alloc: Global, found: &[Row], want: &str) -> Result<(), Fail> {
     if are_rows(alloc, found, want)? {
         return Ok(());
     }
-    Err(Fail::new(format_args!("found: {found:?}\nnot: {want}")))
+    expect_bytes(alloc, &records(alloc, found)?, want)
 }

@@ -1,6 +1,6 @@
 // The states of groups.
 use crate::expected::{expect_number, expect_rows};
-use crate::written::{cols, rows};
+use crate::written::{cols, row, rows};
 use amber_group::GroupState;
 use amber_rows::{Agg, Aggs, Row, Value};
 use std::alloc::{AllocError, Global};
@@ -64,7 +64,7 @@ const GROUPS: [Case; 4] = [
     Case {
         keys: "1",
         aggs: "count sum2 min3 max3 min2 max2",
-        fed: "'b 5 'x / 'a 1 'y / 'b -7 'w / 'b 0 'wa /",
+        fed: "'b 5 'x / 'a 1 'y / 'b -7 'w / 'b 0 'wa",
         rows: "'b 3 -2 'w 'x -7 5 / 'a 1 1 'y 'y 1 1 /",
         refused: "",
         groups: 2,
@@ -73,7 +73,7 @@ const GROUPS: [Case; 4] = [
     Case {
         keys: "1",
         aggs: "sum2",
-        fed: "'a 'x / 'a 3 / 'b 'y /",
+        fed: "'a 'x / 'a 3 / 'b 'y",
         rows: "'a 3 / 'b 0 /",
         refused: "",
         groups: 2,
@@ -82,7 +82,7 @@ const GROUPS: [Case; 4] = [
     Case {
         keys: "1",
         aggs: "min3",
-        fed: "'a 1 / 'b 2 9 /",
+        fed: "'a 1 / 'b 2 9",
         rows: "'b 9 /",
         refused: "'a /",
         groups: 2,
@@ -91,18 +91,22 @@ const GROUPS: [Case; 4] = [
     Case {
         keys: "1",
         aggs: "count",
-        fed: "1 / '1 / 1 /",
+        fed: "1 / '1 / 1",
         rows: "1 2 / '1 1 /",
         refused: "",
         groups: 2,
     },
 ];
 
+// The state of a group that was fed no row.
+fn empty(alloc: Global, case: &Case) -> Result<GroupState, Fail> {
+    let keys = cols(alloc, case.keys)?;
+    Ok(GroupState::new(alloc, keys, aggs(alloc, case.aggs)?))
+}
+
 // The state of a group.
 fn fed(alloc: Global, case: &Case) -> Result<GroupState, Fail> {
-    let keys = cols(alloc, case.keys)?;
-    let aggs = aggs(alloc, case.aggs)?;
-    let mut state = GroupState::new(alloc, keys, aggs);
+    let mut state = empty(alloc, case)?;
     feed_all(alloc, &mut state, case.fed)?;
     Ok(state)
 }
@@ -129,23 +133,23 @@ fn a_group_gives_its_rows_and_refuses_keys(rt: HostRuntime) -> Result<(), Fail> 
     Ok(())
 }
 
+// Feeds a group its last row, and gives the rows of the groups.
+fn feed_last(alloc: Global, state: &mut GroupState, row: &Row) -> Result<Vec<Row>, AllocError> {
+    let mut out = VecDeque::new(alloc);
+    if state.fed() < 1 << 40 {
+        state.feed_last(row, &mut out)?;
+    }
+    Vec::from_iter(alloc, out)
+}
+
 // The rows that a group gives with its last row.
 fn with_last(alloc: Global, case: &Case) -> Result<Vec<Row>, Fail> {
-    let keys = cols(alloc, case.keys)?;
-    let aggs = aggs(alloc, case.aggs)?;
-    let mut state = GroupState::new(alloc, keys, aggs);
-    let mut out = VecDeque::new(alloc);
-    let mut all = rows(alloc, case.fed)?;
-    let Some(last) = all.pop() else {
-        return Err(Fail::new(format_args!("no row")));
+    let Some((before, last)) = case.fed.rsplit_once('/') else {
+        return Err(Fail::new(format_args!("one row")));
     };
-    for row in all {
-        feed(&mut state, &row)?;
-    }
-    if state.fed() < 1 << 40 {
-        state.feed_last(&last, &mut out)?;
-    }
-    Ok(Vec::from_iter(alloc, out)?)
+    let mut state = empty(alloc, case)?;
+    feed_all(alloc, &mut state, before)?;
+    Ok(feed_last(alloc, &mut state, &row(alloc, last)?)?)
 }
 
 #[test]

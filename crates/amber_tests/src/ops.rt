@@ -62,10 +62,11 @@ fn a_projection_gives_the_cells_in_the_order_of_its_columns(rt: HostRuntime) -> 
     let alloc = rt.alloc();
     let mut project = ProjectState::new(alloc, cols(alloc, "3 1 3")?);
     let mut copy = project.clone()?;
-    expect_projected(alloc, &mut project, "7 'pear 12", "12 7 12")?;
-    expect_projected(alloc, &mut copy, "7 'pear 12", "12 7 12")?;
-    expect_projected(alloc, &mut project, "'x 0 'y 1", "'y 'x 'y")?;
-    expect_projected(alloc, &mut copy, "'x 0 'y 1", "'y 'x 'y")
+    for (fed, want) in [("7 'pear 12", "12 7 12"), ("'x 0 'y 1", "'y 'x 'y")] {
+        expect_projected(alloc, &mut project, fed, want)?;
+        expect_projected(alloc, &mut copy, fed, want)?;
+    }
+    Ok(())
 }
 
 // Feeds a sink rows.
@@ -88,11 +89,9 @@ fn expect_sorted(alloc: Global, sink: &SinkState, want: &str) -> Result<(), Fail
 fn a_sink_sorts_its_rows_and_keeps_equal_ones(rt: HostRuntime) -> Result<(), Fail> {
     let alloc = rt.alloc();
     let mut sink = SinkState::new(alloc);
-    expect_sorted(alloc, &sink, "")?;
     feed_all(alloc, &mut sink, "2 'b / 'a / 2 'b / -7")?;
     let copy = sink.clone()?;
     feed_all(alloc, &mut sink, "'a / 2")?;
-    expect_sorted(alloc, &sink, "-7 / 2 / 2 'b / 2 'b / 'a / 'a")?;
     expect_sorted(alloc, &copy, "-7 / 2 'b / 2 'b / 'a")?;
     expect_sorted(alloc, &sink, "-7 / 2 / 2 'b / 2 'b / 'a / 'a")
 }

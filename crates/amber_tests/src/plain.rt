@@ -68,11 +68,18 @@ fn told(alloc: Global, prices: &str, most: u64) -> Result<String, Fail> {
     Ok(told_of(alloc, &flow, &files, most)?)
 }
 
+// Prices, how many rows there may be, and what comes of it.
+const LIMITS: [(&str, u64, &str); 4] = [
+    (PRICES, 20, "6 rows"),
+    (PRICES, 19, "long"),
+    (PRICES, 0, "long"),
+    ("name\nnut\n", 20, "header 1"),
+];
+
 #[test]
 fn all_operators_rows_are_counted(rt: HostRuntime) -> Result<(), Fail> {
-    let alloc = rt.alloc();
-    expect_text(told(alloc, PRICES, 20)?, "6 rows")?;
-    expect_text(told(alloc, PRICES, 19)?, "long")?;
-    expect_text(told(alloc, PRICES, 0)?, "long")?;
-    expect_text(told(alloc, "name\nnut\n", 20)?, "header 1")
+    for (prices, most, want) in LIMITS {
+        expect_text(told(rt.alloc(), prices, most)?, want)?;
+    }
+    Ok(())
 }

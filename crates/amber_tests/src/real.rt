@@ -1,4 +1,5 @@
 // The system's files and its standard output.
+use crate::expected::expect_text;
 use crate::folders::{expect_loaded, loaded};
 use amber_io::{Folder, IoErr, RealFolder, RealSink, Sink};
 use std::alloc::{AllocError, Global};
@@ -13,34 +14,49 @@ fn temporary<R: Env + AllocGlobal>(rt: &R, name: &str) -> io::Result<String> {
     Ok(String::from_str(rt.alloc(), path.as_str())?)
 }
 
-#[test]
-fn real_folder_loads_what_a_file_holds(rt: HostRuntime) -> Result<(), Fail> {
-    let path = temporary(&rt, "amber_io_real_folder")?;
-    let name = path.as_str();
-    fs::write(&rt, name, "pausable")?;
-    let mut folder = RealFolder::new(rt.alloc(), &rt);
-    expect_loaded(rt.alloc(), &mut folder, name, 0, "")?;
-    expect_loaded(rt.alloc(), &mut folder, name, 5, "pausa")?;
-    expect_loaded(rt.alloc(), &mut folder, name, 8, "pausable")?;
-    expect_loaded(rt.alloc(), &mut folder, name, u64::MAX, "pausable")?;
-    fs::remove_file(&rt, name)?;
-    expect_loaded(rt.alloc(), &mut folder, name, 5, "failed")?;
-    Ok(())
+// What loads of the front of a file give, with a `;` behind each.
+fn fronts<F: Folder>(alloc: Global, folder: &mut F, name: &str) -> Result<String, AllocError> {
+    let mut all = String::new(alloc);
+    for most in [0, 5, 8, u64::MAX] {
+        all.push_str(&loaded(alloc, folder, name, most)?)?;
+        all.push(';')?;
+    }
+    Ok(all)
+}
+
+// Makes a file of two pieces.
+fn rewrite<R: Files>(folder: &mut RealFolder<R>, name: &str) -> Result<(), IoErr> {
+    folder.create(name)?;
+    folder.append(name, b"head")?;
+    folder.append(name, b"+tail")
+}
+
+// Whether nothing is loaded from a file that is not there, and nothing put behind it.
+fn is_absent<R: Files>(
+    alloc: Global,
+    folder: &mut RealFolder<R>,
+    name: &str,
+) -> Result<bool, AllocError> {
+    let found = loaded(alloc, folder, name, 5)?;
+    Ok(found.as_str() == "failed" && folder.append(name, b"x") == Err(IoErr::Failed))
 }
 
 #[test]
-fn real_folder_writes_behind_what_it_made(rt: HostRuntime) -> Result<(), Fail> {
-    let path = temporary(&rt, "amber_io_real_writes")?;
-    let name = path.as_str();
-    fs::write(&rt, name, "older and longer")?;
+fn real_folder_loads_and_writes_a_file(rt: HostRuntime) -> Result<(), Fail> {
+    let path = temporary(&rt, "amber_io_real_folder")?;
+    fs::write(&rt, &path, "pausable")?;
     let mut folder = RealFolder::new(rt.alloc(), &rt);
-    folder.create(name)?;
-    folder.append(name, b"head")?;
-    folder.append(name, b"+tail")?;
-    expect_loaded(rt.alloc(), &mut folder, name, 99, "head+tail")?;
-    fs::remove_file(&rt, name)?;
-    assert!(rt; folder.append(name, b"x") == Err(IoErr::Failed));
-    Ok(())
+    expect_text(
+        fronts(rt.alloc(), &mut folder, &path)?,
+        ";pausa;pausable;pausable;",
+    )?;
+    fs::remove_file(&rt, &path)?;
+    assert!(rt; is_absent(rt.alloc(), &mut folder, &path)?);
+    fs::write(&rt, &path, "older and longer")?;
+    let mut folder = RealFolder::new(rt.alloc(), &rt);
+    rewrite(&mut folder, &path)?;
+    expect_loaded(rt.alloc(), &mut folder, &path, 99, "head+tail")?;
+    Ok(fs::remove_file(&rt, &path)?)
 }
 
 // The names of a file: the one by which it is made, another spelling of it, a link to it and a second name of it.

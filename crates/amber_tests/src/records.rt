@@ -1,5 +1,5 @@
 // Records of files: read, typed and written.
-use crate::expected::expect_bytes;
+use crate::expected::{expect_bytes, expect_text};
 use crate::written::{row, rows, two_columns};
 use amber_rows::{
     RecordReader, Row, RowFault, append_names, append_rows, are_names, has_header, read_int,
@@ -52,26 +52,33 @@ fn a_row_is_written(rt: HostRuntime) -> Result<(), Fail> {
     expect_bytes(rt.alloc(), &text, "-1,\"a,b\"\n")
 }
 
-// Whether the next record has these fields.
-fn gives(
-    alloc: Global,
-    reader: &mut RecordReader,
-    fields: &mut ByteRecord,
-    want: &[&[u8]],
-) -> Result<bool, Fail> {
-    let want = ByteRecord::from_fields(alloc, want)?;
-    Ok(reader.next(fields)? && *fields == want)
+// The fields of a record, with a `;` behind each.
+fn append_record(text: &mut String, fields: &ByteRecord) -> Result<(), Fail> {
+    for field in fields {
+        text.push_str(str::from_utf8(field)?)?;
+        text.push(';')?;
+    }
+    Ok(())
+}
+
+// The fields of the records of a file, with a `/` behind each record.
+fn records(alloc: Global, file: &[u8]) -> Result<String, Fail> {
+    let mut text = String::new(alloc);
+    let mut fields = ByteRecord::new(alloc);
+    let mut reader = RecordReader::open(alloc, file);
+    for _ in file {
+        if !reader.next(&mut fields)? {
+            break;
+        }
+        append_record(&mut text, &fields)?;
+        text.push('/')?;
+    }
+    Ok(text)
 }
 
 #[test]
 fn a_file_is_read_record_by_record(rt: HostRuntime) -> Result<(), Fail> {
-    let alloc = rt.alloc();
-    let mut reader = RecordReader::open(alloc, b"a,\"b,b\"\r\n\n1\n");
-    let mut fields = ByteRecord::new(alloc);
-    assert!(rt; gives(alloc, &mut reader, &mut fields, &[b"a", b"b,b"])?);
-    assert!(rt; gives(alloc, &mut reader, &mut fields, &[b"1"])?);
-    assert!(rt; !reader.next(&mut fields)?);
-    Ok(())
+    expect_text(records(rt.alloc(), b"a,\"b,b\"\r\n\n1\n")?, "a;b,b;/1;/")
 }
 
 // Whether a file begins with the names of the columns `number` and `word`.
@@ -80,13 +87,18 @@ fn begins(alloc: Global, file: &[u8]) -> Result<bool, AllocError> {
     has_header(alloc, &schema, file)
 }
 
+// Whether a record has the names of the columns.
+fn is_header(alloc: Global, fields: &[&[u8]]) -> Result<bool, AllocError> {
+    let schema = two_columns(alloc)?;
+    let fields = ByteRecord::from_fields(alloc, fields)?;
+    Ok(are_names(&fields, &schema))
+}
+
 #[test]
 fn a_header_has_the_names_of_the_columns(rt: HostRuntime) -> Result<(), Fail> {
     let alloc = rt.alloc();
     assert!(rt; begins(alloc, b"number,word\n1,x\n")?);
     assert!(rt; !begins(alloc, b"number\n")?);
-    let schema = two_columns(alloc)?;
-    let fields = ByteRecord::from_fields(alloc, &[b"number".as_slice(), b"word".as_slice()])?;
-    assert!(rt; are_names(&fields, &schema));
+    assert!(rt; is_header(alloc, &[b"number", b"word"])?);
     Ok(())
 }

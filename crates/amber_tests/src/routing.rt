@@ -1,4 +1,7 @@
 // Which worker gets a row, and who sends to whom.
+ghost use Rattle.std.specs.Prelude.{◌<◌};
+ghost use Rattle.amber_rows.specs.Crew.{crew_of};
+
 use crate::expected::expect_text;
 use crate::written::{cols, row};
 use amber_flow::read_flow;
@@ -34,14 +37,21 @@ fn routed(alloc: Global, written: &str, columns: &str) -> Result<String, Fail> {
     Ok(format!(in alloc; "{text} {}", route_row(&row, &columns, 16))?)
 }
 
+// Rows, the columns of their keys, and that text.
+const ROUTED: [(&str, &str, &str); 5] = [
+    ("'nut", "1", "t3:nut; 14 2 14"),
+    ("7 'bolt", "2", "t4:bolt; 15 3 15"),
+    ("'cog 3", "1", "t3:cog; 2 2 2"),
+    ("' -7", "2 1", "i-7;t0:; 14 2 14"),
+    ("1", "", " 5 1 5"),
+];
+
 #[test]
 fn keys_of_rows_go_to_their_workers(rt: HostRuntime) -> Result<(), Fail> {
-    let alloc = rt.alloc();
-    expect_text(routed(alloc, "'nut", "1")?, "t3:nut; 14 2 14")?;
-    expect_text(routed(alloc, "7 'bolt", "2")?, "t4:bolt; 15 3 15")?;
-    expect_text(routed(alloc, "'cog 3", "1")?, "t3:cog; 2 2 2")?;
-    expect_text(routed(alloc, "' -7", "2 1")?, "i-7;t0:; 14 2 14")?;
-    expect_text(routed(alloc, "1", "")?, " 5 1 5")
+    for (row, columns, want) in ROUTED {
+        expect_text(routed(rt.alloc(), row, columns)?, want)?;
+    }
+    Ok(())
 }
 
 const WORKFLOW: &str = r#"{"operators":[
@@ -51,31 +61,40 @@ const WORKFLOW: &str = r#"{"operators":[
 {"id":"j","kind":"join","build":"p","probe":"f","build_keys":["name"],"probe_keys":["item"]},
 {"id":"s","kind":"sink","input":"j"}]}"#;
 
-// Whether these workers send to a worker, and it to those.
-fn has_links(
+// Numbers, with a blank before each.
+fn append_numbers(alloc: Global, text: &mut String, numbers: &[u32]) -> Result<(), AllocError> {
+    for number in numbers {
+        text.push_str(&format!(in alloc; " {number}")?)?;
+    }
+    Ok(())
+}
+
+// Who sends to a worker, and to whom it sends.
+fn append_links(
     alloc: Global,
+    text: &mut String,
     flow: &Flow,
     worker: u32,
-    senders: &str,
-    receivers: &str,
-) -> Result<bool, Fail> {
-    if worker >= flow.workers() {
-        return Ok(false);
+) -> Result<(), AllocError>
+    requires { worker < crew_of flow.now }
+{
+    append_numbers(alloc, text, flow.senders(alloc, worker)?.get())?;
+    text.push_str(" >")?;
+    append_numbers(alloc, text, flow.receivers(alloc, worker)?.get())?;
+    text.push(';')
+}
+
+// The links of all workers.
+fn links(alloc: Global, flow: &Flow) -> Result<String, AllocError> {
+    let mut text = String::new(alloc);
+    for worker in 0..flow.workers() {
+        append_links(alloc, &mut text, flow, worker)?;
     }
-    let senders = cols(alloc, senders)?;
-    let receivers = cols(alloc, receivers)?;
-    let sends = flow.senders(alloc, worker)?.get() == senders.get();
-    Ok(sends && flow.receivers(alloc, worker)?.get() == receivers.get())
+    Ok(text)
 }
 
 #[test]
 fn workers_know_their_senders_and_receivers(rt: HostRuntime) -> Result<(), Fail> {
-    let alloc = rt.alloc();
-    let flow = read_flow(alloc, WORKFLOW.as_bytes())?;
-    assert!(rt; has_links(alloc, &flow, 0, "", "3")?);
-    assert!(rt; has_links(alloc, &flow, 1, "", "2")?);
-    assert!(rt; has_links(alloc, &flow, 2, "1", "3")?);
-    assert!(rt; has_links(alloc, &flow, 3, "0 2", "4")?);
-    assert!(rt; has_links(alloc, &flow, 4, "3", "")?);
-    Ok(())
+    let flow = read_flow(rt.alloc(), WORKFLOW.as_bytes())?;
+    expect_text(links(rt.alloc(), &flow)?, " > 3; > 2; 1 > 3; 0 2 > 4; 3 >;")
 }

@@ -35,7 +35,11 @@ fn append_record(alloc: Global, text: &mut String, one: &Scanned) -> Result<(), 
 
 // A fault behind a blank.
 fn append_fault(alloc: Global, text: &mut String, fault: RowFault) -> Result<(), NoMemory> {
-    let fault = format!(in alloc; " {fault:?}")?;
+    let fault = match fault {
+        RowFault::Width => format!(in alloc; " width")?,
+        RowFault::Int(column) => format!(in alloc; " int {column}")?,
+        RowFault::Utf8(column) => format!(in alloc; " utf8 {column}")?,
+    };
     text.push_str(&fault)
 }
 
@@ -93,11 +97,11 @@ fn workers_take_turns_at_rows_and_faults(rt: HostRuntime) -> Result<(), Fail> {
     let alloc = rt.alloc();
     expect_text(
         dealt(alloc, SEVEN, 3)?,
-        "1: 1 a; 4: Width; 7: 7 g; | 2: Int(1); 5: 5 e,e; | 3: 3 c; 6: 6 f; | ",
+        "1: 1 a; 4: width; 7: 7 g; | 2: int 1; 5: 5 e,e; | 3: 3 c; 6: 6 f; | ",
     )?;
     expect_text(
         dealt(alloc, SEVEN, 1)?,
-        "1: 1 a; 2: Int(1); 3: 3 c; 4: Width; 5: 5 e,e; 6: 6 f; 7: 7 g; | ",
+        "1: 1 a; 2: int 1; 3: 3 c; 4: width; 5: 5 e,e; 6: 6 f; 7: 7 g; | ",
     )?;
     expect_text(dealt(alloc, "number,word\n8,z", 2)?, "1: 8 z; | | ")?;
     expect_text(dealt(alloc, "number,word\r\n", 4)?, "| | | | ")?;
