@@ -2,6 +2,7 @@
 ghost use Rattle.std.specs.Prelude.{◌≡◌, ◌+◌, ◌^◌, ◌≤◌, OnOk, false};
 
 use crate::ends::push;
+use crate::expected::expect_text;
 use amber_link::{In, NoMemory, Out, Sent, link, settle};
 use amber_rows::{Batch, Row, Value};
 use std::alloc::Global;
@@ -62,7 +63,7 @@ fn a_row_is_pushed_sent_and_taken(rt: HostRuntime) -> Result<(), Fail> {
     assert!(rt; into.take().is_none());
     assert!(rt; out.send() == Sent::All);
     assert!(rt; out.is_sent());
-    assert_eq!(rt; given(rt.alloc(), &mut into)?.as_str(), "0: 7 | ");
+    expect_text(given(rt.alloc(), &mut into)?, "0: 7 | ")?;
     assert!(rt; into.take().is_none());
     Ok(())
 }
@@ -86,16 +87,12 @@ fn a_full_ring_keeps_batches_in_their_order(rt: HostRuntime) -> Result<(), Fail>
     let (mut out, mut into) = link(rt.alloc(), 1)?;
     fill(rt.alloc(), &mut out, 11)?;
     assert!(rt; out.send() == Sent::Kept);
-    assert_eq!(rt;
-        given(rt.alloc(), &mut into)?.as_str(),
-        "0: 1 | 1: 2 | 2: 3 | 3: 4 | 4: 5 | 5: 6 | 6: 7 | 7: 8 | "
-    );
+    expect_text(
+        given(rt.alloc(), &mut into)?,
+        "0: 1 | 1: 2 | 2: 3 | 3: 4 | 4: 5 | 5: 6 | 6: 7 | 7: 8 | ",
+    )?;
     assert!(rt; out.send() == Sent::All);
-    assert_eq!(rt;
-        given(rt.alloc(), &mut into)?.as_str(),
-        "8: 9 | 9: 10 | 10: 11 | "
-    );
-    Ok(())
+    expect_text(given(rt.alloc(), &mut into)?, "8: 9 | 9: 10 | 10: 11 | ")
 }
 
 #[test]
@@ -107,9 +104,8 @@ fn settling_goes_through_the_ring(rt: HostRuntime) -> Result<(), Fail> {
     out.end()?;
     settle(&mut out, &mut into)?;
     assert!(rt; out.is_sent());
-    assert_eq!(rt;
-        given(rt.alloc(), &mut into)?.as_str(),
-        "0: 1 2 | 1: 3 4 | 2: 5 6 | 3: 7 8 | 4: 9 10 | 5: 11 12 | 6: 13 14 | 7: 15 16 | 8: 17 18 | 9: 19 20 | 10: 21 22 | 11: 23 24 | 12: 25 last | "
-    );
-    Ok(())
+    expect_text(
+        given(rt.alloc(), &mut into)?,
+        "0: 1 2 | 1: 3 4 | 2: 5 6 | 3: 7 8 | 4: 9 10 | 5: 11 12 | 6: 13 14 | 7: 15 16 | 8: 17 18 | 9: 19 20 | 10: 21 22 | 11: 23 24 | 12: 25 last | ",
+    )
 }

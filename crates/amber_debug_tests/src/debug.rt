@@ -64,18 +64,27 @@ fn told(alloc: Global, file: &str, most: u32) -> Result<String, NoMemory> {
 
 const NUMBERS: &str = "n\n2\n3\n4\n5\n6\n";
 
+// Files, how many steps there may be, and what comes of them.
+const RUNS: [(&str, u32, &str); 5] = [
+    (
+        NUMBERS,
+        30,
+        "end\nw 0\ng 5 5\nf\nw 1\nt 0 0\ng 5 5\nf\nw 2\nt 1 0\ng 5 0\nf\ncut\nrows 5\nn\n2\n3\n4\n5\n6\n",
+    ),
+    (
+        NUMBERS,
+        29,
+        "end\nw 0\ng 5 5\nf\nw 1\nt 0 0\ng 5 5\nf\nw 2\nt 1 0\ng 5 0\nlong\n",
+    ),
+    (NUMBERS, 3, "end\nw 0\ng 2 1\nlong\n"),
+    (NUMBERS, 0, "end\nlong\n"),
+    ("m\n3\n", 9, "header 1"),
+];
+
 #[test]
 fn a_run_is_as_long_as_its_steps(rt: HostRuntime) -> Result<(), Fail> {
-    let alloc = rt.alloc();
-    expect_text(
-        told(alloc, NUMBERS, 30)?,
-        "end\nw 0\ng 5 5\nf\nw 1\nt 0 0\ng 5 5\nf\nw 2\nt 1 0\ng 5 0\nf\ncut\nrows 5\nn\n2\n3\n4\n5\n6\n",
-    )?;
-    expect_text(
-        told(alloc, NUMBERS, 29)?,
-        "end\nw 0\ng 5 5\nf\nw 1\nt 0 0\ng 5 5\nf\nw 2\nt 1 0\ng 5 0\nlong\n",
-    )?;
-    expect_text(told(alloc, NUMBERS, 3)?, "end\nw 0\ng 2 1\nlong\n")?;
-    expect_text(told(alloc, NUMBERS, 0)?, "end\nlong\n")?;
-    expect_text(told(alloc, "m\n3\n", 9)?, "header 1")
+    for (file, most, want) in RUNS {
+        expect_text(told(rt.alloc(), file, most)?, want)?;
+    }
+    Ok(())
 }

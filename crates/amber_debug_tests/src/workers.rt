@@ -4,6 +4,7 @@ ghost use Rattle.amber_rows.specs.Crew.{crew_of, op_of, what_at};
 ghost use Rattle.amber_worker.specs.Made.{IsFreshIn, IsFreshOut};
 
 use crate::ends::{deliver, last_end, links};
+use crate::expected::expect_text;
 use amber_flow::read_flow;
 use amber_link::{In, NoMemory, Out};
 use amber_log::Entry;
@@ -113,7 +114,7 @@ fn a_filter_feeds_a_group_of_four(rt: HostRuntime) -> Result<(), Fail> {
         (2, "- - - 5 "),
         (-1, "- - - - "),
     ] {
-        assert_eq!(rt; waiting_after(alloc, number)?.as_str(), want, "{number}");
+        expect_text(waiting_after(alloc, number)?, want)?;
     }
     Ok(())
 }
@@ -229,9 +230,8 @@ fn join_over(alloc: Global, numbers: &[i64], told: &mut String) -> Result<(), Fa
 fn senders_of_a_join_end_in_any_order(rt: HostRuntime) -> Result<(), Fail> {
     let mut told = String::new(rt.alloc());
     join_over(rt.alloc(), &[8, 7, 7, 8], &mut told)?;
-    assert_eq!(rt;
-        told.as_str(),
-        "0 0 3 15 t 1 0 g 1 0 t 1 1 t 0 0 g 1 0 t 0 1 t 2 0 g 1 1 t 2 1 t 3 0 g 1 1 t 3 1 f "
-    );
-    Ok(())
+    expect_text(
+        told,
+        "0 0 3 15 t 1 0 g 1 0 t 1 1 t 0 0 g 1 0 t 0 1 t 2 0 g 1 1 t 2 1 t 3 0 g 1 1 t 3 1 f ",
+    )
 }
