@@ -40,8 +40,7 @@ fn push_when(alloc: Global, out: &mut Vec<u8>, op: u32, cond: &Cond) -> Result<(
     out.push(b' ')?;
     out.extend_from_slice(sign(cond.op))?;
     push_constant(alloc, out, &cond.constant)?;
-    out.push(b'\n')?;
-    Ok(())
+    out.extend_from_slice(b"\n")
 }
 
 /// The command that changes a filter's constant.
@@ -52,8 +51,7 @@ fn push_set(alloc: Global, out: &mut Vec<u8>, op: u32, value: &Value) -> Result<
     out.extend_from_slice(b"do set")?;
     push_number(out, u64::from(op))?;
     push_constant(alloc, out, value)?;
-    out.push(b'\n')?;
-    Ok(())
+    out.extend_from_slice(b"\n")
 }
 
 /// The line of a command.

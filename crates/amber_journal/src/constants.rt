@@ -50,8 +50,14 @@ pub fn constant(alloc: Global, word: &[u8]) -> Result<Option<Value>, AllocError>
     ensures { IfOk result (λ constant. constant ≡ constant_of word.now) }
 {
     match word {
-        [b'i', number @ ..] => Ok(signed(number).map(Value::Int)),
-        [b't', digits @ ..] => Ok(text(alloc, digits)?.map(Value::Text)),
+        [b'i', number @ ..] => match signed(number) {
+            Some(number) => Ok(Some(Value::Int(number))),
+            None => Ok(None),
+        },
+        [b't', digits @ ..] => match text(alloc, digits)? {
+            Some(text) => Ok(Some(Value::Text(text))),
+            None => Ok(None),
+        },
         _ => Ok(None),
     }
 }

@@ -1,8 +1,6 @@
 //! The lines of legs.
 ghost use Rattle.std.specs.Prelude.{◌≡◌, ◌++◌, OnOk};
 ghost use Rattle.std.specs.List.{flat_map};
-ghost use Rattle.amber_log.specs.LogText.{line_text};
-ghost use Rattle.amber_log.specs.declared.line.Line.{Line};
 ghost use Rattle.amber_journal.specs.Written.{entry_text, leg_text, part_text};
 
 use crate::lines::{push_line, push_one, push_two};
@@ -37,17 +35,7 @@ fn push_part(out: &mut Vec<u8>, part: &Part) -> Result<(), AllocError>
     Ok(())
 }
 
-/// The line that ends a leg.
-fn push_close(out: &mut Vec<u8>, close: Close) -> Result<(), AllocError>
-    ensures { OnOk result (out.new.items ≡ out.old.items ++ line_text (Line.Close close)) }
-{
-    match close {
-        Close::Cut => push_line(out, b"cut"),
-        Close::Long => push_line(out, b"long"),
-    }
-}
-
-/// The lines of a leg behind the one that opens it.
+/// The lines of a leg behind the one that opens it, and at last the one that ends it.
 pub fn push_leg(out: &mut Vec<u8>, leg: &Leg) -> Result<(), AllocError>
     ensures { OnOk result (out.new.items ≡ out.old.items ++ leg_text leg.now) }
 {
@@ -55,5 +43,8 @@ pub fn push_leg(out: &mut Vec<u8>, leg: &Leg) -> Result<(), AllocError>
     for part in parts {
         push_part(out, part)?;
     }
-    push_close(out, leg.close)
+    match leg.close {
+        Close::Cut => push_line(out, b"cut"),
+        Close::Long => push_line(out, b"long"),
+    }
 }

@@ -18,8 +18,7 @@ pub fn push_line(out: &mut Vec<u8>, bytes: &[u8]) -> Result<(), AllocError>
     ensures { OnOk result (out.new.items ≡ out.old.items ++ (bytes.now ++ 10 ∷ [])) }
 {
     out.extend_from_slice(bytes)?;
-    out.push(b'\n')?;
-    Ok(())
+    out.extend_from_slice(b"\n")
 }
 
 /// A line of these bytes and a number.
@@ -29,8 +28,7 @@ pub fn push_one(out: &mut Vec<u8>, bytes: &[u8], number: u64) -> Result<(), Allo
 {
     out.extend_from_slice(bytes)?;
     push_number(out, number)?;
-    out.push(b'\n')?;
-    Ok(())
+    out.extend_from_slice(b"\n")
 }
 
 /// A line of these bytes and two numbers.
@@ -42,6 +40,5 @@ pub fn push_two(out: &mut Vec<u8>, bytes: &[u8], first: u64, second: u64) -> Res
     out.extend_from_slice(bytes)?;
     push_number(out, first)?;
     push_number(out, second)?;
-    out.push(b'\n')?;
-    Ok(())
+    out.extend_from_slice(b"\n")
 }
