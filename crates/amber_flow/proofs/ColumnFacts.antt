@@ -1,7 +1,7 @@
 -- Columns that are read one after the other.
-use Rattle.std.proofs.Common.{◌≡◌, ℕ, ◌+◌, ◌<◌, ◌≤◌, List, [], ◌∷◌, ◌++◌, length, map, get_or, drop, Result, Ok, Err, true, false, ◌||◌, bytes_eq, refl, sym, ap, append_assoc, append-nil, arith, drop-cons, suc}
+use Rattle.std.proofs.Common.{◌≡◌, ℕ, ◌+◌, ◌<◌, ◌≤◌, List, [], ◌∷◌, ◌++◌, length, map, get_or, drop, Result, Ok, Err, true, false, ◌||◌, bytes_eq, is_some, refl, ◌∙◌, sym, ap, append_assoc, append-nil, arith, drop-cons, suc}
 use Rattle.std.proofs.lemmas.List.{drop_all}
-use Rattle.std.specs.List.{list_all, list_any}
+use Rattle.std.specs.List.{list_all, list_any, position}
 use Rattle.serde_json.specs.View.{view}
 use Rattle.serde_json.specs.declared.value.Value.{Value}
 use Rattle.amber_rows.specs.Columns.{names_of, are_apart, is_among, is_column_name}
@@ -9,7 +9,7 @@ use Rattle.amber_rows.specs.declared.column.Column.{Column}
 use Rattle.amber_rows.specs.Chain.{◌>>=◌}
 use Rattle.amber_flow.specs.Columns.{column_of, columns_of}
 use Rattle.amber_flow.specs.declared.error.FlowWhy.{FlowWhy}
-use Rattle.amber_flow.proofs.ListFacts.{and-true}
+use Rattle.amber_flow.proofs.ListFacts.{and-true, place-any}
 
 -- these columns before the others, or the reason why there are none
 abbrev pub columns_after : List Column → Result (List Column) FlowWhy → Result (List Column) FlowWhy
@@ -66,7 +66,10 @@ pub apart-end : (columns : List Column) (i : ℕ) → length columns ≤ i → a
 unfolding are_apart
 apart-end columns i h = rw (drop_all i columns h)
 
--- a test of each column's name
-pub names-any : (name : List ℕ) (columns : List Column) → list_any (λ column. bytes_eq column.name name) columns ≡ is_among name (names_of columns)
-names-any name [] = refl
-names-any name (column ∷ columns) = ap (λ rest. bytes_eq column.name name || rest) (names-any name columns)
+-- a column has this name where one is found
+pub named-found : (name : List ℕ) (columns : List Column) → is_some (position (λ column. bytes_eq column.name name) columns) ≡ is_among name (names_of columns)
+named-found name columns = place-any (λ column. bytes_eq column.name name) columns ∙ names_any columns
+  where
+    names_any : (columns : List Column) → list_any (λ column. bytes_eq column.name name) columns ≡ is_among name (names_of columns)
+    names_any [] = refl
+    names_any (column ∷ columns) = ap (λ rest. bytes_eq column.name name || rest) (names_any columns)

@@ -1,8 +1,9 @@
 -- Lists of JSON values, and lists in which each element must give something.
-use Rattle.std.proofs.Common.{◌≡◌, ℕ, suc, ◌+◌, ◌<◌, ◌≤◌, ◌&&◌, List, [], ◌∷◌, ◌++◌, length, map, get_or, take, drop, Option, Some, None, is_some, option_map, Bool, true, false, cond, refl, sym, ap, ◌∙◌, append_assoc, append-nil, subst, drop-cons, arith}
+use Rattle.std.proofs.Common.{◌≡◌, ℕ, suc, ◌+◌, ◌<◌, ◌≤◌, ◌&&◌, ◌||◌, not, ltb, List, [], ◌∷◌, ◌++◌, length, map, get_or, take, drop, Option, Some, None, is_some, option_map, Bool, true, false, cond, refl, sym, ap, ◌∙◌, append_assoc, append-nil, subst, drop-cons, arith}
+use Rattle.std.proofs.lemmas.Bool.Decides.{nat_tests}
 use Rattle.std.proofs.lemmas.List.{drop_all, map-append, take_all, take_more}
 use Rattle.std.proofs.lemmas.List.Elements.{filter_map-append}
-use Rattle.std.specs.List.{cons_option, filter_map, list_all}
+use Rattle.std.specs.List.{cons_option, filter_map, list_all, list_any, position, position_or_len}
 use Rattle.serde_json.specs.View.{items_view, view}
 use Rattle.serde_json.specs.declared.value.Value.{Value}
 use Rattle.amber_rows.specs.Chain.{each}
@@ -104,3 +105,25 @@ gives-length f (x ∷ xs) (y ∷ ys) given = ap suc (gives-length f xs ys given.
 pub and-true : (a b : Bool) → (a && b) ≡ true → (a ≡ true) × (b ≡ true)
 and-true true b both = (refl, both)
 and-true false b both = absurd (cc)
+
+-- ---- a first place
+
+-- a place is found where an element passes
+pub place-any : {A : Type 0} (p : A → Bool) (xs : List A) → is_some (position p xs) ≡ list_any p xs
+place-any {A = A} p xs = there (ltb (position_or_len p xs) (length xs)) (position_or_len p xs) ∙ within xs
+  where
+    there : (inside : Bool) (place : ℕ) → is_some (cond inside (Some place) None) ≡ inside
+    there true place = refl
+    there false place = refl
+
+    one : (here : Bool) (place count : ℕ) (rest : Bool) → ltb place count ≡ rest → ltb (cond (not here) (1 + place) 0) (suc count) ≡ (here || rest)
+    one true place count rest is =
+        let some : ltb 0 (suc count) ≡ true = grind (arith, nat_tests) in
+        some
+    one false place count rest is =
+        let next : ltb (1 + place) (suc count) ≡ ltb place count = grind (arith, nat_tests) in
+        next ∙ is
+
+    within : (xs : List A) → ltb (position_or_len p xs) (length xs) ≡ list_any p xs
+    within [] = refl
+    within (x ∷ xs) = one (p x) (position_or_len p xs) (length xs) (list_any p xs) (within xs)

@@ -1,25 +1,33 @@
 -- Operators that are read one after the other.
-use Rattle.std.proofs.Common.{◌≡◌, ℕ, suc, ◌+◌, ◌<◌, ◌≤◌, ◌==◌, ◌||◌, List, [], ◌∷◌, ◌++◌, length, map, get_or, drop, All, true, false, bytes_eq, Ok, Err, refl, sym, ap, ◌∙◌, subst, append_assoc, append-nil, length-append, zero-add, arith, eq-eqb}
+use Rattle.std.proofs.Common.{◌≡◌, ℕ, suc, ◌+◌, ◌<◌, ◌≤◌, ◌==◌, ◌||◌, List, [], ◌∷◌, ◌++◌, length, map, get_or, drop, All, true, false, bytes_eq, Option, Some, None, is_some, option_map, Ok, Err, refl, sym, ap, ◌∙◌, subst, append_assoc, append-nil, length-append, zero-add, arith, eq-eqb}
 use Rattle.std.proofs.lemmas.Bool.Decides.{nat_tests}
 use Rattle.std.proofs.lemmas.List.{drop_all}
 use Rattle.std.proofs.lemmas.List.Elements.{All-push}
-use Rattle.std.specs.List.{list_any}
+use Rattle.std.specs.List.{list_any, position}
 use Rattle.serde_json.specs.View.{view}
 use Rattle.serde_json.specs.declared.value.Value.{Value}
 use Rattle.amber_rows.specs.FlowRules.{AreNext, IsNext, ends_in_sink}
 use Rattle.amber_rows.specs.Columns.{is_among}
 use Rattle.amber_rows.specs.Kinds.{is_sink}
 use Rattle.amber_rows.specs.declared.flow.Operator.{Operator}
-use Rattle.amber_flow.specs.Inputs.{IsNarrow}
+use Rattle.amber_flow.specs.Inputs.{IsNarrow, operator_number}
 use Rattle.amber_flow.specs.Operators.{ids_of, operator_of}
 use Rattle.amber_flow.specs.Workflow.{fault_at, operators_from}
 use Rattle.amber_flow.specs.declared.error.FlowWhy.{FlowWhy}
 use Rattle.amber_flow.proofs.ColumnFacts.{trees-drop}
+use Rattle.amber_flow.proofs.ListFacts.{place-any}
 
--- a test of each operator's id
-pub ids-any : (id : List ℕ) (operators : List Operator) → list_any (λ operator. bytes_eq operator.id id) operators ≡ is_among id (ids_of operators)
-ids-any id [] = refl
-ids-any id (operator ∷ operators) = ap (λ rest. bytes_eq operator.id id || rest) (ids-any id operators)
+-- an id is taken where an operator has it
+pub id-found : (id : List ℕ) (operators : List Operator) → is_some (operator_number operators id) ≡ is_among id (ids_of operators)
+id-found id operators = numbered (position (λ operator. bytes_eq operator.id id) operators) ∙ place-any (λ operator. bytes_eq operator.id id) operators ∙ ids_any operators
+  where
+    numbered : (place : Option ℕ) → is_some (option_map (λ index. index + 1) place) ≡ is_some place
+    numbered None = refl
+    numbered (Some place) = refl
+
+    ids_any : (operators : List Operator) → list_any (λ operator. bytes_eq operator.id id) operators ≡ is_among id (ids_of operators)
+    ids_any [] = refl
+    ids_any (operator ∷ operators) = ap (λ rest. bytes_eq operator.id id || rest) (ids_any operators)
 
 -- one more operator may follow those before it
 pub AreNext-push : (before operators : List Operator) (operator : Operator) → AreNext before operators → IsNext (before ++ operators) operator → AreNext before (operators ++ operator ∷ [])

@@ -4,7 +4,7 @@ ghost use Rattle.amber_rows.specs.Columns.{agg_kind};
 ghost use Rattle.amber_flow.specs.Aggregates.{agg_column, agg_of, behind, is_agg_text};
 ghost use Rattle.amber_rows.specs.Chain.{each};
 
-use crate::columns::{add_column, find_column, kind_of_column};
+use crate::columns::{find_column, kind_of_column};
 use amber_rows::{Agg, ColKind, Column, Text};
 use std::alloc::{AllocError, Global};
 
@@ -128,8 +128,9 @@ pub fn add_agg_columns(
         (map (λ text. text.now) texts.now)) }
 {
     for text in texts {
-        let column = column_of_agg(alloc, columns, text)?;
-        add_column(made, column)?;
+        if let Some(column) = column_of_agg(alloc, columns, text)? {
+            made.push(column)?;
+        }
     }
     Ok(())
 }

@@ -1,7 +1,7 @@
-ghost use Rattle.std.specs.Prelude.{◌≡◌, ◌++◌, [], OnOk, ◌+◌, ◌^◌, ◌≤◌, ◌<◌, true, length, map, option_map, IfOk, IfSome, MatchResult, Ok, Err};
-ghost use Rattle.std.specs.List.{cons_option, filter_map, list_all};
+ghost use Rattle.std.specs.Prelude.{◌≡◌, ◌++◌, OnOk, ◌+◌, ◌^◌, ◌≤◌, ◌<◌, true, bytes_eq, length, map, option_map, position, IfOk, IfSome, MatchResult, Ok, Err};
+ghost use Rattle.std.specs.List.{filter_map, list_all};
 ghost use Rattle.serde_json.specs.View.{view};
-ghost use Rattle.amber_rows.specs.Columns.{names_of, are_apart, is_among, is_column_name, column_kind_at};
+ghost use Rattle.amber_rows.specs.Columns.{names_of, are_apart, is_column_name, column_kind_at};
 ghost use Rattle.amber_rows.specs.Chain.{each};
 ghost use Rattle.amber_flow.specs.Columns.{column_named, column_number, column_of, columns_of};
 
@@ -58,15 +58,23 @@ pub fn read_columns(
     Ok(Ok(columns))
 }
 
+/// The place of the column with this name.
+fn place_of(columns: &[Column], name: &str) -> Option<usize>
+    ensures place { result ≡ position (λ column. bytes_eq column.name name.now) columns.now }
+    ensures there { IfSome result (λ place. place < length columns.now) }
+{
+    columns.iter().position(|column| column.name.get() == name)
+}
+
 /// The number of the column with this name, from 1.
 pub fn find_column(columns: &[Column], name: &str) -> Option<u32>
     requires { length columns.now ≤ 64 }
     ensures number { result ≡ column_number columns.now name.now }
     ensures there { IfSome result (λ number. (0 < number) × (number ≤ length columns.now)) }
 {
-    match columns.iter().position(|column| column.name.get() == name) {
+    match place_of(columns, name) {
         None => None,
-        Some(index) => Some(index as u32 + 1),
+        Some(place) => Some(place as u32 + 1),
     }
 }
 
@@ -75,9 +83,9 @@ pub fn column_with<'c>(columns: &'c [Column], name: &str) -> Option<&'c Column>
     requires { length columns.now ≤ 64 }
     ensures { option_map (λ column. column.now) result ≡ column_named columns.now name.now }
 {
-    match find_column(columns, name) {
+    match place_of(columns, name) {
         None => None,
-        Some(number) => columns.get(number as usize - 1),
+        Some(place) => columns.get(place),
     }
 }
 
@@ -99,16 +107,6 @@ pub fn find_columns(
         }
     }
     Ok(Some(numbers))
-}
-
-/// Puts a column behind the others, if there is one.
-pub fn add_column(columns: &mut Vec<Column>, found: Option<Column>) -> Result<(), AllocError>
-    ensures { OnOk result (columns.new.items ≡ columns.old.items ++ cons_option found []) }
-{
-    if let Some(column) = found {
-        columns.push(column)?;
-    }
-    Ok(())
 }
 
 /// The kind of the column with this number.
@@ -134,16 +132,6 @@ pub fn add_columns(made: &mut Vec<Column>, columns: &[Column]) -> Result<(), All
     Ok(())
 }
 
-fn copy_named(columns: &[Column], name: &str) -> Result<Option<Column>, AllocError>
-    requires { length columns.now ≤ 64 }
-    ensures { IfOk result (λ found. found ≡ column_named columns.now name.now) }
-{
-    match column_with(columns, name) {
-        None => Ok(None),
-        Some(column) => Ok(Some(column.clone()?)),
-    }
-}
-
 /// Puts copies of the columns with these names behind the others.
 pub fn add_named(
     made: &mut Vec<Column>,
@@ -156,17 +144,11 @@ pub fn add_named(
         (map (λ name. name.now) names.now)) }
 {
     for name in names {
-        let column = copy_named(columns, name)?;
-        add_column(made, column)?;
+        if let Some(column) = column_with(columns, name) {
+            made.push(column.clone()?)?;
+        }
     }
     Ok(())
-}
-
-fn has_column(columns: &[Column], name: &Text) -> bool
-    ensures { result ≡ is_among name.now (names_of columns.now) }
-{
-    let name = name.get();
-    columns.iter().any(|column| column.name.get() == name)
 }
 
 /// Whether no name stands twice.
@@ -176,7 +158,7 @@ pub fn are_all_apart(columns: &[Column]) -> bool
     for index in 0..columns.len() {
         let column = &columns[index];
         let (_, later) = columns.split_at(index + 1);
-        if has_column(later, &column.name) {
+        if place_of(later, column.name.get()).is_some() {
             return false;
         }
     }

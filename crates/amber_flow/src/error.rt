@@ -79,7 +79,7 @@ pub enum FlowErr {
 }
 
 /// The first reason why bytes are no workflow, and the operator at fault, or 0.
-#[derive(Clone, Copy, Debug, PartialEq, Eq)]
+#[derive(Clone, Copy)]
 pub struct Fault {
     pub op: u32,
     pub why: FlowWhy,

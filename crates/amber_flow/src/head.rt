@@ -1,10 +1,11 @@
-ghost use Rattle.std.specs.Prelude.{◌≡◌, ◌<◌, ◌≤◌, true, false, IfOk, IfSome, option_map};
+ghost use Rattle.std.specs.Prelude.{◌≡◌, ◌<◌, ◌≤◌, true, false, IfOk, IfSome, length, option_map};
 ghost use Rattle.serde_json.specs.View.{view};
 ghost use Rattle.amber_rows.specs.Columns.{is_among, is_id};
 ghost use Rattle.amber_flow.specs.Operators.{head_of, ids_of, most_workers, new_id, workers_from};
 ghost use Rattle.amber_flow.specs.Names.{is_sink_kind};
 
 use crate::error::FlowWhy;
+use crate::inputs::find_operator;
 use crate::names::{Kind, is_operator_id};
 use amber_rows::Operator;
 use serde_json::Value;
@@ -16,15 +17,10 @@ pub struct Head {
     pub workers: u32,
 }
 
-fn is_taken(before: &[Operator], id: &str) -> bool
-    ensures { result ≡ is_among id.now (ids_of before.now) }
-{
-    before.iter().any(|operator| operator.id.get() == id)
-}
-
 /// Whether an id is a name that no earlier operator has.
 #[tactic(auto, unfolding(crate::specs::Operators::new_id))]
 pub fn check_id(before: &[Operator], id: &str) -> Result<(), FlowWhy>
+    requires { length before.now < 32 }
     ensures checked { result ≡ new_id before.now id.now }
     ensures named { IfOk result (λ _. is_id id.now ≡ true) }
     ensures fresh { IfOk result (λ _. is_among id.now (ids_of before.now) ≡ false) }
@@ -32,7 +28,7 @@ pub fn check_id(before: &[Operator], id: &str) -> Result<(), FlowWhy>
     if !is_operator_id(id) {
         return Err(FlowWhy::Name);
     }
-    if is_taken(before, id) {
+    if find_operator(before, id).is_some() {
         return Err(FlowWhy::Duplicate);
     }
     Ok(())

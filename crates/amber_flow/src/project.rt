@@ -7,7 +7,7 @@ ghost use Rattle.amber_flow.specs.Inputs.{IsNarrow};
 ghost use Rattle.amber_flow.specs.Operators.{project_of};
 ghost use Rattle.amber_flow.specs.Parts.{IsMeant};
 
-use crate::columns::{add_column, column_with, find_columns};
+use crate::columns::{column_with, find_columns};
 use crate::error::FlowWhy;
 use crate::fields::{list_field, text_field, text_item};
 use crate::inputs::{find_operator, schema_at};
@@ -71,8 +71,9 @@ fn rename_all(alloc: Global, columns: &[Column], pairs: &[Value]) -> Result<Vec<
 {
     let mut made = Vec::new(alloc);
     for pair in pairs {
-        let column = rename(alloc, columns, pair)?;
-        add_column(&mut made, column)?;
+        if let Some(column) = rename(alloc, columns, pair)? {
+            made.push(column)?;
+        }
     }
     Ok(made)
 }
