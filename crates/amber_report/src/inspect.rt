@@ -54,12 +54,12 @@ fn push_title(text: &mut Vec<u8>, flow: &Flow, op: u32) -> Result<(), AllocError
 fn push_constant(text: &mut Vec<u8>, constant: &Option<Value>) -> Result<(), AllocError>
     ensures { OnOk result (text.new.items ≡ text.old.items ++ constant_text constant.now) }
 {
-    if let Some(constant) = constant {
-        text.extend_from_slice(b"constant")?;
-        push_value(text, constant)?;
-        end_line(text)?;
-    }
-    Ok(())
+    let Some(constant) = constant else {
+        return Ok(());
+    };
+    text.extend_from_slice(b"constant")?;
+    push_value(text, constant)?;
+    end_line(text)
 }
 
 // The pause that is armed.
@@ -67,12 +67,12 @@ fn push_constant(text: &mut Vec<u8>, constant: &Option<Value>) -> Result<(), All
 fn push_pause(text: &mut Vec<u8>, pause: Option<u64>) -> Result<(), AllocError>
     ensures { OnOk result (text.new.items ≡ text.old.items ++ pause_text pause) }
 {
-    if let Some(n) = pause {
-        text.extend_from_slice(b"pause")?;
-        push_number(text, n)?;
-        end_line(text)?;
-    }
-    Ok(())
+    let Some(n) = pause else {
+        return Ok(());
+    };
+    text.extend_from_slice(b"pause")?;
+    push_number(text, n)?;
+    end_line(text)
 }
 
 // The count that is armed.
@@ -80,14 +80,14 @@ fn push_pause(text: &mut Vec<u8>, pause: Option<u64>) -> Result<(), AllocError>
 fn push_count(text: &mut Vec<u8>, count: Option<Counted>) -> Result<(), AllocError>
     ensures { OnOk result (text.new.items ≡ text.old.items ++ count_text count) }
 {
-    if let Some(count) = count {
-        text.extend_from_slice(b"count")?;
-        push_number(text, count.counted)?;
-        push_word(text, b"of")?;
-        push_number(text, count.target)?;
-        end_line(text)?;
-    }
-    Ok(())
+    let Some(count) = count else {
+        return Ok(());
+    };
+    text.extend_from_slice(b"count")?;
+    push_number(text, count.counted)?;
+    push_word(text, b"of")?;
+    push_number(text, count.target)?;
+    end_line(text)
 }
 
 // The condition that is armed.
@@ -100,12 +100,12 @@ fn push_when(
 ) -> Result<(), AllocError>
     ensures { OnOk result (text.new.items ≡ text.old.items ++ when_text flow.now op when.now) }
 {
-    if let Some(cond) = when {
-        text.extend_from_slice(b"when")?;
-        push_cond(text, flow, op, cond)?;
-        end_line(text)?;
-    }
-    Ok(())
+    let Some(cond) = when else {
+        return Ok(());
+    };
+    text.extend_from_slice(b"when")?;
+    push_cond(text, flow, op, cond)?;
+    end_line(text)
 }
 
 // How a worker stands.
@@ -167,11 +167,11 @@ fn push_worker(text: &mut Vec<u8>, worker: u64, view: &WorkerView) -> Result<(),
 fn push_next(alloc: Global, text: &mut Vec<u8>, next: &Option<Row>) -> Result<(), AllocError>
     ensures { OnOk result (text.new.items ≡ text.old.items ++ next_text next.now) }
 {
-    if let Some(row) = next {
-        text.extend_from_slice(b"next")?;
-        push_word(text, row_text(alloc, row)?.as_slice())?;
-    }
-    Ok(())
+    let Some(row) = next else {
+        return Ok(());
+    };
+    text.extend_from_slice(b"next")?;
+    push_word(text, row_text(alloc, row)?.as_slice())
 }
 
 // The workers of an operator.

@@ -92,30 +92,25 @@ fn push_command(text: &mut Vec<u8>, flow: &Flow, command: &Command) -> Result<()
 
 // That a row was dropped, and which, or that there was none.
 #[tactic(auto, unfolding(amber_meaning::specs::Texts::drop_text, amber_meaning::specs::Texts::words_before, amber_meaning::specs::Texts::words_line))]
-fn drop_line(
+fn push_dropped(
     alloc: Global,
+    text: &mut Vec<u8>,
     flow: &Flow,
     op: u32,
     worker: u32,
     dropped: Option<&Row>,
-) -> Result<Vec<u8>, AllocError>
-    ensures { IfOk result
-        (λ text. text.items ≡ drop_text flow.now op worker (option_copied dropped.entry)) }
+) -> Result<(), AllocError>
+    ensures { OnOk result (text.new.items
+        ≡ text.old.items ++ drop_text flow.now op worker (option_copied dropped.entry)) }
 {
-    let mut text = Vec::new(alloc);
-    match dropped {
-        None => {
-            text.extend_from_slice(b"none")?;
-            push_numbered(&mut text, b"drop", flow, op, u64::from(worker))?;
-            end_line(&mut text)?;
-        }
-        Some(row) => {
-            text.extend_from_slice(b"ok")?;
-            push_numbered(&mut text, b"drop", flow, op, u64::from(worker))?;
-            push_word(&mut text, row_text(alloc, row)?.as_slice())?;
-        }
-    }
-    Ok(text)
+    let Some(row) = dropped else {
+        text.extend_from_slice(b"none")?;
+        push_numbered(text, b"drop", flow, op, u64::from(worker))?;
+        return end_line(text);
+    };
+    text.extend_from_slice(b"ok")?;
+    push_numbered(text, b"drop", flow, op, u64::from(worker))?;
+    push_word(text, row_text(alloc, row)?.as_slice())
 }
 
 /// The reply to a command that was done at once: `ok` and the command as a script has it. To a drop it is `ok` and the row
@@ -130,11 +125,11 @@ pub fn ok_line(
     ensures { IfOk result
         (λ text. text ≡ done_text flow.now command.now (option_copied dropped.entry)) }
 {
+    let mut text = Vec::new(alloc);
     if let Command::Drop { op, worker } = command {
-        let text = drop_line(alloc, flow, *op, *worker, dropped)?;
+        push_dropped(alloc, &mut text, flow, *op, *worker, dropped)?;
         return Ok(Bytes::new(text));
     }
-    let mut text = Vec::new(alloc);
     text.extend_from_slice(b"ok")?;
     push_command(&mut text, flow, command)?;
     end_line(&mut text)?;

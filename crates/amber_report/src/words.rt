@@ -19,8 +19,7 @@ pub fn push_word(text: &mut Vec<u8>, word: &[u8]) -> Result<(), AllocError>
 pub fn end_line(text: &mut Vec<u8>) -> Result<(), AllocError>
     ensures { OnOk result (text.new.items ≡ text.old.items ++ 10 ∷ []) }
 {
-    text.push(b'\n')?;
-    Ok(())
+    text.extend_from_slice(b"\n")
 }
 
 /// A blank and a number.
@@ -64,10 +63,7 @@ fn push_escaped(text: &mut Vec<u8>, byte: u8) -> Result<(), AllocError>
         b'\\' => text.extend_from_slice(b"\\\\"),
         b'\n' => text.extend_from_slice(b"\\n"),
         b'\r' => text.extend_from_slice(b"\\r"),
-        other => {
-            text.push(other)?;
-            Ok(())
-        }
+        other => text.extend_from_slice(&[other]),
     }
 }
 
@@ -91,8 +87,7 @@ pub fn push_quoted(text: &mut Vec<u8>, bytes: &[u8]) -> Result<(), AllocError>
     }
     text.extend_from_slice(b" \"")?;
     push_all_escaped(text, bytes)?;
-    text.push(b'"')?;
-    Ok(())
+    text.extend_from_slice(b"\"")
 }
 
 /// A blank and a value as one word.
