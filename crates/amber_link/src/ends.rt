@@ -81,8 +81,7 @@ impl Out {
         ensures ok { OnOk result (rows < self.new.kept.room) }
         ensures err { OnErr result (self.new ≡ self.old) }
     {
-        self.kept.reserve(rows)?;
-        Ok(())
+        self.kept.reserve(rows)
     }
 
     /// Pushes a row for which there is room.

@@ -102,8 +102,7 @@ pub fn reserve_at(outs: &mut [Receiver], place: usize) -> Result<(), AllocError>
     ensures ok { OnOk result ((d : OneReceiver)
         → 1 < (slice_index_or outs.new place d).link.kept.room) }
 {
-    outs[place].link.reserve(1)?;
-    Ok(())
+    outs[place].link.reserve(1)
 }
 
 /// Pushes a row for the receiver at this place, where there is room.
