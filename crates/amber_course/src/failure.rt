@@ -9,7 +9,7 @@ use amber_script::ScriptWhy;
 use std::alloc::{AllocError, AllocFailed};
 
 /// Why a workflow is refused.
-#[derive(Clone, Copy, PartialEq, Eq)]
+#[derive(Clone, Copy)]
 pub enum Reason {
     /// Its text is no workflow.
     Flow(FlowWhy),

@@ -6,7 +6,7 @@ ghost use Rattle.amber_course.specs.Words.{AreSound, run_words, call_words_of};
 use crate::failure::Failure;
 use amber_rows::Text;
 use amber_script::numbers::read_number;
-use std::alloc::{AllocError, Global};
+use std::alloc::Global;
 
 // How many threads a run may have.
 const MOST_THREADS: u64 = 64;
@@ -34,19 +34,12 @@ pub enum Words {
     Run(RunWords),
 }
 
-// A word as a text of its own.
-fn copied(alloc: Global, word: &str) -> Result<Text, AllocError>
-    ensures { IfOk result (λ text. text ≡ word.now) }
-{
-    Text::new(alloc, word)
-}
-
 // The words behind `plain`.
 fn read_plain(alloc: Global, workflow: &str) -> Result<Words, Failure>
     ensures read { AreRead result (Some (Words.Plain workflow.now)) }
     ensures sound { IfOk result AreSound }
 {
-    let workflow = copied(alloc, workflow)?;
+    let workflow = Text::new(alloc, workflow)?;
     Ok(Words::Plain { workflow })
 }
 
@@ -74,9 +67,9 @@ fn read_run(
         return Err(Failure::Usage);
     }
     Ok(Words::Run(RunWords {
-        workflow: copied(alloc, workflow)?,
-        script: copied(alloc, script)?,
-        log: copied(alloc, log)?,
+        workflow: Text::new(alloc, workflow)?,
+        script: Text::new(alloc, script)?,
+        log: Text::new(alloc, log)?,
         threads: threads as u32,
         batch: batch as u32,
     }))
