@@ -6,7 +6,6 @@ ghost use Rattle.amber_rows.specs.Operators.{group_result, refused_keys};
 ghost use Rattle.amber_rows.specs.Record.{ok_of};
 ghost use Rattle.amber_meaning.specs.Plain.{records_of};
 ghost use Rattle.amber_meaning.specs.Refused.{refused_records};
-ghost use Rattle.amber_meaning.specs.ScanFiles.{records_at};
 ghost use Rattle.amber_plain.specs.Holding.{Fills, Spends, Takes};
 ghost use Rattle.amber_plain.specs.Unread.{unread_count, unread_rows, source_rows};
 ghost use Rattle.amber_plain.specs.Stages.{count_through};
@@ -30,29 +29,6 @@ pub struct Tally {
     pub left: u64,
 }
 
-// Sends the records of an operator's file through a chain. There are none where it is no scan.
-fn read_file(
-    alloc: Global,
-    op: u32,
-    operator: &Operator,
-    file: &[u8],
-    chain: &mut Chain,
-) -> Result<Vec<Refusal>, PlainErr>
-    requires { length operator.now.schema < 2 ^ 32 }
-    ensures moved { OnOk result (Fills chain.old chain.new (filter_map ok_of
-        (records_at operator.now.what operator.now.schema file.now))) }
-    ensures left { Spends result chain.old.left chain.new.left
-        (count_through chain.old.stages.items (filter_map ok_of
-        (records_at operator.now.what operator.now.schema file.now))) }
-    ensures refused { IfOk result (λ refused. refused.items ≡ refused_records op 1
-        (records_at operator.now.what operator.now.schema file.now)) }
-{
-    if !operator.what.is_scan() {
-        return Ok(Vec::new(alloc));
-    }
-    scan(alloc, op, &operator.schema, file, chain)
-}
-
 // The operator with this number, if there is one. It has few columns.
 fn operator_of(flow: &Flow, op: u32) -> Option<&Operator>
     ensures operator { option_map (λ operator. operator.now) result ≡ nth flow.now op }
@@ -65,7 +41,7 @@ fn operator_of(flow: &Flow, op: u32) -> Option<&Operator>
     Some(&operators[op as usize - 1])
 }
 
-// Sends the records of the scan with this number through a chain.
+// Sends the records of the operator with this number through a chain. There are none where it is no scan.
 fn read_scan(
     alloc: Global,
     flow: &Flow,
@@ -84,8 +60,11 @@ fn read_scan(
     let Some(operator) = operator_of(flow, op) else {
         return Ok(Vec::new(alloc));
     };
+    if !operator.what.is_scan() {
+        return Ok(Vec::new(alloc));
+    }
     let file = file_behind(flow, files, op as usize - 1);
-    read_file(alloc, op, operator, file, chain)
+    scan(alloc, op, &operator.schema, file, chain)
 }
 
 // Notes what the operator with this number refused.

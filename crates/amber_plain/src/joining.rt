@@ -1,5 +1,5 @@
 // A join whose build rows are all there.
-ghost use Rattle.std.specs.Prelude.{◌≡◌, ◌++◌, ◌∷◌, [], IfOk, OnOk, false, true};
+ghost use Rattle.std.specs.Prelude.{◌≡◌, [], IfOk, OnOk, false, true};
 ghost use Rattle.amber_rows.specs.Operators.{matches_of};
 
 use amber_join::JoinState;
@@ -62,17 +62,6 @@ impl Built {
     }
 }
 
-// Keeps a build row.
-fn add_build(state: &mut JoinState, row: Row) -> Result<(), AllocError>
-    requires { state.old.sealed ≡ false }
-    ensures { OnOk result (state.new ≡ record state.old { rows = state.old.rows ++ row ∷ [] }) }
-{
-    match state.build(row) {
-        Ok(()) => Ok(()),
-        Err(_) => Err(AllocError),
-    }
-}
-
 // Keeps all build rows.
 fn add_all(state: &mut JoinState, build: Vec<Row>) -> Result<(), AllocError>
     requires open { state.old.sealed ≡ false }
@@ -80,7 +69,9 @@ fn add_all(state: &mut JoinState, build: Vec<Row>) -> Result<(), AllocError>
     ensures { OnOk result (state.new ≡ record state.old { rows = build.items }) }
 {
     for row in build {
-        add_build(state, row)?;
+        if state.build(row).is_err() {
+            return Err(AllocError);
+        }
     }
     Ok(())
 }
