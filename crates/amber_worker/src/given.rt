@@ -43,22 +43,6 @@ fn add_keys(op: u32, keys: Vec<Row>, refused: &mut Vec<Refusal>) -> Result<(), A
     Ok(())
 }
 
-// Rows equal to these, in their order.
-pub(crate) fn row_copies(rows: &Vec<Row>) -> Result<Vec<Row>, AllocError>
-    ensures { IfOk result (λ copies. copies.items ≡ rows.now.items) }
-{
-    let copies = rows.clone()?;
-    Ok(copies)
-}
-
-// Refusals equal to these, in their order.
-pub(crate) fn refusal_copies(refused: &Vec<Refusal>) -> Result<Vec<Refusal>, AllocError>
-    ensures { IfOk result (λ copies. copies.items ≡ refused.now.items) }
-{
-    let copies = refused.clone()?;
-    Ok(copies)
-}
-
 // The keys that a worker gives: those that it has refused once it has finished, none before.
 pub(crate) fn final_keys(
     alloc: Global,

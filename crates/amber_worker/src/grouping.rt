@@ -131,8 +131,6 @@ pub(crate) fn take_grouped(
         unreachable!()
     };
     feed_next(state, columns, next, over, pending)?;
-    let Some(_row) = rows.pop_front() else {
-        unreachable!()
-    };
+    rows.pop_front();
     Ok(())
 }

@@ -48,9 +48,7 @@ fn probe_first(
     let found = state.probe(*pending.allocator(), next)?;
     let mut matches = VecDeque::from_vec(found.into_inner());
     pending.append(&mut matches)?;
-    let Some(_row) = rows.pop_front() else {
-        unreachable!()
-    };
+    rows.pop_front();
     Ok(())
 }
 
@@ -75,9 +73,7 @@ pub(crate) fn take_joined(
         unreachable!()
     };
     if !suits(next, columns) {
-        let Some(_row) = rows.pop_front() else {
-            unreachable!()
-        };
+        rows.pop_front();
         return Ok(());
     }
     if builds {

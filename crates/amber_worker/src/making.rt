@@ -48,7 +48,7 @@ fn operator_state_of(alloc: Global, what: &What) -> Result<OperatorState, AllocE
 }
 
 // The operator whose columns the rows have that are handed to an operator of this kind: a scan's
-// are its own.
+// are its own, a join's those of its probe side.
 fn handing_operator(what: &What, op: u32) -> u32
     ensures { result ≡ handing_operator what.now op }
 {
@@ -70,14 +70,6 @@ fn schema_of(alloc: Global, flow: &Flow, op: u32) -> Result<Schema, AllocError>
         None => Ok(Schema::new(Vec::new(alloc))),
         Some(operator) => operator.schema.clone(),
     }
-}
-
-// The columns of the rows that are handed to an operator of this kind, of a join on its probe side.
-fn columns_of(alloc: Global, flow: &Flow, what: &What, op: u32) -> Result<Schema, AllocError>
-    ensures { IfOk result (λ columns. columns
-        ≡ columns_at flow.now (handing_operator what.now op)) }
-{
-    schema_of(alloc, flow, handing_operator(what, op))
 }
 
 // The columns of the rows of a build side; none where there is none.
@@ -264,7 +256,7 @@ pub(crate) fn task_of(alloc: Global, flow: &Flow, worker: u32) -> Result<WorkerT
 {
     let op = flow.op_of(worker);
     let what = what_of(flow, worker);
-    let columns = columns_of(alloc, flow, what, op)?;
+    let columns = schema_of(alloc, flow, handing_operator(what, op))?;
     let build_columns = build_columns_of(alloc, flow, what)?;
     let route = route_of(flow, worker)?;
     let operator_state = operator_state_of(alloc, what)?;

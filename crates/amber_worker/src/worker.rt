@@ -19,6 +19,7 @@ mod giving;
 mod linking;
 mod stepping;
 
+use crate::making::{ends_of, task_of};
 use crate::operator_state::OperatorState;
 use crate::route::Route;
 use crate::setting::set_value;
@@ -160,8 +161,9 @@ impl Worker {
         ensures ins { IfOk result (λ made. map end_of made.ins ≡ ins.items) }
         ensures journal { IfOk result (λ made. made.journal ≡ []) }
     {
-        let _operators = flow.get();
-        Self::make(alloc, flow, worker, batch, share, outs, ins)
+        let ends = ends_of(alloc, flow, worker, outs, ins)?;
+        let task = task_of(alloc, flow, worker)?;
+        Ok(Self::fresh(alloc, worker, share, task, ends))
     }
 
     /// How many steps the worker has made: rows and batches taken, rows emitted, and the end.

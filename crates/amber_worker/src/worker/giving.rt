@@ -1,12 +1,12 @@
 //! What a worker shows, and what it gives for the answer.
 
-ghost use Rattle.std.specs.Prelude.{false, IfOk, ◌≡◌};
+ghost use Rattle.std.specs.Prelude.{IfOk, ◌≡◌};
 ghost use Rattle.amber_rows.specs.Order.{sort_rows};
-ghost use Rattle.amber_worker.specs.Steps.{AreKeysBehind, AreKeysOf, IsShown};
+ghost use Rattle.amber_worker.specs.Steps.{AreKeysBehind, AreKeysOf};
 ghost use Rattle.amber_worker.specs.AtPosition.{IsGivenOf, IsViewOf};
 
 use super::Worker;
-use crate::given::{Given, final_keys, given_of, refusal_copies, row_copies};
+use crate::given::{Given, final_keys, given_of};
 use crate::operator_state::OperatorState;
 use crate::shown::{extra_of, first_copy, stand_of};
 use crate::taking::Gains;
@@ -18,22 +18,13 @@ impl Worker {
     pub fn view(&self) -> Result<WorkerView, AllocError>
         ensures { IfOk result (λ view. IsViewOf self.now view) }
     {
-        self.shown()
-    }
-
-    // What the worker keeps, as it is shown.
-    fn shown(&self) -> Result<WorkerView, AllocError>
-        ensures shown { IfOk result (λ view. IsShown self.now view) }
-        ensures loose { self.now.held ≡ false }
-    {
-        let next = first_copy(&self.gains.pending)?;
         Ok(WorkerView {
             taken: self.taken,
             rest: self.rest.left(),
             out: self.emitted,
             pending: self.gains.pending.len() as u64,
             stand: stand_of(self.finished),
-            next,
+            next: first_copy(&self.gains.pending)?,
             extra: extra_of(&self.operator_state, &self.gains),
         })
     }
@@ -44,8 +35,8 @@ impl Worker {
         ensures { IfOk result (IsGivenOf self.now) }
     {
         let keys = final_keys(self.alloc, self.finished, &self.operator_state)?;
-        let refused = refusal_copies(&self.gains.refused)?;
-        let kept = row_copies(&self.gains.kept)?;
+        let refused = self.gains.refused.clone()?;
+        let kept = self.gains.kept.clone()?;
         given_of(self.op, keys, refused, kept)
     }
 

@@ -108,8 +108,8 @@ impl Worker {
         ensures err { OnErr result (self.new ≡ self.old) }
     {
         let empty = is_empty_at(self.ins.as_slice(), place);
-        let last = closing_of(self.alloc, &self.operator_state, empty)?;
         self.journal.reserve(1)?;
+        let last = closing_of(self.alloc, &self.operator_state, empty)?;
         let Found {
             from,
             builds,

@@ -1,15 +1,44 @@
 -- One receiver more.
-use Rattle.std.proofs.Common.{◌∙◌, ◌++◌, [], ◌∷◌, length-append, map, ap, arith}
-use Rattle.std.proofs.lemmas.List.{map-append}
+use Rattle.std.proofs.Common.{◌≡◌, ◌∙◌, append-nil, append_assoc, length, rules, sym, ◌++◌, [], ◌∷◌, length-append, map, ap, arith}
+use Rattle.std.specs.Vec.Iter.{into_iter_items}
+use Rattle.std.proofs.lemmas.List.{map-append, nil_from_length, take_all}
 use Rattle.amber_worker.specs.Made.{out_of, to_of}
 use Rattle.amber_worker.proofs.Fresh.{one-more}
 use Rattle.amber_worker.proofs.making.receivers_of.Goals as goal
 
 pub loop-link-preserved : goal.loop-link-preserved
-loop-link-preserved c = record {
-  place = omega (arith, length-append c.loop-link.yielded (c.in-Some.link ∷ []), c.loop-link.invariant.place);
-  numbers = ap (map to_of) c.in_ok-push.ensures.items
-      ∙ one-more to_of c.get-numbers.result.now c.loop-link.place c.loop-link.receivers.items c.receiver_at.result c.receiver_at.ensures.there c.loop-link.invariant.numbers c.receiver_at.ensures.to;
-  links = ap (map out_of) c.in_ok-push.ensures.items ∙ map-append out_of c.loop-link.receivers.items (c.receiver_at.result ∷ [])
-      ∙ ap (λ l. l ++ c.receiver_at.result.link ∷ []) c.loop-link.invariant.links ∙ ap (λ one. c.loop-link.yielded ++ one ∷ []) c.receiver_at.ensures.link;
-}
+loop-link-preserved c =
+    let step : into_iter_items c.loop-link.link-iterator ≡ c.in-Some.link ∷ into_iter_items c.next.new.self = search rules in record {
+      all = append_assoc c.loop-link.yielded (c.in-Some.link ∷ []) (into_iter_items c.next.new.self) ∙ ap (λ xs. c.loop-link.yielded ++ xs) (sym step) ∙ c.loop-link.invariant.all;
+      place = omega (arith, length-append c.loop-link.yielded (c.in-Some.link ∷ []), c.loop-link.invariant.place);
+      numbers = ap (map to_of) c.in_ok-push.ensures.items
+          ∙ one-more to_of c.get-numbers.result.now c.loop-link.place c.loop-link.receivers.items c.receiver_at.result c.receiver_at.ensures.there c.loop-link.invariant.numbers c.receiver_at.ensures.to;
+      links = ap (map out_of) c.in_ok-push.ensures.items ∙ map-append out_of c.loop-link.receivers.items (c.receiver_at.result ∷ [])
+          ∙ ap (λ l. l ++ c.receiver_at.result.link ∷ []) c.loop-link.invariant.links ∙ ap (λ one. c.loop-link.yielded ++ one ∷ []) c.receiver_at.ensures.link;
+    }
+
+pub receiver_at-requires : goal.receiver_at-requires
+receiver_at-requires c =
+    let step : into_iter_items c.loop-link.link-iterator ≡ c.in-Some.link ∷ into_iter_items c.next.new.self = search rules in
+    omega (
+      arith,
+      ap length (c.get-numbers.ensures ∙ c.in_ok-found.ensures),
+      c.requires.all,
+      c.loop-link.invariant.place,
+      ap length c.loop-link.invariant.all,
+      length-append c.loop-link.yielded (into_iter_items c.loop-link.link-iterator),
+      ap length step,
+    )
+
+pub returns-clause-numbers : goal.returns-clause-numbers
+returns-clause-numbers c =
+    let none : into_iter_items c.loop-link.link-iterator ≡ [] = nil_from_length (into_iter_items c.loop-link.link-iterator) (search rules) in
+    let all = sym (ap (λ xs. c.loop-link.yielded ++ xs) none ∙ append-nil c.loop-link.yielded) ∙ c.loop-link.invariant.all in
+    let found = c.get-numbers.ensures ∙ c.in_ok-found.ensures in
+    c.loop-link.invariant.numbers
+    ∙ take_all c.loop-link.place c.get-numbers.result.now (omega (arith, ap length found, c.requires.all, c.loop-link.invariant.place, ap length all)) ∙ found
+
+pub returns-clause-links : goal.returns-clause-links
+returns-clause-links c =
+    let none : into_iter_items c.loop-link.link-iterator ≡ [] = nil_from_length (into_iter_items c.loop-link.link-iterator) (search rules) in
+    c.loop-link.invariant.links ∙ sym (ap (λ xs. c.loop-link.yielded ++ xs) none ∙ append-nil c.loop-link.yielded) ∙ c.loop-link.invariant.all

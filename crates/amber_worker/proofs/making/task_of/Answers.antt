@@ -15,6 +15,7 @@ returns c =
       op = c.op_of-op.ensures;
       does = subst (λ (k : What). IsOperatorStateOf c.in_ok-operator_state.operator_state k) kind c.in_ok-operator_state.ensures;
       columns = c.in_ok-columns.ensures
+          ∙ ap (columns_at flow) c.handing_operator.ensures
           ∙ ap (λ (k : What). columns_at flow (handing_operator k c.op_of-op.result)) kind
           ∙ ap (λ op. columns_at flow (handing_operator (what_at flow (op_of flow c.args.worker)) op)) c.op_of-op.ensures;
       build_columns = c.in_ok-build_columns.ensures ∙ ap (built_columns flow) kind;

@@ -1,10 +1,13 @@
 -- A batch is taken.
-use Rattle.std.proofs.Common.{◌≡◌, ◌∙◌, length, ap, arith, rules, refl, sym}
+use Rattle.std.proofs.Common.{◌≡◌, ◌<◌, ◌^◌, ◌∙◌, length, ap, arith, rules, refl, sym}
 use Rattle.amber_link.specs.Sides.{IsLooked, have_all_ended}
 use Rattle.amber_link.specs.declared.senders.Sender.{Sender}
 use Rattle.amber_link.proofs.Sides.{looked-same, pairwise-refl}
 use Rattle.amber_worker.proofs.Bounds.{few-batch, no-share, takes-batch, written-back}
 use Rattle.amber_worker.proofs.worker.Worker.take_from.Goals as goal
+
+pub invariant_of-self-in_err-last : goal.invariant_of-self-in_err-last
+invariant_of-self-in_err-last c = rw c.reserve.ensures.items c.self.invariant
 
 pub invariant_of-self-2 : goal.invariant_of-self-2
 invariant_of-self-2 c =
@@ -19,6 +22,8 @@ invariant_of-self-2 c =
 
 pub returns-clause-ok : goal.returns-clause-ok
 returns-clause-ok c =
+    let from_small : c.take_at-from.result.from < 2 ^ 32 = search rules in
+    let number_small : c.take_at-from.result.number < 2 ^ 64 = search rules in
     let there = rw (← c.self.view_is) at c.requires.there in
     let ready = rw (← c.self.view_is) at c.requires.ready in
     let lent = ap length c.as_mut_slice.ensures.value in
@@ -30,7 +35,7 @@ returns-clause-ok c =
     rw (← c.self.view_is)
     (takes-batch _ c.take_at-from.result.from c.take_at-from.result.number c.take_at-from.result.builds c.take_at-from.result.batch c.self.inside.ins.items c.take_at-from.new.ins _ _ _
     c.turn_to.new.operator_state c.in_ok-last.last.items c.close.new.pending.items c.is_empty_at-empty.result c.have_ended-over.result
-    (rw c.as_mut_slice.ensures.value at c.take_at-from.ensures.taken) (pairwise-refl IsLooked looked-same c.self.inside.ins.items) ready (search rules) (search rules)
+    (rw c.as_mut_slice.ensures.value at c.take_at-from.ensures.taken) (pairwise-refl IsLooked looked-same c.self.inside.ins.items) ready from_small number_small
     (rw (no-share _ _ c.args.place c.self.invariant.shares there, c.from_vec.ensures.items, c.into_inner.ensures) refl)
     (written-back _ _ _ len stays)
     (rw (c.push_reserved.ensures.items, c.reserve.ensures.items) refl)

@@ -1,6 +1,8 @@
-use Rattle.std.proofs.lemmas.Result.{IfOk-weaker}
+-- What the worker keeps is shown.
+use Rattle.std.proofs.Common.{ap, sym, rules}
+use Rattle.amber_worker.specs.WorkerState.{WorkerState}
 use Rattle.amber_worker.proofs.Seen.{view-is}
 use Rattle.amber_worker.proofs.worker.Worker.view.Goals as goal
 
 pub returns : goal.returns
-returns c = IfOk-weaker c.shown.result _ _ (λ view is. view-is c.args.self.now view is c.shown.ensures.loose) c.shown.ensures.shown
+returns c = view-is c.args.self.now _ (search rules) (ap (λ (w : WorkerState). w.held) (sym c.self.view_is))

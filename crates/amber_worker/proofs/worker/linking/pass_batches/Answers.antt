@@ -45,3 +45,20 @@ invariant_of-to c =
     rw (written-back _ _ _ len stays)
     (few-settled _ _ c.to.invariant stays (c.settle_into.ensures.taken c.to.inside.batches (rw c.as_mut_slice-2.ensures.value c.to.invariant.received))
     (c.settle_into.ensures.built ∙ ap have_builders_ended c.as_mut_slice-2.ensures.value))
+
+pub returns-clause-passes : goal.returns-clause-passes
+returns-clause-passes c =
+    let lent_outs = ap length c.as_mut_slice.ensures.value in
+    let len_outs : c.from.inside.outs.len ≡ length c.from.inside.outs.items = omega (arith, lent_outs, c.as_mut_slice.ensures.len) in
+    let outs_stay : length c.settle_into.new.outs ≡ length c.from.inside.outs.items = omega (arith, lent_outs, c.settle_into.auto.outs) in
+    let lent_ins = ap length c.as_mut_slice-2.ensures.value in
+    let len_ins : c.to.inside.ins.len ≡ length c.to.inside.ins.items = omega (arith, lent_ins, c.as_mut_slice-2.ensures.len) in
+    let ins_stay : length c.settle_into.new.ins ≡ length c.to.inside.ins.items = omega (arith, lent_ins, c.settle_into.auto.ins) in
+    let passes = rw (c.as_mut_slice.ensures.value, c.as_mut_slice-2.ensures.value) at c.settle_into.ensures.passes in
+    rw (← c.from.view_is, ← c.to.view_is, written-back _ _ _ len_outs outs_stay, written-back _ _ _ len_ins ins_stay) passes
+
+pub returns-clause-from : goal.returns-clause-from
+returns-clause-from c = rw (← c.from.view_is) refl
+
+pub returns-clause-to : goal.returns-clause-to
+returns-clause-to c = rw (← c.to.view_is) refl
