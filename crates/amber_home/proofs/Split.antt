@@ -20,17 +20,17 @@ set-split xs i n a b h k =
     ∙ set-append_right (set (take n xs) i a) (drop n xs) n n b (length-set (take n xs) i a ∙ front) (omega arith)
     ∙ ap (λ z. set (take n xs) i a ++ set (drop n xs) z b) none)
 
-module _ (crew front back : List WorkerState) (from to : ℕ) (d e a b : WorkerState) (front-is : front ≡ take to crew) (back-is : back ≡ drop to crew)
+module _ (crew front back : List WorkerState) (from to : ℕ) (d e : WorkerState) (front-is : front ≡ take to crew) (back-is : back ≡ drop to crew)
     (before : from < to) (there : to < length crew) where
-  giver : get_or front from d ≡ worker_state_at crew from
+  pub giver : get_or front from d ≡ worker_state_at crew from
   giver = ap (λ xs. get_or xs from d) front-is ∙ get_or-take to crew from d before ∙ read-at crew from d (omega arith)
 
-  gets : get_or back 0 e ≡ worker_state_at crew to
+  pub gets : get_or back 0 e ≡ worker_state_at crew to
   gets = ap (λ xs. get_or xs 0 e) back-is ∙ get_or-drop to crew 0 e ∙ ap (λ n. get_or crew n e) (add-zero to) ∙ read-at crew to e there
 
-  pub passed-split : PassesOn (get_or front from d) (get_or back 0 e) a b → AreSettledAt a b → StaysAt (get_or front from d) a → StaysAt (get_or back 0 e) b
+  pub passed-split : (a b : WorkerState) → PassesOn (get_or front from d) (get_or back 0 e) a b → AreSettledAt a b → StaysAt (get_or front from d) a → StaysAt (get_or back 0 e) b
       → HasSameEnds (get_or front from d) a → HasSameEnds (get_or back 0 e) b → PassedOn crew from to (set front from a ++ set back 0 b)
-  passed-split passes settled from-stays to-stays from-ends to-ends = record {
+  passed-split a b passes settled from-stays to-stays from-ends to-ends = record {
     before = before;
     there = there;
     from_now = a;

@@ -1,6 +1,6 @@
 //! The answer of workers that have all finished.
 
-ghost use Rattle.std.specs.Prelude.{◌≡◌, IfOk, OnOk, length};
+ghost use Rattle.std.specs.Prelude.{◌≡◌, IfOk, length};
 ghost use Rattle.amber_rows.specs.Columns.{columns_at};
 ghost use Rattle.amber_home.specs.Answers as answers;
 ghost use Rattle.amber_home.specs.Answers.{HaveGiven, IsAnswerOf, refusal_cmp, sort_refusals};
@@ -48,14 +48,6 @@ fn compare_refusals(a: &Refusal, b: &Refusal) -> Ordering
     }
 }
 
-// Puts refusals into their order. Those that tie stay as they stood.
-fn put_in_order(refused: &mut Vec<Refusal>) -> Result<(), AllocError>
-    ensures { OnOk result (refused.new.items ≡ sort_refusals refused.old.items) }
-{
-    refused.sort_by(|a, b| compare_refusals(a, b))?;
-    Ok(())
-}
-
 // What each of these workers has refused, one after the other, and the rows of the last.
 fn collect(alloc: Global, crew: Vec<Worker>) -> Result<Given, AllocError>
     ensures { IfOk result (λ given. HaveGiven crew.items given.refused given.rows) }
@@ -64,8 +56,8 @@ fn collect(alloc: Global, crew: Vec<Worker>) -> Result<Given, AllocError>
     let mut rows = Rows::new(Vec::new(alloc));
     for worker in crew {
         let given = worker.into_given()?;
-        refused.append(&mut given.refused.into_vec())?;
         rows = given.rows;
+        refused.append(&mut given.refused.into_vec())?;
     }
     Ok(Given {
         refused: Refusals::new(refused),
@@ -81,8 +73,8 @@ fn copied(alloc: Global, crew: &[Worker]) -> Result<Given, AllocError>
     let mut rows = Rows::new(Vec::new(alloc));
     for worker in crew {
         let given = worker.given()?;
-        refused.append(&mut given.refused.into_vec())?;
         rows = given.rows;
+        refused.append(&mut given.refused.into_vec())?;
     }
     Ok(Given {
         refused: Refusals::new(refused),
@@ -98,19 +90,18 @@ fn last_columns(flow: &Flow) -> Result<Schema, AllocError>
     operators[operators.len() - 1].schema.clone()
 }
 
-// The answer, from what all workers have given.
+// The answer, from what all workers have given. Refusals that tie stay as they stood.
 fn answer_of(flow: &Flow, given: Given) -> Result<Answer, AllocError>
     ensures refused { IfOk result (λ answer. answer.refused ≡ sort_refusals given.refused) }
     ensures columns { IfOk result
         (λ answer. answer.columns ≡ columns_at flow.now (length flow.now)) }
     ensures rows { IfOk result (λ answer. answer.rows ≡ given.rows) }
 {
-    let columns = last_columns(flow)?;
     let mut refused = given.refused.into_vec();
-    put_in_order(&mut refused)?;
+    refused.sort_by(|a, b| compare_refusals(a, b))?;
     Ok(Answer {
         refused: Refusals::new(refused),
-        columns,
+        columns: last_columns(flow)?,
         rows: given.rows,
     })
 }

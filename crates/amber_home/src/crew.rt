@@ -16,7 +16,6 @@ use amber_rows::{Files, Flow};
 use amber_scan::Share;
 use amber_worker::Worker;
 use std::alloc::{AllocError, Global};
-use std::mem;
 
 // Makes the workers, each of its share and of its ends.
 fn make_crew(
@@ -45,11 +44,10 @@ fn make_crew(
     let mut crew = Vec::new(alloc);
     'workers: for worker in 0..flow.workers() {
         let place = worker as usize;
-        let share = mem::replace(&mut shares[place], None);
-        let own_outs = mem::replace(&mut outs[place], Outs::new(alloc)).into_inner();
-        let own_ins = mem::replace(&mut ins[place], Ins::new(alloc)).into_inner();
-        let made = Worker::new(alloc, flow, worker, batch, share, own_outs, own_ins)?;
-        crew.push(made)?;
+        let share = shares[place].take();
+        let own_outs = outs[place].take(alloc);
+        let own_ins = ins[place].take(alloc);
+        crew.push(Worker::new(alloc, flow, worker, batch, share, own_outs, own_ins)?)?;
     }
     Ok(crew)
 }
@@ -74,6 +72,5 @@ pub(crate) fn start_crew(
     let _operators = flow.get();
     let shares = deal_all(alloc, flow, files)?;
     let (outs, ins) = link_crew(alloc, flow, batch)?;
-    let crew = make_crew(alloc, flow, batch, shares, outs, ins)?;
-    Ok(crew)
+    Ok(make_crew(alloc, flow, batch, shares, outs, ins)?)
 }

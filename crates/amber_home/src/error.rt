@@ -5,7 +5,7 @@ ghost use Rattle.amber_home.specs.declared.error.LegErr.TheVariants as leg_err;
 use std::alloc::AllocError;
 
 /// Why a run cannot begin.
-#[derive(Clone, Copy, Debug, PartialEq, Eq)]
+#[derive(Clone, Copy, Debug)]
 pub enum HomeErr {
     /// The file of the scan with this number does not begin with the names of its columns; it is the first such scan.
     Header(u32),
@@ -22,7 +22,7 @@ impl From<AllocError> for HomeErr {
 }
 
 /// Why a leg did not come to its stop.
-#[derive(Clone, Copy, Debug, PartialEq, Eq)]
+#[derive(Clone, Copy, Debug)]
 pub enum LegErr {
     /// The run has made as many steps as it may, and somebody has not finished. The leg stands in the log, closed so.
     Long,

@@ -205,8 +205,7 @@ impl Home {
     {
         let to_end = self.phase.runs_to_end();
         self.phase = Phase::Spent;
-        let stops = stops_of(alloc, &self.flow, &self.arms, self.crew.as_slice())?;
-        self.stops = stops;
+        self.stops = stops_of(alloc, &self.flow, &self.arms, self.crew.as_slice())?;
         close_arms(
             to_end,
             close,

@@ -33,8 +33,7 @@ pub(crate) fn step(crew: &mut [Worker], number: usize) -> Result<(), AllocError>
     if !wanted {
         return Ok(());
     }
-    settle_inputs(crew, number)?;
-    Ok(())
+    settle_inputs(crew, number)
 }
 
 /// One step of the unfinished worker with the smallest number.

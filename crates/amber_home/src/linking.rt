@@ -7,6 +7,7 @@ use amber_link::{In, Out, link};
 use amber_rows::Flow;
 use std::alloc::{AllocError, Global};
 use std::marker::Model;
+use std::mem;
 
 /// The ends of a worker's links to its receivers, by rising numbers, seen as their list.
 pub(crate) struct Outs {
@@ -46,12 +47,12 @@ impl Outs {
         Ok(())
     }
 
-    /// The same ends.
-    pub(crate) fn into_inner(self) -> Vec<Out>
-        ensures { result.items ≡ self }
+    /// Hands out the ends, and keeps none.
+    pub(crate) fn take(&mut self, alloc: Global) -> Vec<Out>
+        ensures taken { result.items ≡ self.old }
+        ensures rest { self.new ≡ [] }
     {
-        let Outs { ends } = self;
-        ends
+        mem::replace(&mut self.ends, Vec::new(alloc))
     }
 }
 
@@ -93,12 +94,12 @@ impl Ins {
         Ok(())
     }
 
-    /// The same ends.
-    pub(crate) fn into_inner(self) -> Vec<In>
-        ensures { result.items ≡ self }
+    /// Hands out the ends, and keeps none.
+    pub(crate) fn take(&mut self, alloc: Global) -> Vec<In>
+        ensures taken { result.items ≡ self.old }
+        ensures rest { self.new ≡ [] }
     {
-        let Ins { ends } = self;
-        ends
+        mem::replace(&mut self.ends, Vec::new(alloc))
     }
 }
 
@@ -156,11 +157,10 @@ pub(crate) fn link_crew(
     ensures { IfOk result (λ ends. AreEnds (web_of flow.now batch) ends.0.items ends.1.items) }
 {
     let count = flow.workers();
-    let mut outs = Vec::new(alloc);
     let mut ins = no_ins(alloc, count)?;
+    let mut outs = Vec::new(alloc);
     'senders: for sender in 0..count {
-        let own = link_sender(alloc, flow, sender, batch, ins.as_mut_slice())?;
-        outs.push(own)?;
+        outs.push(link_sender(alloc, flow, sender, batch, ins.as_mut_slice())?)?;
     }
     Ok((outs, ins))
 }

@@ -3,37 +3,22 @@
 ghost use Rattle.std.specs.Prelude.{◌≡◌, ◌≢◌, ◌<◌, ◌==◌, ℕ, OnOk, length, slice_index_or, true};
 ghost use Rattle.std.specs.List.{list_any};
 ghost use Rattle.amber_link.specs.declared.receivers.Receiver.{Receiver};
-ghost use Rattle.amber_worker.specs.Pairs.{AreJoined};
 ghost use Rattle.amber_home.specs.AtWork.{IsJoinedCrew, StayPut, worker_state_at};
 ghost use Rattle.amber_home.specs.Passing.{AreSameBesides, Come, PassedOn, Settled, SettledStay};
 
 use amber_worker::{Worker, settle_workers};
 use std::alloc::AllocError;
 
-// Moves the batches that a worker has made for a later one into that one's inbox.
-fn pass_between(crew: &mut [Worker], from: usize, to: usize) -> Result<(), AllocError>
-    requires before { from < to }
-    requires there { to < length crew.old }
-    requires sends { list_any (λ one. one.to == (worker_state_at crew.old to).number)
-        (worker_state_at crew.old from).outs ≡ true }
-    requires receives { list_any (λ one. one.from == (worker_state_at crew.old from).number)
-        (worker_state_at crew.old to).ins ≡ true }
-    requires joined { AreJoined (worker_state_at crew.old from) (worker_state_at crew.old to) }
-    ensures { OnOk result (PassedOn crew.old from to crew.new) }
-{
-    let (senders, receivers) = crew.split_at_mut(to);
-    settle_workers(&mut senders[from], &mut receivers[0])?;
-    Ok(())
-}
-
-// The same of two workers of whom one sends to the other.
+// Moves the batches that a worker has made for another one, to which it sends, into that one's
+// inbox. A receiver stands behind its senders.
 fn pass_on(crew: &mut [Worker], from: usize, to: usize) -> Result<(), AllocError>
     requires crew { IsJoinedCrew crew.old }
     requires there { from < length crew.old }
     requires sends { list_any (λ one. one.to == to) (worker_state_at crew.old from).outs ≡ true }
     ensures { OnOk result (PassedOn crew.old from to crew.new) }
 {
-    pass_between(crew, from, to)
+    let (senders, receivers) = crew.split_at_mut(to);
+    settle_workers(&mut senders[from], &mut receivers[0])
 }
 
 // Moves on what waits for the receiver at a place.

@@ -64,11 +64,13 @@ fn deal_operator(
         return Ok(());
     }
     match deal(alloc, file, &operator.schema, operator.workers) {
-        Ok(dealt) => place_shares(dealt, first, shares),
-        Err(ScanErr::Header) => return Err(HomeErr::Header(op)),
-        Err(ScanErr::NoMemory) => return Err(HomeErr::NoMemory),
+        Ok(dealt) => {
+            place_shares(dealt, first, shares);
+            Ok(())
+        }
+        Err(ScanErr::Header) => Err(HomeErr::Header(op)),
+        Err(ScanErr::NoMemory) => Err(HomeErr::NoMemory),
     }
-    Ok(())
 }
 
 // What each worker is given of the files: a scan's its share of the records, nobody else a share.

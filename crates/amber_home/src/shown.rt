@@ -56,14 +56,12 @@ pub(crate) fn inspect(
     ensures op { IfOk result (λ shown. shown.op ≡ op) }
     ensures shown { IfOk result (IsShownAt flow.now arms.now crew.now) }
 {
-    let constant = constant_at(arms, op)?;
-    let workers = views_of(alloc, flow, crew, op)?;
     Ok(Inspected {
         op,
-        constant,
+        constant: constant_at(arms, op)?,
         pause: arms.pause_at(op),
         count: None,
         when: None,
-        workers,
+        workers: views_of(alloc, flow, crew, op)?,
     })
 }

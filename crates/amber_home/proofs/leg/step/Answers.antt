@@ -1,5 +1,6 @@
 -- The worker moves, and its links are settled again.
-use Rattle.std.proofs.Common.{◌∙◌}
+use Rattle.std.proofs.Common.{◌∙◌, Result, Ok, Err, OnOk}
+use Rattle.std.proofs.lemmas.Result.{on_ok_weaker}
 use Rattle.amber_home.proofs.Numbers.{length-put}
 use Rattle.amber_home.proofs.Passed.{besides-then, joined-put}
 use Rattle.amber_home.proofs.Stepped.{IsTurn, at-crew, come-then, goes-on, goes-on-settled, joined-then, not-wanted, one-then, only-then, steps-then}
@@ -49,14 +50,20 @@ settle_inputs-requires-clause-crew c =
     record { keeps = t.keeps; answer = t.answer; moved = t.moved; ends = t.ends; unsent = t.unsent; unlooked = t.unlooked } in
     joined-put _ c.settle_outputs.new.crew (joined-then c.args.crew.now c.args.number c.turn.new.self c.index-crew-number-2.result c.requires.there c.in_ok-turn.field-0 turn (at-crew c.args.crew.now c.requires.crew)) c.in_ok-settle_outputs.ensures.put
 
+on_ok_all : {T E P Q R S : Type 0} (result : Result T E) → (P → Q → R → S) → OnOk result P → OnOk result Q → OnOk result R → OnOk result S
+on_ok_all (Ok done) all p q r = all p q r
+on_ok_all (Err error) all p q r = tt
+
 pub returns-clause-on : goal.returns-clause-on
 returns-clause-on c =
     let t = c.in_ok-turn.ensures in
     let turn : IsTurn c.args.crew.now c.args.number c.turn.new.self c.index-crew-number-2.result c.requires.there c.in_ok-turn.field-0 =
     record { keeps = t.keeps; answer = t.answer; moved = t.moved; ends = t.ends; unsent = t.unsent; unlooked = t.unlooked } in
     let s = c.in_ok-settle_outputs.ensures in
-    let z = c.in_ok-settle_inputs.ensures in
-    goes-on-settled c.args.crew.now c.args.number c.turn.new.self c.index-crew-number-2.result c.requires.there c.in_ok-turn.field-0 turn c.settle_outputs.new.crew s.put s.others s.settled c.settle_inputs.new.crew z.put z.others z.settled
+    let z = c.settle_inputs.ensures in
+    on_ok_all c.settle_inputs.result
+    (goes-on-settled c.args.crew.now c.args.number c.turn.new.self c.index-crew-number-2.result c.requires.there c.in_ok-turn.field-0 turn c.settle_outputs.new.crew s.put s.others s.settled c.settle_inputs.new.crew)
+    z.put z.others z.settled
 
 pub returns-clause-one : goal.returns-clause-one
 returns-clause-one c =
@@ -65,13 +72,20 @@ returns-clause-one c =
     record { keeps = t.keeps; answer = t.answer; moved = t.moved; ends = t.ends; unsent = t.unsent; unlooked = t.unlooked } in
     let joined = joined-then c.args.crew.now c.args.number c.turn.new.self c.index-crew-number-2.result c.requires.there c.in_ok-turn.field-0 turn (at-crew c.args.crew.now c.requires.crew) in
     let s = c.in_ok-settle_outputs.ensures in
-    let z = c.in_ok-settle_inputs.ensures in
+    let z = c.settle_inputs.ensures in
+    on_ok_all c.settle_inputs.result
+    (λ put aside.
     steps-then c.args.crew.now c.args.number c.turn.new.self c.index-crew-number-2.result c.requires.there c.settle_inputs.new.crew
-    (length-put c.settle_outputs.new.crew c.settle_inputs.new.crew (joined-put _ c.settle_outputs.new.crew joined s.put) z.put ∙ length-put _ c.settle_outputs.new.crew joined s.put)
-    (besides-then _ c.settle_outputs.new.crew c.settle_inputs.new.crew s.aside z.aside)
-    (one-then c.args.crew.now c.args.number c.turn.new.self c.index-crew-number-2.result c.requires.there c.in_ok-turn.field-0 turn c.requires.crew c.requires.first c.requires.unfinished)
+    (length-put c.settle_outputs.new.crew c.settle_inputs.new.crew (joined-put _ c.settle_outputs.new.crew joined s.put) put ∙ length-put _ c.settle_outputs.new.crew joined s.put)
+    (besides-then _ c.settle_outputs.new.crew c.settle_inputs.new.crew s.aside aside))
+    z.put z.aside
+    (on_ok_weaker c.settle_inputs.result
+    (λ put. one-then c.args.crew.now c.args.number c.turn.new.self c.index-crew-number-2.result c.requires.there c.in_ok-turn.field-0 turn c.requires.crew c.requires.first c.requires.unfinished)
+    z.put)
 
 pub returns-clause-only : goal.returns-clause-only
 returns-clause-only c =
-    only-then c.args.crew.now c.args.number c.turn.new.self c.index-crew-number-2.result c.requires.there c.settle_inputs.new.crew
-    (besides-then _ c.settle_outputs.new.crew c.settle_inputs.new.crew c.in_ok-settle_outputs.ensures.aside c.in_ok-settle_inputs.ensures.aside)
+    on_ok_weaker c.settle_inputs.result
+    (λ aside. only-then c.args.crew.now c.args.number c.turn.new.self c.index-crew-number-2.result c.requires.there c.settle_inputs.new.crew
+    (besides-then _ c.settle_outputs.new.crew c.settle_inputs.new.crew c.in_ok-settle_outputs.ensures.aside aside))
+    c.settle_inputs.ensures.aside

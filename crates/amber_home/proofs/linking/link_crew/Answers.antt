@@ -14,10 +14,10 @@ senders-init c = record {
 pub senders-preserved : goal.senders-preserved
 senders-preserved c =
     let gives : GivesEnds (record { sends = sends_to c.args.flow.now c.senders.sender; size = c.args.batch; count = crew_of c.args.flow.now; before = c.senders.ins.items })
-    c.in_ok-own.own c.link_sender.new.ins = rw c.as_mut_slice.ensures.value at c.in_ok-own.ensures.gives in
+    c.in_ok-link_sender.field-0 c.link_sender.new.ins = rw c.as_mut_slice.ensures.value at c.in_ok-link_sender.ensures.gives in
     record {
       ends = rw (c.in_ok-push.ensures.items, written-back c.senders.ins.len c.senders.ins.items c.link_sender.new.ins c.senders.ins.ok.0 gives.all)
-          (ends-more _ c.senders.outs.items c.senders.ins.items c.senders.invariant.ends c.in_ok-own.own c.link_sender.new.ins gives);
+          (ends-more _ c.senders.outs.items c.senders.ins.items c.senders.invariant.ends c.in_ok-link_sender.field-0 c.link_sender.new.ins gives);
     }
 
 pub returns : goal.returns

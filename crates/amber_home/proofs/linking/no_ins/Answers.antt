@@ -1,5 +1,5 @@
 -- One more was made.
-use Rattle.std.proofs.Common.{[]}
+use Rattle.std.proofs.Common.{◌≡◌, ◌∙◌, [], ap, replicate, arith}
 use Rattle.amber_home.proofs.Copies.{copies-more}
 use Rattle.amber_home.proofs.linking.no_ins.Goals as goal
 
@@ -8,3 +8,8 @@ loop-init c = c.in_ok-ins.ensures.items
 
 pub loop-preserved : goal.loop-preserved
 loop-preserved c = copies-more c.loop.counter [] c.new.result c.loop.ins.items c.push.new.self.items c.loop.invariant c.new.ensures c.in_ok-push.ensures.items
+
+pub returns : goal.returns
+returns c =
+    let all : c.loop.counter ≡ c.args.workers = omega arith in
+    c.loop.invariant ∙ ap (λ n. replicate n []) all

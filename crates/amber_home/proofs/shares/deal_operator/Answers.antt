@@ -16,8 +16,8 @@ returns-then-not-is_scan c =
     let done = dealt-other c.args.operator.now c.args.file.now c.args.shares.now.items c.push_none.new.shares.items c.in_ok-push_none.ensures (sym c.if-not-is_scan.ensures) in
     record { header = search rules; all = done.0; before = done.1; dealt = done.2 }
 
-pub returns : goal.returns
-returns c =
+pub returns-in-Ok : goal.returns-in-Ok
+returns-in-Ok c =
     let first : c.len-first.result ≡ length c.args.shares.now.items = c.len-first.ensures ∙ c.args.shares.now.ok.0 in
     let done = dealt-scan c.args.operator.now c.args.file.now c.args.shares.now.items c.push_none.new.shares.items c.in_ok-push_none.ensures
     c.place_shares.new.shares.items c.in-Ok.dealt.items (sym c.in-Ok.dealt.ok.0 ∙ c.in-Ok.ensures.one_each) c.place_shares.ensures.all

@@ -4,5 +4,5 @@ use Rattle.amber_home.proofs.shown.inspect.Goals as goal
 
 pub returns-clause-shown : goal.returns-clause-shown
 returns-clause-shown c =
-    inspected c.args.flow.now c.args.arms.now c.args.crew.now c.args.op c.in_ok-constant.constant c.pause_at.result c.in_ok-workers.workers
-    c.in_ok-constant.ensures c.pause_at.ensures c.in_ok-workers.ensures
+    inspected c.args.flow.now c.args.arms.now c.args.crew.now c.args.op c.in_ok-constant_at.field-0 c.pause_at.result c.in_ok-views_of.field-0
+    c.in_ok-constant_at.ensures c.pause_at.ensures c.in_ok-views_of.ensures

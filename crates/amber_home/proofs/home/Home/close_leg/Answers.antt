@@ -45,12 +45,12 @@ invariant_of-self-2 c =
     let closes = closes-told e i.crew.items i.arms i.stops i.phase c.self.invariant within c.args.close
     (subst (λ (h : HomeState). MayClose (runs_to_end h.phase) h c.args.close) (sym c.self.view_is) c.requires.closes) in
     subst (λ xs. IsHome (record { flow = i.flow; files = i.files; most = i.most; log = record { batch = i.log.batch; items = c.push_leg.new.items }; phase = phase.Resting; parts = [] })
-    xs c.close_arms.new.arms c.in_ok-stops.stops) (sym back)
+    xs c.close_arms.new.arms c.in_ok-self-inside.field-0) (sym back)
     (home-closed e i.crew.items i.arms i.stops i.phase c.self.invariant within c.args.close
-    (record { batch = i.log.batch; items = c.push_leg.new.items }) c.close_arms.new.arms c.in_ok-stops.stops closes
+    (record { batch = i.log.batch; items = c.push_leg.new.items }) c.close_arms.new.arms c.in_ok-self-inside.field-0 closes
     (ap (λ items. record i.log { items = items }) (c.in_ok-push_leg.ensures.items
     ∙ ap (λ b. i.log.items ++ item_of_leg b (parts_from 0 c.as_mut_slice.result.now) c.args.close ∷ []) to_end
     ∙ ap (λ xs. i.log.items ++ item_of_leg (runs_to_end i.phase) (parts_from 0 xs) c.args.close ∷ []) lent))
     (c.close_arms.ensures ∙ ap (λ b. closed_arms b c.args.close (record { flow = i.flow; arms = i.arms }) c.as_slice-2.result.now) to_end
     ∙ ap (closed_arms (runs_to_end i.phase) c.args.close (record { flow = i.flow; arms = i.arms })) c.as_slice-2.ensures.value)
-    (c.in_ok-stops.ensures ∙ ap (stops_by (record { flow = i.flow; arms = i.arms })) c.as_slice.ensures.value))
+    (c.in_ok-self-inside.ensures ∙ ap (stops_by (record { flow = i.flow; arms = i.arms })) c.as_slice.ensures.value))
