@@ -64,8 +64,7 @@ fn last_text(alloc: Global, log: &Log) -> Result<Bytes, AllocError>
     ensures { IfOk result (IsLastText log.now) }
 {
     let items = log.items.get();
-    let text = write_item(alloc, &items[items.len() - 1])?;
-    Ok(Bytes::new(text))
+    Ok(Bytes::new(write_item(alloc, &items[items.len() - 1])?))
 }
 
 // Runs a leg, up to a stop or to the end, and writes it.
@@ -77,14 +76,10 @@ fn run_leg(alloc: Global, home: &mut Home, to_end: bool) -> Result<Bytes, EndErr
     ensures legal { IsLegal (query_of home.new) home.new.log }
 {
     match home.leg_home(alloc, to_end) {
-        Ok(()) => {
-            let item = last_text(alloc, home.log())?;
-            Ok(item)
-        }
-        Err(LegErr::Long) => {
-            let item = last_text(alloc, home.log())?;
-            Err(EndErr::Long { item })
-        }
+        Ok(()) => Ok(last_text(alloc, home.log())?),
+        Err(LegErr::Long) => Err(EndErr::Long {
+            item: last_text(alloc, home.log())?,
+        }),
         Err(LegErr::NoMemory) => Err(EndErr::NoMemory),
     }
 }
@@ -284,8 +279,7 @@ impl Debugger {
         ensures unspent { result ≢ Err DebugErr.Spent }
         ensures legal { IsLegal (query_in self.new) self.new.log }
     {
-        let done = do_at_rest(alloc, &mut self.home, command)?;
-        Ok(done)
+        Ok(do_at_rest(alloc, &mut self.home, command)?)
     }
 
     /// The log of the run so far.

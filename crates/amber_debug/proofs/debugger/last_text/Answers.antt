@@ -9,4 +9,4 @@ write_item-requires c =
 
 pub returns : goal.returns
 returns c =
-    last-text c.args.log.now c.get-items.result.now c.index-items-items.result c.new.result c.get-items.ensures c.index-items-items.is (c.new.ensures ∙ c.in_ok-text.ensures)
+    last-text c.args.log.now c.get-items.result.now c.index-items-items.result c.new.result c.get-items.ensures c.index-items-items.is (c.new.ensures ∙ c.in_ok-write_item.ensures)
