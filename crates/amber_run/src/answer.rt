@@ -71,8 +71,7 @@ fn print_answer<O: Sink>(
     ensures still { (writes : ℕ) → CountsWrites result writes writes }
 {
     let text = answer_text(alloc, &flow, &files, printed)?;
-    put_output(out, text.get())?;
-    Ok(())
+    put_output(out, text.get())
 }
 
 /// Does a job.
