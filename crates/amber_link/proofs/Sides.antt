@@ -1,5 +1,5 @@
 -- Lists of senders and of receivers, of which one is changed.
-use Rattle.std.proofs.Common.{◌≡◌, ℕ, zero, suc, ◌+◌, ◌<◌, ◌≤◌, List, [], ◌∷◌, ◌++◌, length, Some, None, get_or, map, take, drop, set, Bool, true, false, ◌||◌, ◌&&◌, not, refl, sym, ap, ◌∙◌, arith}
+use Rattle.std.proofs.Common.{◌≡◌, ℕ, zero, suc, ◌+◌, ◌<◌, ◌≤◌, List, [], ◌∷◌, ◌++◌, length, get_or, map, take, drop, set, Bool, true, false, ◌||◌, ◌&&◌, not, refl, sym, ap, ◌∙◌, arith}
 use Rattle.std.specs.List.{list_any}
 use Rattle.std.proofs.Math.Seq.{split_at}
 use Rattle.std.proofs.lemmas.Bool.{and_parts, false≢true}
@@ -7,8 +7,7 @@ use Rattle.amber_rows.specs.declared.value.Value.{Value}
 use Rattle.amber_rows.specs.declared.batch.Batch.{Batch}
 use Rattle.amber_link.specs.Links.{GivesBatches, has_some, waiting}
 use Rattle.amber_link.specs.Outgoing.{Adds, Outgoing}
-use Rattle.amber_link.specs.Sides.{AreLooked, IsEnded, HandsOn, IsLooked, IsTaken, Pairwise, have_builders_ended, may_come, numbers_waiting, without_room}
-use Rattle.amber_rows.specs.Lists.{first_of}
+use Rattle.amber_link.specs.Sides.{AreLooked, IsEnded, HandsOn, IsLooked, IsTaken, Pairwise, have_builders_ended, may_come, without_room}
 use Rattle.amber_link.specs.declared.senders.Sender.{Sender}
 use Rattle.amber_link.specs.declared.receivers.Receiver.{Receiver}
 use Rattle.amber_link.proofs.Carried.{carries-roomy}
@@ -217,15 +216,3 @@ get_or-any (x ∷ xs) (suc k) d e less = get_or-any xs k d e (omega arith)
 pub each-ended : (outs after : List Receiver) (n : ℕ) → length after ≡ length outs → length outs ≤ n → ((k : ℕ) (d : Receiver) → k < n → IsEnded (get_or outs k d) (get_or after k d))
     → Pairwise IsEnded outs after
 each-ended outs after n same all h = pairwise-each IsEnded outs after same (λ k d e less. rw (get_or-any after k e d (omega (arith, same))) (h k d (omega arith)))
-
--- ---- for whom batches wait
-
-pub nobody-waits : (outs : List Receiver) → ((k : ℕ) (d : Receiver) → k < length outs → has_some (get_or outs k d).link.kept.waiting ≡ false) → first_of (numbers_waiting outs) ≡ None
-nobody-waits [] h = refl
-nobody-waits (one ∷ outs) h = rw (h 0 one (omega arith)) (nobody-waits outs (λ k d less. h (suc k) d (omega arith)))
-
-pub first-waits : (outs : List Receiver) (i : ℕ) (e : Receiver) → i < length outs → ((k : ℕ) (d : Receiver) → k < i → has_some (get_or outs k d).link.kept.waiting ≡ false)
-    → has_some (get_or outs i e).link.kept.waiting ≡ true → first_of (numbers_waiting outs) ≡ Some (get_or outs i e).to
-first-waits [] i e less h waits = absurd (omega arith)
-first-waits (one ∷ outs) zero e less h waits = rw waits refl
-first-waits (one ∷ outs) (suc i) e less h waits = rw (h 0 one (omega arith)) (first-waits outs i e (omega arith) (λ k d below. h (suc k) d (omega arith)) waits)

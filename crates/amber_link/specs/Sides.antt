@@ -55,10 +55,6 @@ pub record IsTaken (ins : List Sender) (one : Sender) (batch : Batch) (after : L
 abbrev pub without_room : Receiver → Receiver
 without_room one = record one { link = record one.link { kept = record one.link.kept { room = 0 } } }
 
--- the numbers of the receivers for which batches wait to be sent
-abbrev pub numbers_waiting : List Receiver → List ℕ
-numbers_waiting outs = map (λ one. one.to) (filter (λ one. has_some one.link.kept.waiting) outs)
-
 -- a row more was pushed for the receiver at this place
 pub record HandsOn (place : ℕ) (row : List Value) (outs after : List Receiver) : Type 0 where
   pub within : place < length outs

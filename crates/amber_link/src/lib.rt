@@ -23,10 +23,9 @@ pub use ends::{In, Out, Sent, link, settle};
 pub use outbox::Outbox;
 pub use receivers::{
     Receiver, end_all, has_receiver, place_to, push_at, reserve_at, reserve_ends, waiting_at,
-    waiting_receiver,
 };
 pub use senders::{
-    Found, Sender, has_sender, have_built, have_ended, is_empty_at, place_of, ready_place, take_at,
+    Found, Sender, have_built, have_ended, is_empty_at, place_of, ready_place, take_at,
 };
 pub use settling::settle_at;
 pub use std::alloc::AllocError as NoMemory;

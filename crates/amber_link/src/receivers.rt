@@ -3,8 +3,7 @@
 ghost use Rattle.std.specs.Prelude.{◌≡◌, ◌==◌, ◌+◌, ◌^◌, ◌<◌, ◌≤◌, ℕ, Bool, All, true, false, length, map, slice_index_or, take, IfNone, IfSome, OnErr, OnOk};
 ghost use Rattle.std.specs.List.{list_any};
 ghost use Rattle.amber_link.specs.Links.{has_some};
-ghost use Rattle.amber_link.specs.Sides.{AreEnded, HandsOn, numbers_waiting, without_room};
-ghost use Rattle.amber_rows.specs.Lists.{first_of};
+ghost use Rattle.amber_link.specs.Sides.{AreEnded, HandsOn, without_room};
 ghost use Rattle.amber_link.specs.declared.receivers.Receiver.{Receiver as OneReceiver};
 
 use crate::ends::Out;
@@ -56,20 +55,6 @@ pub fn place_to(outs: &[Receiver], to: u32) -> Option<usize>
     for (i, one) in outs.iter().enumerate() {
         if one.to == to {
             return Some(i);
-        }
-    }
-    None
-}
-
-/// The first receiver for which batches wait to be sent.
-pub fn waiting_receiver(outs: &[Receiver]) -> Option<u32>
-    ensures none { IfNone result (All (λ one. has_some one.link.kept.waiting ≡ false) outs.now) }
-    ensures first { result ≡ first_of (numbers_waiting outs.now) }
-    ensures some { IfSome result (λ to. list_any (λ one. one.to == to) outs.now ≡ true) }
-{
-    for one in outs {
-        if !one.link.is_sent() {
-            return Some(one.to);
         }
     }
     None

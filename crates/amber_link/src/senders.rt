@@ -97,13 +97,6 @@ impl Sender {
     }
 }
 
-/// Whether there is this sender.
-pub fn has_sender(ins: &[Sender], from: u32) -> bool
-    ensures { result ≡ list_any (λ one. one.from == from) ins.now }
-{
-    ins.iter().any(|one| one.from == from)
-}
-
 /// The place of a sender.
 pub fn place_of(ins: &[Sender], from: u32) -> usize
     requires { list_any (λ one. one.from == from) ins.now ≡ true }

@@ -1,9 +1,7 @@
 -- Receivers, whatever room there is.
 use Rattle.std.proofs.Common.{◌≡◌, ℕ, ◌<◌, eqb, ◌||◌, List, [], ◌∷◌, length, map, get_or, All, Bool, true, false, refl, sym, ap, ◌∙◌, subst}
 use Rattle.std.specs.List.{list_any}
-use Rattle.amber_link.specs.Links.{has_some}
-use Rattle.amber_link.specs.Sides.{numbers_waiting, without_room}
-use Rattle.amber_link.proofs.LinkEnds.{none-first}
+use Rattle.amber_link.specs.Sides.{without_room}
 use Rattle.amber_link.specs.declared.receivers.Receiver.{Receiver}
 use Rattle.amber_link.proofs.Sides.{map-at, map-length}
 
@@ -29,14 +27,3 @@ still-all P outs after same h = all-roomy P after (subst (λ l. All P l) (sym sa
 pub same-at : (outs : List Receiver) (i n : ℕ) → i < length outs → ((d : Receiver) → (get_or outs i d).to ≡ n) → (d : Receiver) → (get_or (map without_room outs) i d).to ≡ n
 same-at outs i n within own d = ap (λ (one : Receiver). one.to) (map-at without_room outs i d d within) ∙ own d
 
--- for whom batches wait
-pub same-waiting : (outs : List Receiver) → numbers_waiting outs ≡ numbers_waiting (map without_room outs)
-same-waiting [] = refl
-same-waiting (one ∷ outs) = by (has_some one.link.kept.waiting) refl (same-waiting outs)
-  where
-    by : (b : Bool) → has_some one.link.kept.waiting ≡ b → numbers_waiting outs ≡ numbers_waiting (map without_room outs) → numbers_waiting (one ∷ outs) ≡ numbers_waiting (map without_room (one ∷ outs))
-    by true e rest = rw e (ap (λ l. one.to ∷ l) rest)
-    by false e rest = rw e rest
-
-pub none-wait : (outs : List Receiver) → All (λ (one : Receiver). has_some one.link.kept.waiting ≡ false) outs → All (λ (one : Receiver). one.link.kept.waiting ≡ []) (map without_room outs)
-none-wait outs h = all-roomless (λ (one : Receiver). one.link.kept.waiting ≡ []) outs (λ k d less. none-first (get_or outs k d).link.kept.waiting (h k d less))

@@ -4,9 +4,7 @@ ghost use Rattle.std.specs.Prelude.{All, false, true, IfNone, IfSome, is_some, m
 ghost use Rattle.std.specs.List.{list_any};
 ghost use Rattle.amber_rows.specs.Crew.{crew_of, op_of, receivers_of, senders_of, what_at};
 ghost use Rattle.amber_rows.specs.Kinds.{is_scan};
-ghost use Rattle.amber_rows.specs.Lists.{first_of};
 ghost use Rattle.amber_link.specs.Links.{has_some};
-ghost use Rattle.amber_link.specs.Sides.{numbers_waiting};
 ghost use Rattle.amber_link.specs.declared.receivers.Receiver.{Receiver as OneReceiver};
 ghost use Rattle.amber_link.specs.declared.senders.Sender.{Sender as OneSender};
 ghost use Rattle.amber_worker.specs.WorkerState.{steps_made};
@@ -25,7 +23,7 @@ use crate::route::Route;
 use crate::setting::set_value;
 use crate::taking::{Gains, Rest};
 use amber_link::{
-    In, Out, Receiver, Sender, has_receiver, has_sender, waiting_at, waiting_receiver,
+    In, Out, Receiver, Sender, has_receiver, waiting_at,
 };
 use amber_log::{Entries, Entry};
 use amber_rows::{Flow, Schema, Value};
@@ -202,13 +200,6 @@ impl Worker {
         has_receiver(self.outs.as_slice(), worker)
     }
 
-    /// Whether the worker with this number sends to the worker.
-    pub fn receives_from(&self, worker: u32) -> bool
-        ensures { result ≡ list_any (λ one. one.from == worker) self.now.ins }
-    {
-        has_sender(self.ins.as_slice(), worker)
-    }
-
     /// Whether a turn begins with a look for a batch: the worker has not finished, is not paused,
     /// and has neither a row that is pending nor one that was handed and not taken.
     pub fn wants_batch(&self) -> bool
@@ -222,16 +213,6 @@ impl Worker {
         ensures { result ≡ nat_lt (steps_made self.now) (2 ^ 40) }
     {
         self.steps() < MOST_STEPS
-    }
-
-    /// The first of its receivers for which a batch waits to be sent, by its running number.
-    pub fn first_waiting(&self) -> Option<u32>
-        ensures first { result ≡ first_of (numbers_waiting self.now.outs) }
-        ensures none { IfNone result (All (λ one. one.link.kept.waiting ≡ []) self.now.outs) }
-        ensures some { IfSome result
-            (λ to. list_any (λ one. one.to == to) self.now.outs ≡ true) }
-    {
-        waiting_receiver(self.outs.as_slice())
     }
 
     /// How many workers send to the worker.
