@@ -4,7 +4,7 @@ ghost use Rattle.amber_script.specs.Lexing.{KeepsClear, words_behind};
 ghost use Rattle.amber_script.specs.Words.{is_blank, byte_of_escape, words_from};
 
 /// Where a byte of a line stands.
-#[derive(Clone, Copy, PartialEq, Eq)]
+#[derive(Clone, Copy)]
 pub enum Place {
     /// Before or between words.
     Between,
@@ -19,7 +19,7 @@ pub enum Place {
 }
 
 /// What a byte does.
-#[derive(Clone, Copy, PartialEq, Eq)]
+#[derive(Clone, Copy)]
 pub enum Turn {
     /// It only leads on.
     Go(Place),
