@@ -6,7 +6,7 @@ ghost use Rattle.amber_flow.specs.Names.{column_kind_named, is_sink_kind, kind_n
 use amber_rows::{Cmp, ColKind};
 
 /// The kinds of operator.
-#[derive(Clone, Copy, PartialEq, Eq)]
+#[derive(Clone, Copy)]
 pub enum Kind {
     Scan,
     Filter,
