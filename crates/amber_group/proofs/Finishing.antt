@@ -1,7 +1,7 @@
 -- The rows of groups at the end.
-use Rattle.std.proofs.Common.{◌≡◌, ℕ, zero, suc, ◌+◌, ◌<◌, ◌≤◌, List, [], ◌∷◌, ◌++◌, length, get_or, map, take, drop, Option, Some, None, option_map, slice_get, refl, sym, ap, ◌∙◌, append_assoc, arith}
+use Rattle.std.proofs.Common.{◌≡◌, ℕ, ◌+◌, ◌<◌, ◌≤◌, List, [], ◌∷◌, ◌++◌, length, get_or, map, drop, Option, Some, None, option_map, refl, sym, ap, ◌∙◌, append_assoc}
 use Rattle.std.specs.List.{cons_option, filter_map}
-use Rattle.std.specs.Option.{option_and_then, option_to_list}
+use Rattle.std.specs.Option.{option_and_then}
 use Rattle.std.proofs.lemmas.List.{append-nil, drop_all, drop_more}
 use Rattle.std.proofs.lemmas.List.Elements.{filter_map-append}
 use Rattle.amber_rows.specs.Operators.{agg_value, agg_values, first_keys, group_row, group_result, key_if_none, refused_keys, rows_with}
@@ -52,22 +52,14 @@ module _ (keys : List ℕ) (aggs : List Agg) (rows : List Row) where
 
 -- ---- group by group
 
-take_next : {A : Type 0} (xs : List A) (i : ℕ) → i < length xs → take (i + 1) xs ≡ take i xs ++ option_to_list (slice_get xs i)
-take_next [] i less = absurd (omega arith)
-take_next (x ∷ xs) zero less = refl
-take_next (x ∷ xs) (suc i) less = let same : suc i + 1 ≡ suc (i + 1) = omega arith in rw same (ap (λ ys. x ∷ ys) (take_next xs i (omega arith)))
+pub rows-next : (groups next : List Group) (old new : List Row) (group : Group) → next ≡ groups ++ group ∷ [] → old ≡ finished_rows groups → new ≡ old ++ finished_rows (group ∷ []) → new ≡ finished_rows next
+rows-next groups next old new group on o n =
+    n ∙ ap (λ before. before ++ finished_rows (group ∷ [])) o ∙ sym (ap finished_rows on ∙ filter_map-append finished_row groups (group ∷ []))
 
-pub rows-next : (groups : List Group) (i : ℕ) (old new : List Row) → i < length groups → old ≡ finished_rows (take i groups)
-    → new ≡ old ++ finished_rows (option_to_list (slice_get groups i)) → new ≡ finished_rows (take (i + 1) groups)
-rows-next groups i old new less o n =
-    n ∙ ap (λ before. before ++ finished_rows (option_to_list (slice_get groups i))) o
-    ∙ sym (ap finished_rows (take_next groups i less) ∙ filter_map-append finished_row (take i groups) (option_to_list (slice_get groups i)))
-
-pub refused-next : (groups : List Group) (i : ℕ) (old new : List Row) → i < length groups → old ≡ refused_of (take i groups)
-    → new ≡ old ++ refused_of (option_to_list (slice_get groups i)) → new ≡ refused_of (take (i + 1) groups)
-refused-next groups i old new less o n =
-    n ∙ ap (λ before. before ++ refused_of (option_to_list (slice_get groups i))) o
-    ∙ sym (ap refused_of (take_next groups i less) ∙ filter_map-append (λ (group : Group). key_if_none group.0 (finished_row group)) (take i groups) (option_to_list (slice_get groups i)))
+pub refused-next : (groups next : List Group) (old new : List Row) (group : Group) → next ≡ groups ++ group ∷ [] → old ≡ refused_of groups → new ≡ old ++ refused_of (group ∷ []) → new ≡ refused_of next
+refused-next groups next old new group on o n =
+    n ∙ ap (λ before. before ++ refused_of (group ∷ [])) o
+    ∙ sym (ap refused_of on ∙ filter_map-append (λ (one : Group). key_if_none one.0 (finished_row one)) groups (group ∷ []))
 
 -- ---- value by value
 

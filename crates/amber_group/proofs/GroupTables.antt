@@ -1,24 +1,28 @@
 -- The groups of rows, as a row is added.
-use Rattle.std.proofs.Common.{◌≡◌, ℕ, zero, suc, false, cond, List, [], ◌∷◌, ◌++◌, length, map, Some, None, position, slice_get, refl, sym, ap, ◌∙◌}
-use Rattle.std.specs.List.{IsDistinct}
-use Rattle.std.specs.Map.{keys_of, lookup, values_of}
+use Rattle.std.proofs.Common.{◌≡◌, ℕ, ◌+◌, false, cond, List, [], ◌∷◌, ◌++◌, length, map, Some, None, refl, sym, ap, subst, ◌∙◌, arith}
+use Rattle.std.specs.Map.{lookup}
 use Rattle.std.proofs.lemmas.List.{append-nil, length-map}
 use Rattle.std.proofs.lemmas.List.Elements.{filter-append}
-use Rattle.indexmap.specs.IndexMap.{set_value_at}
 use Rattle.amber_rows.specs.Operators.{first_keys, pick_cells, rows_with, same_row}
 use Rattle.amber_rows.specs.declared.value.Value.{Value}
 use Rattle.amber_rows.specs.declared.agg.Agg.{Agg}
 use Rattle.amber_keys.specs.SameRows.{same-itself}
+use Rattle.amber_keys.specs.Tables.{replaced}
 use Rattle.amber_keys.proofs.FirstKeys.{rows_with-absent}
 use Rattle.amber_keys.proofs.Tables.{entries-known, entries-new}
 use Rattle.amber_group.specs.declared.running.Running.{Running}
 use Rattle.amber_group.specs.Group.{groups_of}
 use Rattle.amber_group.specs.Running.{running_of}
-use Rattle.amber_group.specs.Steps.{running_after}
+use Rattle.amber_group.specs.Steps.{AreWithin, GroupsWithin, running_after}
+use Rattle.amber_group.specs.Taking.{Coming, TakesIn}
 use Rattle.amber_group.proofs.Stepping.{steps-more}
+use Rattle.amber_group.proofs.Within.{are_within-up, groups_within-found, groups_within-push, groups_within-replaced, groups_within-up}
 
 abbrev Row : Type 0
 Row = List Value
+
+abbrev Groups : Type 0
+Groups = List (Row × List Running)
 
 module _ (keys : List ℕ) (aggs : List Agg) (rows : List Row) (row : Row) where
   with-own : rows_with keys (rows ++ row ∷ []) (pick_cells keys row) ≡ rows_with keys rows (pick_cells keys row) ++ row ∷ []
@@ -38,22 +42,47 @@ module _ (keys : List ℕ) (aggs : List Agg) (rows : List Row) (row : Row) where
   unfolding of_rows
   agree x e = ap (λ some. map (running_of some) aggs) (with-other x e)
 
-  pub groups-known : (entries : List (Row × List Running)) (i : ℕ) (old new : List Running) → entries ≡ groups_of keys aggs rows
-      → position (same_row (pick_cells keys row)) (keys_of entries) ≡ Some i → IsDistinct same_row (keys_of entries) → slice_get (values_of entries) i ≡ Some old
-      → new ≡ map (running_after row) old → set_value_at entries i new ≡ groups_of keys aggs (rows ++ row ∷ [])
+  groups-known : (groups : Groups) (old new : List Running) → groups ≡ groups_of keys aggs rows → lookup (same_row (pick_cells keys row)) groups ≡ Some old
+      → new ≡ map (running_after row) old → replaced (pick_cells keys row) new groups ≡ groups_of keys aggs (rows ++ row ∷ [])
   unfolding groups_of of_rows
-  groups-known entries i old new is at distinct found more =
-      entries-known of_rows keys rows row agree entries i old new is at distinct found
+  groups-known groups old new is found more =
+      entries-known of_rows keys rows row agree groups is old new found
       (λ e. more ∙ ap (map (running_after row)) e ∙ steps-more (rows_with keys rows (pick_cells keys row)) row aggs ∙ ap (λ some. map (running_of some) aggs) (sym with-own))
 
-  pub groups-new : (entries : List (Row × List Running)) (new : List Running) → entries ≡ groups_of keys aggs rows → lookup (same_row (pick_cells keys row)) entries ≡ None
-      → new ≡ map (running_after row) (map (running_of []) aggs) → entries ++ (pick_cells keys row, new) ∷ [] ≡ groups_of keys aggs (rows ++ row ∷ [])
+  groups-new : (groups : Groups) (new : List Running) → groups ≡ groups_of keys aggs rows → lookup (same_row (pick_cells keys row)) groups ≡ None
+      → new ≡ map (running_after row) (map (running_of []) aggs) → groups ++ (pick_cells keys row, new) ∷ [] ≡ groups_of keys aggs (rows ++ row ∷ [])
   unfolding groups_of of_rows
-  groups-new entries new is none one =
-      entries-new of_rows keys rows row agree entries new is none
+  groups-new groups new is none one =
+      entries-new of_rows keys rows row agree groups is new none
       (λ absent.
       one ∙ steps-more [] row aggs ∙ ap (λ some. map (running_of (some ++ row ∷ [])) aggs) (sym (rows_with-absent keys rows (pick_cells keys row) absent))
       ∙ ap (λ some. map (running_of some) aggs) (sym with-own))
+
+-- a row of a key that has a group
+pub takes-known : (c : Coming) (old new : List Running) (after : Groups) → lookup (same_row c.key) c.entries ≡ Some old → new ≡ map (running_after c.row) old
+    → ((rows : ℕ) → AreWithin rows old → AreWithin (rows + 1) new) → after ≡ replaced c.key new c.entries → TakesIn c after
+takes-known c old new after found more small is =
+    record {
+      groups = λ keys rows of own.
+          is ∙ ap (λ key. replaced key new c.entries) own
+          ∙ groups-known keys c.aggs rows c.row c.entries old new of (ap (λ key. lookup (same_row key) c.entries) (sym own) ∙ found) more;
+      within = λ fed h.
+          subst (GroupsWithin (fed + 1)) (sym is)
+          (groups_within-replaced (fed + 1) c.entries c.key new (groups_within-up fed (fed + 1) c.entries (omega arith) h) (small fed (groups_within-found fed c.entries c.key old h found)));
+    }
+
+-- a row of a new key
+pub takes-new : (c : Coming) (new : List Running) (after : Groups) → lookup (same_row c.key) c.entries ≡ None → new ≡ map (running_after c.row) (map (running_of []) c.aggs)
+    → AreWithin 1 new → after ≡ c.entries ++ (c.key, new) ∷ [] → TakesIn c after
+takes-new c new after none one small is =
+    record {
+      groups = λ keys rows of own.
+          is ∙ ap (λ key. c.entries ++ (key, new) ∷ []) own
+          ∙ groups-new keys c.aggs rows c.row c.entries new of (ap (λ key. lookup (same_row key) c.entries) (sym own) ∙ none) one;
+      within = λ fed h.
+          subst (GroupsWithin (fed + 1)) (sym is)
+          (groups_within-push (fed + 1) c.entries c.key new (groups_within-up fed (fed + 1) c.entries (omega arith) h) (are_within-up 1 (fed + 1) new (omega arith) small));
+    }
 
 pub length-groups : (keys : List ℕ) (aggs : List Agg) (rows : List Row) → length (groups_of keys aggs rows) ≡ length (first_keys keys rows)
 unfolding groups_of
@@ -62,15 +91,3 @@ length-groups keys aggs rows = length-map (first_keys keys rows) (λ key. (key, 
 pub no-groups : (keys : List ℕ) (aggs : List Agg) → groups_of keys aggs [] ≡ []
 unfolding groups_of first_keys
 no-groups keys aggs = refl
-
--- a value that is written where it stands changes nothing
-pub set-same : {A : Type 0} (entries : List (Row × A)) (i : ℕ) (v : A) → slice_get (values_of entries) i ≡ Some v → set_value_at entries i v ≡ entries
-set-same [] i v e = absurd (cc)
-set-same (x ∷ xs) zero v e = let same : v ≡ x.1 = cc in ap (λ w. (x.0, w) ∷ xs) same
-set-same (x ∷ xs) (suc i) v e = ap (λ es. x ∷ es) (set-same xs i v e)
-
--- of two values that are written at one place the second stands
-pub set-twice : {A : Type 0} (entries : List (Row × A)) (i : ℕ) (v w : A) → set_value_at (set_value_at entries i v) i w ≡ set_value_at entries i w
-set-twice [] i v w = refl
-set-twice (x ∷ xs) zero v w = refl
-set-twice (x ∷ xs) (suc i) v w = ap (λ es. x ∷ es) (set-twice xs i v w)

@@ -1,13 +1,13 @@
 -- How large the numbers of groups can be.
-use Rattle.std.proofs.Common.{◌≡◌, ℕ, zero, suc, ◌+◌, ◌<◌, ◌≤◌, List, [], ◌∷◌, ◌++◌, length, get_or, map, take, drop, set, Some, slice_get, sym, subst, ◌∙◌, arith, ℤ}
-use Rattle.std.specs.Map.{values_of}
+use Rattle.std.proofs.Common.{◌≡◌, ℕ, zero, suc, ◌+◌, ◌<◌, ◌≤◌, Bool, true, false, cond, List, [], ◌∷◌, ◌++◌, length, get_or, map, take, drop, set, Option, Some, sym, subst, ◌∙◌, arith, ℤ}
+use Rattle.std.specs.Map.{lookup}
 use Rattle.std.proofs.lemmas.Int.{ints}
 use Rattle.std.proofs.lemmas.List.{drop_more, take_more_set}
-use Rattle.indexmap.specs.IndexMap.{set_value_at}
-use Rattle.amber_rows.specs.Operators.{total_of}
+use Rattle.amber_rows.specs.Operators.{same_row, total_of}
 use Rattle.amber_rows.specs.declared.value.Value.{Value}
 use Rattle.amber_rows.specs.declared.agg.Agg.{Agg}
 use Rattle.amber_rows.specs.declared.agg.Agg.TheVariants as agg
+use Rattle.amber_keys.specs.Tables.{replaced}
 use Rattle.amber_group.specs.declared.running.Running.{Running}
 use Rattle.amber_group.specs.declared.running.Running.TheVariants.{Count, Sum, Min, Max}
 use Rattle.amber_group.specs.Running.{running_of}
@@ -34,19 +34,27 @@ pub groups_within-up : (m n : ℕ) (groups : List Group) → m ≤ n → GroupsW
 groups_within-up m n [] le h = tt
 groups_within-up m n (group ∷ groups) le h = (are_within-up m n group.1 le h.0, groups_within-up m n groups le h.1)
 
-pub groups_within-set : (n : ℕ) (groups : List Group) (i : ℕ) (new : List Running) → GroupsWithin n groups → AreWithin n new → GroupsWithin n (set_value_at groups i new)
-groups_within-set n [] i new h w = tt
-groups_within-set n (group ∷ groups) zero new h w = (w, h.1)
-groups_within-set n (group ∷ groups) (suc i) new h w = (h.0, groups_within-set n groups i new h.1 w)
+replaced_by : (n : ℕ) (old new : List Running) (t : Bool) → AreWithin n old → AreWithin n new → AreWithin n (cond t new old)
+replaced_by n old new true h w = w
+replaced_by n old new false h w = h
+
+pub groups_within-replaced : (n : ℕ) (groups : List Group) (key : List Value) (new : List Running) → GroupsWithin n groups → AreWithin n new → GroupsWithin n (replaced key new groups)
+groups_within-replaced n [] key new h w = tt
+groups_within-replaced n (group ∷ groups) key new h w = (replaced_by n group.1 new (same_row key group.0) h.0 w, groups_within-replaced n groups key new h.1 w)
 
 pub groups_within-push : (n : ℕ) (groups : List Group) (key : List Value) (new : List Running) → GroupsWithin n groups → AreWithin n new → GroupsWithin n (groups ++ (key, new) ∷ [])
 groups_within-push n [] key new h w = (w, tt)
 groups_within-push n (group ∷ groups) key new h w = (h.0, groups_within-push n groups key new h.1 w)
 
-pub groups_within-at : (n : ℕ) (groups : List Group) (i : ℕ) (runnings : List Running) → GroupsWithin n groups → slice_get (values_of groups) i ≡ Some runnings → AreWithin n runnings
-groups_within-at n [] i runnings h e = absurd (cc)
-groups_within-at n (group ∷ groups) zero runnings h e = let same : group.1 ≡ runnings = cc in subst (AreWithin n) same h.0
-groups_within-at n (group ∷ groups) (suc i) runnings h e = groups_within-at n groups i runnings h.1 e
+found_by : (n : ℕ) (first runnings : List Running) (rest : Option (List Running)) (t : Bool) → AreWithin n first → (rest ≡ Some runnings → AreWithin n runnings) → cond t (Some first) rest ≡ Some runnings
+    → AreWithin n runnings
+found_by n first runnings rest true h on e = let same : first ≡ runnings = cc in subst (AreWithin n) same h
+found_by n first runnings rest false h on e = on e
+
+pub groups_within-found : (n : ℕ) (groups : List Group) (key : List Value) (runnings : List Running) → GroupsWithin n groups → lookup (same_row key) groups ≡ Some runnings → AreWithin n runnings
+groups_within-found n [] key runnings h e = absurd (cc)
+groups_within-found n (group ∷ groups) key runnings h e =
+    found_by n group.1 runnings (lookup (same_row key) groups) (same_row key group.0) h.0 (groups_within-found n groups key runnings h.1) e
 
 none-within : (one : Agg) → IsWithin 0 (running_of [] one)
 unfolding IsWithin running_of total_of

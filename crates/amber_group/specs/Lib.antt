@@ -1,5 +1,7 @@
 pub mod Finished
 pub mod Group
+pub mod Keeping
 pub mod Running
 pub mod Steps
 pub mod Taking
+pub mod Totals

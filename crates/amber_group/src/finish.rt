@@ -1,12 +1,9 @@
-ghost use Rattle.std.specs.Prelude.{◌≡◌, ◌++◌, ◌∷◌, [], IfOk, OnOk, option_map, slice_get};
-ghost use Rattle.std.specs.Option.{option_to_list};
+ghost use Rattle.std.specs.Prelude.{◌≡◌, ◌++◌, ◌∷◌, [], IfOk, OnOk, option_map};
 ghost use Rattle.amber_group.specs.Finished.{refused_of, finished_rows, aggregate_values};
 
+use crate::groups::Groups;
 use crate::running::Running;
-use crate::totals::Totals;
-use amber_keys::Key;
 use amber_rows::{Row, Rows, Value};
-use indexmap::IndexMap;
 use std::alloc::{AllocError, Global};
 
 /// What a group gives at the end. Both parts stand in the order in which the keys came first.
@@ -22,11 +19,8 @@ pub struct Grouped {
 fn cells_with_room(alloc: Global, key: &Row, more: usize) -> Result<Vec<Value>, AllocError>
     ensures { IfOk result (λ cells. cells.items ≡ key.now) }
 {
-    let mut cells = Vec::with_capacity(alloc, key.len().saturating_add(more))?;
-    let of_key = key.get();
-    for cell in of_key {
-        cells.push(cell.clone()?)?;
-    }
+    let mut cells: Vec<Value> = Vec::with_capacity(alloc, key.len().saturating_add(more))?;
+    cells.extend_from_slice(key.get())?;
     Ok(cells)
 }
 
@@ -71,39 +65,21 @@ pub(crate) fn add_group(
     Ok(())
 }
 
-// The same for the group at a place.
-fn add_group_at(
-    alloc: Global,
-    groups: &IndexMap<Key, Totals>,
-    place: usize,
-    rows: &mut Vec<Row>,
-    refused: &mut Vec<Row>,
-) -> Result<(), AllocError>
-    ensures rows { OnOk result (rows.new.items
-        ≡ rows.old.items ++ finished_rows (option_to_list (slice_get groups.now.entries place))) }
-    ensures refused { OnOk result (refused.new.items
-        ≡ refused.old.items ++ refused_of (option_to_list (slice_get groups.now.entries place))) }
-{
-    match groups.get_index(place) {
-        Some((key, totals)) => add_group(alloc, key.row(), totals.get(), rows, refused),
-        None => Ok(()),
+impl Groups {
+    /// The rows of the groups, and the keys of those that have none.
+    pub(crate) fn finish(&self, alloc: Global) -> Result<Grouped, AllocError>
+        ensures rows { IfOk result (λ grouped. grouped.rows ≡ finished_rows self.now) }
+        ensures refused { IfOk result (λ grouped. grouped.refused ≡ refused_of self.now) }
+    {
+        let mut rows = Vec::with_capacity(alloc, self.order.len())?;
+        let mut refused = Vec::new(alloc);
+        for key in &self.order {
+            let totals = &self.totals[key];
+            add_group(alloc, key.row(), totals.get(), &mut rows, &mut refused)?;
+        }
+        Ok(Grouped {
+            rows: Rows::new(rows),
+            refused: Rows::new(refused),
+        })
     }
-}
-
-/// The rows of the groups, and the keys of those that have none.
-pub fn finish(alloc: Global, groups: &IndexMap<Key, Totals>) -> Result<Grouped, AllocError>
-    ensures rows { IfOk result
-        (λ group_result. group_result.rows ≡ finished_rows groups.now.entries) }
-    ensures refused { IfOk result
-        (λ group_result. group_result.refused ≡ refused_of groups.now.entries) }
-{
-    let mut rows = Vec::with_capacity(alloc, groups.len())?;
-    let mut refused = Vec::new(alloc);
-    for place in 0..groups.len() {
-        add_group_at(alloc, groups, place, &mut rows, &mut refused)?;
-    }
-    Ok(Grouped {
-        rows: Rows::new(rows),
-        refused: Rows::new(refused),
-    })
 }

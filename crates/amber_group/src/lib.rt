@@ -12,10 +12,10 @@
 #![tactic(auto)]
 
 mod finish;
+mod groups;
 mod last_row;
 mod running;
 pub mod state;
-mod taking;
 mod totals;
 
 pub use finish::Grouped;

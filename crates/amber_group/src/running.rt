@@ -102,13 +102,6 @@ impl Running {
     }
 }
 
-// A blank place of a list of these.
-impl Default for Running {
-    fn default() -> Self {
-        Running::Count(0)
-    }
-}
-
 impl Clone for Running {
     ghost is_clone = { λ running copy. copy ≡ running };
 

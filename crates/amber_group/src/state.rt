@@ -3,13 +3,10 @@ ghost use Rattle.amber_rows.specs.Operators.{first_keys, refused_keys};
 ghost use Rattle.amber_rows.specs.declared.value.Value.{Value as Cell};
 ghost use Rattle.amber_group.specs.Group.{AreRowsOf, FeedsRow, IsFedWith};
 
-use crate::finish::{Grouped, finish};
-use crate::last_row::take_last;
-use crate::taking::take_in;
-use crate::totals::Totals;
+use crate::finish::Grouped;
+use crate::groups::Groups;
 use amber_keys::Key;
 use amber_rows::{Aggs, Cols, Row, Value};
-use indexmap::IndexMap;
 use std::alloc::{AllocError, Global};
 use std::collections::VecDeque;
 use std::marker::Model;
@@ -22,7 +19,7 @@ pub struct GroupState {
     keys: Cols,
     aggs: Aggs,
     fed: u64,
-    groups: IndexMap<Key, Totals>,
+    groups: Groups,
     // Room that each feed uses anew.
     changes: Vec<Option<Value>>,
     // Cells of a key that is done with, in whose room `feed` makes the next one.
@@ -50,9 +47,9 @@ impl Model for GroupState {
     ghost Value = { Group };
 
     ghost view = { λ a.
-        record { keys = a.keys; aggs = a.aggs; fed = a.fed; groups = a.groups.entries } };
+        record { keys = a.keys; aggs = a.aggs; fed = a.fed; groups = a.groups } };
 
-    ghost invariant = { λ a. GroupsWithin a.fed a.groups.entries };
+    ghost invariant = { λ a. GroupsWithin a.fed a.groups };
 }
 
 impl GroupState {
@@ -68,7 +65,7 @@ impl GroupState {
             keys,
             aggs,
             fed: 0,
-            groups: IndexMap::new(alloc),
+            groups: Groups::new(alloc),
             changes: Vec::new(alloc),
             room: Vec::new(alloc),
         }
@@ -82,9 +79,8 @@ impl GroupState {
     {
         let room = mem::replace(&mut self.room, Vec::new(self.alloc));
         let key = Key::over(self.alloc, room, row, &self.keys)?;
-        take_in(
+        self.groups.take_in(
             self.alloc,
-            &mut self.groups,
             key,
             &self.aggs,
             row,
@@ -106,15 +102,8 @@ impl GroupState {
         ensures out_on_err { OnErr result (out.new.items ≡ out.old.items) }
     {
         let key = Key::of(self.alloc, row, &self.keys)?;
-        take_last(
-            self.alloc,
-            &mut self.groups,
-            key,
-            &self.aggs,
-            row,
-            &mut self.changes,
-            out,
-        )?;
+        self.groups
+            .take_last(self.alloc, key, &self.aggs, row, &mut self.changes, out)?;
         self.fed += 1;
         Ok(())
     }
@@ -128,7 +117,7 @@ impl GroupState {
             (λ groups. (rows : List (List Cell)) → IsFedWith self.now rows → groups.refused
             ≡ refused_keys self.now.keys self.now.aggs rows) }
     {
-        finish(alloc, &self.groups)
+        self.groups.finish(alloc)
     }
 
     /// How many rows it was fed.

@@ -1,15 +1,10 @@
-ghost use Rattle.std.specs.Prelude.{◌≡◌, ◌+◌, ◌^◌, ◌<◌, ◌++◌, ◌∷◌, [], ℕ, List, IfOk, OnErr, OnOk, map};
-ghost use Rattle.amber_rows.specs.Operators.{pick_cells};
-ghost use Rattle.amber_rows.specs.declared.value.Value.{Value as Cell};
-ghost use Rattle.amber_group.specs.Group.{groups_of};
+ghost use Rattle.std.specs.Prelude.{◌≡◌, ◌+◌, ◌^◌, ◌<◌, [], ℕ, IfOk, OnErr, OnOk, map};
 ghost use Rattle.amber_group.specs.Running.{running_of};
-ghost use Rattle.amber_group.specs.Steps.{AreWithin, GroupsWithin, change_of, running_after};
+ghost use Rattle.amber_group.specs.Steps.{AreWithin, change_of, running_after};
+ghost use Rattle.amber_group.specs.Totals.{blank_at};
 
 use crate::running::Running;
-use amber_keys::Key;
-use amber_rows::{Agg, Aggs, Row, Value};
-use indexmap::IndexMap;
-use smallvec::SmallVec;
+use amber_rows::{Agg, Row, Value};
 use std::alloc::{AllocError, Global};
 use std::marker::Model;
 
@@ -18,23 +13,32 @@ const FEW: usize = 4;
 
 /// What is kept of the rows of a group, for one aggregate after the other. Seen as the list.
 pub struct Totals {
-    // A few lie in the groups' table itself, so that a row which is taken in waits for memory once less.
-    inner: SmallVec<Running, FEW>,
+    count: usize,
+    // A few lie in the groups' table itself, so that a row which is taken in waits for memory once less. Places
+    // beyond the count mean nothing.
+    few: [Running; FEW],
+    // All of them, where they are more than a few.
+    many: Vec<Running>,
 }
 
 impl Drop for Totals {
     fn drop(self) {
-        let Totals { inner: _ } = self;
+        let Totals {
+            count: _,
+            few: _,
+            many: _,
+        } = self;
     }
 }
 
 impl Model for Totals {
     ghost use Rattle.std.specs.Prelude.{List};
     ghost use Rattle.amber_group.specs.declared.running.Running.{Running as One};
+    ghost use Rattle.amber_group.specs.Totals.{totals_in};
 
     ghost Value = { List One };
 
-    ghost view = { λ a. a.inner.items };
+    ghost view = { λ a. totals_in a.count a.few a.many.items };
 }
 
 impl Totals {
@@ -42,11 +46,23 @@ impl Totals {
     fn new(alloc: Global, aggs: &[Agg]) -> Result<Self, AllocError>
         ensures { IfOk result (λ totals. totals ≡ map (running_of []) aggs.now) }
     {
-        let mut inner = SmallVec::with_capacity(alloc, aggs.len())?;
-        for agg in aggs {
-            inner.push(Running::new(*agg))?;
+        let mut many = Vec::new(alloc);
+        if aggs.len() > FEW {
+            many.reserve(aggs.len())?;
+            for agg in aggs {
+                many.push_reserved(Running::new(*agg));
+            }
         }
-        Ok(Totals { inner })
+        Ok(Totals {
+            count: aggs.len(),
+            few: [
+                blank_at(aggs, 0),
+                blank_at(aggs, 1),
+                blank_at(aggs, 2),
+                blank_at(aggs, 3),
+            ],
+            many,
+        })
     }
 
     // What is kept of one row alone.
@@ -77,8 +93,12 @@ impl Totals {
             → AreWithin (rows + 1) self.new) }
         ensures same { OnErr result (self.new ≡ self.old) }
     {
-        find_changes(self.inner.as_slice(), row, changes)?;
-        settle_all(self.inner.as_mut_slice(), row, changes);
+        find_changes(self.get(), row, changes)?;
+        if self.count <= FEW {
+            settle_all(&mut self.few[..self.count], row, changes);
+        } else {
+            settle_all(self.many.as_mut_slice(), row, changes);
+        }
         Ok(())
     }
 
@@ -86,7 +106,11 @@ impl Totals {
     pub fn get(&self) -> &[Running]
         ensures { result.now ≡ self.now }
     {
-        self.inner.as_slice()
+        if self.count <= FEW {
+            &self.few[..self.count]
+        } else {
+            self.many.as_slice()
+        }
     }
 }
 
@@ -95,8 +119,20 @@ impl Clone for Totals {
 
     fn clone(&self) -> Result<Self, AllocError> {
         Ok(Totals {
-            inner: self.inner.clone()?,
+            count: self.count,
+            few: self.few.clone()?,
+            many: self.many.clone()?,
         })
+    }
+}
+
+// What is kept of no row for the aggregate at a place; where there is none, it does not matter what.
+fn blank_at(aggs: &[Agg], place: usize) -> Running
+    ensures { result ≡ blank_at aggs.now place }
+{
+    match aggs.get(place) {
+        Some(agg) => Running::new(*agg),
+        None => Running::Count(0),
     }
 }
 

@@ -1,36 +1,18 @@
-ghost use Rattle.std.specs.Prelude.{◌≡◌, ◌++◌, ◌∷◌, [], IfOk, OnOk, map, option_map, slice_get};
+ghost use Rattle.std.specs.Prelude.{◌≡◌, ◌++◌, ◌∷◌, [], IfOk, OnOk, map, slice_get};
 ghost use Rattle.std.specs.List.{filter_map};
 
 use crate::places::Places;
 use amber_rows::{Row, Value};
 use std::alloc::{AllocError, Global};
 
-/// Puts the cells of a row behind other cells.
-fn add_cells(row: &Row, cells: &mut Vec<Value>) -> Result<(), AllocError>
-    ensures { OnOk result (cells.new.items ≡ cells.old.items ++ row.now) }
-{
-    let all = row.get();
-    for cell in all {
-        cells.push(cell.clone()?)?;
-    }
-    Ok(())
-}
-
 /// The cells of a probe row, and then those of a build row.
 fn beside(alloc: Global, probe: &Row, build: &Row) -> Result<Row, AllocError>
     ensures { IfOk result (λ row. row ≡ probe.now ++ build.now) }
 {
-    let mut cells = Vec::with_capacity(alloc, probe.len().saturating_add(build.len()))?;
-    add_cells(probe, &mut cells)?;
-    add_cells(build, &mut cells)?;
+    let mut cells: Vec<Value> = Vec::with_capacity(alloc, probe.len().saturating_add(build.len()))?;
+    cells.extend_from_slice(probe.get())?;
+    cells.extend_from_slice(build.get())?;
     Ok(Row::new(cells))
-}
-
-/// The row at a place, if there is one.
-fn row_at(rows: &[Row], place: usize) -> Option<&Row>
-    ensures { option_map (λ row. row.now) result ≡ slice_get rows.now place }
-{
-    rows.get(place)
 }
 
 /// Puts a probe row before the build row at a place behind the other matches.
@@ -45,8 +27,7 @@ fn add_match(
         ≡ made.old.items ++ map
         (λ other. probe.now ++ other) (filter_map (slice_get build.now) (place ∷ []))) }
 {
-    let found = row_at(build, place);
-    if let Some(other) = found {
+    if let Some(other) = build.get(place) {
         made.push(beside(alloc, probe, other)?)?;
     }
     Ok(())

@@ -1,11 +1,11 @@
 ghost use Rattle.std.specs.Prelude.{◌≡◌, ◌^◌, ◌-◌, ◌++◌, ◌∷◌, [], ℕ, List, OnErr, OnOk, length, min};
 ghost use Rattle.amber_rows.specs.Operators.{pick_cells};
 ghost use Rattle.amber_rows.specs.declared.value.Value.{Value as Cell};
-ghost use Rattle.amber_join.specs.Places.{table_of};
+ghost use Rattle.amber_join.specs.Places.{TellsPlaces};
 
 use amber_keys::Key;
-use indexmap::IndexMap;
 use std::alloc::{AllocError, Global};
+use std::collections::HashMap;
 use std::marker::Model;
 
 /// Places of build rows in the order in which they came, seen as a list. There is one at least. Most keys have one row,
@@ -30,16 +30,6 @@ impl Model for Places {
 }
 
 impl Places {
-    /// One place alone.
-    fn one(alloc: Global, place: usize) -> Self
-        ensures { result ≡ place ∷ [] }
-    {
-        Places {
-            first: place,
-            more: Vec::new(alloc),
-        }
-    }
-
     /// Puts a place behind the others.
     fn add(&mut self, place: usize) -> Result<(), AllocError>
         ensures ok { OnOk result (self.new ≡ self.old ++ place ∷ []) }
@@ -79,22 +69,23 @@ impl Clone for Places {
 /// of these rows and the next one.
 pub fn note(
     alloc: Global,
-    table: &mut IndexMap<Key, Places>,
+    table: &mut HashMap<Key, Places>,
     key: Key,
     place: usize,
 ) -> Result<(), AllocError>
     ensures ok { OnOk result ((keys : List ℕ) (rows : List (List Cell)) (row : List Cell)
-        → table.old.entries ≡ table_of keys rows → key ≡ pick_cells keys row → place ≡ length rows
-        → table.new.entries ≡ table_of keys (rows ++ row ∷ [])) }
+        → TellsPlaces keys rows table.old.entries → key ≡ pick_cells keys row → place ≡ length rows
+        → TellsPlaces keys (rows ++ row ∷ []) table.new.entries) }
     ensures same { OnErr result (table.new.entries ≡ table.old.entries) }
 {
-    match table.get_index_of(&key) {
-        Some(i) => {
-            table[i].add(place)?;
-            Ok(())
-        }
+    match table.get_mut(&key) {
+        Some(places) => places.add(place),
         None => {
-            table.insert(key, Places::one(alloc, place))?;
+            let places = Places {
+                first: place,
+                more: Vec::new(alloc),
+            };
+            table.insert(key, places)?;
             Ok(())
         }
     }

@@ -5,8 +5,8 @@ use crate::matches::matches;
 use crate::places::{Places, note};
 use amber_keys::Key;
 use amber_rows::{Cols, Row, Rows};
-use indexmap::IndexMap;
 use std::alloc::{AllocError, Global};
+use std::collections::HashMap;
 use std::marker::Model;
 
 /// What a join keeps: the columns by which the rows of both sides are compared, the build rows in the order in
@@ -17,7 +17,7 @@ pub struct JoinState {
     probe_keys: Cols,
     rows: Vec<Row>,
     // The places of the rows with each key.
-    table: IndexMap<Key, Places>,
+    table: HashMap<Key, Places>,
     sealed: bool,
 }
 
@@ -35,9 +35,8 @@ impl Drop for JoinState {
 }
 
 impl Model for JoinState {
-    ghost use Rattle.std.specs.Prelude.{◌≡◌};
     ghost use Rattle.amber_join.specs.Join.{Join};
-    ghost use Rattle.amber_join.specs.Places.{table_of};
+    ghost use Rattle.amber_join.specs.Places.{TellsPlaces};
 
     ghost Value = { Join };
 
@@ -48,12 +47,11 @@ impl Model for JoinState {
       sealed = a.sealed;
     } };
 
-    ghost invariant = { λ a. a.table.entries ≡ table_of a.build_keys a.rows.items };
+    ghost invariant = { λ a. TellsPlaces a.build_keys a.rows.items a.table.entries };
 }
 
 impl JoinState {
     /// The state of a join on these columns of its two sides, with no build row. Columns are numbered from 1.
-    #[tactic(auto, unfolding(crate::specs::Places::table_of, amber_rows::specs::Operators::first_keys))]
     pub fn new(alloc: Global, build_keys: Cols, probe_keys: Cols) -> Self
         ensures { result ≡ record {
           build_keys = build_keys;
@@ -67,7 +65,7 @@ impl JoinState {
             build_keys,
             probe_keys,
             rows: Vec::new(alloc),
-            table: IndexMap::new(alloc),
+            table: HashMap::new(alloc),
             sealed: false,
         }
     }
@@ -85,11 +83,13 @@ impl JoinState {
         if self.rows.reserve(1).is_err() {
             return Err(row);
         }
-        if note(self.alloc, &mut self.table, key, self.rows.len()).is_err() {
-            return Err(row);
+        match note(self.alloc, &mut self.table, key, self.rows.len()) {
+            Ok(()) => {
+                self.rows.push_reserved(row);
+                Ok(())
+            }
+            Err(_) => Err(row),
         }
-        self.rows.push_reserved(row);
-        Ok(())
     }
 
     /// Says that the build rows so far are all. From now on the join may be probed.

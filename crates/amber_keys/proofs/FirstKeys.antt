@@ -6,13 +6,10 @@ use Rattle.std.proofs.lemmas.List.Elements.{filter-append}
 use Rattle.amber_rows.specs.Operators.{first_keys, pick_cells, rows_with, same_row}
 use Rattle.amber_rows.specs.declared.value.Value.{Value}
 use Rattle.amber_keys.specs.SameRows.{same-is, same-itself}
+use Rattle.amber_keys.specs.Tables.{among}
 
 abbrev Row : Type 0
 Row = List Value
-
--- whether a row is among others
-abbrev pub among : Row → List Row → Bool
-among k rows = list_any (λ other. same_row other k) rows
 
 other-way : (a b : Row) (t : Bool) → same_row b a ≡ t → same_row a b ≡ false → t ≡ false
 other-way a b true e ne =

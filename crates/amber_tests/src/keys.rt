@@ -3,8 +3,8 @@ use crate::expected::expect_row;
 use crate::written::row;
 use amber_keys::Key;
 use amber_rows::Cols;
-use indexmap::IndexMap;
 use std::alloc::Global;
+use std::collections::HashMap;
 use std::test::Fail;
 
 // The key of a row.
@@ -14,27 +14,43 @@ fn key(alloc: Global, written: &str) -> Result<Key, Fail> {
     Ok(Key::of(alloc, &row, &columns)?)
 }
 
-// Whether a row has this key, and the place of its own key.
-fn placed(
+// A table with this key alone.
+fn table(alloc: Global, key: &Key) -> Result<HashMap<Key, u64>, Fail> {
+    let mut places = HashMap::new(alloc);
+    places.insert(key.clone()?, 12)?;
+    Ok(places)
+}
+
+// Whether a row has this key, as its own is compared and as it is looked up.
+fn has_key(
     alloc: Global,
     key: &Key,
-    places: &IndexMap<Key, u64>,
+    places: &HashMap<Key, u64>,
     written: &str,
-) -> Result<(bool, Option<u64>), Fail> {
+) -> Result<(bool, bool), Fail> {
     let own = self::key(alloc, written)?;
-    Ok((*key == own, places.get(&own).copied()))
+    Ok((*key == own, places.contains_key(&own)))
 }
+
+// Rows, and whether they have the key of the row `7 'nut -2`.
+const ROWS: [(&str, bool); 4] = [
+    ("5 'nut -2", true),
+    ("7 'bolt -2", false),
+    ("7 'nut 2", false),
+    ("7 ' -2", false),
+];
 
 #[test]
 fn rows_with_equal_cells_in_the_columns_have_one_key(rt: HostRuntime) -> Result<(), Fail> {
     let alloc = rt.alloc();
     let key = key(alloc, "7 'nut -2")?;
     expect_row(alloc, key.row(), "-2 'nut")?;
-    let mut places = IndexMap::new(alloc);
-    places.insert(key.clone()?, 12)?;
-    assert!(rt; placed(alloc, &key, &places, "5 'nut -2")? == (true, Some(12)));
-    assert!(rt; placed(alloc, &key, &places, "7 'bolt -2")? == (false, None));
-    assert!(rt; placed(alloc, &key, &places, "7 'nut 2")? == (false, None));
-    assert!(rt; placed(alloc, &key, &places, "7 ' -2")? == (false, None));
+    let places = table(alloc, &key)?;
+    for (row, same) in ROWS {
+        assert!(rt;
+            has_key(alloc, &key, &places, row)? == (same, same),
+            "{row}"
+        );
+    }
     Ok(())
 }

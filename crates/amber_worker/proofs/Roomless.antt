@@ -26,4 +26,3 @@ still-all P outs after same h = all-roomy P after (subst (λ l. All P l) (sym sa
 -- the receiver at a place
 pub same-at : (outs : List Receiver) (i n : ℕ) → i < length outs → ((d : Receiver) → (get_or outs i d).to ≡ n) → (d : Receiver) → (get_or (map without_room outs) i d).to ≡ n
 same-at outs i n within own d = ap (λ (one : Receiver). one.to) (map-at without_room outs i d d within) ∙ own d
-

@@ -22,9 +22,7 @@ use crate::operator_state::OperatorState;
 use crate::route::Route;
 use crate::setting::set_value;
 use crate::taking::{Gains, Rest};
-use amber_link::{
-    In, Out, Receiver, Sender, has_receiver, waiting_at,
-};
+use amber_link::{In, Out, Receiver, Sender, has_receiver, waiting_at};
 use amber_log::{Entries, Entry};
 use amber_rows::{Flow, Schema, Value};
 use amber_scan::Share;

@@ -1,33 +1,34 @@
--- Either the key is there, or it comes last.
-use Rattle.std.proofs.Common.{◌≡◌, ◌∙◌, ◌++◌, ◌∷◌, [], None, ap, position, sym}
-use Rattle.std.specs.Map.{keys_of, lookup}
-use Rattle.indexmap.specs.IndexMap.{set_value_at}
-use Rattle.indexmap.proofs.CallerLemmas.{insert_entry-new}
+-- Either the key is there, or it is new.
+use Rattle.std.proofs.Common.{◌∙◌, ◌+◌, ◌∷◌, ℕ, List, Option, ap, if◌then◌else◌, is_some, length, refl, sym}
+use Rattle.std.specs.Map.{set_value}
+use Rattle.std.proofs.lemmas.Map.Steps.{set_value_same}
+use Rattle.amber_keys.proofs.Answers.{if_ok, on_err}
 use Rattle.amber_rows.specs.Operators.{same_row}
-use Rattle.amber_join.proofs.PlaceTables.{set-same, table-known, table-new}
-use Rattle.amber_keys.proofs.Answers.{err_so, none_is}
+use Rattle.amber_join.proofs.PlaceTables.{tells-known, tells-new}
 use Rattle.amber_join.proofs.places.note.Goals as goal
 
-pub returns-in_ok-add-in-Some-clause-ok : goal.returns-in_ok-add-in-Some-clause-ok
-returns-in_ok-add-in-Some-clause-ok c = λ keys rows row is key place.
-    let entries = c.args.table.now.entries in
-    let old = c.index_mut.result.now in
-    table-known keys rows row entries c.in-Some.i old c.add.new.self is
-    (ap (λ k. position (same_row k) (keys_of entries)) (sym key) ∙ sym c.in-Some.ensures.index) c.in-Some.ensures.unique c.index_mut.ensures.value
-    (c.in_ok-add-in-Some.ensures.ok ∙ ap (λ n. old ++ n ∷ []) place)
+pub returns-in-Some-clause-ok : goal.returns-in-Some-clause-ok
+returns-in-Some-clause-ok c =
+    let old = c.in-Some.places.now in
+    let written = c.get_mut.follows.holds c.add.new.self in
+    let found = sym c.in-Some.ensures.value in
+    if_ok c.add.result _ _ c.add.ensures.ok
+    (λ _ more keys rows row tells own at.
+    tells-known keys rows row c.args.table.now.entries (c.get_mut.follows.lender c.add.new.self).entries c.args.key c.args.place tells own at old c.add.new.self found more (written.3 (rw found refl)).0 written.2)
 
-pub returns-in_err-add-in-Some-clause-same : goal.returns-in_err-add-in-Some-clause-same
-returns-in_err-add-in-Some-clause-same c =
+pub returns-in-Some-clause-same : goal.returns-in-Some-clause-same
+returns-in-Some-clause-same c =
     let entries = c.args.table.now.entries in
-    err_so c.from_residual.result _
-    (ap (set_value_at entries c.in-Some.i) c.in_err-add-in-Some.ensures.same ∙ set-same entries c.in-Some.i c.index_mut.result.now c.index_mut.ensures.value)
+    let test = same_row c.args.key in
+    let written = c.get_mut.follows.holds c.add.new.self in
+    on_err c.add.result _ _ c.add.ensures.same
+    (λ same. written.0 ∙ ap (set_value test entries) same ∙ set_value_same test entries c.in-Some.places.now (sym c.in-Some.ensures.value))
 
 pub returns-in_ok-insert-in-None-clause-ok : goal.returns-in_ok-insert-in-None-clause-ok
-returns-in_ok-insert-in-None-clause-ok c = λ keys rows row is key place.
+returns-in_ok-insert-in-None-clause-ok c =
     let entries = c.args.table.now.entries in
-    let new = c.one.result in
-    let none : lookup (same_row c.args.key) entries ≡ None = none_is (lookup (same_row c.args.key) entries) c.in-None.ensures.found in
-    c.in_ok-insert-in-None.ensures.entries
-    ∙ insert_entry-new same_row c.args.table.now c.args.key new none
-    ∙ ap (λ k. entries ++ (k, new) ∷ []) key
-    ∙ table-new keys rows row entries new is (ap (λ k. lookup (same_row k) entries) (sym key) ∙ none) (c.one.ensures ∙ ap (λ n. n ∷ []) place)
+    let e = rw c.get_mut.follows.holds-at-none at c.in_ok-insert-in-None.ensures in
+    let none = sym c.in-None.ensures.value in
+    λ keys rows row tells own at.
+    tells-new keys rows row entries c.insert.new.self.entries c.args.key c.args.place tells own at none (c.args.place ∷ c.new.result.items)
+    (ap (λ more. c.args.place ∷ more) c.new.ensures.items) e.updates.0 (e.len ∙ ap (λ (old : Option (List ℕ)). length entries + (if is_some old then 0 else 1)) (e.old ∙ none))

@@ -15,7 +15,7 @@ invariant_of-self-2 c = c.in_ok-take_last.ensures.ok.within c.self.inside.fed c.
 
 pub returns-clause-groups : goal.returns-clause-groups
 returns-clause-groups c = (
-  finished_rows c.take_last.new.groups.entries,
+  finished_rows c.take_last.new.self,
   c.in_ok-take_last.ensures.rows,
   λ rows stands. ap finished_rows stands.1 ∙ rows-groups c.self.inside.keys c.self.inside.aggs rows,
 )

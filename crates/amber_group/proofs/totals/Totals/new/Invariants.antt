@@ -4,4 +4,4 @@ use Rattle.amber_group.specs.Running.{running_of}
 use Rattle.amber_group.proofs.totals.Totals.new.Given as goal
 
 abbrev pub invariant-loop-agg : goal.invariant-loop-agg
-invariant-loop-agg l = l.inner.items ≡ map (running_of []) (take l.agg-index l.aggs)
+invariant-loop-agg l = l.many.items ≡ map (running_of []) (take l.agg-index l.aggs)

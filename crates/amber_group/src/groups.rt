@@ -1,0 +1,120 @@
+//! The groups: what is kept of the rows of each key. A row is taken into the group of its key, or into a new one.
+
+ghost use Rattle.std.specs.Prelude.{◌≡◌, ◌^◌, ◌<◌, ◌++◌, ◌∷◌, [], ℕ, None, Some, IsSome, OnErr, OnOk, length};
+ghost use Rattle.std.specs.Map.{lookup};
+ghost use Rattle.amber_rows.specs.Operators.{same_row};
+ghost use Rattle.amber_keys.specs.Tables.{replaced};
+ghost use Rattle.amber_group.specs.Steps.{GroupsWithin};
+ghost use Rattle.amber_group.specs.Taking.{TakesIn};
+
+use crate::totals::Totals;
+use amber_keys::Key;
+use amber_rows::{Aggs, Row, Value};
+use std::alloc::{AllocError, Global};
+use std::collections::HashMap;
+use std::marker::Model;
+use std::mem;
+
+/// The groups in the order in which their keys came first, seen as each key beside what is kept for it.
+pub struct Groups {
+    // The keys in that order. Each has totals, and no other key has.
+    pub(crate) order: Vec<Key>,
+    pub(crate) totals: HashMap<Key, Totals>,
+}
+
+impl Drop for Groups {
+    fn drop(self) {
+        let Groups {
+            order: _,
+            totals: _,
+        } = self;
+    }
+}
+
+impl Model for Groups {
+    ghost use Rattle.std.specs.Prelude.{List};
+    ghost use Rattle.amber_rows.specs.declared.value.Value.{Value as Cell};
+    ghost use Rattle.amber_group.specs.Keeping.{HasKeysOf, kept_groups};
+    ghost use Rattle.amber_group.specs.declared.running.Running.{Running as One};
+
+    ghost Value = { List (List Cell × List One) };
+
+    ghost view = { λ a. kept_groups a.order.items a.totals.entries };
+
+    ghost invariant = { λ a. HasKeysOf a.order.items a.totals.entries };
+}
+
+impl Groups {
+    // No group.
+    pub(crate) fn new(alloc: Global) -> Self
+        ensures { result ≡ [] }
+    {
+        Groups {
+            order: Vec::new(alloc),
+            totals: HashMap::new(alloc),
+        }
+    }
+
+    // How many groups there are.
+    pub(crate) fn len(&self) -> usize
+        ensures { result ≡ length self.now }
+    {
+        self.order.len()
+    }
+
+    // Takes in a row with this key: the groups of some rows become those of these rows and this one. What is in
+    // `changes` before does not matter; `room` gets the cells of a key that is known, in whose room another can be made.
+    pub(crate) fn take_in(
+        &mut self,
+        alloc: Global,
+        key: Key,
+        aggs: &Aggs,
+        row: &Row,
+        changes: &mut Vec<Option<Value>>,
+        room: &mut Vec<Value>,
+    ) -> Result<(), AllocError>
+        requires { (fed : ℕ) × (fed < 2 ^ 40) × GroupsWithin fed self.old }
+        ensures ok { OnOk result (TakesIn
+            (record { entries = self.old; aggs = aggs.now; key = key; row = row.now })
+            self.new) }
+        ensures same { OnErr result (self.new ≡ self.old) }
+    {
+        match self.totals.get_mut(&key) {
+            Some(totals) => {
+                totals.add(row, changes)?;
+                *room = key.into_cells();
+                Ok(())
+            }
+            None => {
+                let totals = Totals::of_row(alloc, aggs.get(), row, changes)?;
+                self.begin(key, totals)
+            }
+        }
+    }
+
+    // Keeps these totals for a key that has no group.
+    pub(crate) fn begin(&mut self, key: Key, totals: Totals) -> Result<(), AllocError>
+        requires { lookup (same_row key) self.old ≡ None }
+        ensures groups { OnOk result (self.new ≡ self.old ++ (key, totals) ∷ []) }
+        ensures same { OnErr result (self.new ≡ self.old) }
+    {
+        let first = key.clone()?;
+        self.order.reserve(1)?;
+        self.totals.insert(key, totals)?;
+        self.order.push_reserved(first);
+        Ok(())
+    }
+
+    // Swaps what is kept for a key that has a group with other totals.
+    pub(crate) fn swap(&mut self, key: &Key, totals: &mut Totals)
+        requires { IsSome (lookup (same_row key.now) self.old) }
+        ensures kept { self.new ≡ replaced key.now totals.old self.old }
+        ensures given { lookup (same_row key.now) self.old ≡ Some totals.new }
+        ensures back { replaced key.now totals.new self.old ≡ self.old }
+    {
+        let Some(kept) = self.totals.get_mut(key) else {
+            unreachable!()
+        };
+        mem::swap(kept, totals);
+    }
+}
