@@ -1,5 +1,5 @@
 -- The groups of rows, as a row is added.
-use Rattle.std.proofs.Common.{◌≡◌, ℕ, ◌+◌, false, cond, List, [], ◌∷◌, ◌++◌, length, map, Some, None, refl, sym, ap, subst, ◌∙◌, arith}
+use Rattle.std.proofs.Common.{◌≡◌, ℕ, ◌+◌, false, cond, List, [], ◌∷◌, ◌++◌, length, map, Some, None, refl, sym, ap, subst, ◌∙◌, arith, length-append}
 use Rattle.std.specs.Map.{lookup}
 use Rattle.std.proofs.lemmas.List.{append-nil, length-map}
 use Rattle.std.proofs.lemmas.List.Elements.{filter-append}
@@ -11,7 +11,7 @@ use Rattle.amber_keys.specs.Tables.{replaced}
 use Rattle.amber_keys.proofs.FirstKeys.{rows_with-absent}
 use Rattle.amber_keys.proofs.Tables.{entries-known, entries-new}
 use Rattle.amber_group.specs.declared.running.Running.{Running}
-use Rattle.amber_group.specs.Group.{groups_of}
+use Rattle.amber_group.specs.Group.{FeedsRow, groups_of}
 use Rattle.amber_group.specs.Running.{running_of}
 use Rattle.amber_group.specs.Steps.{AreWithin, GroupsWithin, running_after}
 use Rattle.amber_group.specs.Taking.{Coming, TakesIn}
@@ -82,6 +82,17 @@ takes-new c new after none one small is =
       within = λ fed h.
           subst (GroupsWithin (fed + 1)) (sym is)
           (groups_within-push (fed + 1) c.entries c.key new (groups_within-up fed (fed + 1) c.entries (omega arith) h) (are_within-up 1 (fed + 1) new (omega arith) small));
+    }
+
+-- a state that took in a row stands for one row more
+pub feeds : (keys : List ℕ) (aggs : List Agg) (fed : ℕ) (groups after : Groups) (key row : Row) → TakesIn (record { entries = groups; aggs = aggs; key = key; row = row }) after → key ≡ pick_cells keys row
+    → FeedsRow row (record { keys = keys; aggs = aggs; fed = fed; groups = groups }) (record { keys = keys; aggs = aggs; fed = fed + 1; groups = after })
+feeds keys aggs fed groups after key row takes own =
+    record {
+      keys = refl;
+      aggs = refl;
+      fed = refl;
+      stands = λ rows stands. (ap (λ n. n + 1) stands.0 ∙ sym (length-append rows (row ∷ [])), takes.groups keys rows stands.1 own);
     }
 
 pub length-groups : (keys : List ℕ) (aggs : List Agg) (rows : List Row) → length (groups_of keys aggs rows) ≡ length (first_keys keys rows)

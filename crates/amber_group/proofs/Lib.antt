@@ -1,8 +1,8 @@
 pub mod Examples
+pub mod FewOrMany
 pub mod Finishing
 pub mod GroupTables
 pub mod Keeping
-pub mod Lying
 pub mod Stepping
 pub mod Settling
 pub mod Within

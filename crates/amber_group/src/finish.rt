@@ -15,15 +15,6 @@ pub struct Grouped {
     pub refused: Rows,
 }
 
-// The cells of a key, in a list that has room for as many more.
-fn cells_with_room(alloc: Global, key: &Row, more: usize) -> Result<Vec<Value>, AllocError>
-    ensures { IfOk result (λ cells. cells.items ≡ key.now) }
-{
-    let mut cells: Vec<Value> = Vec::with_capacity(alloc, key.len().saturating_add(more))?;
-    cells.extend_from_slice(key.get())?;
-    Ok(cells)
-}
-
 // These cells, and then a value for each aggregate; nothing where one has none.
 fn with_values(
     mut cells: Vec<Value>,
@@ -56,9 +47,10 @@ pub(crate) fn add_group(
     ensures refused { OnOk result (refused.new.items
         ≡ refused.old.items ++ refused_of ((key.now, runnings.now) ∷ [])) }
 {
-    let cells = cells_with_room(alloc, key, runnings.len())?;
-    let values = with_values(cells, runnings)?;
-    match values {
+    let width = key.len().saturating_add(runnings.len());
+    let mut cells: Vec<Value> = Vec::with_capacity(alloc, width)?;
+    cells.extend_from_slice(key.get())?;
+    match with_values(cells, runnings)? {
         Some(cells) => rows.push(Row::new(cells))?,
         None => refused.push(key.clone()?)?,
     }

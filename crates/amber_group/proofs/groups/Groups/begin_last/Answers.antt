@@ -1,5 +1,5 @@
 -- The new group comes last, and so does its row.
-use Rattle.std.proofs.Common.{◌≡◌, ◌∙◌, ◌++◌, ◌∷◌, [], List, ap, sym}
+use Rattle.std.proofs.Common.{◌≡◌, ◌∙◌, ◌++◌, ◌∷◌, [], List, ap, arith, sym}
 use Rattle.std.proofs.lemmas.List.Elements.{filter_map-append}
 use Rattle.amber_rows.specs.declared.value.Value.{Value}
 use Rattle.amber_group.specs.declared.running.Running.{Running}
@@ -16,3 +16,12 @@ returns-clause-rows c =
     ∙ sym (filter_map-append finished_row groups (group ∷ [])) in
     c.in-Ok.ensures.items
     ∙ (λ i. c.in_ok-reserve.ensures.items i ++ (c.from_vec-rows.ensures.items ∙ made ∙ ap finished_rows (sym c.in_ok-begin.ensures.groups)) i)
+
+pub returns-clause-groups : goal.returns-clause-groups
+returns-clause-groups c = c.in_ok-begin.ensures.groups
+
+pub begin-requires : goal.begin-requires
+begin-requires c = c.requires
+
+pub unreachable-requires : goal.unreachable-requires
+unreachable-requires c = omega (arith, c.in_default.ensures.full, c.in_ok-reserve.ensures.ok, c.len.ensures)

@@ -34,20 +34,30 @@ begin_last-requires c =
     let key = c.args.key in
     ap (λ (groups : Groups). lookup (same_row key) groups) (sym c.self.view_is) ∙ lookup-kept_groups state.order.items state.totals.entries c.self.invariant key ∙ sym c.in-None.ensures.value
 
-pub returns-in_ok-add-in-Some-clause-ok : goal.returns-in_ok-add-in-Some-clause-ok
-returns-in_ok-add-in-Some-clause-ok c =
+pub returns-in_ok-add-in-Some : goal.returns-in_ok-add-in-Some
+returns-in_ok-add-in-Some c =
     let state = c.self.inside in
     let key = c.args.key in
     let old = c.in_ok-totals-in-Some.totals in
     let seen = ap (λ (groups : Groups). lookup (same_row key) groups) (sym c.self.view_is) ∙ lookup-kept_groups state.order.items state.totals.entries c.self.invariant key in
     let found = seen ∙ sym c.in-Some.ensures.value ∙ ap Some (sym c.in_ok-totals-in-Some.ensures.cases) in
-    if_ok c.change.result _ _ c.change.ensures.groups (λ _ is. takes-known _ old c.add.new.self _ found c.in_ok-add-in-Some.ensures.ok c.in_ok-add-in-Some.ensures.within is)
+    record {
+      ok = if_ok c.change.result _ _ c.change.ensures.groups (λ _ is. takes-known _ old c.add.new.self _ found c.in_ok-add-in-Some.ensures.ok c.in_ok-add-in-Some.ensures.within is);
+      rows = c.change.ensures.rows;
+      groups_on_err = c.change.ensures.groups_on_err;
+      rows_on_err = c.change.ensures.rows_on_err;
+    }
 
-pub returns-in_ok-totals-in-None-clause-ok : goal.returns-in_ok-totals-in-None-clause-ok
-returns-in_ok-totals-in-None-clause-ok c =
+pub returns-in_ok-totals-in-None : goal.returns-in_ok-totals-in-None
+returns-in_ok-totals-in-None c =
     let state = c.self.inside in
     let key = c.args.key in
     let new = c.in_ok-totals-in-None.totals in
     let seen = ap (λ (groups : Groups). lookup (same_row key) groups) (sym c.self.view_is) ∙ lookup-kept_groups state.order.items state.totals.entries c.self.invariant key in
-    if_ok c.begin_last.result _ _ c.begin_last.ensures.groups
-    (λ _ is. takes-new _ new _ (seen ∙ sym c.in-None.ensures.value) (rw c.get-in-None.ensures at c.in_ok-totals-in-None.ensures.value) c.in_ok-totals-in-None.ensures.within is)
+    record {
+      ok = if_ok c.begin_last.result _ _ c.begin_last.ensures.groups
+          (λ _ is. takes-new _ new _ (seen ∙ sym c.in-None.ensures.value) (rw c.get-in-None.ensures at c.in_ok-totals-in-None.ensures.value) c.in_ok-totals-in-None.ensures.within is);
+      rows = c.begin_last.ensures.rows;
+      groups_on_err = c.begin_last.ensures.groups_on_err;
+      rows_on_err = c.begin_last.ensures.rows_on_err;
+    }

@@ -2,7 +2,7 @@
 use Rattle.std.proofs.Common.{◌≡◌, ◌∙◌, ap, length, map, subst, sym}
 use Rattle.std.proofs.lemmas.List.{length-map, with_items_is}
 use Rattle.amber_group.specs.Steps.{AreWithin, running_after}
-use Rattle.amber_group.proofs.Lying.{few-after, in-few, in-many}
+use Rattle.amber_group.proofs.FewOrMany.{few-after, in-few, in-many}
 use Rattle.amber_group.proofs.totals.Totals.add.Goals as goal
 
 pub returns-then-self-le-FEW : goal.returns-then-self-le-FEW

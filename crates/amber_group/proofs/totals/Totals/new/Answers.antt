@@ -2,7 +2,7 @@
 use Rattle.std.proofs.Common.{◌∙◌, ◌++◌, ◌∷◌, [], ap, length, map, sym, take, take_all}
 use Rattle.std.proofs.lemmas.List.{map-append, take_more}
 use Rattle.amber_group.specs.Running.{running_of}
-use Rattle.amber_group.proofs.Lying.{few-blank, in-few, in-many}
+use Rattle.amber_group.proofs.FewOrMany.{few-blank, in-few, in-many}
 use Rattle.amber_group.proofs.totals.Totals.new.Goals.{then-aggs-gt-FEW+in_ok-reserve+else-loop-agg-test, else-aggs-gt-FEW}
 use Rattle.amber_group.proofs.totals.Totals.new.Goals as goal
 
@@ -28,3 +28,6 @@ returns c =
           ∙ (λ i. take count (c.blank_at.ensures i ∷ c.blank_at-2.ensures i ∷ c.blank_at-3.ensures i ∷ c.blank_at-4.ensures i ∷ []))
           ∙ few-blank aggs w.if-aggs-gt-FEW.false
     ]
+
+pub loop-agg-init : goal.loop-agg-init
+loop-agg-init c = c.in_ok-reserve.ensures.items ∙ c.new-many.ensures.items
