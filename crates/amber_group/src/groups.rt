@@ -17,16 +17,16 @@ use std::mem;
 
 /// The groups in the order in which their keys came first, seen as each key beside what is kept for it.
 pub struct Groups {
-    // The keys in that order. Each has totals, and no other key has.
-    pub(crate) order: Vec<Key>,
-    pub(crate) totals: HashMap<Key, Totals>,
+    pub(crate) groups: Vec<(Key, Totals)>,
+    // The place of each key in that list.
+    pub(crate) places: HashMap<Key, usize>,
 }
 
 impl Drop for Groups {
     fn drop(self) {
         let Groups {
-            order: _,
-            totals: _,
+            groups: _,
+            places: _,
         } = self;
     }
 }
@@ -34,14 +34,14 @@ impl Drop for Groups {
 impl Model for Groups {
     ghost use Rattle.std.specs.Prelude.{List};
     ghost use Rattle.amber_rows.specs.declared.value.Value.{Value as Cell};
-    ghost use Rattle.amber_group.specs.Keeping.{HasKeysOf, kept_groups};
+    ghost use Rattle.amber_group.specs.Keeping.{TellsPlaces, group_keys};
     ghost use Rattle.amber_group.specs.declared.running.Running.{Running as One};
 
     ghost Value = { List (List Cell × List One) };
 
-    ghost view = { λ a. kept_groups a.order.items a.totals.entries };
+    ghost view = { λ a. a.groups.items };
 
-    ghost invariant = { λ a. HasKeysOf a.order.items a.totals.entries };
+    ghost invariant = { λ a. TellsPlaces (group_keys a.groups.items) a.places.entries };
 }
 
 impl Groups {
@@ -50,8 +50,8 @@ impl Groups {
         ensures { result ≡ [] }
     {
         Groups {
-            order: Vec::new(alloc),
-            totals: HashMap::new(alloc),
+            groups: Vec::new(alloc),
+            places: HashMap::new(alloc),
         }
     }
 
@@ -59,7 +59,7 @@ impl Groups {
     pub(crate) fn len(&self) -> usize
         ensures { result ≡ length self.now }
     {
-        self.order.len()
+        self.groups.len()
     }
 
     // Takes in a row with this key: the groups of some rows become those of these rows and this one. What is in
@@ -79,9 +79,9 @@ impl Groups {
             self.new) }
         ensures same { OnErr result (self.new ≡ self.old) }
     {
-        match self.totals.get_mut(&key) {
-            Some(totals) => {
-                totals.add(row, changes)?;
+        match self.places.get(&key) {
+            Some(place) => {
+                self.groups[*place].1.add(row, changes)?;
                 *room = key.into_cells();
                 Ok(())
             }
@@ -99,9 +99,9 @@ impl Groups {
         ensures same { OnErr result (self.new ≡ self.old) }
     {
         let first = key.clone()?;
-        self.order.reserve(1)?;
-        self.totals.insert(key, totals)?;
-        self.order.push_reserved(first);
+        self.groups.reserve(1)?;
+        self.places.insert(key, self.groups.len())?;
+        self.groups.push_reserved((first, totals));
         Ok(())
     }
 
@@ -112,9 +112,9 @@ impl Groups {
         ensures given { lookup (same_row key.now) self.old ≡ Some totals.new }
         ensures back { replaced key.now totals.new self.old ≡ self.old }
     {
-        let Some(kept) = self.totals.get_mut(key) else {
+        let Some(place) = self.places.get(key) else {
             unreachable!()
         };
-        mem::swap(kept, totals);
+        mem::swap(&mut self.groups[*place].1, totals);
     }
 }

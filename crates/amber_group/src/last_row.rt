@@ -35,9 +35,9 @@ impl Groups {
         ensures groups_on_err { OnErr result (self.new ≡ self.old) }
         ensures rows_on_err { OnErr result (out.new.items ≡ out.old.items) }
     {
-        match self.totals.get(&key) {
-            Some(kept) => {
-                let mut totals = kept.clone()?;
+        match self.places.get(&key) {
+            Some(place) => {
+                let mut totals = self.groups[*place].1.clone()?;
                 totals.add(row, changes)?;
                 self.change(alloc, &key, totals, out)
             }
