@@ -1,10 +1,10 @@
 -- What stands after each step of a run.
-use Rattle.std.proofs.Common.{◌≡◌, ◌≢◌, ℕ, ◌≤◌, inl, inr, List, [], ◌∷◌, ◌++◌, length, map, take, Option, Ok, Err, Bool, true, false, refl, sym, ap, subst, ◌∙◌, arith, append_assoc}
+use Rattle.std.proofs.Common.{◌≡◌, ◌≢◌, ℕ, ◌≤◌, inl, inr, List, [], ◌∷◌, ◌++◌, length, map, take, Option, Result, Ok, Err, IfOk, Bool, true, false, refl, sym, ap, subst, ◌∙◌, arith, append_assoc}
 use Rattle.std.proofs.lemmas.List.{append-nil, map-append}
 use Rattle.std.proofs.Math.Seq.{take-append_seam}
 use Rattle.std.specs.Io.KnownBytes.{Appends}
-use Rattle.amber_io.specs.Folder.{Named, with_file, with_more}
-use Rattle.amber_io.proofs.Told.{with_more-with_file}
+use Rattle.amber_io.specs.Folder.{IsThere, Named, with_file, with_more}
+use Rattle.amber_io.proofs.Told.{more_there, with_more-with_file}
 use Rattle.amber_log.specs.Grammar.{AreItems, IsBatch, IsItem, is_last}
 use Rattle.amber_log.specs.LogText.{head_text, item_text, log_text}
 use Rattle.amber_log.specs.ReadAs.{IsReadAs}
@@ -131,6 +131,16 @@ pub stands-head : (t : RunTask) (batch : ℕ) (head : List ℕ) (mid files : Opt
 stands-head t batch head mid files written h is text made new sent =
     stands-start t batch files written h is
     (new ∙ ap (λ m. with_more m t.name head) made ∙ with_more-with_file t.told t.name [] head ∙ ap (λ b. with_file t.told t.name b) text) sent
+
+-- whatever became of the writing of its head
+pub opens-head : (r : Result (Unit {0}) Failure) (t : RunTask) (batch : ℕ) (head : List ℕ) (mid files : Option Named) (written : Option (List ℕ)) → IsBatch batch → batch ≡ t.batch → head ≡ head_text batch
+    → mid ≡ with_file t.told t.name [] → Wrote r mid files (record { name = t.name; bytes = head }) → Appends t.before written [] → Opens r t (record { batch = batch; items = [] }) (showing files written)
+opens-head (Ok done) t batch head mid files written h is text made new sent = stands-head t batch head mid files written h is text made new sent
+opens-head (Err s) t batch head mid files written h is text made new sent = exit-head s t (record { batch = batch; items = [] }) batch head mid files written h text made new sent
+
+pub there-written : (r : Result (Unit {0}) Failure) (name bytes : List ℕ) (mid files : Option Named) → IsThere mid name → Wrote r mid files (record { name = name; bytes = bytes }) → IfOk r (λ done. IsThere files name)
+there-written (Ok done) name bytes mid files there new = subst (λ now. IsThere now name) (sym new) (more_there mid name bytes there)
+there-written (Err s) name bytes mid files there new = tt
 
 -- ---- a command
 

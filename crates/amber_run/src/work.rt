@@ -95,8 +95,7 @@ fn make_log<F: Folder>(alloc: Global, batch: u32, name: &str, folder: &mut F) ->
 {
     create_log(name, folder)?;
     let head = write_head(alloc, batch)?;
-    append_piece(name, head.as_slice(), folder)?;
-    Ok(())
+    append_piece(name, head.as_slice(), folder)
 }
 
 // Writes the item of a command that was done behind the log, and then puts its reply.

@@ -1,5 +1,5 @@
 -- The script's commands are done, and then the one to the end.
-use Rattle.std.proofs.Common.{[], inr, refl, ◌∙◌}
+use Rattle.std.proofs.Common.{◌≡◌, ◌∙◌, [], Err, inr, refl, rules}
 use Rattle.amber_log.specs.Fits.{fits_of}
 use Rattle.amber_run.specs.RunTask.{end_alone}
 use Rattle.amber_run.proofs.work.do_script.Goals as goal
@@ -28,3 +28,13 @@ returns-clause-puts g c = rw c.in_ok-do_all.ensures.puts at c.do_command.ensures
 
 pub returns-clause-loads : goal.returns-clause-loads
 returns-clause-loads g c = c.do_command.ensures.loads ∙ c.in_ok-do_all.ensures.loads
+
+pub returns-in_err-do_all : goal.returns-in_err-do_all
+returns-in_err-do_all g c =
+    let e : c.from_residual.result ≡ Err c.in_err-do_all.field-0.0 = search rules in
+    record {
+      did = λ t same h. rw e (c.in_err-do_all.ensures.did t end_alone same h);
+      writes = rw e c.in_err-do_all.ensures.writes;
+      puts = rw e c.in_err-do_all.ensures.puts;
+      loads = c.in_err-do_all.ensures.loads;
+    }
