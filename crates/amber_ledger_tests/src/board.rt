@@ -116,31 +116,47 @@ fn watch_all(board: &Board, chief: &mut ChiefSeat)
     }
 }
 
+// All turns side by side, and then what is left.
+fn count_all<R: Threads + Sync>(
+    rt: &R,
+    board: &Board,
+    chief: &mut ChiefSeat,
+    seats: &mut [WorkSeat],
+)
+    requires chief { IsChiefOf board.now chief.old }
+    requires workers { board_workers board.now ≡ WORKERS }
+    requires seats { All (IsSeatOf board.now) seats.old }
+    ensures chief { IsChiefOf board.now chief.new × ((chief_view chief.new).hand ≡ 0) }
+    ensures seats { All (IsSeatOf board.now) seats.new }
+    ensures hands { All (λ seat. (work_view seat).hand ≡ 0) seats.new }
+{
+    side_by_side(rt, board, chief, seats);
+    finish(board, chief, seats);
+}
+
 #[test]
 fn four_workers_count_all_units_beside_a_chief_who_divides_them(
     rt: HostRuntime,
 ) -> Result<(), Fail> {
     let (board, mut chief, mut seats) = Board::new(rt.alloc(), TARGET, WORKERS)?;
-    side_by_side(&rt, &board, &mut chief, &mut seats);
-    finish(&board, &mut chief, &mut seats);
-    assert!(rt; chief.hit());
+    count_all(&rt, &board, &mut chief, &mut seats);
+    let hit = chief.hit();
     let totals = close(board, chief, seats);
-    assert_eq!(rt; (totals.unassigned, totals.counted), (0, TARGET));
+    assert!(rt; hit && totals.unassigned == 0 && totals.counted == TARGET);
     Ok(())
 }
 
 #[test]
 fn one_worker_gives_back_what_it_does_not_count(rt: HostRuntime) -> Result<(), Fail> {
     let (board, mut chief, mut seats) = Board::for_one(rt.alloc(), 3, 2, 1)?;
-    assert_eq!(rt; seats[0].hand(), 0);
-    assert_eq!(rt; seats[1].hand(), 3);
+    assert!(rt; seats[0].hand() == 0 && seats[1].hand() == 3);
     seats[1].count(&board);
     seats[1].give_back(&board);
     chief.draw(&board);
-    assert_eq!(rt; chief.hand(), 2);
+    let drawn = chief.hand();
     chief.put_back(&board);
     let totals = close(board, chief, seats);
-    assert_eq!(rt; (totals.unassigned, totals.counted), (2, 1));
+    assert!(rt; drawn == 2 && totals.unassigned == 2 && totals.counted == 1);
     Ok(())
 }
 
@@ -148,22 +164,21 @@ fn one_worker_gives_back_what_it_does_not_count(rt: HostRuntime) -> Result<(), F
 fn units_go_round_and_a_hit_comes_at_the_target(rt: HostRuntime) -> Result<(), Fail> {
     let (board, mut chief, mut seats) = Board::new(rt.alloc(), 5, 2)?;
     chief.draw(&board);
-    assert_eq!(rt; chief.hand(), 5);
+    assert!(rt; chief.hand() == 5);
     chief.grant(&board, 0, 3);
     chief.grant(&board, 1, 2);
-    assert_eq!(rt; claim_and_count(&board, &mut seats, 0), 3);
+    let claimed = claim_and_count(&board, &mut seats[0]);
     chief.sweep(&board, 1);
-    assert_eq!(rt; chief.hand(), 2);
-    assert_eq!(rt; chief.watch(&board, 0), 3);
-    assert!(rt; !chief.hit());
+    let seen = chief.watch(&board, 0);
+    assert!(rt; claimed == 3 && seen == 3 && chief.hand() == 2 && !chief.hit());
     chief.grant(&board, 0, 2);
-    assert_eq!(rt; claim_and_count(&board, &mut seats, 0), 2);
-    assert_eq!(rt; chief.watch(&board, 0), 5);
-    assert!(rt; chief.hit());
-    assert_eq!(rt; claim_and_count(&board, &mut seats, 1), 0);
-    assert!(rt; all_empty(&seats));
+    let claimed = claim_and_count(&board, &mut seats[0]);
+    let seen = chief.watch(&board, 0);
+    assert!(rt; claimed == 2 && seen == 5 && chief.hit());
+    let left = claim_and_count(&board, &mut seats[1]);
+    assert!(rt; left == 0 && all_empty(&seats));
     let totals = close(board, chief, seats);
-    assert_eq!(rt; (totals.unassigned, totals.counted), (0, 5));
+    assert!(rt; totals.unassigned == 0 && totals.counted == 5);
     Ok(())
 }
 
@@ -171,6 +186,6 @@ fn units_go_round_and_a_hit_comes_at_the_target(rt: HostRuntime) -> Result<(), F
 fn a_board_that_is_closed_at_once_has_all_units_unassigned(rt: HostRuntime) -> Result<(), Fail> {
     let (board, chief, seats) = Board::new(rt.alloc(), 1, 1)?;
     let totals = close(board, chief, seats);
-    assert_eq!(rt; (totals.unassigned, totals.counted), (1, 0));
+    assert!(rt; totals.unassigned == 1 && totals.counted == 0);
     Ok(())
 }

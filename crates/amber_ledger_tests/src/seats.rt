@@ -1,5 +1,5 @@
 // What the tests do at the seats of a board.
-ghost use Rattle.std.specs.Prelude.{◌≡◌, ◌-◌, ◌<◌, ◌≤◌, All, IsTrue, length};
+ghost use Rattle.std.specs.Prelude.{◌≡◌, ◌-◌, ◌≤◌, All, IsTrue};
 ghost use Rattle.amber_board.specs.Seats.{IsSeatOf, work_view};
 
 use amber_board::{Board, WorkSeat};
@@ -16,13 +16,11 @@ pub fn count_times(board: &Board, seat: &mut WorkSeat, times: u64)
     }
 }
 
-/// The worker at this place claims, and counts each unit of its hand.
-pub fn claim_and_count(board: &Board, seats: &mut [WorkSeat], worker: usize) -> u64
-    requires within { worker < length seats.old }
-    requires own { All (IsSeatOf board.now) seats.old }
-    ensures { All (IsSeatOf board.now) seats.new }
+/// A worker claims, and counts each unit of its hand. How many units it has claimed.
+pub fn claim_and_count(board: &Board, seat: &mut WorkSeat) -> u64
+    requires { IsSeatOf board.now seat.old }
+    ensures { IsSeatOf board.now seat.new }
 {
-    let seat = &mut seats[worker];
     let claimed = seat.claim(board);
     let all = seat.hand();
     count_times(board, seat, all);
