@@ -51,10 +51,9 @@ fn case_files<R: Files + AllocGlobal + Clone + Drop>(
 ) -> io::Result<Vec<String>> {
     let mut names = Vec::new(rt.alloc());
     for entry in fs::read_dir(rt, folder)? {
-        let entry = entry?;
-        let name = entry.file_name();
+        let name = String::from_str(rt.alloc(), entry?.file_name())?;
         if name.ends_with(".cases") {
-            names.push(String::from_str(rt.alloc(), name)?)?;
+            names.push(name)?;
         }
     }
     names.sort()?;
@@ -69,17 +68,28 @@ fn try_folder<R: Files + Print + AllocGlobal + Clone + Drop>(
 ) -> io::Result<()> {
     let mut reader = Reader::new(rt.alloc());
     for name in case_files(rt, folder)? {
-        let path = format!(in rt.alloc(); "{folder}/{name}")?;
-        let bytes = fs::read(rt, path.as_str())?;
-        match str::from_utf8(bytes.as_slice()) {
-            Ok(text) => try_cases(rt, &mut reader, name.as_str(), text, counts)?,
-            Err(_) => tell_broken(rt, counts, name.as_str(), "it is no text")?,
-        }
+        try_file(rt, &mut reader, folder, &name, counts)?;
     }
     Ok(())
 }
 
-// Tries the cases of a file.
+// Tries the cases of a file of a folder.
+fn try_file<R: Files + Print + AllocGlobal + Clone + Drop>(
+    rt: &R,
+    reader: &mut Reader,
+    folder: &str,
+    name: &str,
+    counts: &mut Counts,
+) -> io::Result<()> {
+    let path = format!(in rt.alloc(); "{folder}/{name}")?;
+    let bytes = fs::read(rt, path.as_str())?;
+    match str::from_utf8(bytes.as_slice()) {
+        Ok(text) => try_cases(rt, reader, name, text, counts),
+        Err(_) => tell_broken(rt, counts, name, "it is no text"),
+    }
+}
+
+// Tries the cases of a text.
 fn try_cases<R: Print + AllocGlobal>(
     rt: &R,
     reader: &mut Reader,
@@ -89,15 +99,11 @@ fn try_cases<R: Print + AllocGlobal>(
 ) -> io::Result<()> {
     let cases = match reader.read(text) {
         Ok(cases) => cases,
-        Err(broken) => {
-            let why = format!(in rt.alloc(); "{broken}")?;
-            return tell_broken(rt, counts, name, why.as_str());
-        }
+        Err(broken) => return tell_broken(rt, counts, name, broken),
     };
-    for case in cases.iter() {
+    for case in &cases {
         let difference = try_case(rt.alloc(), case)?;
-        let difference = difference.as_ref().map(|text| text.as_str());
-        tell_case(rt, counts, case, difference)?;
+        tell_case(rt, counts, &case.name, difference)?;
     }
     Ok(())
 }

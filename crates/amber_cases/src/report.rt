@@ -1,5 +1,5 @@
 // What is printed of the cases.
-use amber_case_text::Case;
+use std::fmt::Display;
 use std::io;
 
 /// How many cases came as they are expected, how many did not, and how many files were broken.
@@ -14,10 +14,9 @@ pub struct Counts {
 pub fn tell_case(
     rt: &impl Print,
     counts: &mut Counts,
-    case: &Case,
-    difference: Option<&str>,
+    name: &str,
+    difference: Option<String>,
 ) -> io::Result<()> {
-    let name = case.name.as_str();
     match difference {
         None => {
             counts.good = counts.good.saturating_add(1);
@@ -31,7 +30,12 @@ pub fn tell_case(
 }
 
 /// Prints the line of a broken file, and counts it.
-pub fn tell_broken(rt: &impl Print, counts: &mut Counts, file: &str, why: &str) -> io::Result<()> {
+pub fn tell_broken(
+    rt: &impl Print,
+    counts: &mut Counts,
+    file: &str,
+    why: impl Display + Drop,
+) -> io::Result<()> {
     counts.broken = counts.broken.saturating_add(1);
     println!(rt; "{file}: BROKEN: {why}")
 }

@@ -55,10 +55,11 @@ fn try_run(
     let folder = folder_of(alloc, case, keep)?;
     let sink = MemSink::new(alloc, fails_of(alloc, case, keep)?);
     let given = call(alloc, words, folder, sink);
-    match difference(alloc, case, keep, &given)? {
-        Some(found) => Ok(Some(located(alloc, case, words, keep, found)?)),
-        None => Ok(None),
+    let mut found = difference(alloc, case, keep, &given)?;
+    if let Some(found) = &mut found {
+        append_place(alloc, found, case, words, keep)?;
     }
+    Ok(found)
 }
 
 // The folder in memory that a case gives.
@@ -87,24 +88,24 @@ fn numbers(alloc: Global, of: &[u64]) -> Result<Numbers, AllocError> {
 }
 
 // Says in which run of its case a difference was found, where there are several.
-fn located(
+fn append_place(
     alloc: Global,
+    found: &mut String,
     case: &Case,
     words: &[String],
     keep: u64,
-    mut found: String,
-) -> Result<String, AllocError> {
+) -> Result<(), AllocError> {
     if case.words.len() > 1 {
         found.push_str(", after the words")?;
         for word in words {
             found.push_str(" ")?;
-            found.push_str(word.as_str())?;
+            found.push_str(word)?;
         }
     }
     if case.keep.len() > 1 {
-        found.push_str(format!(in alloc; ", where failures keep {keep}")?.as_str())?;
+        found.push_str(&format!(in alloc; ", where failures keep {keep}")?)?;
     }
-    Ok(found)
+    Ok(())
 }
 
 // What differs first: in the answer, or else in a file.
@@ -133,30 +134,29 @@ fn answer_difference(
     keep: u64,
     given: &Given,
 ) -> Result<Option<String>, AllocError> {
-    let mut first = None;
-    for text in case.out.iter() {
-        let wanted = text.bytes(alloc, keep, given.out.bytes())?;
-        match one_difference(alloc, case.status, wanted.as_slice(), given)? {
-            Some(found) if first.is_none() => first = Some(found),
-            Some(_) => {}
-            None => return Ok(None),
+    for text in &case.out {
+        if one_difference(alloc, case.status, text, keep, given)?.is_none() {
+            return Ok(None);
         }
     }
-    if case.out.is_empty() {
-        return one_difference(alloc, case.status, b"", given);
+    match case.out.first() {
+        Some(text) => one_difference(alloc, case.status, text, keep, given),
+        None => one_difference(alloc, case.status, &CaseText::new(alloc), keep, given),
     }
-    Ok(first)
 }
 
 fn one_difference(
     alloc: Global,
     status: u8,
-    wanted: &[u8],
+    text: &CaseText,
+    keep: u64,
     given: &Given,
 ) -> Result<Option<String>, AllocError> {
-    match compare_answer(status, given.status, wanted, given.out.bytes()) {
+    let found = given.out.bytes();
+    let wanted = text.bytes(alloc, keep, found)?;
+    match compare_answer(status, given.status, &wanted, found) {
         Ok(()) => Ok(None),
-        Err(found) => Ok(Some(format!(in alloc; "{found}")?)),
+        Err(difference) => Ok(Some(format!(in alloc; "{difference}")?)),
     }
 }
 
