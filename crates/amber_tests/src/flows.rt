@@ -1,7 +1,7 @@
 // A workflow that is read.
-use crate::expected::expect_text;
+use crate::expected::{expect_bytes, expect_text};
 use amber_flow::{FlowErr, FlowWhy, read_flow};
-use amber_rows::{NoMemory, Operator, append_names};
+use amber_rows::{Flow, NoMemory, append_names};
 use std::alloc::Global;
 use std::test::Fail;
 
@@ -26,21 +26,22 @@ g: price,thing,max:name,count,sum:n,min:n
 s: price,thing,max:name,count,sum:n,min:n
 ";
 
-// An operator as such a line.
-fn line(alloc: Global, operator: &Operator) -> Result<String, NoMemory> {
-    let names = append_names(alloc, Vec::new(alloc), &operator.schema)?;
-    let names = String::from_utf8_lossy(alloc, &names)?;
-    format!(in alloc; "{}: {names}", operator.id)
+// The operators of a workflow as such lines.
+fn told(alloc: Global, flow: &Flow) -> Result<Vec<u8>, NoMemory> {
+    let mut text = Vec::new(alloc);
+    for operator in flow.get() {
+        text.extend_from_slice(operator.id.get().as_bytes())?;
+        text.extend_from_slice(b": ")?;
+        text = append_names(alloc, text, &operator.schema)?;
+    }
+    Ok(text)
 }
 
 #[test]
 fn each_kind_is_read(rt: HostRuntime) -> Result<(), Fail> {
-    let flow = read_flow(rt.alloc(), WORKFLOW.as_bytes())?;
-    let mut found = String::new(rt.alloc());
-    for operator in flow.get() {
-        found.push_str(&line(rt.alloc(), operator)?)?;
-    }
-    expect_text(found, READ)
+    let alloc = rt.alloc();
+    let flow = read_flow(alloc, WORKFLOW.as_bytes())?;
+    expect_bytes(alloc, &told(alloc, &flow)?, READ)
 }
 
 #[test]

@@ -1,31 +1,33 @@
 // What a folder gives and keeps, whichever folder it is.
-use crate::expected::expect_text;
 use amber_io::{Folder, IoErr};
 use std::alloc::{AllocError, Global};
-use std::test::Fail;
 
-/// The first bytes of the file of this name, or why they could not be loaded.
+// Puts the first bytes of a file behind a text, or that they could not be loaded; and a `;`.
+fn append_loaded<F: Folder>(
+    alloc: Global,
+    text: &mut String,
+    folder: &mut F,
+    name: &str,
+    most: u64,
+) -> Result<(), AllocError> {
+    let bytes = match folder.load(alloc, name, most) {
+        Ok(bytes) => bytes,
+        Err(IoErr::Failed) => return text.push_str("failed;"),
+        Err(IoErr::NoMemory) => return Err(AllocError),
+    };
+    text.push_str(&String::from_utf8_lossy(alloc, bytes.as_slice())?)?;
+    text.push_str(";")
+}
+
+/// What these loads give one after the other: each is of a file's first bytes, at most so many.
 pub fn loaded<F: Folder>(
     alloc: Global,
     folder: &mut F,
-    name: &str,
-    most: u64,
+    loads: &[(&str, u64)],
 ) -> Result<String, AllocError> {
-    match folder.load(alloc, name, most) {
-        Ok(bytes) => String::from_utf8_lossy(alloc, bytes.as_slice()),
-        Err(IoErr::Failed) => String::from_str(alloc, "failed"),
-        Err(IoErr::NoMemory) => String::from_str(alloc, "no memory"),
+    let mut text = String::new(alloc);
+    for (name, most) in loads {
+        append_loaded(alloc, &mut text, folder, name, *most)?;
     }
-}
-
-/// Expects of a file its first bytes, or why they could not be loaded.
-pub fn expect_loaded<F: Folder>(
-    alloc: Global,
-    folder: &mut F,
-    name: &str,
-    most: u64,
-    want: &str,
-) -> Result<(), Fail> {
-    let found = loaded(alloc, folder, name, most)?;
-    expect_text(found, want)
+    Ok(text)
 }

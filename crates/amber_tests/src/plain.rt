@@ -37,49 +37,47 @@ fn scans_of(flow: &Flow) -> usize
 
 // The files of the prices and of the orders.
 fn files(alloc: Global, prices: &str) -> Result<Files, AllocError> {
-    let prices = bytes(alloc, prices)?;
-    let orders = bytes(alloc, ORDERS)?;
-    Ok(Files::new(vec![in alloc; prices, orders]?))
+    let mut files = Vec::new(alloc);
+    files.push(bytes(alloc, prices)?)?;
+    files.push(bytes(alloc, ORDERS)?)?;
+    Ok(Files::new(files))
 }
 
 // How many rows an answer has, or why there is none.
 fn shown(alloc: Global, found: &Result<Answer, PlainErr>) -> Result<String, AllocError> {
-    match found {
-        Ok(answer) => format!(in alloc; "{} rows", answer.rows.get().len()),
-        Err(PlainErr::Header(op)) => format!(in alloc; "header {op}"),
-        Err(PlainErr::Long) => String::from_str(alloc, "long"),
-        Err(PlainErr::NoMemory) => String::from_str(alloc, "no memory"),
-    }
+    let (what, number) = match found {
+        Ok(answer) => ("rows", answer.rows.len()),
+        Err(PlainErr::Header(op)) => ("header", *op as usize),
+        Err(PlainErr::Long) => ("long", 0),
+        Err(PlainErr::NoMemory) => ("no memory", 0),
+    };
+    format!(in alloc; "{what} {number}")
 }
 
-// The same of the answer over these files.
-fn told_of(alloc: Global, flow: &Flow, files: &Files, most: u64) -> Result<String, AllocError> {
+// The same of the answer over these prices and the orders.
+fn told(alloc: Global, flow: &Flow, prices: &str, most: u64) -> Result<String, AllocError> {
+    let files = files(alloc, prices)?;
     if files.get().len() != scans_of(flow) {
         return String::from_str(alloc, "not a file for each scan");
     }
-    let found = plain(alloc, flow, files, most);
+    let found = plain(alloc, flow, &files, most);
     shown(alloc, &found)
-}
-
-// The same over these prices and the orders.
-fn told(alloc: Global, prices: &str, most: u64) -> Result<String, Fail> {
-    let flow = read_flow(alloc, PRICED.as_bytes())?;
-    let files = files(alloc, prices)?;
-    Ok(told_of(alloc, &flow, &files, most)?)
 }
 
 // Prices, how many rows there may be, and what comes of it.
 const LIMITS: [(&str, u64, &str); 4] = [
-    (PRICES, 20, "6 rows"),
-    (PRICES, 19, "long"),
-    (PRICES, 0, "long"),
+    (PRICES, 20, "rows 6"),
+    (PRICES, 19, "long 0"),
+    (PRICES, 0, "long 0"),
     ("name\nnut\n", 20, "header 1"),
 ];
 
 #[test]
 fn all_operators_rows_are_counted(rt: HostRuntime) -> Result<(), Fail> {
+    let alloc = rt.alloc();
+    let flow = read_flow(alloc, PRICED.as_bytes())?;
     for (prices, most, want) in LIMITS {
-        expect_text(told(rt.alloc(), prices, most)?, want)?;
+        expect_text(told(alloc, &flow, prices, most)?, want)?;
     }
     Ok(())
 }

@@ -1,8 +1,7 @@
 // The system's files and its standard output.
 use crate::expected::expect_text;
-use crate::folders::{expect_loaded, loaded};
+use crate::folders::loaded;
 use amber_io::{Folder, IoErr, RealFolder, RealSink, Sink};
-use std::alloc::{AllocError, Global};
 use std::os::unix::fs::symlink;
 use std::rt::{Env, Files};
 use std::test::Fail;
@@ -10,18 +9,33 @@ use std::{env, fs, io};
 
 // The path of a file of this name in the system's temporary folder.
 fn temporary<R: Env + AllocGlobal>(rt: &R, name: &str) -> io::Result<String> {
-    let path = env::temp_dir(rt)?.join(rt.alloc(), name)?;
-    Ok(String::from_str(rt.alloc(), path.as_str())?)
+    Ok(env::temp_dir(rt)?.join(rt.alloc(), name)?.into_string())
 }
 
-// What loads of the front of a file give, with a `;` behind each.
-fn fronts<F: Folder>(alloc: Global, folder: &mut F, name: &str) -> Result<String, AllocError> {
-    let mut all = String::new(alloc);
-    for most in [0, 5, 8, u64::MAX] {
-        all.push_str(&loaded(alloc, folder, name, most)?)?;
-        all.push(';')?;
-    }
-    Ok(all)
+// What a folder loads of the front of a file, what once the file is removed, and whether it then puts nothing behind it.
+fn fronts<R: Env + Files + AllocGlobal + Clone + Drop>(rt: &R) -> io::Result<String> {
+    let path = temporary(rt, "amber_io_real_front")?;
+    fs::write(rt, &path, "pausable")?;
+    let mut folder = RealFolder::new(rt.alloc(), rt);
+    let loads = [
+        (path.as_str(), 0),
+        (&path, 5),
+        (&path, 8),
+        (&path, u64::MAX),
+    ];
+    let there = loaded(rt.alloc(), &mut folder, &loads)?;
+    fs::remove_file(rt, &path)?;
+    let removed = loaded(rt.alloc(), &mut folder, &[(&path, 5)])?;
+    let refused = folder.append(&path, b"x") == Err(IoErr::Failed);
+    Ok(format!(in rt.alloc(); "{there} {removed} refused {refused}")?)
+}
+
+#[test]
+fn real_folder_loads_the_front_of_a_file(rt: HostRuntime) -> Result<(), Fail> {
+    expect_text(
+        fronts(&rt)?,
+        ";pausa;pausable;pausable; failed; refused true",
+    )
 }
 
 // Makes a file of two pieces.
@@ -31,32 +45,20 @@ fn rewrite<R: Files>(folder: &mut RealFolder<R>, name: &str) -> Result<(), IoErr
     folder.append(name, b"+tail")
 }
 
-// Whether nothing is loaded from a file that is not there, and nothing put behind it.
-fn is_absent<R: Files>(
-    alloc: Global,
-    folder: &mut RealFolder<R>,
-    name: &str,
-) -> Result<bool, AllocError> {
-    let found = loaded(alloc, folder, name, 5)?;
-    Ok(found.as_str() == "failed" && folder.append(name, b"x") == Err(IoErr::Failed))
+// Whether a folder writes a file anew, and what it then loads.
+fn rewritten<R: Env + Files + AllocGlobal + Clone + Drop>(rt: &R) -> io::Result<String> {
+    let path = temporary(rt, "amber_io_real_folder")?;
+    fs::write(rt, &path, "older and longer")?;
+    let mut folder = RealFolder::new(rt.alloc(), rt);
+    let written = rewrite(&mut folder, &path).is_ok();
+    let found = loaded(rt.alloc(), &mut folder, &[(&path, 99)])?;
+    fs::remove_file(rt, &path)?;
+    Ok(format!(in rt.alloc(); "written {written} {found}")?)
 }
 
 #[test]
-fn real_folder_loads_and_writes_a_file(rt: HostRuntime) -> Result<(), Fail> {
-    let path = temporary(&rt, "amber_io_real_folder")?;
-    fs::write(&rt, &path, "pausable")?;
-    let mut folder = RealFolder::new(rt.alloc(), &rt);
-    expect_text(
-        fronts(rt.alloc(), &mut folder, &path)?,
-        ";pausa;pausable;pausable;",
-    )?;
-    fs::remove_file(&rt, &path)?;
-    assert!(rt; is_absent(rt.alloc(), &mut folder, &path)?);
-    fs::write(&rt, &path, "older and longer")?;
-    let mut folder = RealFolder::new(rt.alloc(), &rt);
-    rewrite(&mut folder, &path)?;
-    expect_loaded(rt.alloc(), &mut folder, &path, 99, "head+tail")?;
-    Ok(fs::remove_file(&rt, &path)?)
+fn real_folder_writes_a_file(rt: HostRuntime) -> Result<(), Fail> {
+    expect_text(rewritten(&rt)?, "written true head+tail;")
 }
 
 // The names of a file: the one by which it is made, another spelling of it, a link to it and a second name of it.
@@ -66,6 +68,12 @@ struct Names {
     spelled: String,
     link: String,
     second: String,
+}
+
+impl Names {
+    fn all(&self) -> [&str; 4] {
+        [&self.path, &self.spelled, &self.link, &self.second]
+    }
 }
 
 // Four names in the system's temporary folder.
@@ -89,46 +97,39 @@ fn make<R: Files + AllocGlobal + Clone + Drop>(rt: &R, names: &Names) -> io::Res
     fs::hard_link(rt, &names.path, &names.second)
 }
 
-// Removes a file, where it is there.
-fn clear<R: Files + AllocGlobal + Clone + Drop>(rt: &R, path: &str) {
-    let _ = fs::remove_file(rt, path);
+// Removes the file, the link and the second name, where they are there.
+fn clear<R: Files + AllocGlobal + Clone + Drop>(rt: &R, names: &Names) {
+    for name in names.all() {
+        let _ = fs::remove_file(rt, name);
+    }
 }
 
-// Removes the link and the second name, where they are there.
-fn clear_links<R: Files + AllocGlobal + Clone + Drop>(rt: &R, names: &Names) {
-    clear(rt, &names.second);
-    clear(rt, &names.link);
-}
-
-fn refuses<F: Folder>(folder: &mut F, name: &str) -> bool {
-    folder.create(name) == Err(IoErr::Failed)
-}
-
+// Whether a folder makes no file of any of the names.
 fn refuses_all<F: Folder>(folder: &mut F, names: &Names) -> bool {
-    refuses(folder, &names.path)
-        && refuses(folder, &names.spelled)
-        && refuses(folder, &names.link)
-        && refuses(folder, &names.second)
+    for name in names.all() {
+        if folder.create(name) != Err(IoErr::Failed) {
+            return false;
+        }
+    }
+    true
 }
 
-// Whether a folder makes no file of any of the names, and loads before and after what the file holds.
-fn keeps<F: Folder>(alloc: Global, folder: &mut F, names: &Names) -> Result<bool, AllocError> {
-    let before = loaded(alloc, folder, &names.path, 9)?;
-    let refused = refuses_all(folder, names);
-    let after = loaded(alloc, folder, &names.path, 9)?;
-    Ok(refused && before == after)
+// What a folder loads before and after it was to make a file of each of the names, and whether it made none.
+fn kept<R: Env + Files + AllocGlobal + Clone + Drop>(rt: &R) -> io::Result<String> {
+    let names = temporary_names(rt)?;
+    clear(rt, &names);
+    make(rt, &names)?;
+    let mut folder = RealFolder::new(rt.alloc(), rt);
+    let before = loaded(rt.alloc(), &mut folder, &[(&names.path, 9)])?;
+    let refused = refuses_all(&mut folder, &names);
+    let after = loaded(rt.alloc(), &mut folder, &[(&names.path, 9)])?;
+    clear(rt, &names);
+    Ok(format!(in rt.alloc(); "{before} refused {refused} {after}")?)
 }
 
 #[test]
 fn real_folder_keeps_a_loaded_file_under_each_of_its_names(rt: HostRuntime) -> Result<(), Fail> {
-    let names = temporary_names(&rt)?;
-    clear_links(&rt, &names);
-    make(&rt, &names)?;
-    let mut folder = RealFolder::new(rt.alloc(), &rt);
-    assert!(rt; keeps(rt.alloc(), &mut folder, &names)?);
-    clear_links(&rt, &names);
-    clear(&rt, &names.path);
-    Ok(())
+    expect_text(kept(&rt)?, "input; refused true input;")
 }
 
 #[test]

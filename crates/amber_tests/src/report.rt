@@ -1,11 +1,11 @@
 // The texts of replies, each call once.
 use crate::expected::expect_bytes;
-use crate::written::{rows, text};
+use crate::written::{row, rows, two_columns};
 use amber_flow::read_flow;
 use amber_log::Command;
 use amber_meaning::{Answer, Extra, Inspected, Refusals, Stand, Stop, Stops, Views, WorkerView};
 use amber_report::{answer_lines, inspect_lines, ok_line, stop_lines};
-use amber_rows::{Bytes, ColKind, Column, Flow, Row, Rows, Schema, Value};
+use amber_rows::{Bytes, Flow, Rows, Value};
 use std::alloc::{AllocError, Global};
 use std::test::Fail;
 
@@ -14,28 +14,25 @@ const KEPT: &str = r#"{"operators":[
 {"id":"f","kind":"filter","input":"o","column":"qty","op":">=","constant":0},
 {"id":"s","kind":"sink","input":"f"}]}"#;
 
-fn row(alloc: Global, number: i64) -> Result<Row, AllocError> {
-    Ok(Row::new(vec![in alloc; Value::Int(number)]?))
-}
-
 // A filter that stopped after two of three rows.
 fn seen(alloc: Global) -> Result<Inspected, AllocError> {
-    let view = WorkerView {
+    let mut workers = Vec::new(alloc);
+    workers.push(WorkerView {
         taken: 3,
         rest: 2,
         out: 2,
         pending: 1,
         stand: Stand::Ready,
-        next: Some(row(alloc, 4)?),
+        next: Some(row(alloc, "4")?),
         extra: Extra::Nothing,
-    };
+    })?;
     Ok(Inspected {
         op: 2,
         constant: Some(Value::Int(-1)),
         pause: Some(2),
         count: None,
         when: None,
-        workers: Views::new(vec![in alloc; view]?),
+        workers: Views::new(workers),
     })
 }
 
@@ -46,7 +43,7 @@ fn pause_reply(alloc: Global, flow: &Flow) -> Result<Bytes, AllocError> {
 
 // The reply to a drop of a row.
 fn drop_reply(alloc: Global, flow: &Flow) -> Result<Bytes, AllocError> {
-    let dropped = row(alloc, 4)?;
+    let dropped = row(alloc, "4")?;
     ok_line(
         alloc,
         flow,
@@ -57,13 +54,13 @@ fn drop_reply(alloc: Global, flow: &Flow) -> Result<Bytes, AllocError> {
 
 // The reply to a run up to that pause.
 fn run_reply(alloc: Global, flow: &Flow) -> Result<Bytes, AllocError> {
-    let stop = Stop::Pause {
+    let mut stops = Vec::new(alloc);
+    stops.push(Stop::Pause {
         op: 2,
         n: 2,
         emitted: 2,
-    };
-    let stops = Stops::new(vec![in alloc; stop]?);
-    stop_lines(alloc, flow, &stops)
+    })?;
+    stop_lines(alloc, flow, &Stops::new(stops))
 }
 
 // The reply to a look at the filter.
@@ -91,34 +88,25 @@ fn replies_have_their_texts(rt: HostRuntime) -> Result<(), Fail> {
     )
 }
 
-// The column of an answer.
-fn columns(alloc: Global) -> Result<Schema, AllocError> {
-    let name = text(alloc, "id")?;
-    let kind = ColKind::Int;
-    Ok(Schema::new(vec![in alloc; Column { name, kind }]?))
-}
-
-// An answer of two rows.
-fn answer(alloc: Global) -> Result<Answer, Fail> {
-    let columns = columns(alloc)?;
-    let rows = Rows::new(rows(alloc, "4 / 5")?);
-    Ok(Answer {
+// The reply of an answer of two rows.
+fn answer_reply(alloc: Global, flow: &Flow) -> Result<Bytes, AllocError> {
+    let columns = two_columns(alloc)?;
+    let rows = Rows::new(rows(alloc, "4 'nut / 5 '")?);
+    let answer = Answer {
         refused: Refusals::new(Vec::new(alloc)),
         columns,
         rows,
-    })
-}
-
-// An answer as it is printed.
-fn printed(alloc: Global, answer: &Answer) -> Result<Bytes, Fail> {
-    let flow = read_flow(alloc, KEPT.as_bytes())?;
-    Ok(answer_lines(alloc, &flow, answer)?)
+    };
+    answer_lines(alloc, flow, &answer)
 }
 
 #[test]
 fn an_answer_has_its_text(rt: HostRuntime) -> Result<(), Fail> {
     let alloc = rt.alloc();
-    let answer = answer(alloc)?;
-    let text = printed(alloc, &answer)?;
-    expect_bytes(alloc, text.get(), "rows 2\nid\n4\n5\n")
+    let flow = read_flow(alloc, KEPT.as_bytes())?;
+    expect(
+        alloc,
+        answer_reply(alloc, &flow),
+        "rows 2\nnumber,word\n4,nut\n5,\n",
+    )
 }

@@ -1,10 +1,10 @@
 // Rows, their order, and what they are made of.
-use crate::expected::{expect_row, expect_rows, expect_text};
-use crate::written::{cell, cols, row, rows, text, two_columns};
+use crate::expected::{expect_rows, expect_text};
+use crate::written::{cell, cols, row, row_text, rows, two_columns};
 use amber_rows::{
-    Bytes, Cmp, ColKind, Column, Cond, Row, Schema, Value, compare, holds, sort, suits,
+    Bytes, Cmp, ColKind, Column, Cond, NoMemory, Row, Text, Value, compare, holds, sort, suits,
 };
-use std::alloc::{AllocError, Global};
+use std::alloc::Global;
 use std::test::Fail;
 
 // The first two rows that do not compare as their places do.
@@ -25,132 +25,82 @@ fn rows_of_other_widths_and_kinds_have_an_order_too(rt: HostRuntime) -> Result<(
         rt.alloc(),
         "/ -1 / 0 / 0 3 / 0 ' / 2 / 10 / 9223372036854775807 / ' / '10 / '9 / 'a 1 / 'a '0 / 'é",
     )?;
-    assert_eq!(rt; wrong_pair(&rising), None);
+    assert!(rt; wrong_pair(&rising).is_none());
     Ok(())
 }
 
 #[test]
 fn rows_are_sorted_and_equal_ones_kept(rt: HostRuntime) -> Result<(), Fail> {
-    let mut sorted = rows(rt.alloc(), "2 'b / 'a / 2 'b / -7 / 2 / 'a")?;
+    let alloc = rt.alloc();
+    let mut sorted = rows(alloc, "2 'b / 'a / 2 'b / -7 / 2 / 'a")?;
     sort(&mut sorted);
-    expect_rows(rt.alloc(), &sorted, "-7 / 2 / 2 'b / 2 'b / 'a / 'a")
+    expect_rows(alloc, &sorted, "-7 / 2 / 2 'b / 2 'b / 'a / 'a / ")
 }
 
-// A column, and a constant with which its cell is compared.
-#[derive(Drop)]
-struct Compared {
-    column: u32,
-    constant: &'static str,
-}
-
-const COMPARED: [Compared; 6] = [
-    Compared {
-        column: 1,
-        constant: "7",
-    },
-    Compared {
-        column: 1,
-        constant: "'7",
-    },
-    Compared {
-        column: 2,
-        constant: "'pear",
-    },
-    Compared {
-        column: 2,
-        constant: "9",
-    },
-    Compared {
-        column: 0,
-        constant: "7",
-    },
-    Compared {
-        column: 3,
-        constant: "7",
-    },
+// Columns, and constants with which their cells are compared.
+const COMPARED: [(u32, &str); 6] = [
+    (1, "7"),
+    (1, "'7"),
+    (2, "'pear"),
+    (2, "9"),
+    (0, "7"),
+    (3, "7"),
 ];
 
-// A sign, and with which of these it holds of the row: an `x` where it does, else a `.`.
-#[derive(Drop)]
-struct SignCase {
-    op: Cmp,
-    marks: &'static str,
-}
-
-const SIGNS: [SignCase; 6] = [
-    SignCase {
-        op: Cmp::Eq,
-        marks: "x.x...",
-    },
-    SignCase {
-        op: Cmp::Ne,
-        marks: ".x.x..",
-    },
-    SignCase {
-        op: Cmp::Lt,
-        marks: ".x....",
-    },
-    SignCase {
-        op: Cmp::Le,
-        marks: "xxx...",
-    },
-    SignCase {
-        op: Cmp::Gt,
-        marks: "...x..",
-    },
-    SignCase {
-        op: Cmp::Ge,
-        marks: "x.xx..",
-    },
+// Signs, and with which of these each holds of the row `7 'pear`: an `x` where it does, else a `.`.
+const SIGNS: [(Cmp, &str); 6] = [
+    (Cmp::Eq, "x.x..."),
+    (Cmp::Ne, ".x.x.."),
+    (Cmp::Lt, ".x...."),
+    (Cmp::Le, "xxx..."),
+    (Cmp::Gt, "...x.."),
+    (Cmp::Ge, "x.xx.."),
 ];
-
-// A condition.
-fn cond(alloc: Global, op: Cmp, compared: &Compared) -> Result<Cond, Fail> {
-    let constant = cell(alloc, compared.constant)?;
-    Ok(Cond {
-        column: compared.column,
-        op,
-        constant,
-    })
-}
-
-// The mark of a condition.
-fn mark(alloc: Global, row: &Row, op: Cmp, compared: &Compared) -> Result<char, Fail> {
-    let cond = cond(alloc, op, compared)?;
-    Ok(if holds(&cond, row) { 'x' } else { '.' })
-}
 
 // The marks of a sign.
-fn marks(alloc: Global, row: &Row, op: Cmp) -> Result<String, Fail> {
+fn marks(alloc: Global, row: &Row, op: Cmp) -> Result<String, NoMemory> {
     let mut found = String::new(alloc);
-    for compared in &COMPARED {
-        found.push(mark(alloc, row, op, compared)?)?;
+    for (column, constant) in COMPARED {
+        let constant = cell(alloc, constant)?;
+        let cond = Cond {
+            column,
+            op,
+            constant,
+        };
+        found.push_str(if holds(&cond, row) { "x" } else { "." })?;
     }
     Ok(found)
 }
 
 #[test]
 fn a_condition_compares_a_cell_with_a_constant_of_any_kind(rt: HostRuntime) -> Result<(), Fail> {
-    let row = row(rt.alloc(), "7 'pear")?;
-    for case in &SIGNS {
-        expect_text(marks(rt.alloc(), &row, case.op)?, case.marks)?;
+    let alloc = rt.alloc();
+    let row = row(alloc, "7 'pear")?;
+    for (op, want) in SIGNS {
+        expect_text(marks(alloc, &row, op)?, want)?;
     }
     Ok(())
 }
 
-#[test]
-fn a_text_copies(rt: HostRuntime) -> Result<(), Fail> {
-    let name = text(rt.alloc(), "hé")?;
+// Whether a text, and bytes, are what they are copied from.
+fn texts_copy(alloc: Global) -> Result<bool, NoMemory> {
+    let name = Text::new(alloc, "hé")?;
     let copy = name.clone()?;
-    assert!(rt; copy.get() == "hé" && name.len() == 3);
-    Ok(())
+    Ok(copy.get() == "hé" && name.len() == 3)
+}
+
+fn bytes_copy(alloc: Global) -> Result<bool, NoMemory> {
+    let bytes = Bytes::new(Vec::from_slice(alloc, b"a,b")?);
+    let copy = bytes.clone()?;
+    Ok(copy.get() == bytes.get() && bytes.len() == 3)
 }
 
 #[test]
-fn bytes_copy(rt: HostRuntime) -> Result<(), Fail> {
-    let bytes = Bytes::new(Vec::from_slice(rt.alloc(), b"a,b")?);
-    let copy = bytes.clone()?;
-    assert!(rt; copy.get() == bytes.get() && bytes.len() == 3);
+fn texts_and_bytes_copy(rt: HostRuntime) -> Result<(), Fail> {
+    let alloc = rt.alloc();
+    let texts = texts_copy(alloc)?;
+    let bytes = bytes_copy(alloc)?;
+    assert!(rt; texts && bytes);
     Ok(())
 }
 
@@ -159,21 +109,32 @@ fn is_column(one: &Column, other: &Column) -> bool {
     one.name == other.name && one.kind == other.kind
 }
 
-#[test]
-fn columns_copy(rt: HostRuntime) -> Result<(), Fail> {
-    let schema = two_columns(rt.alloc())?;
+// Whether two columns are what they are copied from.
+fn columns_copy(alloc: Global) -> Result<bool, NoMemory> {
+    let schema = two_columns(alloc)?;
     let copy = schema.clone()?;
-    assert!(rt; schema.len() == 2 && copy.len() == 2);
-    assert!(rt; is_column(&schema.get()[0], &copy.get()[0]));
-    assert!(rt; is_column(&schema.get()[1], &copy.get()[1]));
-    Ok(())
+    let (one, other) = (schema.get(), copy.get());
+    Ok(
+        schema.len() == 2
+            && copy.len() == 2
+            && is_column(&one[0], &other[0])
+            && is_column(&one[1], &other[1]),
+    )
+}
+
+// Whether a row is what it is copied from.
+fn rows_copy(alloc: Global) -> Result<bool, NoMemory> {
+    let row = row(alloc, "7 'pear")?;
+    let copy = Row::new(row.clone()?.into_inner());
+    Ok(row == copy)
 }
 
 #[test]
-fn rows_copy(rt: HostRuntime) -> Result<(), Fail> {
-    let row = row(rt.alloc(), "7 'pear")?;
-    let copy = Row::new(row.clone()?.into_inner());
-    assert!(rt; row == copy);
+fn columns_and_rows_copy(rt: HostRuntime) -> Result<(), Fail> {
+    let alloc = rt.alloc();
+    let columns = columns_copy(alloc)?;
+    let rows = rows_copy(alloc)?;
+    assert!(rt; columns && rows);
     Ok(())
 }
 
@@ -190,37 +151,40 @@ fn rows_give_their_cells(rt: HostRuntime) -> Result<(), Fail> {
     Ok(())
 }
 
-// Expects of a row these cells.
-fn expect_picked(alloc: Global, row: &Row, columns: &str, want: &str) -> Result<(), Fail> {
+// The cells of a row in these columns.
+fn picked(alloc: Global, written: &str, columns: &[u32]) -> Result<String, NoMemory> {
     let columns = cols(alloc, columns)?;
-    let picked = row.pick(alloc, &columns)?;
-    expect_row(alloc, &picked, want)
+    let picked = row(alloc, written)?.pick(alloc, &columns)?;
+    row_text(alloc, &picked)
 }
 
 #[test]
 fn cells_are_picked_by_their_columns(rt: HostRuntime) -> Result<(), Fail> {
-    let row = row(rt.alloc(), "7 'pear")?;
-    expect_picked(rt.alloc(), &row, "2 3 1 0 2", "'pear 7 'pear")
+    expect_text(
+        picked(rt.alloc(), "7 'pear", &[2, 3, 1, 0, 2])?,
+        "'pear 7 'pear ",
+    )
 }
 
-// A cell as it is printed.
-fn printed(alloc: Global, value: &Value) -> Result<String, AllocError> {
-    let copy = value.clone()?;
-    format!(in alloc; "{copy};")
+// Copies of the cells of a row, as they are printed.
+fn printed(alloc: Global, row: &Row) -> Result<String, NoMemory> {
+    let mut all = String::new(alloc);
+    for cell in row.get() {
+        let copy = cell.clone()?;
+        all.push_str(&format!(in alloc; "{copy};")?)?;
+    }
+    Ok(all)
 }
 
 #[test]
 fn cells_print_as_numbers_and_texts(rt: HostRuntime) -> Result<(), Fail> {
-    let row = row(rt.alloc(), "-12 'a 'b,c")?;
-    let mut all = String::new(rt.alloc());
-    for value in row.get() {
-        all.push_str(&printed(rt.alloc(), value)?)?;
-    }
-    expect_text(all, "-12;a;b,c;")
+    let alloc = rt.alloc();
+    let row = row(alloc, "-12 'a 'b,c")?;
+    expect_text(printed(alloc, &row)?, "-12;a;b,c;")
 }
 
 // Whether a row suits the columns `number` and `word`.
-fn is_suited(alloc: Global, written: &str) -> Result<bool, Fail> {
+fn is_suited(alloc: Global, written: &str) -> Result<bool, NoMemory> {
     let schema = two_columns(alloc)?;
     let row = row(alloc, written)?;
     Ok(suits(&row, &schema))

@@ -2,45 +2,16 @@
 ghost use Rattle.std.specs.Prelude.{◌≤◌};
 
 use crate::expected::expect_text;
-use crate::written::two_columns;
-use amber_rows::{Row, RowFault, Value};
+use crate::written::{append_typed, two_columns};
 use amber_scan::{NoMemory, ScanErr, Scanned, Share, deal};
 use std::alloc::Global;
 use std::test::Fail;
 
-// A cell behind a blank.
-fn append_cell(alloc: Global, text: &mut String, cell: &Value) -> Result<(), NoMemory> {
-    let cell = format!(in alloc; " {cell}")?;
-    text.push_str(&cell)
-}
-
-// The cells of a row.
-fn append_row(alloc: Global, text: &mut String, row: &Row) -> Result<(), NoMemory> {
-    for cell in row.get() {
-        append_cell(alloc, text, cell)?;
-    }
-    Ok(())
-}
-
 // A record's number, and its cells or its fault.
 fn append_record(alloc: Global, text: &mut String, one: &Scanned) -> Result<(), NoMemory> {
-    let number = format!(in alloc; "{}:", one.number)?;
-    text.push_str(&number)?;
-    match &one.what {
-        Ok(row) => append_row(alloc, text, row)?,
-        Err(fault) => append_fault(alloc, text, *fault)?,
-    }
+    text.push_str(&format!(in alloc; "{}: ", one.number)?)?;
+    append_typed(alloc, text, &one.what)?;
     text.push_str("; ")
-}
-
-// A fault behind a blank.
-fn append_fault(alloc: Global, text: &mut String, fault: RowFault) -> Result<(), NoMemory> {
-    let fault = match fault {
-        RowFault::Width => format!(in alloc; " width")?,
-        RowFault::Int(column) => format!(in alloc; " int {column}")?,
-        RowFault::Utf8(column) => format!(in alloc; " utf8 {column}")?,
-    };
-    text.push_str(&fault)
 }
 
 // The next record of a share.
@@ -60,17 +31,11 @@ fn taken(alloc: Global, share: &mut Share) -> Result<String, NoMemory> {
     Ok(text)
 }
 
-// All that is left of a share, and where it ends.
-fn append_share(alloc: Global, text: &mut String, share: &mut Share) -> Result<(), NoMemory> {
-    let taken = taken(alloc, share)?;
-    text.push_str(&taken)?;
-    text.push_str("| ")
-}
-
-// All that is left of these shares.
+// All that is left of these shares, with a `|` behind each.
 fn append_shares(alloc: Global, text: &mut String, shares: Vec<Share>) -> Result<(), NoMemory> {
     for mut share in shares {
-        append_share(alloc, text, &mut share)?;
+        text.push_str(&taken(alloc, &mut share)?)?;
+        text.push_str("| ")?;
     }
     Ok(())
 }
@@ -97,13 +62,13 @@ fn workers_take_turns_at_rows_and_faults(rt: HostRuntime) -> Result<(), Fail> {
     let alloc = rt.alloc();
     expect_text(
         dealt(alloc, SEVEN, 3)?,
-        "1: 1 a; 4: width; 7: 7 g; | 2: int 1; 5: 5 e,e; | 3: 3 c; 6: 6 f; | ",
+        "1: 1 'a ; 4: width ; 7: 7 'g ; | 2: int 1 ; 5: 5 'e,e ; | 3: 3 'c ; 6: 6 'f ; | ",
     )?;
     expect_text(
         dealt(alloc, SEVEN, 1)?,
-        "1: 1 a; 2: int 1; 3: 3 c; 4: width; 5: 5 e,e; 6: 6 f; 7: 7 g; | ",
+        "1: 1 'a ; 2: int 1 ; 3: 3 'c ; 4: width ; 5: 5 'e,e ; 6: 6 'f ; 7: 7 'g ; | ",
     )?;
-    expect_text(dealt(alloc, "number,word\n8,z", 2)?, "1: 8 z; | | ")?;
+    expect_text(dealt(alloc, "number,word\n8,z", 2)?, "1: 8 'z ; | | ")?;
     expect_text(dealt(alloc, "number,word\r\n", 4)?, "| | | | ")?;
     expect_text(dealt(alloc, "1,a\n", 2)?, "header")
 }
