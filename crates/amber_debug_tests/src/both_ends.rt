@@ -4,28 +4,21 @@ ghost use Rattle.std.specs.Prelude.{◌≡◌, ◌+◌, ◌^◌, ◌≤◌, OnOk
 use crate::ends::push;
 use crate::expected::expect_text;
 use amber_link::{In, NoMemory, Out, Sent, link, settle};
-use amber_rows::{Batch, Row, Value};
+use amber_rows::{Batch, Row};
 use std::alloc::Global;
 use std::test::Fail;
 
-// A cell before a blank.
-fn append_cell(alloc: Global, told: &mut String, cell: &Value) -> Result<(), NoMemory> {
-    let cell = format!(in alloc; "{cell} ")?;
-    told.push_str(&cell)
-}
-
-// The cells of a row.
+// The cells of a row, with a blank behind each.
 fn append_row(alloc: Global, told: &mut String, row: &Row) -> Result<(), NoMemory> {
     for cell in row.get() {
-        append_cell(alloc, told, cell)?;
+        told.push_str(&format!(in alloc; "{cell} ")?)?;
     }
     Ok(())
 }
 
 // The numbers of a batch, and whether it is the last.
 fn append_batch(alloc: Global, told: &mut String, batch: &Batch) -> Result<(), NoMemory> {
-    let number = format!(in alloc; "{}: ", batch.seq)?;
-    told.push_str(&number)?;
+    told.push_str(&format!(in alloc; "{}: ", batch.seq)?)?;
     for row in batch.rows.get() {
         append_row(alloc, told, row)?;
     }
@@ -56,20 +49,18 @@ fn given(alloc: Global, into: &mut In) -> Result<String, NoMemory> {
 
 #[test]
 fn a_row_is_pushed_sent_and_taken(rt: HostRuntime) -> Result<(), Fail> {
-    let (mut out, mut into) = link(rt.alloc(), 1)?;
-    assert!(rt; into.take().is_none());
-    push(rt.alloc(), &mut out, 7)?;
-    assert!(rt; !out.is_sent());
-    assert!(rt; into.take().is_none());
-    assert!(rt; out.send() == Sent::All);
-    assert!(rt; out.is_sent());
-    expect_text(given(rt.alloc(), &mut into)?, "0: 7 | ")?;
-    assert!(rt; into.take().is_none());
-    Ok(())
+    let alloc = rt.alloc();
+    let (mut out, mut into) = link(alloc, 1)?;
+    let before = into.take().is_some();
+    push(alloc, &mut out, 7)?;
+    let unsent = into.take().is_some();
+    assert!(rt; !before && !unsent && !out.is_sent());
+    assert!(rt; out.send() == Sent::All && out.is_sent());
+    expect_text(given(alloc, &mut into)?, "0: 7 | ")
 }
 
 // Pushes rows of the numbers from one on.
-fn fill(alloc: Global, out: &mut Out, count: u32) -> Result<(), Fail>
+fn fill(alloc: Global, out: &mut Out, count: u32) -> Result<(), NoMemory>
     requires few { out.old.kept.made ≤ 2 ^ 34 }
     requires open { out.old.kept.ended ≡ false }
     ensures few { out.new.kept.made ≤ out.old.kept.made + count }
@@ -84,28 +75,30 @@ fn fill(alloc: Global, out: &mut Out, count: u32) -> Result<(), Fail>
 
 #[test]
 fn a_full_ring_keeps_batches_in_their_order(rt: HostRuntime) -> Result<(), Fail> {
-    let (mut out, mut into) = link(rt.alloc(), 1)?;
-    fill(rt.alloc(), &mut out, 11)?;
+    let alloc = rt.alloc();
+    let (mut out, mut into) = link(alloc, 1)?;
+    fill(alloc, &mut out, 11)?;
     assert!(rt; out.send() == Sent::Kept);
     expect_text(
-        given(rt.alloc(), &mut into)?,
+        given(alloc, &mut into)?,
         "0: 1 | 1: 2 | 2: 3 | 3: 4 | 4: 5 | 5: 6 | 6: 7 | 7: 8 | ",
     )?;
     assert!(rt; out.send() == Sent::All);
-    expect_text(given(rt.alloc(), &mut into)?, "8: 9 | 9: 10 | 10: 11 | ")
+    expect_text(given(alloc, &mut into)?, "8: 9 | 9: 10 | 10: 11 | ")
 }
 
 #[test]
 fn settling_goes_through_the_ring(rt: HostRuntime) -> Result<(), Fail> {
-    let (mut out, mut into) = link(rt.alloc(), 2)?;
+    let alloc = rt.alloc();
+    let (mut out, mut into) = link(alloc, 2)?;
     out.reserve(25)?;
-    fill(rt.alloc(), &mut out, 25)?;
+    fill(alloc, &mut out, 25)?;
     assert!(rt; out.send() == Sent::Kept);
     out.end()?;
     settle(&mut out, &mut into)?;
     assert!(rt; out.is_sent());
     expect_text(
-        given(rt.alloc(), &mut into)?,
+        given(alloc, &mut into)?,
         "0: 1 2 | 1: 3 4 | 2: 5 6 | 3: 7 8 | 4: 9 10 | 5: 11 12 | 6: 13 14 | 7: 15 16 | 8: 17 18 | 9: 19 20 | 10: 21 22 | 11: 23 24 | 12: 25 last | ",
     )
 }

@@ -20,10 +20,9 @@ fn started(alloc: Global, file: &str, most: u64) -> Result<Debugger, HomeErr>
 
 // What a command wrote and replied.
 fn done_text(alloc: Global, done: &Done) -> Result<String, NoMemory> {
-    let mut all = String::from_utf8_lossy(alloc, done.item.get())?;
-    let reply = String::from_utf8_lossy(alloc, done.reply.get())?;
-    all.push_str(reply.as_str())?;
-    Ok(all)
+    let mut all = Vec::from_slice(alloc, done.item.get())?;
+    all.extend_from_slice(done.reply.get())?;
+    String::from_utf8_lossy(alloc, &all)
 }
 
 // What a command that was not done wrote, or why it was not done.

@@ -56,22 +56,23 @@ pub fn last_end(batch: u32, outs: &mut Vec<Out>) -> Result<Out, Fail>
 }
 
 /// Pushes a row of one number.
-pub fn push(alloc: Global, out: &mut Out, number: i64) -> Result<(), Fail>
+pub fn push(alloc: Global, out: &mut Out, number: i64) -> Result<(), NoMemory>
     requires few { out.old.kept.made < 2 ^ 40 }
     requires open { out.old.kept.ended ≡ false }
     ensures made { out.new.kept.made ≤ out.old.kept.made + 1 }
     ensures open { OnOk result (out.new.kept.ended ≡ false) }
     ensures ring { out.new.ring ≡ out.old.ring }
 {
-    let row = Row::new(vec![in alloc; Value::Int(number)]?);
-    match out.push(row) {
+    let mut cells = Vec::new(alloc);
+    cells.push(Value::Int(number))?;
+    match out.push(Row::new(cells)) {
         Ok(()) => Ok(()),
-        Err(_) => Err(Fail::new("no memory")),
+        Err(_) => Err(NoMemory),
     }
 }
 
 /// Sends a row of one number, and then the end, if it is to end.
-pub fn deliver(alloc: Global, mut out: Out, number: i64, ends: bool) -> Result<(), Fail>
+pub fn deliver(alloc: Global, mut out: Out, number: i64, ends: bool) -> Result<(), NoMemory>
     requires made { out.kept.made ≡ 0 }
     requires open { out.kept.ended ≡ false }
 {

@@ -6,5 +6,5 @@ pub fn expect_text(found: String, want: &str) -> Result<(), Fail> {
     if found.as_str() == want {
         return Ok(());
     }
-    Err(Fail::new(format_args!("found: {found}\nnot: {want}")))
+    Err(Fail::new(found))
 }

@@ -52,9 +52,10 @@ fn stopped_text(alloc: Global, home: &mut Home) -> Result<String, NoMemory> {
 // The scan takes and emits three rows and finishes; the filter takes the batch and the first row, and emits it.
 #[test]
 fn a_leg_is_run_step_by_step(rt: HostRuntime) -> Result<(), Fail> {
-    let mut home = home_over(rt.alloc(), "n\n2\n1\n3\n")?;
+    let alloc = rt.alloc();
+    let mut home = home_over(alloc, "n\n2\n1\n3\n")?;
     expect_text(
-        stopped_text(rt.alloc(), &mut home)?,
+        stopped_text(alloc, &mut home)?,
         "opened true steps 10 closed true\nstop pause big 1 1\noperators 3 files 1 items 2 most 30 steps 10",
     )
 }
@@ -80,9 +81,10 @@ fn asked_text(alloc: Global, home: &mut Home) -> Result<String, NoMemory> {
 
 #[test]
 fn a_filter_shows_what_was_asked_of_it(rt: HostRuntime) -> Result<(), Fail> {
-    let mut home = home_over(rt.alloc(), "n\n2\n1\n3\n4\n")?;
+    let alloc = rt.alloc();
+    let mut home = home_over(alloc, "n\n2\n1\n3\n4\n")?;
     expect_text(
-        asked_text(rt.alloc(), &mut home)?,
+        asked_text(alloc, &mut home)?,
         "asked true\ninspect big filter\nconstant 3\npause 1\nworker 0 taken 0 rest 0 out 0 pending 0 ready\ncleared true\ninspect big filter\nconstant 3\nworker 0 taken 0 rest 0 out 0 pending 0 ready\n",
     )
 }
@@ -114,9 +116,10 @@ fn end_text(alloc: Global, home: &mut Home) -> Result<String, Fail> {
 
 #[test]
 fn the_answer_is_told_and_taken_out(rt: HostRuntime) -> Result<(), Fail> {
-    let mut home = home_over(rt.alloc(), "n\n2\n1\n3\n4\n")?;
+    let alloc = rt.alloc();
+    let mut home = home_over(alloc, "n\n2\n1\n3\n4\n")?;
     expect_text(
-        end_text(rt.alloc(), &mut home)?,
+        end_text(alloc, &mut home)?,
         "ended true finished true closed true\nrows 2\nn\n3\n4\nrows 2\nn\n3\n4\nover true",
     )
 }

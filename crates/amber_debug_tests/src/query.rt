@@ -20,7 +20,9 @@ fn columns(alloc: Global) -> Result<Schema, NoMemory>
 {
     let name = text(alloc, "n")?;
     let kind = ColKind::Int;
-    Ok(Schema::new(vec![in alloc; Column { name, kind }]?))
+    let mut columns = Vec::new(alloc);
+    columns.push(Column { name, kind })?;
+    Ok(Schema::new(columns))
 }
 
 // Puts an operator with one worker behind the others.
@@ -70,5 +72,7 @@ pub fn files_of(alloc: Global, file: &str) -> Result<Files, NoMemory>
     ensures { IfOk result (λ files. length files ≡ 1) }
 {
     let file = Bytes::new(Vec::from_slice(alloc, file.as_bytes())?);
-    Ok(Files::new(vec![in alloc; file]?))
+    let mut files = Vec::new(alloc);
+    files.push(file)?;
+    Ok(Files::new(files))
 }

@@ -85,14 +85,12 @@ fn fed(alloc: Global, number: i64) -> Result<Worker, Fail> {
     Ok(filter)
 }
 
-// For whom a batch waits, of all receivers.
+// For whom a batch waits, of all receivers: a 0 where none does.
 fn waiting(alloc: Global, worker: &Worker) -> Result<String, NoMemory> {
     let mut told = String::new(alloc);
     for place in 0..worker.receivers() {
-        match worker.waiting_at(place) {
-            Some(to) => told.push_str(&format!(in alloc; "{to} ")?)?,
-            None => told.push_str("- ")?,
-        }
+        let to = worker.waiting_at(place).unwrap_or(0);
+        told.push_str(&format!(in alloc; "{to} ")?)?;
     }
     Ok(told)
 }
@@ -108,11 +106,11 @@ fn waiting_after(alloc: Global, number: i64) -> Result<String, Fail> {
 fn a_filter_feeds_a_group_of_four(rt: HostRuntime) -> Result<(), Fail> {
     let alloc = rt.alloc();
     for (number, want) in [
-        (1, "2 - - - "),
-        (0, "- 3 - - "),
-        (3, "- - 4 - "),
-        (2, "- - - 5 "),
-        (-1, "- - - - "),
+        (1, "2 0 0 0 "),
+        (0, "0 3 0 0 "),
+        (3, "0 0 4 0 "),
+        (2, "0 0 0 5 "),
+        (-1, "0 0 0 0 "),
     ] {
         expect_text(waiting_after(alloc, number)?, want)?;
     }
@@ -136,23 +134,7 @@ fn join_of(alloc: Global, ins: Vec<In>) -> Result<Worker, Fail>
     worker_of(alloc, &flow, 4, outs, ins)
 }
 
-// A row and the end of the last of the senders that have not ended, and what the join does then. How many steps it has made.
-fn hand_on(
-    alloc: Global,
-    senders: &mut Vec<Out>,
-    join: &mut Worker,
-    number: i64,
-) -> Result<u64, Fail>
-    requires { All (IsFreshOut 1) senders.old.items }
-    ensures { All (IsFreshOut 1) senders.new.items }
-{
-    let sender = last_end(1, senders)?;
-    deliver(alloc, sender, number, true)?;
-    drive(join)?;
-    Ok(join.steps())
-}
-
-// The same, with the steps told.
+// A row and the end of the last of the senders that have not ended, and what the join does then. Tells how many steps it has made.
 fn tell_on(
     alloc: Global,
     senders: &mut Vec<Out>,
@@ -163,8 +145,10 @@ fn tell_on(
     requires { All (IsFreshOut 1) senders.old.items }
     ensures { All (IsFreshOut 1) senders.new.items }
 {
-    let steps = hand_on(alloc, senders, join, number)?;
-    told.push_str(&format!(in alloc; "{steps} ")?)?;
+    let sender = last_end(1, senders)?;
+    deliver(alloc, sender, number, true)?;
+    drive(join)?;
+    told.push_str(&format!(in alloc; "{} ", join.steps())?)?;
     Ok(())
 }
 
@@ -184,23 +168,19 @@ fn tell_all(
     Ok(())
 }
 
-// The entries of a journal.
+// The entries of a journal: each a letter and two numbers, which are 0 where it has none.
 fn journal(alloc: Global, worker: &Worker) -> Result<String, NoMemory> {
     let mut told = String::new(alloc);
     for entry in worker.journal() {
-        match entry {
-            Entry::Take { from, batch } => told.push_str(&format!(in alloc; "t {from} {batch} ")?)?,
-            Entry::Go { rows, outs } => told.push_str(&format!(in alloc; "g {rows} {outs} ")?)?,
-            Entry::Finish => told.push_str("f ")?,
-            _ => told.push_str("? ")?,
-        }
+        let (what, one, other) = match entry {
+            Entry::Take { from, batch } => ("t", u64::from(*from), *batch),
+            Entry::Go { rows, outs } => ("g", *rows, *outs),
+            Entry::Finish => ("f", 0, 0),
+            _ => ("?", 0, 0),
+        };
+        told.push_str(&format!(in alloc; "{what} {one} {other} ")?)?;
     }
     Ok(told)
-}
-
-// What the join has done behind these rows.
-fn append_journal(alloc: Global, told: &mut String, join: &Worker) -> Result<(), NoMemory> {
-    told.push_str(journal(alloc, join)?.as_str())
 }
 
 // The steps of a join after each of these rows, a row a sender, from the last sender on; and what it has written down.
@@ -214,7 +194,7 @@ fn tell_join(
     requires { All (IsFreshOut 1) senders.old.items }
 {
     tell_all(alloc, senders, join, numbers, told)?;
-    append_journal(alloc, told, join)?;
+    told.push_str(&journal(alloc, join)?)?;
     Ok(())
 }
 
@@ -228,10 +208,11 @@ fn join_over(alloc: Global, numbers: &[i64], told: &mut String) -> Result<(), Fa
 // The probe side ends first and waits; then the second sender of the build side ends, and the first one last.
 #[test]
 fn senders_of_a_join_end_in_any_order(rt: HostRuntime) -> Result<(), Fail> {
-    let mut told = String::new(rt.alloc());
-    join_over(rt.alloc(), &[8, 7, 7, 8], &mut told)?;
+    let alloc = rt.alloc();
+    let mut told = String::new(alloc);
+    join_over(alloc, &[8, 7, 7, 8], &mut told)?;
     expect_text(
         told,
-        "0 0 3 15 t 1 0 g 1 0 t 1 1 t 0 0 g 1 0 t 0 1 t 2 0 g 1 1 t 2 1 t 3 0 g 1 1 t 3 1 f ",
+        "0 0 3 15 t 1 0 g 1 0 t 1 1 t 0 0 g 1 0 t 0 1 t 2 0 g 1 1 t 2 1 t 3 0 g 1 1 t 3 1 f 0 0 ",
     )
 }
