@@ -6,23 +6,25 @@ use std::alloc::{AllocError, Global};
 // Adds a line.
 fn add(text: &mut Vec<u8>, line: &str) -> Result<(), AllocError> {
     text.extend_from_slice(line.as_bytes())?;
-    text.push(b'\n')?;
-    Ok(())
+    text.extend_from_slice(b"\n")
 }
 
 // Adds a line of a command.
 fn add_command(alloc: Global, text: &mut Vec<u8>, dice: &mut Dice) -> Result<(), AllocError> {
     let op = dice.roll(40);
     let n = dice.roll(5000);
-    let line = match dice.roll(6) {
-        0 => format!(in alloc; "do pause {op} {n}")?,
-        1 => format!(in alloc; "do count {op} {n}")?,
-        2 => format!(in alloc; "do set {op} i-{n}1")?,
-        3 => format!(in alloc; "do when {op} 2 <= t636f67")?,
-        4 => format!(in alloc; "do lose {op} {n}")?,
-        _ => format!(in alloc; "do inspect {op}")?,
+    let (word, before, behind) = match dice.roll(6) {
+        0 => ("pause", "", ""),
+        1 => ("count", "", ""),
+        2 => ("set", "i-", "1"),
+        3 => return add(text, &format!(in alloc; "do when {op} 2 <= t636f67")?),
+        4 => ("lose", "", ""),
+        _ => return add(text, &format!(in alloc; "do inspect {op}")?),
     };
-    add(text, line.as_str())
+    add(
+        text,
+        &format!(in alloc; "do {word} {op} {before}{n}{behind}")?,
+    )
 }
 
 // Adds the part of a worker: a batch that is taken, rows that move, perhaps more.
