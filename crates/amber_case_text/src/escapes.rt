@@ -65,10 +65,8 @@ pub(crate) fn unescaped(alloc: Global, text: &str) -> Result<Vec<u8>, Why> {
 
 // Adds the word that is written so; `""` is the empty one.
 fn add_word(alloc: Global, all: &mut Vec<String>, written: &str) -> Result<(), Why> {
-    if written == "\"\"" {
-        return push(all, String::new(alloc));
-    }
-    match String::from_utf8(unescaped(alloc, written)?) {
+    let text = if written == "\"\"" { "" } else { written };
+    match String::from_utf8(unescaped(alloc, text)?) {
         Ok(word) => push(all, word),
         Err(_) => Err(Why::Escape),
     }

@@ -3,11 +3,10 @@ ghost use Rattle.std.specs.Prelude.{◌≡◌};
 ghost use Rattle.amber_case_text.specs.declared.fault.Why.TheVariants.{NoMemory};
 
 use std::alloc::{AllocError, AllocFailed};
-use std::error::Error;
 use std::fmt;
 
 /// Why a line of a file of cases is refused.
-#[derive(Clone, Copy, Debug, PartialEq, Eq)]
+#[derive(Clone, Copy)]
 pub enum Why {
     /// Its first word begins no kind of line.
     Word,
@@ -74,7 +73,7 @@ pub(crate) fn push<T: Drop>(all: &mut Vec<T>, item: T) -> Result<(), Why> {
 }
 
 /// The first line that is refused, counted from 1, and why.
-#[derive(Clone, Copy, Debug, PartialEq, Eq)]
+#[derive(Clone, Copy)]
 pub struct Broken {
     pub line: u64,
     pub why: Why,
@@ -87,5 +86,3 @@ impl fmt::Display for Broken {
         write!(f, "line {line}: {why}")
     }
 }
-
-impl Error for Broken {}

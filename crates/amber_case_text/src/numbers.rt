@@ -10,14 +10,6 @@ pub(crate) fn number(written: &str) -> Result<u64, Why> {
     }
 }
 
-/// A status, 0 to 255.
-pub(crate) fn status(written: &str) -> Result<u8, Why> {
-    match written.trim().parse::<u8>() {
-        Ok(status) => Ok(status),
-        Err(_) => Err(Why::Number),
-    }
-}
-
 /// At least one number, with blanks between them.
 pub(crate) fn add_numbers(all: &mut Vec<u64>, written: &str) -> Result<(), Why> {
     let mut found = false;

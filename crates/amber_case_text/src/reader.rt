@@ -3,9 +3,10 @@ use crate::case::{After, Case, Left, NamedText, find_text};
 use crate::case_text::{CaseText, Piece};
 use crate::escapes::{unescaped, words};
 use crate::fault::{Broken, Why, push};
-use crate::names::Names;
-use crate::numbers::{RangeLine, add_numbers, number_and_rest, ranged, status};
+use crate::names::add_name;
+use crate::numbers::{RangeLine, add_numbers, number_and_rest, ranged};
 use std::alloc::Global;
+use std::collections::BTreeSet;
 use std::mem;
 
 // Where the lines of a text belong.
@@ -24,7 +25,8 @@ enum Place {
 pub struct Reader {
     alloc: Global,
     shared: Vec<NamedText>,
-    names: Names,
+    // The names of all cases that were read so far.
+    names: BTreeSet<String>,
     // The cases of the file that is being read.
     cases: Vec<Case>,
     place: Place,
@@ -48,7 +50,7 @@ impl Reader {
         Reader {
             alloc,
             shared: Vec::new(alloc),
-            names: Names::new(alloc),
+            names: BTreeSet::new(alloc),
             cases: Vec::new(alloc),
             place: Place::Nowhere,
         }
@@ -65,10 +67,11 @@ impl Reader {
                 return Err(Broken { line, why });
             }
         }
-        match self.end_case() {
-            Ok(()) => Ok(mem::replace(&mut self.cases, Vec::new(self.alloc))),
-            Err(why) => Err(Broken { line, why }),
+        if self.lacks_words() {
+            let why = Why::NoWords;
+            return Err(Broken { line, why });
         }
+        Ok(mem::replace(&mut self.cases, Vec::new(self.alloc)))
     }
 
     fn read_line(&mut self, line: &str) -> Result<(), Why> {
@@ -93,27 +96,34 @@ impl Reader {
         }
     }
 
-    // A case ends, which has to have words.
-    fn end_case(&self) -> Result<(), Why> {
+    // Whether the last case has no words.
+    fn lacks_words(&self) -> bool {
         match self.cases.last() {
-            Some(case) if case.words.is_empty() => Err(Why::NoWords),
-            _ => Ok(()),
+            Some(case) => case.words.is_empty(),
+            None => false,
         }
     }
 
+    // The name of what begins behind the last case, which has to have words.
+    fn next_name<'a>(&self, written: &'a str) -> Result<&'a str, Why> {
+        if self.lacks_words() {
+            return Err(Why::NoWords);
+        }
+        named(written)
+    }
+
     fn begin_case(&mut self, rest: &str) -> Result<(), Why> {
-        self.end_case()?;
-        let name = named(rest)?;
-        self.names.add(String::from_str(self.alloc, name)?)?;
+        let name = self.next_name(rest)?;
+        add_name(&mut self.names, String::from_str(self.alloc, name)?)?;
         let name = String::from_str(self.alloc, name)?;
         self.place = Place::Nowhere;
         push(&mut self.cases, Case::new(self.alloc, name))
     }
 
     fn begin_shared(&mut self, rest: &str) -> Result<(), Why> {
-        self.end_case()?;
+        let name = self.next_name(rest)?;
         self.place = Place::Shared;
-        add_text(self.alloc, &mut self.shared, named(rest)?)
+        add_text(self.alloc, &mut self.shared, name)
     }
 
     fn begin_file(&mut self, rest: &str) -> Result<(), Why> {
@@ -139,18 +149,13 @@ impl Reader {
     }
 
     fn begin_after(&mut self, rest: &str) -> Result<(), Why> {
-        let (name, shared) = name_and_shared(rest);
-        let (name, left) = name_and_left(self.alloc, name);
-        let name = named(name)?;
-        let alloc = self.alloc;
-        let Some(case) = self.cases.last_mut() else {
-            return Err(Why::NoCase);
-        };
-        if case.left(name).is_some() {
-            return Err(Why::Repeated);
+        let (written, shared) = name_and_shared(rest);
+        let name = named(without_left(written))?;
+        let left = left_of(self.alloc, written);
+        match self.cases.last_mut() {
+            Some(case) => add_after(self.alloc, case, name, left)?,
+            None => return Err(Why::NoCase),
         }
-        let name = String::from_str(alloc, name)?;
-        push(&mut case.after, After { name, left })?;
         self.begin_text(Place::After, shared)
     }
 
@@ -176,17 +181,17 @@ impl Reader {
 
     // Adds a line with a number in a range.
     fn add_range(&mut self, rest: &str) -> Result<(), Why> {
-        let alloc = self.alloc;
         let RangeLine {
             before,
             least,
             most,
             behind,
         } = ranged(rest)?;
-        let before = Vec::from_slice(alloc, before.as_bytes())?;
+        let before = Vec::from_slice(self.alloc, before.as_bytes())?;
         self.add_piece(Piece::Bytes(before))?;
         self.add_piece(Piece::Number { least, most })?;
-        self.add_piece(Piece::Bytes(whole_line(alloc, behind)?))
+        let behind = whole_line(self.alloc, behind)?;
+        self.add_piece(Piece::Bytes(behind))
     }
 
     // Adds a piece to the text that has begun.
@@ -243,6 +248,15 @@ fn last_left(after: &mut Vec<After>) -> Option<&mut CaseText> {
     }
 }
 
+// Adds what is expected of a file of which nothing was said so far.
+fn add_after(alloc: Global, case: &mut Case, name: &str, left: Left) -> Result<(), Why> {
+    if case.left(name).is_some() {
+        return Err(Why::Repeated);
+    }
+    let name = String::from_str(alloc, name)?;
+    push(&mut case.after, After { name, left })
+}
+
 // Adds a text without a piece, under a name that no earlier one has.
 fn add_text(alloc: Global, texts: &mut Vec<NamedText>, name: &str) -> Result<(), Why> {
     if find_text(texts.as_slice(), name).is_some() {
@@ -270,16 +284,25 @@ fn name_and_shared(written: &str) -> (&str, Option<&str>) {
     }
 }
 
-// A name, and what is expected of its file.
-fn name_and_left(alloc: Global, written: &str) -> (&str, Left) {
+// A name, without what is said behind it of its file.
+fn without_left(written: &str) -> &str {
     let written = written.trim_end();
-    if let Some(name) = written.strip_suffix(" absent") {
-        return (name, Left::Absent);
+    match written.strip_suffix(" absent") {
+        Some(name) => name,
+        None => written.strip_suffix(" unchanged").unwrap_or(written),
     }
-    if let Some(name) = written.strip_suffix(" unchanged") {
-        return (name, Left::Unchanged);
+}
+
+// What is said behind a name of its file.
+fn left_of(alloc: Global, written: &str) -> Left {
+    let written = written.trim_end();
+    if written.ends_with(" absent") {
+        Left::Absent
+    } else if written.ends_with(" unchanged") {
+        Left::Unchanged
+    } else {
+        Left::Text(CaseText::new(alloc))
     }
-    (written, Left::Text(CaseText::new(alloc)))
 }
 
 // Whether a piece leaves open which bytes it is.
@@ -291,10 +314,13 @@ fn is_open(piece: &Piece) -> bool {
 fn read_values(case: &mut Case, alloc: Global, head: &str, rest: &str) -> Result<(), Why> {
     match head {
         "words" => push(&mut case.words, words(alloc, rest)?),
-        "status" => {
-            case.status = status(rest)?;
-            Ok(())
-        }
+        "status" => match rest.trim().parse::<u8>() {
+            Ok(status) => {
+                case.status = status;
+                Ok(())
+            }
+            Err(_) => Err(Why::Number),
+        },
         "loads" => add_numbers(&mut case.loads, rest),
         "writes" => add_numbers(&mut case.writes, rest),
         "puts" => add_numbers(&mut case.puts, rest),
