@@ -1,10 +1,11 @@
 // An operator of a workflow, evaluated.
-ghost use Rattle.std.specs.Prelude.{◌≡◌, ◌++◌, ◌∷◌, [], map, true, IfOk, OnOk};
+ghost use Rattle.std.specs.Prelude.{◌≡◌, ◌++◌, ◌∷◌, [], map, true, IfErr, IfOk, OnOk};
 ghost use Rattle.amber_rows.specs.Operators.{group_result, refused_keys};
 ghost use Rattle.amber_rows.specs.Order.{sort_rows};
 ghost use Rattle.amber_meaning.specs.Plain.{records_of};
 ghost use Rattle.amber_meaning.specs.Refused.{refused_groups};
 ghost use Rattle.amber_meaning.specs.declared.answer.Refusal.TheVariants as refusal;
+ghost use Rattle.amber_meaning.specs.declared.answer.PlainErr.TheVariants as plain_err;
 ghost use Rattle.amber_plain.specs.Holding.{Spends};
 ghost use Rattle.amber_plain.specs.Unread.{HasInputs, HasOne, unread_at, unread_count, unread_rows, without};
 ghost use Rattle.amber_plain.specs.Steps.{others_of, evaluated_of, read_for, through, told_by};
@@ -43,11 +44,12 @@ fn behind(
     waiting: &mut Vec<Unread>,
     input: u32,
     stage: Stage,
-) -> Result<Evaluated, AllocError>
+) -> Result<Evaluated, PlainErr>
     requires { HasOne waiting.old.items input }
     ensures new { IfOk result (λ new. new
         ≡ record { unread = through (unread_at waiting.old.items input) stage; refused = [] }) }
     ensures others { OnOk result (waiting.new.items ≡ without waiting.old.items input) }
+    ensures memory { IfErr result (λ why. why ≡ plain_err.NoMemory) }
 {
     let unread = take(alloc, waiting, input).through(stage)?;
     Ok(unrefused(alloc, unread))
@@ -65,11 +67,12 @@ fn refuse_groups(alloc: Global, op: u32, keys: Vec<Row>) -> Result<Refusals, All
 }
 
 // The rows of groups as a source. The keys that have none are refused, in the order of rows.
-fn from_groups(alloc: Global, op: u32, groups: Grouped) -> Result<Evaluated, AllocError>
-    ensures { IfOk result (λ new. new ≡ record {
+fn from_groups(alloc: Global, op: u32, groups: Grouped) -> Result<Evaluated, PlainErr>
+    ensures new { IfOk result (λ new. new ≡ record {
       unread = record { source = source.Rows groups.rows; stages = [] };
       refused = refused_groups op groups.refused;
     }) }
+    ensures memory { IfErr result (λ why. why ≡ plain_err.NoMemory) }
 {
     let Grouped {
         rows,
@@ -156,8 +159,8 @@ pub fn evaluate(
 {
     match kind {
         What::Scan { .. } => Ok(unrefused(alloc, Unread::new(alloc, Source::Scan(op)))),
-        What::Filter { input, cond } => Ok(behind(alloc, waiting, *input, Stage::test(cond)?)?),
-        What::Project { input, from } => Ok(behind(alloc, waiting, *input, Stage::pick(from)?)?),
+        What::Filter { input, cond } => behind(alloc, waiting, *input, Stage::test(cond)?),
+        What::Project { input, from } => behind(alloc, waiting, *input, Stage::pick(from)?),
         What::Join {
             build,
             probe,
@@ -166,12 +169,12 @@ pub fn evaluate(
         } => {
             let build = take(alloc, waiting, *build);
             let built = built(alloc, flow, files, (build_keys, probe_keys), build, tally)?;
-            Ok(behind(alloc, waiting, *probe, Stage::Probe(built))?)
+            behind(alloc, waiting, *probe, Stage::Probe(built))
         }
         What::Group { input, keys, aggs } => {
             let unread = take(alloc, waiting, *input);
             let groups = grouped(alloc, flow, files, unread, keys, aggs, tally)?;
-            Ok(from_groups(alloc, op, groups)?)
+            from_groups(alloc, op, groups)
         }
         What::Sink { input } => sorted(alloc, flow, files, take(alloc, waiting, *input), tally),
     }

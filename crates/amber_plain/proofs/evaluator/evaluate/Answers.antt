@@ -1,10 +1,13 @@
 -- What waits and what was read, by kinds.
-use Rattle.std.proofs.Common.{◌≡◌, ◌∙◌, ◌+◌, [], List, Result, Ok, Err, OnOk, ap, arith, refl, sym, true}
+use Rattle.std.proofs.Common.{◌≡◌, ◌∙◌, ◌+◌, [], Result, Ok, Err, IfErr, OnOk, ℕ, ap, arith, refl, sym, true}
 use Rattle.std.proofs.lemmas.Result.{IfOk-from_err, err_from_is_err_and}
 use Rattle.amber_plain.proofs.Passing.{count_through-none}
 use Rattle.amber_join.specs.Join.{Join}
 use Rattle.amber_meaning.specs.Plain.{records_of}
-use Rattle.amber_plain.specs.Unread.{Waiting, unread_at, unread_count, unread_rows, without}
+use Rattle.amber_meaning.specs.declared.answer.PlainErr.{PlainErr}
+use Rattle.amber_meaning.specs.declared.answer.PlainErr.TheVariants as plain_err
+use Rattle.amber_plain.specs.Holding.{Spends}
+use Rattle.amber_plain.specs.Unread.{Waiting, unread_at, unread_count, unread_rows}
 use Rattle.amber_plain.specs.Steps.{others_of, read_for, told_by}
 use Rattle.amber_rows.specs.declared.flow.What.{What}
 use Rattle.amber_plain.proofs.Waits.{probe-there, taken-other}
@@ -14,6 +17,11 @@ ok-so : {T E : Type 0} (r : Result T E) (P : Type 0) → P → OnOk r P
 ok-so (Ok x) P h = h
 ok-so (Err e) P h = tt
 
+-- so many rows came, or memory ran out
+spends-so : {T : Type 0} (r : Result T PlainErr) (old new count : ℕ) → IfErr r (λ why. why ≡ plain_err.NoMemory) → old ≡ new + count → Spends r old new count
+spends-so (Ok x) old new count short e = e
+spends-so (Err why) old new count short e = rw short tt
+
 pub returns-in-Scan : goal.returns-in-Scan
 returns-in-Scan c = record {
   new = rw (c.in-Scan.is, c.unrefused.ensures, c.new.ensures) refl;
@@ -22,49 +30,10 @@ returns-in-Scan c = record {
   left = rw c.in-Scan.is (omega (arith, count_through-none []));
 }
 
-pub returns-in_ok-behind-in-Filter : goal.returns-in_ok-behind-in-Filter
-returns-in_ok-behind-in-Filter c = record {
-  new = rw (c.in-Filter.is, c.in_ok-behind-in-Filter.ensures.new, c.in_ok-test-in-Filter.ensures) refl;
-  others = c.in_ok-behind-in-Filter.ensures.others ∙ ap (λ (kind : What). others_of kind c.args.waiting.now.items) (sym c.in-Filter.is);
-  told = ap (λ (kind : What). told_by (records_of c.args.files.now c.args.flow.now) c.args.tally.now.told.items (read_for kind c.args.waiting.now.items).source) (sym c.in-Filter.is);
-  left = rw c.in-Filter.is (omega (arith, count_through-none []));
-}
-
-pub returns-in_ok-behind-in-Project : goal.returns-in_ok-behind-in-Project
-returns-in_ok-behind-in-Project c = record {
-  new = rw (c.in-Project.is, c.in_ok-behind-in-Project.ensures.new, c.in_ok-pick-in-Project.ensures) refl;
-  others = c.in_ok-behind-in-Project.ensures.others ∙ ap (λ (kind : What). others_of kind c.args.waiting.now.items) (sym c.in-Project.is);
-  told = ap (λ (kind : What). told_by (records_of c.args.files.now c.args.flow.now) c.args.tally.now.told.items (read_for kind c.args.waiting.now.items).source) (sym c.in-Project.is);
-  left = rw c.in-Project.is (omega (arith, count_through-none []));
-}
-
-pub returns-in_ok-behind-in-Join : goal.returns-in_ok-behind-in-Join
-returns-in_ok-behind-in-Join c = record {
-  new = let records = records_of c.args.files.now c.args.flow.now in
-      let waiting = c.args.waiting.now.items in
-      let build = c.in-Join.build in
-      let probe = c.in-Join.probe in
-      let h = rw c.in-Join.is at c.requires in
-      let with : Waiting → Join = λ unread. record { build_keys = c.in-Join.build_keys; probe_keys = c.in-Join.probe_keys; rows = unread_rows records unread; sealed = true } in
-      let probed : unread_at c.take-build.new.waiting.items probe ≡ unread_at waiting probe =
-      ap (λ others. unread_at others probe) c.take-build.ensures.others ∙ taken-other waiting build probe h.1.0 h.0.0 (λ e. h.2 (sym e)) in
-      let built : c.in_ok-built-in-Join.built ≡ with (unread_at waiting build) = c.in_ok-built-in-Join.ensures.built ∙ ap with c.take-build.ensures.taken in
-      rw c.in-Join.is (c.in_ok-behind-in-Join.ensures.new ∙ rw (probed, built) refl);
-  others = c.in_ok-behind-in-Join.ensures.others ∙ ap (λ (l : List Waiting). without l c.in-Join.probe) c.take-build.ensures.others ∙ ap (λ (kind : What). others_of kind c.args.waiting.now.items) (sym c.in-Join.is);
-  told = c.in_ok-built-in-Join.ensures.told ∙ ap (λ (u : Waiting). told_by (records_of c.args.files.now c.args.flow.now) c.args.tally.now.told.items u.source) c.take-build.ensures.taken ∙ ap (λ (kind : What). told_by (records_of c.args.files.now c.args.flow.now) c.args.tally.now.told.items (read_for kind c.args.waiting.now.items).source) (sym c.in-Join.is);
-  left = c.in_ok-built-in-Join.ensures.left ∙ ap (λ (u : Waiting). c.built.new.tally.left + unread_count (records_of c.args.files.now c.args.flow.now) u) c.take-build.ensures.taken ∙ ap (λ (kind : What). c.built.new.tally.left + unread_count (records_of c.args.files.now c.args.flow.now) (read_for kind c.args.waiting.now.items)) (sym c.in-Join.is);
-}
-
 pub returns-in_err-test-in-Filter : goal.returns-in_err-test-in-Filter
 returns-in_err-test-in-Filter c =
     let e = c.from_residual.ensures in
     let p = err_from_is_err_and c.from_residual.result e.1 in
-    record { new = IfOk-from_err _ _ e.0; others = IfOk-from_err _ _ e.0; told = IfOk-from_err _ _ e.0; left = rw (p.1, p.2) tt }
-
-pub returns-in_err-behind-in-Filter : goal.returns-in_err-behind-in-Filter
-returns-in_err-behind-in-Filter c =
-    let e = c.from_residual-in_err-behind-in-Filter.ensures in
-    let p = err_from_is_err_and c.from_residual-in_err-behind-in-Filter.result e.1 in
     record { new = IfOk-from_err _ _ e.0; others = IfOk-from_err _ _ e.0; told = IfOk-from_err _ _ e.0; left = rw (p.1, p.2) tt }
 
 pub returns-in_err-pick-in-Project : goal.returns-in_err-pick-in-Project
@@ -73,35 +42,17 @@ returns-in_err-pick-in-Project c =
     let p = err_from_is_err_and c.from_residual-in_err-pick-in-Project.result e.1 in
     record { new = IfOk-from_err _ _ e.0; others = IfOk-from_err _ _ e.0; told = IfOk-from_err _ _ e.0; left = rw (p.1, p.2) tt }
 
-pub returns-in_err-behind-in-Project : goal.returns-in_err-behind-in-Project
-returns-in_err-behind-in-Project c =
-    let e = c.from_residual-in_err-behind-in-Project.ensures in
-    let p = err_from_is_err_and c.from_residual-in_err-behind-in-Project.result e.1 in
-    record { new = IfOk-from_err _ _ e.0; others = IfOk-from_err _ _ e.0; told = IfOk-from_err _ _ e.0; left = rw (p.1, p.2) tt }
-
 pub returns-in_err-built-in-Join : goal.returns-in_err-built-in-Join
 returns-in_err-built-in-Join c =
     let e = c.from_residual-in_err-built-in-Join.ensures in
     let p = err_from_is_err_and c.from_residual-in_err-built-in-Join.result e.1 in
     record { new = IfOk-from_err _ _ e.0; others = IfOk-from_err _ _ e.0; told = IfOk-from_err _ _ e.0; left = rw (p.1, p.2, c.in-Join.is, ← c.take-build.ensures.taken) c.in_err-built-in-Join.ensures.left }
 
-pub returns-in_err-behind-in-Join : goal.returns-in_err-behind-in-Join
-returns-in_err-behind-in-Join c =
-    let e = c.from_residual-in_err-behind-in-Join.ensures in
-    let p = err_from_is_err_and c.from_residual-in_err-behind-in-Join.result e.1 in
-    record { new = IfOk-from_err _ _ e.0; others = IfOk-from_err _ _ e.0; told = IfOk-from_err _ _ e.0; left = rw (p.1, p.2) tt }
-
 pub returns-in_err-groups-in-Group : goal.returns-in_err-groups-in-Group
 returns-in_err-groups-in-Group c =
     let e = c.from_residual-in_err-groups-in-Group.ensures in
     let p = err_from_is_err_and c.from_residual-in_err-groups-in-Group.result e.1 in
     record { new = IfOk-from_err _ _ e.0; others = IfOk-from_err _ _ e.0; told = IfOk-from_err _ _ e.0; left = rw (p.1, p.2, c.in-Group.is, ← c.take-unread.ensures.taken) c.in_err-groups-in-Group.ensures.left }
-
-pub returns-in_err-from_groups-in-Group : goal.returns-in_err-from_groups-in-Group
-returns-in_err-from_groups-in-Group c =
-    let e = c.from_residual-in_err-from_groups-in-Group.ensures in
-    let p = err_from_is_err_and c.from_residual-in_err-from_groups-in-Group.result e.1 in
-    record { new = IfOk-from_err _ _ e.0; others = IfOk-from_err _ _ e.0; told = IfOk-from_err _ _ e.0; left = rw (p.1, p.2) tt }
 
 pub behind-requires : goal.behind-requires
 behind-requires c = (rw c.in-Filter.is at c.requires).1
@@ -121,18 +72,55 @@ take-unread-requires c = (rw c.in-Group.is at c.requires).1
 pub take-requires : goal.take-requires
 take-requires c = (rw c.in-Sink.is at c.requires).1
 
-pub returns-in_ok-from_groups-in-Group : goal.returns-in_ok-from_groups-in-Group
-returns-in_ok-from_groups-in-Group c = record {
-  new = rw (c.in-Group.is, c.in_ok-from_groups-in-Group.ensures, c.in_ok-groups-in-Group.ensures.rows, c.in_ok-groups-in-Group.ensures.refused, c.take-unread.ensures.taken) refl;
-  others = c.take-unread.ensures.others ∙ ap (λ (kind : What). others_of kind c.args.waiting.now.items) (sym c.in-Group.is);
-  told = c.in_ok-groups-in-Group.ensures.told ∙ ap (λ (u : Waiting). told_by (records_of c.args.files.now c.args.flow.now) c.args.tally.now.told.items u.source) c.take-unread.ensures.taken ∙ ap (λ (kind : What). told_by (records_of c.args.files.now c.args.flow.now) c.args.tally.now.told.items (read_for kind c.args.waiting.now.items).source) (sym c.in-Group.is);
-  left = c.in_ok-groups-in-Group.ensures.left ∙ ap (λ (u : Waiting). c.grouped.new.tally.left + unread_count (records_of c.args.files.now c.args.flow.now) u) c.take-unread.ensures.taken ∙ ap (λ (kind : What). c.grouped.new.tally.left + unread_count (records_of c.args.files.now c.args.flow.now) (read_for kind c.args.waiting.now.items)) (sym c.in-Group.is);
-}
-
 pub returns-in-Sink : goal.returns-in-Sink
 returns-in-Sink c = record {
   new = rw (c.in-Sink.is, ← c.take.ensures.taken) c.sorted.ensures.new;
   others = rw (c.in-Sink.is, c.take.ensures.others) (ok-so c.sorted.result _ refl);
   told = rw (c.in-Sink.is, ← c.take.ensures.taken) c.sorted.ensures.told;
   left = rw (c.in-Sink.is, ← c.take.ensures.taken) c.sorted.ensures.left;
+}
+
+pub returns-in_ok-test-in-Filter : goal.returns-in_ok-test-in-Filter
+returns-in_ok-test-in-Filter c = record {
+  new = rw c.in-Filter.is (rw c.in_ok-test-in-Filter.ensures at c.behind.ensures.new);
+  others = rw c.in-Filter.is c.behind.ensures.others;
+  told = rw c.in-Filter.is (ok-so c.behind.result _ refl);
+  left = rw c.in-Filter.is (spends-so c.behind.result _ _ _ c.behind.ensures.memory (omega (arith, count_through-none [])));
+}
+
+pub returns-in_ok-pick-in-Project : goal.returns-in_ok-pick-in-Project
+returns-in_ok-pick-in-Project c = record {
+  new = rw c.in-Project.is (rw c.in_ok-pick-in-Project.ensures at c.behind-in-Project.ensures.new);
+  others = rw c.in-Project.is c.behind-in-Project.ensures.others;
+  told = rw c.in-Project.is (ok-so c.behind-in-Project.result _ refl);
+  left = rw c.in-Project.is (spends-so c.behind-in-Project.result _ _ _ c.behind-in-Project.ensures.memory (omega (arith, count_through-none [])));
+}
+
+pub returns-in_ok-built-in-Join : goal.returns-in_ok-built-in-Join
+returns-in_ok-built-in-Join c = record {
+  new = let records = records_of c.args.files.now c.args.flow.now in
+      let waiting = c.args.waiting.now.items in
+      let build = c.in-Join.build in
+      let probe = c.in-Join.probe in
+      let h = rw c.in-Join.is at c.requires in
+      let with : Waiting → Join = λ unread. record { build_keys = c.in-Join.build_keys; probe_keys = c.in-Join.probe_keys; rows = unread_rows records unread; sealed = true } in
+      let probed : unread_at c.take-build.new.waiting.items probe ≡ unread_at waiting probe =
+      ap (λ others. unread_at others probe) c.take-build.ensures.others ∙ taken-other waiting build probe h.1.0 h.0.0 (λ e. h.2 (sym e)) in
+      let built : c.in_ok-built-in-Join.built ≡ with (unread_at waiting build) = c.in_ok-built-in-Join.ensures.built ∙ ap with c.take-build.ensures.taken in
+      rw c.in-Join.is (rw (probed, built) at c.behind-in-Join.ensures.new);
+  others = rw c.in-Join.is (rw c.take-build.ensures.others at c.behind-in-Join.ensures.others);
+  told = rw c.in-Join.is (ok-so c.behind-in-Join.result _
+      (c.in_ok-built-in-Join.ensures.told ∙ ap (λ (u : Waiting). told_by (records_of c.args.files.now c.args.flow.now) c.args.tally.now.told.items u.source) c.take-build.ensures.taken));
+  left = rw c.in-Join.is (spends-so c.behind-in-Join.result _ _ _ c.behind-in-Join.ensures.memory
+      (c.in_ok-built-in-Join.ensures.left ∙ ap (λ (u : Waiting). c.built.new.tally.left + unread_count (records_of c.args.files.now c.args.flow.now) u) c.take-build.ensures.taken));
+}
+
+pub returns-in_ok-groups-in-Group : goal.returns-in_ok-groups-in-Group
+returns-in_ok-groups-in-Group c = record {
+  new = rw c.in-Group.is (rw (c.in_ok-groups-in-Group.ensures.rows, c.in_ok-groups-in-Group.ensures.refused, c.take-unread.ensures.taken) at c.from_groups.ensures.new);
+  others = rw c.in-Group.is (ok-so c.from_groups.result _ c.take-unread.ensures.others);
+  told = rw c.in-Group.is (ok-so c.from_groups.result _
+      (c.in_ok-groups-in-Group.ensures.told ∙ ap (λ (u : Waiting). told_by (records_of c.args.files.now c.args.flow.now) c.args.tally.now.told.items u.source) c.take-unread.ensures.taken));
+  left = rw c.in-Group.is (spends-so c.from_groups.result _ _ _ c.from_groups.ensures.memory
+      (c.in_ok-groups-in-Group.ensures.left ∙ ap (λ (u : Waiting). c.grouped.new.tally.left + unread_count (records_of c.args.files.now c.args.flow.now) u) c.take-unread.ensures.taken));
 }
