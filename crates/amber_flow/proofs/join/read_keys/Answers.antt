@@ -1,6 +1,8 @@
-use Rattle.std.proofs.Common.{List, ℕ, Bor, map, sym, ap, ◌∙◌}
+use Rattle.std.proofs.Common.{List, ℕ, Bor, map, refl, sym, ap, ◌∙◌}
+use Rattle.std.proofs.lemmas.Result.{IfOk-from_err}
 use Rattle.std.specs.List.{filter_map}
 use Rattle.amber_rows.specs.Columns.{column_kind_at}
+use Rattle.amber_flow.specs.Joins.{keys_of}
 use Rattle.amber_flow.proofs.JoinFacts.{are-keys}
 use Rattle.amber_flow.proofs.join.read_keys.Goals as goal
 
@@ -13,3 +15,54 @@ returns-clause-fit c =
     (c.as_slice-3.ensures.value ∙ c.in_ok-build_kinds.ensures ∙ ap (filter_map (column_kind_at c.args.build.now)) c.as_slice.ensures.value)
     (c.as_slice-4.ensures.value ∙ c.in_ok-probe_kinds.ensures ∙ ap (filter_map (column_kind_at c.args.probe.now)) c.as_slice-2.ensures.value)
     (sym c.if-not-are_same.ensures) (record { build = c.new.result; probe = c.new-2.result }) c.new.ensures c.new-2.ensures
+
+pub returns-clause-keys : goal.returns-clause-keys
+unfolding keys_of
+returns-clause-keys c =
+    let build = rw c.in-Some.is at c.in_ok-build_keys.ensures in
+    let probe = rw c.in-Some-2.is at c.in_ok-probe_keys.ensures in
+    let build_kinds = c.as_slice-3.ensures.value ∙ c.in_ok-build_kinds.ensures ∙ ap (filter_map (column_kind_at c.args.build.now)) c.as_slice.ensures.value in
+    let probe_kinds = c.as_slice-4.ensures.value ∙ c.in_ok-probe_kinds.ensures ∙ ap (filter_map (column_kind_at c.args.probe.now)) c.as_slice-2.ensures.value in
+    let alike = rw (build_kinds, probe_kinds) at c.if-not-are_same.ensures in
+    rw (← build, ← probe, ← alike, c.new.ensures, c.new-2.ensures) refl
+
+pub returns-in_default : goal.returns-in_default
+unfolding keys_of
+returns-in_default c =
+    let build = rw c.in_default.is at c.in_ok-build_keys.ensures in
+    record { keys = rw (← build) refl; fit = tt }
+
+pub returns-in_default-2 : goal.returns-in_default-2
+unfolding keys_of
+returns-in_default-2 c =
+    let build = rw c.in-Some.is at c.in_ok-build_keys.ensures in
+    let probe = rw c.in_default-2.is at c.in_ok-probe_keys.ensures in
+    record { keys = rw (← build, ← probe) refl; fit = tt }
+
+pub returns-then-not-are_same : goal.returns-then-not-are_same
+unfolding keys_of
+returns-then-not-are_same c =
+    let build = rw c.in-Some.is at c.in_ok-build_keys.ensures in
+    let probe = rw c.in-Some-2.is at c.in_ok-probe_keys.ensures in
+    let build_kinds = c.as_slice-3.ensures.value ∙ c.in_ok-build_kinds.ensures ∙ ap (filter_map (column_kind_at c.args.build.now)) c.as_slice.ensures.value in
+    let probe_kinds = c.as_slice-4.ensures.value ∙ c.in_ok-probe_kinds.ensures ∙ ap (filter_map (column_kind_at c.args.probe.now)) c.as_slice-2.ensures.value in
+    let alike = rw (build_kinds, probe_kinds) at c.if-not-are_same.ensures in
+    record { keys = rw (← build, ← probe, ← alike) refl; fit = tt }
+
+pub returns-in_err-build_keys : goal.returns-in_err-build_keys
+returns-in_err-build_keys c = record { keys = IfOk-from_err _ _ c.from_residual.ensures.0; fit = IfOk-from_err _ _ c.from_residual.ensures.0 }
+
+pub returns-in_err-probe_keys : goal.returns-in_err-probe_keys
+returns-in_err-probe_keys c =
+    let failed = c.from_residual-in_err-probe_keys.ensures.0 in
+    record { keys = IfOk-from_err _ _ failed; fit = IfOk-from_err _ _ failed }
+
+pub returns-in_err-build_kinds : goal.returns-in_err-build_kinds
+returns-in_err-build_kinds c =
+    let failed = c.from_residual-in_err-build_kinds.ensures.0 in
+    record { keys = IfOk-from_err _ _ failed; fit = IfOk-from_err _ _ failed }
+
+pub returns-in_err-probe_kinds : goal.returns-in_err-probe_kinds
+returns-in_err-probe_kinds c =
+    let failed = c.from_residual-in_err-probe_kinds.ensures.0 in
+    record { keys = IfOk-from_err _ _ failed; fit = IfOk-from_err _ _ failed }

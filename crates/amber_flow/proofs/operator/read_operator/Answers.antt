@@ -1,5 +1,6 @@
 -- The operator that was meant, step by step.
-use Rattle.std.proofs.Common.{sym, ap, ◌∙◌}
+use Rattle.std.proofs.Common.{refl, sym, ap, ◌∙◌}
+use Rattle.std.proofs.lemmas.Result.{IfOk-from_err}
 use Rattle.amber_rows.specs.Columns.{is_among, is_id}
 use Rattle.amber_flow.specs.Operators.{ids_of, operator_of}
 use Rattle.amber_flow.proofs.operator.read_operator.Goals as goal
@@ -25,3 +26,53 @@ returns-clause-next c =
 
 pub returns-clause-placed : goal.returns-clause-placed
 returns-clause-placed c = rw c.in-Ok-2.is at c.in_ok-parts.ensures.sink ∙ c.in-Ok.ensures.placed
+
+pub returns-in_default : goal.returns-in_default
+unfolding operator_of
+returns-in_default c = record { operator = rw (← c.in_default.ensures) refl; next = tt; placed = tt }
+
+pub returns-in_default-text_field : goal.returns-in_default-text_field
+unfolding operator_of
+returns-in_default-text_field c = record { operator = rw (← c.in-Some.ensures, ← c.in_default-text_field.ensures) refl; next = tt; placed = tt }
+
+pub returns-in-Err : goal.returns-in-Err
+unfolding operator_of
+returns-in-Err c = record { operator = rw (← c.in-Some.ensures, ← c.in-Some-text_field.ensures, ← c.in-Err.ensures.checked) refl; next = tt; placed = tt }
+
+pub returns-in-Err-read_head : goal.returns-in-Err-read_head
+unfolding operator_of
+returns-in-Err-read_head c = record {
+  operator = rw (← c.in-Some.ensures, ← c.in-Some-text_field.ensures, ← c.in_default-check_id.ensures.checked, ← c.in-Err-read_head.ensures.head) refl;
+  next = tt;
+  placed = tt;
+}
+
+pub returns-in_err-parts : goal.returns-in_err-parts
+returns-in_err-parts c =
+    let failed = c.from_residual.ensures.0 in
+    record { operator = IfOk-from_err _ _ failed; next = IfOk-from_err _ _ failed; placed = IfOk-from_err _ _ failed }
+
+pub returns-in-Err-2 : goal.returns-in-Err-2
+unfolding operator_of
+returns-in-Err-2 c =
+    let parts = rw c.in-Err-2.is at c.in_ok-parts.ensures.parts in
+    record {
+      operator = rw (← c.in-Some.ensures, ← c.in-Some-text_field.ensures, ← c.in_default-check_id.ensures.checked, ← c.in-Ok.ensures.head, ← parts) refl;
+      next = tt;
+      placed = tt;
+    }
+
+pub returns-in-Err-check_schema : goal.returns-in-Err-check_schema
+unfolding operator_of
+returns-in-Err-check_schema c =
+    let parts = rw c.in-Ok-2.is at c.in_ok-parts.ensures.parts in
+    record {
+      operator = rw (← c.in-Some.ensures, ← c.in-Some-text_field.ensures, ← c.in_default-check_id.ensures.checked, ← c.in-Ok.ensures.head, ← parts, ← c.in-Err-check_schema.ensures.checked) refl;
+      next = tt;
+      placed = tt;
+    }
+
+pub returns-in_err-new : goal.returns-in_err-new
+returns-in_err-new c =
+    let failed = c.from_residual-in_err-new.ensures.0 in
+    record { operator = IfOk-from_err _ _ failed; next = IfOk-from_err _ _ failed; placed = IfOk-from_err _ _ failed }
