@@ -5,7 +5,7 @@ use std::fmt;
 use thiserror::Error;
 
 /// Why bytes are no workflow.
-#[derive(Clone, Copy, Debug, PartialEq, Eq)]
+#[derive(Clone, Copy, Debug)]
 pub enum FlowWhy {
     /// The bytes are no JSON.
     Json,
