@@ -1,8 +1,8 @@
 -- The keys of joins.
-use Rattle.std.proofs.Common.{◌≡◌, ℕ, suc, ◌+◌, ◌<◌, ◌≤◌, ◌≢◌, ◌&&◌, Bool, true, false, List, [], ◌∷◌, ◌++◌, length, map, get_or, drop, Option, Some, None, option_map, refl, sym, ap, ◌∙◌, drop-cons, arith}
+use Rattle.std.proofs.Common.{◌≡◌, ℕ, suc, ◌+◌, ◌<◌, ◌≤◌, ◌≢◌, ◌&&◌, Bool, true, false, List, [], ◌∷◌, ◌++◌, length, map, get_or, drop, Option, Some, None, is_some, option_map, refl, sym, ap, ◌∙◌, drop-cons, arith}
 use Rattle.std.proofs.lemmas.List.{drop_all}
 use Rattle.std.proofs.lemmas.List.Elements.{All-cons, All-nil}
-use Rattle.std.specs.List.{cons_option, filter_map}
+use Rattle.std.specs.List.{cons_option, filter_map, list_all}
 use Rattle.amber_rows.specs.Lists.{nth}
 use Rattle.amber_rows.specs.Columns.{AreIn, HasInput, IsEarlier, kinds_at, column_kind_at}
 use Rattle.amber_rows.specs.Kinds.{IsKind}
@@ -16,7 +16,7 @@ use Rattle.amber_flow.specs.Columns.{column_number}
 use Rattle.amber_flow.specs.Joins.{AreKeys, are_alike}
 use Rattle.amber_rows.specs.Suits.{same_kind}
 use Rattle.amber_flow.specs.declared.join.JoinKeys.{JoinKeys}
-use Rattle.amber_flow.proofs.ListFacts.{Gives, and-true, each-gives, gives-length}
+use Rattle.amber_flow.proofs.ListFacts.{Gives, and-true, each-gives, gives-at, gives-length, gives_all}
 use Rattle.amber_flow.proofs.NameFacts.{columns-here, number-named}
 
 -- ---- the same kinds at the same places
@@ -83,6 +83,26 @@ in_given columns (name ∷ names) (number ∷ numbers) given =
 -- the numbers that names give are those of columns
 pub found-in : (columns : List Column) (names : List (List ℕ)) (numbers : List ℕ) → each (column_number columns) names ≡ Some numbers → AreIn columns numbers
 found-in columns names numbers found = in_given columns names numbers (each-gives (column_number columns) names numbers found)
+
+kinds_given : (columns : List Column) (names : List (List ℕ)) (numbers : List ℕ) → Gives (column_number columns) names numbers → list_all (λ number. is_some (column_kind_at columns number)) numbers ≡ true
+kinds_given columns [] [] given = refl
+kinds_given columns [] (number ∷ numbers) given = absurd given
+kinds_given columns (name ∷ names) [] given = absurd given
+kinds_given columns (name ∷ names) (number ∷ numbers) given =
+    let there = number-named columns name number given.0 in
+    rw (there.here, kinds_given columns names numbers given.1) refl
+
+-- the numbers that names give have kinds
+pub found-kinds : (columns : List Column) (names : List (List ℕ)) (numbers : List ℕ) → each (column_number columns) names ≡ Some numbers → list_all (λ number. is_some (column_kind_at columns number)) numbers ≡ true
+found-kinds columns names numbers found = kinds_given columns names numbers (each-gives (column_number columns) names numbers found)
+
+-- the kinds of numbers that have them, which stand at the places of the numbers
+module _ (columns : List Column) (numbers : List ℕ) (there : list_all (λ number. is_some (column_kind_at columns number)) numbers ≡ true) where
+  pub kinds-length : length (filter_map (column_kind_at columns) numbers) ≡ length numbers
+  kinds-length = gives-length (column_kind_at columns) numbers (filter_map (column_kind_at columns) numbers) (gives_all (column_kind_at columns) numbers there)
+
+  pub kind-at : (i d : ℕ) → i < length numbers → column_kind_at columns (get_or numbers i d) ≡ Some (get_or (filter_map (column_kind_at columns) numbers) i Int)
+  kind-at i d h = gives-at (column_kind_at columns) numbers (filter_map (column_kind_at columns) numbers) i d Int (gives_all (column_kind_at columns) numbers there) h
 
 pub are-keys : (build probe : List Column) (build_names probe_names : List (List ℕ)) (build_keys probe_keys : List ℕ) (build_kinds probe_kinds : List ColKind) → each (column_number build) build_names ≡ Some build_keys → each (column_number probe) probe_names ≡ Some probe_keys
     → build_kinds ≡ filter_map (column_kind_at build) build_keys → probe_kinds ≡ filter_map (column_kind_at probe) probe_keys → are_alike build_kinds probe_kinds ≡ true

@@ -1,5 +1,5 @@
 -- Lists of JSON values, and lists in which each element must give something.
-use Rattle.std.proofs.Common.{◌≡◌, ℕ, suc, ◌+◌, ◌<◌, ◌≤◌, ◌&&◌, ◌||◌, not, ltb, List, [], ◌∷◌, ◌++◌, length, map, get_or, take, drop, Option, Some, None, is_some, option_map, Bool, true, false, cond, refl, sym, ap, ◌∙◌, append_assoc, append-nil, subst, drop-cons, arith}
+use Rattle.std.proofs.Common.{◌≡◌, ℕ, zero, suc, ◌+◌, ◌<◌, ◌≤◌, ◌&&◌, ◌||◌, not, ltb, List, [], ◌∷◌, ◌++◌, length, map, get_or, take, drop, Option, Some, None, is_some, option_map, Bool, true, false, cond, refl, sym, ap, ◌∙◌, append_assoc, append-nil, subst, drop-cons, arith}
 use Rattle.std.proofs.lemmas.Bool.Decides.{nat_tests}
 use Rattle.std.proofs.lemmas.List.{drop_all, map-append, take_all, take_more}
 use Rattle.std.proofs.lemmas.List.Elements.{filter_map-append}
@@ -58,7 +58,7 @@ gives_first : {A B : Type 0} (f : A → Option B) (x : A) (xs : List A) (ys : Li
 gives_first f x xs ys all None is some rest = absurd (cc)
 gives_first f x xs ys all (Some y) is some rest = (is, rest some)
 
-gives_all : {A B : Type 0} (f : A → Option B) (xs : List A) → list_all (λ x. is_some (f x)) xs ≡ true → Gives f xs (filter_map f xs)
+pub gives_all : {A B : Type 0} (f : A → Option B) (xs : List A) → list_all (λ x. is_some (f x)) xs ≡ true → Gives f xs (filter_map f xs)
 gives_all f [] all = tt
 gives_all f (x ∷ xs) all = gives_first f x xs (filter_map f xs) (list_all (λ x. is_some (f x)) xs) (f x) refl all (λ h. gives_all f xs h)
 
@@ -127,3 +127,11 @@ place-any {A = A} p xs = there (ltb (position_or_len p xs) (length xs)) (positio
     within : (xs : List A) → ltb (position_or_len p xs) (length xs) ≡ list_any p xs
     within [] = refl
     within (x ∷ xs) = one (p x) (position_or_len p xs) (length xs) (list_any p xs) (within xs)
+
+-- the one that stands beside the element at a place
+pub gives-at : {A B : Type 0} (f : A → Option B) (xs : List A) (ys : List B) (i : ℕ) (d : A) (e : B) → Gives f xs ys → i < length xs → f (get_or xs i d) ≡ Some (get_or ys i e)
+gives-at f [] [] i d e given h = absurd (omega (arith, h))
+gives-at f [] (y ∷ ys) i d e given h = absurd given
+gives-at f (x ∷ xs) [] i d e given h = absurd given
+gives-at f (x ∷ xs) (y ∷ ys) zero d e given h = given.0
+gives-at f (x ∷ xs) (y ∷ ys) (suc i) d e given h = gives-at f xs ys i d e given.1 (omega (arith, h))

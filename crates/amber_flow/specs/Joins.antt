@@ -1,5 +1,5 @@
 -- The joins of a workflow.
-use Rattle.std.specs.Prelude.{◌≡◌, ℕ, ◌==◌, ◌&&◌, nat_lt, List, [], ◌∷◌, ◌++◌, length, codes, ok_or, Result, Ok, Bool, true, false}
+use Rattle.std.specs.Prelude.{◌≡◌, ℕ, ◌==◌, ◌&&◌, nat_lt, List, [], ◌∷◌, ◌++◌, length, codes, Option, Some, None, ok_or, Result, Ok, Bool, true, false}
 use Rattle.std.specs.List.{filter_map}
 use Rattle.serde_json.specs.Data.{Data}
 use Rattle.amber_rows.specs.Suits.{same_kind}
@@ -27,6 +27,12 @@ are_alike [] [] = true
 are_alike [] (other ∷ others) = false
 are_alike (kind ∷ kinds) [] = false
 are_alike (kind ∷ kinds) (other ∷ others) = same_kind kind other && are_alike kinds others
+
+-- two kinds are there, and the same
+abbrev pub are_same_kinds : Option ColKind → Option ColKind → Bool
+are_same_kinds None other = false
+are_same_kinds (Some kind) None = false
+are_same_kinds (Some kind) (Some other) = same_kind kind other
 
 -- the columns with these names on the two sides
 unfoldable pub keys_of : List Column → List Column → List (List ℕ) → List (List ℕ) → Result JoinKeys FlowWhy

@@ -1,10 +1,9 @@
-ghost use Rattle.std.specs.Prelude.{◌≡◌, ◌++◌, ◌<◌, ◌≤◌, All, IfOk, OnOk, false, length, map, true};
-ghost use Rattle.std.specs.List.{filter_map};
+ghost use Rattle.std.specs.Prelude.{◌≡◌, ◌++◌, ◌<◌, ◌≤◌, All, IfOk, OnOk, false, is_some, length, map, true};
+ghost use Rattle.std.specs.List.{filter_map, list_all};
 ghost use Rattle.serde_json.specs.View.{view};
 ghost use Rattle.amber_rows.specs.Columns.{IsEarlier, column_kind_at};
 ghost use Rattle.amber_flow.specs.Inputs.{IsNarrow};
-ghost use Rattle.amber_flow.specs.Joins.{AreKeys, are_alike, are_paired, join_of, join_over, keys_of};
-ghost use Rattle.amber_rows.specs.Suits.{same_kind};
+ghost use Rattle.amber_flow.specs.Joins.{AreKeys, are_alike, are_paired, are_same_kinds, join_of, join_over, keys_of};
 ghost use Rattle.amber_flow.specs.Parts.{IsMeant};
 
 use crate::columns::{add_columns, find_columns, kind_of_column};
@@ -32,37 +31,33 @@ fn may_be_keys(build: &[&str], probe: &[&str]) -> bool
     !build.is_empty() && build.len() == probe.len()
 }
 
-fn is_same(kind: ColKind, other: ColKind) -> bool
-    ensures { result ≡ same_kind kind other }
+/// Whether two kinds are there and the same.
+fn is_same(kind: Option<ColKind>, other: Option<ColKind>) -> bool
+    ensures { result ≡ are_same_kinds kind other }
 {
     match (kind, other) {
-        (ColKind::Int, ColKind::Int) => true,
-        (ColKind::Int, ColKind::Text) => false,
-        (ColKind::Text, ColKind::Int) => false,
-        (ColKind::Text, ColKind::Text) => true,
+        (Some(ColKind::Int), Some(ColKind::Int)) => true,
+        (Some(ColKind::Text), Some(ColKind::Text)) => true,
+        _ => false,
     }
 }
 
-/// The kinds of the columns with these numbers.
-fn kinds_of(alloc: Global, columns: &[Column], numbers: &[u32]) -> Result<Vec<ColKind>, AllocError>
-    ensures { IfOk result
-        (λ kinds. kinds.items ≡ filter_map (column_kind_at columns.now) numbers.now) }
+/// Whether columns with these numbers have the same kinds at the same places.
+fn are_same(build: &[Column], build_keys: &[u32], probe: &[Column], probe_keys: &[u32]) -> bool
+    requires build { list_all (λ number. is_some (column_kind_at build.now number)) build_keys.now
+        ≡ true }
+    requires probe { list_all (λ number. is_some (column_kind_at probe.now number)) probe_keys.now
+        ≡ true }
+    ensures { result ≡ are_alike (filter_map (column_kind_at build.now) build_keys.now)
+        (filter_map (column_kind_at probe.now) probe_keys.now) }
 {
-    numbers
-        .iter()
-        .filter_map(|number| kind_of_column(columns, *number))
-        .collect(alloc)
-}
-
-/// Whether the same kinds stand at the same places.
-fn are_same(kinds: &[ColKind], others: &[ColKind]) -> bool
-    ensures { result ≡ are_alike kinds.now others.now }
-{
-    if kinds.len() != others.len() {
+    if build_keys.len() != probe_keys.len() {
         return false;
     }
-    for index in 0..kinds.len() {
-        if !is_same(kinds[index], others[index]) {
+    for index in 0..build_keys.len() {
+        let kind = kind_of_column(build, build_keys[index]);
+        let other = kind_of_column(probe, probe_keys[index]);
+        if !is_same(kind, other) {
             return false;
         }
     }
@@ -92,9 +87,7 @@ fn read_keys(
     let Some(probe_keys) = find_columns(alloc, probe, probe_names)? else {
         return Ok(Err(FlowWhy::Column));
     };
-    let build_kinds = kinds_of(alloc, build, build_keys.as_slice())?;
-    let probe_kinds = kinds_of(alloc, probe, probe_keys.as_slice())?;
-    if !are_same(build_kinds.as_slice(), probe_kinds.as_slice()) {
+    if !are_same(build, build_keys.as_slice(), probe, probe_keys.as_slice()) {
         return Ok(Err(FlowWhy::Mismatch));
     }
     Ok(Ok(JoinKeys {

@@ -1,19 +1,32 @@
-use Rattle.std.proofs.Common.{List, ℕ, Bor, map, refl, sym, ap, ◌∙◌}
+-- The keys that were meant, step by step.
+use Rattle.std.proofs.Common.{List, ℕ, Bor, map, refl, sym, ap}
 use Rattle.std.proofs.lemmas.Result.{IfOk-from_err}
 use Rattle.std.specs.List.{filter_map}
 use Rattle.amber_rows.specs.Columns.{column_kind_at}
 use Rattle.amber_flow.specs.Joins.{keys_of}
-use Rattle.amber_flow.proofs.JoinFacts.{are-keys}
+use Rattle.amber_flow.proofs.JoinFacts.{are-keys, found-kinds}
 use Rattle.amber_flow.proofs.join.read_keys.Goals as goal
+
+pub are_same-requires-clause-build : goal.are_same-requires-clause-build
+are_same-requires-clause-build c =
+    let now = λ (name : Bor (List ℕ)). name.now in
+    let build = rw c.in-Some.is at c.in_ok-build_keys.ensures in
+    rw c.as_slice.ensures.value (found-kinds c.args.build.now (map now c.args.build_names.now) c.in-Some.build_keys.items (sym build))
+
+pub are_same-requires-clause-probe : goal.are_same-requires-clause-probe
+are_same-requires-clause-probe c =
+    let now = λ (name : Bor (List ℕ)). name.now in
+    let probe = rw c.in-Some-2.is at c.in_ok-probe_keys.ensures in
+    rw c.as_slice-2.ensures.value (found-kinds c.args.probe.now (map now c.args.probe_names.now) c.in-Some-2.probe_keys.items (sym probe))
 
 pub returns-clause-fit : goal.returns-clause-fit
 returns-clause-fit c =
     let now = λ (name : Bor (List ℕ)). name.now in
     let build = rw c.in-Some.is at c.in_ok-build_keys.ensures in
     let probe = rw c.in-Some-2.is at c.in_ok-probe_keys.ensures in
-    are-keys c.args.build.now c.args.probe.now (map now c.args.build_names.now) (map now c.args.probe_names.now) c.in-Some.build_keys.items c.in-Some-2.probe_keys.items c.as_slice-3.result.now c.as_slice-4.result.now (sym build) (sym probe)
-    (c.as_slice-3.ensures.value ∙ c.in_ok-build_kinds.ensures ∙ ap (filter_map (column_kind_at c.args.build.now)) c.as_slice.ensures.value)
-    (c.as_slice-4.ensures.value ∙ c.in_ok-probe_kinds.ensures ∙ ap (filter_map (column_kind_at c.args.probe.now)) c.as_slice-2.ensures.value)
+    are-keys c.args.build.now c.args.probe.now (map now c.args.build_names.now) (map now c.args.probe_names.now) c.in-Some.build_keys.items c.in-Some-2.probe_keys.items
+    (filter_map (column_kind_at c.args.build.now) c.as_slice.result.now) (filter_map (column_kind_at c.args.probe.now) c.as_slice-2.result.now) (sym build) (sym probe)
+    (ap (filter_map (column_kind_at c.args.build.now)) c.as_slice.ensures.value) (ap (filter_map (column_kind_at c.args.probe.now)) c.as_slice-2.ensures.value)
     (sym c.if-not-are_same.ensures) (record { build = c.new.result; probe = c.new-2.result }) c.new.ensures c.new-2.ensures
 
 pub returns-clause-keys : goal.returns-clause-keys
@@ -21,9 +34,7 @@ unfolding keys_of
 returns-clause-keys c =
     let build = rw c.in-Some.is at c.in_ok-build_keys.ensures in
     let probe = rw c.in-Some-2.is at c.in_ok-probe_keys.ensures in
-    let build_kinds = c.as_slice-3.ensures.value ∙ c.in_ok-build_kinds.ensures ∙ ap (filter_map (column_kind_at c.args.build.now)) c.as_slice.ensures.value in
-    let probe_kinds = c.as_slice-4.ensures.value ∙ c.in_ok-probe_kinds.ensures ∙ ap (filter_map (column_kind_at c.args.probe.now)) c.as_slice-2.ensures.value in
-    let alike = rw (build_kinds, probe_kinds) at c.if-not-are_same.ensures in
+    let alike = rw (c.as_slice.ensures.value, c.as_slice-2.ensures.value) at c.if-not-are_same.ensures in
     rw (← build, ← probe, ← alike, c.new.ensures, c.new-2.ensures) refl
 
 pub returns-in_default : goal.returns-in_default
@@ -44,9 +55,7 @@ unfolding keys_of
 returns-then-not-are_same c =
     let build = rw c.in-Some.is at c.in_ok-build_keys.ensures in
     let probe = rw c.in-Some-2.is at c.in_ok-probe_keys.ensures in
-    let build_kinds = c.as_slice-3.ensures.value ∙ c.in_ok-build_kinds.ensures ∙ ap (filter_map (column_kind_at c.args.build.now)) c.as_slice.ensures.value in
-    let probe_kinds = c.as_slice-4.ensures.value ∙ c.in_ok-probe_kinds.ensures ∙ ap (filter_map (column_kind_at c.args.probe.now)) c.as_slice-2.ensures.value in
-    let alike = rw (build_kinds, probe_kinds) at c.if-not-are_same.ensures in
+    let alike = rw (c.as_slice.ensures.value, c.as_slice-2.ensures.value) at c.if-not-are_same.ensures in
     record { keys = rw (← build, ← probe, ← alike) refl; fit = tt }
 
 pub returns-in_err-build_keys : goal.returns-in_err-build_keys
@@ -55,14 +64,4 @@ returns-in_err-build_keys c = record { keys = IfOk-from_err _ _ c.from_residual.
 pub returns-in_err-probe_keys : goal.returns-in_err-probe_keys
 returns-in_err-probe_keys c =
     let failed = c.from_residual-in_err-probe_keys.ensures.0 in
-    record { keys = IfOk-from_err _ _ failed; fit = IfOk-from_err _ _ failed }
-
-pub returns-in_err-build_kinds : goal.returns-in_err-build_kinds
-returns-in_err-build_kinds c =
-    let failed = c.from_residual-in_err-build_kinds.ensures.0 in
-    record { keys = IfOk-from_err _ _ failed; fit = IfOk-from_err _ _ failed }
-
-pub returns-in_err-probe_kinds : goal.returns-in_err-probe_kinds
-returns-in_err-probe_kinds c =
-    let failed = c.from_residual-in_err-probe_kinds.ensures.0 in
     record { keys = IfOk-from_err _ _ failed; fit = IfOk-from_err _ _ failed }
