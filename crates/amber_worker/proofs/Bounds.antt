@@ -59,7 +59,7 @@ within-with_go n (one ∷ next ∷ more) rows outs sum h =
 
 -- ---- a row is taken
 
-same-some : {A : Type 0} (P : Type 0) (old new : Option A) → is_some new ≡ is_some old → IfSome old (λ _. P) → IfSome new (λ _. P)
+pub same-some : {A : Type 0} (P : Type 0) (old new : Option A) → is_some new ≡ is_some old → IfSome old (λ _. P) → IfSome new (λ _. P)
 same-some P None None e h = h
 same-some P None (Some x) e h = absurd (false≢true (sym e))
 same-some P (Some y) None e h = tt

@@ -1,5 +1,6 @@
 pub mod Both
 pub mod Bounds
+pub mod Unchanged
 pub mod Fresh
 pub mod GoOn
 pub mod Idle

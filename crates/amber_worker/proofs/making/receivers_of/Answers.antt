@@ -1,9 +1,10 @@
 -- One receiver more.
-use Rattle.std.proofs.Common.{◌≡◌, ◌∙◌, append-nil, append_assoc, length, rules, sym, ◌++◌, [], ◌∷◌, length-append, map, ap, arith}
+use Rattle.std.proofs.Common.{◌≡◌, ◌∙◌, append-nil, append_assoc, length, rules, refl, sym, ◌++◌, [], ◌∷◌, length-append, map, ap, arith}
 use Rattle.std.specs.Vec.Iter.{into_iter_items}
 use Rattle.std.proofs.lemmas.List.{map-append, nil_from_length, take_all}
 use Rattle.amber_worker.specs.Made.{out_of, to_of}
 use Rattle.amber_worker.proofs.Fresh.{one-more}
+use Rattle.std.proofs.lemmas.Result.{IfOk-from_err}
 use Rattle.amber_worker.proofs.making.receivers_of.Goals as goal
 
 pub loop-link-preserved : goal.loop-link-preserved
@@ -42,3 +43,24 @@ pub returns-clause-links : goal.returns-clause-links
 returns-clause-links c =
     let none : into_iter_items c.loop-link.link-iterator ≡ [] = nil_from_length (into_iter_items c.loop-link.link-iterator) (search rules) in
     c.loop-link.invariant.links ∙ sym (ap (λ xs. c.loop-link.yielded ++ xs) none ∙ append-nil c.loop-link.yielded) ∙ c.loop-link.invariant.all
+
+pub returns-in_err-found-clause-links : goal.returns-in_err-found-clause-links
+returns-in_err-found-clause-links c = IfOk-from_err _ _ c.from_residual.ensures.0
+
+pub returns-in_err-push-clause-links : goal.returns-in_err-push-clause-links
+returns-in_err-push-clause-links c = IfOk-from_err _ _ c.from_residual-in_err-push.ensures.0
+
+pub returns-in_err-found-clause-numbers : goal.returns-in_err-found-clause-numbers
+returns-in_err-found-clause-numbers c = IfOk-from_err _ _ c.from_residual.ensures.0
+
+pub returns-in_err-push-clause-numbers : goal.returns-in_err-push-clause-numbers
+returns-in_err-push-clause-numbers c = IfOk-from_err _ _ c.from_residual-in_err-push.ensures.0
+
+pub loop-link-init : goal.loop-link-init
+loop-link-init c =
+    record {
+      all = c.into_iter-link-iterator.ensures.into_iter_gives.0;
+      place = refl;
+      numbers = ap (map to_of) c.new-receivers.ensures.items;
+      links = ap (map out_of) c.new-receivers.ensures.items;
+    }

@@ -1,5 +1,5 @@
 -- One sender more.
-use Rattle.std.proofs.Common.{◌≡◌, ◌∙◌, append-nil, append_assoc, length, rules, sym, ◌<◌, ◌++◌, ℕ, [], ◌∷◌, All, length-append, map, ap, subst, arith}
+use Rattle.std.proofs.Common.{◌≡◌, ◌∙◌, append-nil, append_assoc, length, rules, refl, sym, ◌<◌, ◌++◌, ℕ, [], ◌∷◌, All, length-append, map, ap, subst, arith}
 use Rattle.std.specs.Vec.Iter.{into_iter_items}
 use Rattle.std.proofs.lemmas.List.{map-append, nil_from_length, take_all}
 use Rattle.std.proofs.lemmas.List.Elements.{All-push}
@@ -7,6 +7,7 @@ use Rattle.amber_rows.specs.Crew.{crew_of}
 use Rattle.amber_link.specs.declared.senders.Sender.{Sender}
 use Rattle.amber_worker.specs.Made.{IsFreshSender, end_of, from_of}
 use Rattle.amber_worker.proofs.Fresh.{one-more, senders-within}
+use Rattle.std.proofs.lemmas.Result.{IfOk-from_err}
 use Rattle.amber_worker.proofs.making.senders_of.Goals as goal
 
 pub sender_at-requires-clause-known : goal.sender_at-requires-clause-known
@@ -51,3 +52,34 @@ pub returns-clause-ends : goal.returns-clause-ends
 returns-clause-ends c =
     let none : into_iter_items c.loop-link.link-iterator ≡ [] = nil_from_length (into_iter_items c.loop-link.link-iterator) (search rules) in
     c.loop-link.invariant.ends ∙ sym (ap (λ xs. c.loop-link.yielded ++ xs) none ∙ append-nil c.loop-link.yielded) ∙ c.loop-link.invariant.all
+
+pub returns-in_err-found-clause-ends : goal.returns-in_err-found-clause-ends
+returns-in_err-found-clause-ends c = IfOk-from_err _ _ c.from_residual.ensures.0
+
+pub returns-in_err-push-clause-ends : goal.returns-in_err-push-clause-ends
+returns-in_err-push-clause-ends c = IfOk-from_err _ _ c.from_residual-in_err-push.ensures.0
+
+pub returns-in_err-found-clause-fresh : goal.returns-in_err-found-clause-fresh
+returns-in_err-found-clause-fresh c = IfOk-from_err _ _ c.from_residual.ensures.0
+
+pub returns-in_err-push-clause-fresh : goal.returns-in_err-push-clause-fresh
+returns-in_err-push-clause-fresh c = IfOk-from_err _ _ c.from_residual-in_err-push.ensures.0
+
+pub returns-in_err-found-clause-numbers : goal.returns-in_err-found-clause-numbers
+returns-in_err-found-clause-numbers c = IfOk-from_err _ _ c.from_residual.ensures.0
+
+pub returns-in_err-push-clause-numbers : goal.returns-in_err-push-clause-numbers
+returns-in_err-push-clause-numbers c = IfOk-from_err _ _ c.from_residual-in_err-push.ensures.0
+
+pub loop-link-init : goal.loop-link-init
+loop-link-init c =
+    record {
+      all = c.into_iter-link-iterator.ensures.into_iter_gives.0;
+      place = refl;
+      numbers = ap (map from_of) c.new-senders.ensures.items;
+      ends = ap (map end_of) c.new-senders.ensures.items;
+      fresh = λ k d there. absurd (omega (arith, there, ap length c.new-senders.ensures.items));
+    }
+
+pub returns-clause-fresh : goal.returns-clause-fresh
+returns-clause-fresh c = c.loop-link.invariant.fresh

@@ -1,9 +1,11 @@
 -- All streams are ended.
-use Rattle.std.proofs.Common.{◌≡◌, ◌≤◌, ◌∙◌, length, map, ap, arith, refl}
-use Rattle.amber_link.specs.Sides.{without_room}
+use Rattle.std.proofs.Common.{◌≡◌, false, ◌≤◌, ◌∙◌, length, map, ap, arith, refl}
+use Rattle.amber_link.specs.Sides.{have_all_ended, without_room}
 use Rattle.amber_link.specs.declared.receivers.Receiver.{Receiver}
 use Rattle.amber_worker.proofs.Bounds.{few-done, few-sent, finishes, written-back}
 use Rattle.amber_worker.proofs.Roomless.{still-all}
+use Rattle.amber_worker.specs.WorkerState.{WorkerState}
+use Rattle.amber_worker.proofs.Unchanged.{err_so, few-made, same-journal, same-outs, steps-few}
 use Rattle.amber_worker.proofs.worker.Worker.finish.Goals as goal
 
 pub invariant_of-self-in_err-end_streams : goal.invariant_of-self-in_err-end_streams
@@ -34,3 +36,31 @@ returns-clause-done c =
     let ends = rw c.as_mut_slice.ensures.value at c.in_ok-end_streams.ensures.ends in
     rw (← c.self.view_is)
     (finishes _ _ _ c.push_reserved.new.self.items ends (ap (map without_room) (written-back _ _ _ len stays)) (rw (c.push_reserved.ensures.items, c.reserve.ensures.items) refl))
+
+pub returns-in_err-reserve-clause-err : goal.returns-in_err-reserve-clause-err
+returns-in_err-reserve-clause-err c = err_so c.from_residual.result _ (same-journal _ _ _ c.reserve.ensures.items c.self.view_is)
+
+pub returns-in_err-end_streams-clause-err : goal.returns-in_err-end_streams-clause-err
+returns-in_err-end_streams-clause-err c =
+    let lent = ap length c.as_mut_slice.ensures.value in
+    let len : c.self.inside.outs.len ≡ length c.self.inside.outs.items = omega (arith, lent, c.as_mut_slice.ensures.len) in
+    let stays : length c.end_streams.new.outs ≡ length c.self.inside.outs.items = omega (arith, lent, c.end_streams.auto.outs) in
+    err_so c.from_residual-in_err-end_streams.result _
+    (same-outs _ _ _ _ c.reserve.ensures.items
+    (ap (map without_room) (written-back _ _ _ len stays) ∙ c.in_err-end_streams.ensures.err ∙ ap (map without_room) c.as_mut_slice.ensures.value) c.self.view_is)
+
+pub invariant_of-self : goal.invariant_of-self
+invariant_of-self c = rw c.reserve.ensures.items c.self.invariant
+
+pub returns-clause-ended : goal.returns-clause-ended
+returns-clause-ended c = c.if-not-have_ended.ensures ∙ ap have_all_ended c.as_slice.ensures.value ∙ ap (λ (w : WorkerState). have_all_ended w.ins) c.self.view_is
+
+pub end_streams-requires-clause-open : goal.end_streams-requires-clause-open
+end_streams-requires-clause-open c =
+    let unfinished : c.self.inside.finished ≡ false = ap (λ (w : WorkerState). w.finished) c.self.view_is ∙ c.requires.unfinished in
+    rw c.as_mut_slice.ensures.value (λ k d there. c.self.invariant.over k d there ∙ unfinished)
+
+pub end_streams-requires-clause-few : goal.end_streams-requires-clause-few
+end_streams-requires-clause-few c =
+    let unfinished : c.self.inside.finished ≡ false = ap (λ (w : WorkerState). w.finished) c.self.view_is ∙ c.requires.unfinished in
+    rw c.as_mut_slice.ensures.value (few-made _ c.self.invariant unfinished (steps-few c.self.view_is c.requires.few))

@@ -4,6 +4,7 @@ use Rattle.amber_link.specs.Sides.{IsLooked, have_all_ended}
 use Rattle.amber_link.specs.declared.senders.Sender.{Sender}
 use Rattle.amber_link.proofs.Sides.{looked-same, pairwise-refl}
 use Rattle.amber_worker.proofs.Bounds.{few-batch, no-share, takes-batch, written-back}
+use Rattle.amber_worker.proofs.Unchanged.{err_so, same-journal}
 use Rattle.amber_worker.proofs.worker.Worker.take_from.Goals as goal
 
 pub invariant_of-self-in_err-last : goal.invariant_of-self-in_err-last
@@ -41,3 +42,12 @@ returns-clause-ok c =
     (rw (c.push_reserved.ensures.items, c.reserve.ensures.items) refl)
     c.turn_to.ensures (sym (before d) ∙ after d) (c.have_ended-over.ensures ∙ ap have_all_ended (c.as_slice-2.ensures.value ∙ written-back _ _ _ len stays))
     c.in_ok-last.ensures c.close.ensures)
+
+pub returns-in_err-reserve-clause-err : goal.returns-in_err-reserve-clause-err
+returns-in_err-reserve-clause-err c = err_so c.from_residual.result _ (same-journal _ _ _ c.reserve.ensures.items c.self.view_is)
+
+pub returns-in_err-last-clause-err : goal.returns-in_err-last-clause-err
+returns-in_err-last-clause-err c = err_so c.from_residual-in_err-last.result _ (same-journal _ _ _ c.reserve.ensures.items c.self.view_is)
+
+pub invariant_of-self : goal.invariant_of-self
+invariant_of-self c = rw c.reserve.ensures.items c.self.invariant

@@ -4,6 +4,9 @@ use Rattle.amber_worker.specs.Fields.{arrivals_in}
 use Rattle.amber_worker.specs.Steps.{with_go}
 use Rattle.amber_worker.proofs.Bounds.{few-row, takes-row}
 use Rattle.amber_worker.proofs.States.{may-take_row}
+use Rattle.amber_link.specs.Links.{has_some}
+use Rattle.amber_worker.specs.WorkerState.{WorkerState}
+use Rattle.amber_worker.proofs.Unchanged.{err_so, few-noted, few-same, same-journal, same-taking, steps-few}
 use Rattle.amber_worker.proofs.worker.Worker.take_row.Goals as goal
 
 pub invariant_of-self-2 : goal.invariant_of-self-2
@@ -28,3 +31,28 @@ returns-clause-ok c =
     (c.is_last-over.ensures ∙ ap (λ ins. eqb (length (arrivals_in c.self.inside.rest)) 1 && have_all_ended ins) c.as_slice.ensures.value)
     gains.first refl gains.becomes gains.closes gains.pending gains.refused gains.kept
     (c.note_go.ensures ∙ ap (λ l. with_go l 1 0) c.reserve.ensures.items))
+
+pub returns-in_err-reserve-clause-err : goal.returns-in_err-reserve-clause-err
+returns-in_err-reserve-clause-err c = err_so c.from_residual.result _ (same-journal _ _ _ c.reserve.ensures.items c.self.view_is)
+
+pub returns-in_err-take_next-clause-err : goal.returns-in_err-take_next-clause-err
+returns-in_err-take_next-clause-err c =
+    let same = c.in_err-take_next.ensures.gains_on_err in
+    err_so c.from_residual-in_err-take_next.result _
+    (same-taking _ _ _ _ _ _ _ _ c.in_err-take_next.ensures.operator_state_on_err c.in_err-take_next.ensures.rest_on_err same.pending same.refused same.kept c.reserve.ensures.items
+    c.self.view_is)
+
+pub invariant_of-self : goal.invariant_of-self
+invariant_of-self c = rw c.reserve.ensures.items c.self.invariant
+
+pub invariant_of-self-in_err-take_next : goal.invariant_of-self-in_err-take_next
+invariant_of-self-in_err-take_next c = rw c.reserve.ensures.items (few-same _ _ _ c.in_err-take_next.ensures.operator_state_on_err c.take_next.ensures.shares c.self.invariant)
+
+pub note_go-requires-clause-few : goal.note_go-requires-clause-few
+note_go-requires-clause-few c = rw c.reserve.ensures.items (few-noted _ 1 0 c.self.invariant refl (steps-few c.self.view_is c.requires.few))
+
+pub take_next-requires-clause-some : goal.take_next-requires-clause-some
+take_next-requires-clause-some c = ap (λ (w : WorkerState). has_some w.rest) c.self.view_is ∙ c.requires.some
+
+pub take_next-requires-clause-scans : goal.take_next-requires-clause-scans
+take_next-requires-clause-scans c = c.self.invariant.scans
