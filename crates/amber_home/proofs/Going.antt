@@ -1,5 +1,5 @@
 -- Workers that go on.
-use Rattle.std.proofs.Common.{◌≡◌, refl, sym, ap, ◌∙◌, ℕ, ◌+◌, ◌<◌, List, length, get_or, true, inl, inr, arith}
+use Rattle.std.proofs.Common.{◌≡◌, refl, sym, ap, ◌∙◌, ℕ, ◌+◌, ◌<◌, List, length, get_or, true, inl, inr, arith, ◌≤◌}
 use Rattle.std.proofs.lemmas.Bool.Decides.{eqb_tells}
 use Rattle.amber_worker.specs.WorkerState.{WorkerState}
 use Rattle.amber_home.specs.AtWork.{FirstGoesOn, GoesOn, GoOn, HaveFinished, IsCrew, MovesOnly, worker_state_at}
@@ -45,3 +45,17 @@ finished-more crew worker d inside done first k below =
       | inl same ↦ ap (λ n. (worker_state_at crew n).finished) same.1 ∙ ap (λ (w : WorkerState). w.finished) (sym (read-at crew worker d inside)) ∙ done
       | inr other ↦ first k (let ne = other.1 in omega arith)
     ]
+
+-- ---- steps
+
+-- of what is made with what is left, what is made is a part
+pub part-of : (made left all : ℕ) → made + left ≡ all → made ≤ all
+part-of made left all e = omega arith
+
+pub part-within : (made left all most : ℕ) → made + left ≡ all → all ≤ most → made ≤ most
+part-within made left all most e few = omega arith
+
+-- ---- numbers of workers
+
+pub below-end : (worker count all reached : ℕ) → worker < count → count ≡ all → all ≤ reached → worker < reached
+below-end worker count all reached below e past = omega arith

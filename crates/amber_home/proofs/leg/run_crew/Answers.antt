@@ -1,11 +1,11 @@
 -- One worker after the other finishes.
-use Rattle.std.proofs.Common.{◌≡◌, refl, sym, ap, ◌∙◌, ◌<◌, length, false, inl, arith, rules}
+use Rattle.std.proofs.Common.{◌≡◌, refl, sym, ap, ◌∙◌, ◌<◌, length, false, inl, inr, arith}
 use Rattle.amber_rows.specs.Crew.{op_of}
 use Rattle.amber_meaning.proofs.Crews.{op-within}
 use Rattle.amber_worker.specs.WorkerState.{WorkerState}
 use Rattle.amber_home.specs.AtWork.{worker_state_at}
 use Rattle.amber_home.specs.Leg.{Run, is_paused}
-use Rattle.amber_home.proofs.Going.{crew-on, finished-more, finished-on, on-refl, on-then}
+use Rattle.amber_home.proofs.Going.{crew-on, finished-more, finished-on, on-refl, on-then, below-end, part-of, part-within}
 use Rattle.amber_home.proofs.Paused.{crew-few, none-moved}
 use Rattle.amber_home.proofs.Split.{read-at}
 use Rattle.amber_home.proofs.leg.run_crew.Goals as goal
@@ -51,7 +51,7 @@ returns-then-not-is_finished-clause-done c =
     let none = none-moved run c.workers.crew c.drive.new.crew c.workers.number c.in_ok-left.ensures.only c.workers.invariant.none here in
     let left = c.in_ok-left.ensures.left in
     let made = c.workers.invariant.made in
-    let inside : c.workers.number < length c.drive.new.crew = search rules in
+    let inside : c.workers.number < length c.drive.new.crew = rw (c.drive.auto.crew, c.workers.auto.crew) c.workers-test.true in
     let not-yet : (worker_state_at c.drive.new.crew c.workers.number).finished ≡ false =
     ap (λ (w : WorkerState). w.finished) (sym (read-at c.drive.new.crew c.workers.number c.index-crew-number.result inside)) ∙ sym c.is_finished.ensures.over ∙ c.if-not-is_finished.true in
     let over = c.in_ok-left.ensures.stops not-yet here in
@@ -63,12 +63,44 @@ workers-preserved c =
     let here : is_paused run c.drive.new.crew (op_of run.flow c.workers.number) ≡ false =
     ap (is_paused run c.drive.new.crew) (sym c.op_of.ensures) ∙ sym c.is_paused.ensures ∙ c.if-is_paused.false in
     let none = none-moved run c.workers.crew c.drive.new.crew c.workers.number c.in_ok-left.ensures.only c.workers.invariant.none here in
-    let left = c.in_ok-left.ensures.left in
-    let made = c.workers.invariant.made in
+    let inside : c.workers.number < length c.drive.new.crew = rw (c.drive.auto.crew, c.workers.auto.crew) c.workers-test.true in
     record {
       on = on-then c.args.crew.now c.workers.crew c.drive.new.crew c.workers.invariant.on c.in_ok-left.ensures.on;
-      made = omega arith;
-      first = finished-more c.drive.new.crew c.workers.number c.index-crew-number.result (search rules) (sym c.is_finished.ensures.over ∙ c.if-not-is_finished.false)
+      made = c.in_ok-left.ensures.left ∙ c.workers.invariant.made;
+      first = finished-more c.drive.new.crew c.workers.number c.index-crew-number.result inside (sym c.is_finished.ensures.over ∙ c.if-not-is_finished.false)
           (finished-on c.workers.crew c.drive.new.crew c.workers.number c.in_ok-left.ensures.only c.workers.invariant.first);
       none = none;
     }
+
+pub returns-clause-few : goal.returns-clause-few
+returns-clause-few c = part-of _ _ _ c.workers.invariant.made
+
+pub returns-clause-on : goal.returns-clause-on
+returns-clause-on c = c.workers.invariant.on
+
+pub drive-requires-clause-few : goal.drive-requires-clause-few
+drive-requires-clause-few c = rw c.workers.invariant.made c.requires.few
+
+pub drive-requires-clause-first : goal.drive-requires-clause-first
+drive-requires-clause-first c = c.workers.invariant.first
+
+pub is_paused-requires-clause-few : goal.is_paused-requires-clause-few
+is_paused-requires-clause-few c = part-within _ _ _ _ (c.in_ok-left.ensures.left ∙ c.workers.invariant.made) c.requires.few
+
+pub is_paused-requires-clause-all : goal.is_paused-requires-clause-all
+is_paused-requires-clause-all c = c.drive.auto.crew ∙ c.workers.auto.crew ∙ c.requires.all
+
+pub returns-then-is_paused-clause-few : goal.returns-then-is_paused-clause-few
+returns-then-is_paused-clause-few c = part-of _ _ _ (c.in_ok-left.ensures.left ∙ c.workers.invariant.made)
+
+pub returns-then-not-is_finished-clause-few : goal.returns-then-not-is_finished-clause-few
+returns-then-not-is_finished-clause-few c = part-of _ _ _ (c.in_ok-left.ensures.left ∙ c.workers.invariant.made)
+
+pub returns-clause-done : goal.returns-clause-done
+returns-clause-done c = inr (λ worker below. c.workers.invariant.first worker (below-end _ _ _ _ below c.workers.auto.crew c.workers-test.false))
+
+pub bounds-crew-number : goal.bounds-crew-number
+bounds-crew-number c = rw (c.drive.auto.crew, c.workers.auto.crew) c.workers-test.true
+
+pub drive-requires-clause-there : goal.drive-requires-clause-there
+drive-requires-clause-there c = rw c.workers.auto.crew c.workers-test.true

@@ -1,9 +1,10 @@
 -- The worker moves, and its links are settled again.
-use Rattle.std.proofs.Common.{◌∙◌, Result, Ok, Err, OnOk}
+use Rattle.std.proofs.Common.{◌∙◌, Result, Ok, Err, OnOk, length-set}
 use Rattle.std.proofs.lemmas.Result.{on_ok_weaker}
 use Rattle.amber_home.proofs.Numbers.{length-put}
 use Rattle.amber_home.proofs.Passed.{besides-then, joined-put}
 use Rattle.amber_home.proofs.Stepped.{IsTurn, at-crew, come-then, goes-on, goes-on-settled, joined-then, not-wanted, one-then, only-then, steps-then}
+use Rattle.amber_home.proofs.Split.{read-at}
 use Rattle.amber_home.proofs.leg.step.Goals as goal
 
 pub settle_outputs-requires-clause-crew : goal.settle_outputs-requires-clause-crew
@@ -89,3 +90,18 @@ returns-clause-only c =
     (λ aside. only-then c.args.crew.now c.args.number c.turn.new.self c.index-crew-number-2.result c.requires.there c.settle_inputs.new.crew
     (besides-then _ c.settle_outputs.new.crew c.settle_inputs.new.crew c.in_ok-settle_outputs.ensures.aside aside))
     c.settle_inputs.ensures.aside
+
+pub turn-requires : goal.turn-requires
+turn-requires c = rw (read-at c.args.crew.now c.args.number c.index-crew-number-2.result c.requires.there) c.requires.few
+
+pub settle_outputs-requires-clause-there : goal.settle_outputs-requires-clause-there
+settle_outputs-requires-clause-there c = rw length-set c.requires.there
+
+pub settle_inputs-requires-clause-there : goal.settle_inputs-requires-clause-there
+settle_inputs-requires-clause-there c = rw (c.settle_outputs.auto.crew, length-set) c.requires.there
+
+pub bounds-crew-number : goal.bounds-crew-number
+bounds-crew-number c = c.requires.there
+
+pub bounds-crew-number-2 : goal.bounds-crew-number-2
+bounds-crew-number-2 c = c.requires.there

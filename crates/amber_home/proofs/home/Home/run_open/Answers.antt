@@ -1,10 +1,16 @@
 -- The workers go on, and the home with them.
-use Rattle.std.proofs.Common.{refl, ap, ◌∙◌}
+use Rattle.std.proofs.Common.{Result, Ok, Err, [], refl, ap, ◌∙◌}
+use Rattle.std.specs.Result.{OnErr}
 use Rattle.amber_home.specs.AtWork.{steps_by}
 use Rattle.amber_home.specs.HomeState.{HomeState, is_open}
 use Rattle.amber_home.specs.Parts.{open_parts}
 use Rattle.amber_home.proofs.Homes.{closes-ran, home-ran, long-open}
+use Rattle.amber_home.specs.declared.phase.Phase.TheVariants as phase
 use Rattle.amber_home.proofs.home.Home.run_open.Goals as goal
+
+err-so : {T E : Type 0} (r : Result T E) (P : Type 0) → P → OnErr r P
+err-so (Ok x) P h = tt
+err-so (Err x) P h = h
 
 pub run_leg-requires-clause-arms : goal.run_leg-requires-clause-arms
 run_leg-requires-clause-arms c =
@@ -30,3 +36,6 @@ returns-clause-closes c =
     (closes-ran e i.crew.items c.as_mut_slice.result.now c.run_leg.new.crew _ i.arms i.stops i.phase i.crew.len c.steps_of.result c.self.invariant
     (ap (λ (h : HomeState). is_open h.phase) c.self.view_is ∙ c.requires.within) c.as_mut_slice.ensures.value (c.steps_of.ensures ∙ ap steps_by c.as_slice.ensures.value)
     c.run_leg.auto.crew i.crew.ok.0 refl done.on done.few c.in_ok-close.close done.done)
+
+pub returns-in_err-close-clause-err : goal.returns-in_err-close-clause-err
+returns-in_err-close-clause-err c = err-so c.from_residual.result _ (ap (λ (h : HomeState). record h { phase = phase.Spent; parts = [] }) c.self.view_is)
