@@ -203,7 +203,7 @@ impl Worker {
     pub fn wants_batch(&self) -> bool
         ensures { result ≡ wants_batch self.now }
     {
-        !(self.is_over() || self.has_pending() || self.has_rest())
+        !(self.is_finished() || self.has_pending() || self.has_rest())
     }
 
     /// Whether the worker may make another turn: its steps are not yet 2^40.

@@ -4,7 +4,7 @@ ghost use Rattle.std.specs.Prelude.{false, true, IfNone, IfSome, MatchBool, leng
 ghost use Rattle.amber_link.specs.Links.{has_some};
 ghost use Rattle.amber_link.specs.Sides.{have_all_ended};
 ghost use Rattle.amber_worker.specs.WorkerState.{has_ready, steps_made};
-ghost use Rattle.amber_worker.specs.Steps.{EmitsRow, Finishes, IsCalm, TakesBatch, TakesRow};
+ghost use Rattle.amber_worker.specs.Steps.{EmitsRow, Finishes, TakesBatch, TakesRow};
 ghost use Rattle.amber_worker.specs.AtPosition.{HasSameEnds, HasTurned, IsLookedAt, IsNextTurn, Keeps};
 ghost use Rattle.amber_worker.specs.Changes.{wants_batch};
 ghost use Rattle.amber_worker.specs.Links.{HaveSentNothing, MayTakeAt};
@@ -20,14 +20,6 @@ use std::alloc::AllocError;
 use std::collections::VecDeque;
 
 impl Worker {
-    // Whether the worker has finished.
-    pub(super) fn is_over(&self) -> bool
-        ensures over { result ≡ self.now.finished }
-        ensures calm { IsCalm self.now }
-    {
-        self.finished
-    }
-
     // Whether a row is pending.
     pub(super) fn has_pending(&self) -> bool
         ensures { result ≡ has_some self.now.pending }
@@ -177,7 +169,7 @@ impl Worker {
         ensures unsent { HaveSentNothing self.old.outs self.new.outs }
         ensures unlooked { wants_batch self.old ≡ false → self.new.ins ≡ self.old.ins }
     {
-        if self.is_over() {
+        if self.is_finished() {
             return Ok(Turn::Ended);
         }
         if self.has_pending() {

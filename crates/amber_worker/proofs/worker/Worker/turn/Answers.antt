@@ -11,28 +11,28 @@ err_so : {T E : Type 0} (r : Result T E) (P : Type 0) → P → OnErr r P
 err_so (Ok x) P h = tt
 err_so (Err x) P h = h
 
-pub returns-then-is_over-clause-keeps : goal.returns-then-is_over-clause-keeps
-returns-then-is_over-clause-keeps c = Keeps-refl _ _
+pub returns-then-is_finished-clause-keeps : goal.returns-then-is_finished-clause-keeps
+returns-then-is_finished-clause-keeps c = Keeps-refl _ _
 
 pub returns-in_err-emit_row-clause-keeps : goal.returns-in_err-emit_row-clause-keeps
 returns-in_err-emit_row-clause-keeps c = keeps-same _ _ c.in_err-emit_row.ensures.err
 
 pub returns-then-has_pending-clause-keeps : goal.returns-then-has_pending-clause-keeps
-returns-then-has_pending-clause-keeps c = keeps-emitted _ c.emit_row.new.self c.is_over.ensures.calm (sym c.if-is_over.ensures.over) c.in_ok-emit_row.ensures.ok
+returns-then-has_pending-clause-keeps c = keeps-emitted _ c.emit_row.new.self c.is_finished.ensures.calm (sym c.if-is_finished.ensures.over) c.in_ok-emit_row.ensures.ok
 
 pub returns-in_err-take_row-clause-keeps : goal.returns-in_err-take_row-clause-keeps
 returns-in_err-take_row-clause-keeps c = keeps-same _ _ c.in_err-take_row.ensures.err
 
 pub returns-then-has_rest-clause-keeps : goal.returns-then-has_rest-clause-keeps
 returns-then-has_rest-clause-keeps c =
-    keeps-taken_row _ c.take_row.new.self c.is_over.ensures.calm (sym c.if-is_over.ensures.over) (sym c.if-has_pending.ensures) c.in_ok-take_row.ensures.ok
+    keeps-taken_row _ c.take_row.new.self c.is_finished.ensures.calm (sym c.if-is_finished.ensures.over) (sym c.if-has_pending.ensures) c.in_ok-take_row.ensures.ok
 
 pub returns-in_err-taken-clause-keeps : goal.returns-in_err-taken-clause-keeps
 returns-in_err-taken-clause-keeps c = keeps-looked _ c.take_batch.new.self c.in_err-taken.ensures.err
 
 pub returns-then-taken-clause-keeps : goal.returns-then-taken-clause-keeps
 returns-then-taken-clause-keeps c =
-    keeps-taken_batch _ c.take_batch.new.self c.in_ok-taken.taken c.is_over.ensures.calm (sym c.if-is_over.ensures.over) (sym c.if-has_pending.ensures) (sym c.if-has_rest.ensures)
+    keeps-taken_batch _ c.take_batch.new.self c.in_ok-taken.taken c.is_finished.ensures.calm (sym c.if-is_finished.ensures.over) (sym c.if-has_pending.ensures) (sym c.if-has_rest.ensures)
     c.if-taken.true c.in_ok-taken.ensures.found
 
 pub returns-in_err-ended-clause-keeps : goal.returns-in_err-ended-clause-keeps
@@ -43,7 +43,7 @@ returns-in_err-ended-clause-keeps c =
 pub returns-then-ended-clause-keeps : goal.returns-then-ended-clause-keeps
 returns-then-ended-clause-keeps c =
     let looked = not-taken _ c.take_batch.new.self c.in_ok-taken.taken c.if-taken.false c.in_ok-taken.ensures.found in
-    keeps-done _ c.take_batch.new.self c.finish.new.self c.in_ok-ended.ended c.is_over.ensures.calm (sym c.if-is_over.ensures.over) (sym c.if-has_pending.ensures)
+    keeps-done _ c.take_batch.new.self c.finish.new.self c.in_ok-ended.ended c.is_finished.ensures.calm (sym c.if-is_finished.ensures.over) (sym c.if-has_pending.ensures)
     (sym c.if-has_rest.ensures) looked c.in_ok-ended.ensures.ended c.if-ended.true c.in_ok-ended.ensures.done
 
 pub returns-clause-keeps : goal.returns-clause-keeps
@@ -51,8 +51,8 @@ returns-clause-keeps c =
     let looked = not-taken _ c.take_batch.new.self c.in_ok-taken.taken c.if-taken.false c.in_ok-taken.ensures.found in
     keeps-looked _ c.finish.new.self (keeps-idle _ c.take_batch.new.self c.finish.new.self c.in_ok-ended.ended looked c.if-ended.false c.in_ok-ended.ensures.done)
 
-pub returns-then-is_over-clause-ends : goal.returns-then-is_over-clause-ends
-returns-then-is_over-clause-ends c = ends-same _ _ refl
+pub returns-then-is_finished-clause-ends : goal.returns-then-is_finished-clause-ends
+returns-then-is_finished-clause-ends c = ends-same _ _ refl
 
 pub returns-in_err-emit_row-clause-err : goal.returns-in_err-emit_row-clause-err
 returns-in_err-emit_row-clause-err c = err_so c.from_residual.result _ (looked-none c.args.self.now c.emit_row.new.self c.in_err-emit_row.ensures.err)
@@ -88,19 +88,19 @@ returns-clause-ends c =
     let looked = not-taken _ c.take_batch.new.self c.in_ok-taken.taken c.if-taken.false c.in_ok-taken.ensures.found in
     ends-done _ c.take_batch.new.self c.finish.new.self c.in_ok-ended.ended looked c.in_ok-ended.ensures.done
 
-pub returns-then-is_over-clause-answer : goal.returns-then-is_over-clause-answer
-returns-then-is_over-clause-answer c = next-plain c.args.self.now _ (next-over c.args.self.now (sym c.if-is_over.ensures.over))
+pub returns-then-is_finished-clause-answer : goal.returns-then-is_finished-clause-answer
+returns-then-is_finished-clause-answer c = next-plain c.args.self.now _ (next-over c.args.self.now (sym c.if-is_finished.ensures.over))
 
 pub returns-then-has_pending-clause-answer : goal.returns-then-has_pending-clause-answer
-returns-then-has_pending-clause-answer c = next-plain c.args.self.now _ (next-pending c.args.self.now (sym c.if-is_over.ensures.over) (sym c.if-has_pending.ensures))
+returns-then-has_pending-clause-answer c = next-plain c.args.self.now _ (next-pending c.args.self.now (sym c.if-is_finished.ensures.over) (sym c.if-has_pending.ensures))
 
 pub returns-then-has_rest-clause-answer : goal.returns-then-has_rest-clause-answer
 returns-then-has_rest-clause-answer c =
-    next-plain c.args.self.now _ (next-rest c.args.self.now (sym c.if-is_over.ensures.over) (sym c.if-has_pending.ensures) (sym c.if-has_rest.ensures))
+    next-plain c.args.self.now _ (next-rest c.args.self.now (sym c.if-is_finished.ensures.over) (sym c.if-has_pending.ensures) (sym c.if-has_rest.ensures))
 
 pub returns-then-taken-clause-answer : goal.returns-then-taken-clause-answer
 returns-then-taken-clause-answer c =
-    next-taken c.args.self.now c.take_batch.new.self c.in_ok-taken.taken (sym c.if-is_over.ensures.over) (sym c.if-has_pending.ensures) (sym c.if-has_rest.ensures)
+    next-taken c.args.self.now c.take_batch.new.self c.in_ok-taken.taken (sym c.if-is_finished.ensures.over) (sym c.if-has_pending.ensures) (sym c.if-has_rest.ensures)
     c.if-taken.true c.in_ok-taken.ensures.found
 
 pub returns-in_err-ended-clause-ends : goal.returns-in_err-ended-clause-ends
@@ -111,19 +111,19 @@ returns-in_err-ended-clause-ends c =
 pub returns-then-ended-clause-answer : goal.returns-then-ended-clause-answer
 returns-then-ended-clause-answer c =
     let looked = not-taken _ c.take_batch.new.self c.in_ok-taken.taken c.if-taken.false c.in_ok-taken.ensures.found in
-    next-done c.args.self.now c.take_batch.new.self c.in_ok-ended.ended (sym c.if-is_over.ensures.over) (sym c.if-has_pending.ensures) (sym c.if-has_rest.ensures) looked
+    next-done c.args.self.now c.take_batch.new.self c.in_ok-ended.ended (sym c.if-is_finished.ensures.over) (sym c.if-has_pending.ensures) (sym c.if-has_rest.ensures) looked
     (c.in_ok-taken.ensures.none c.if-taken.false) c.in_ok-ended.ensures.ended c.if-ended.true
 
 pub returns-clause-answer : goal.returns-clause-answer
 returns-clause-answer c =
     let looked = not-taken _ c.take_batch.new.self c.in_ok-taken.taken c.if-taken.false c.in_ok-taken.ensures.found in
-    next-idle c.args.self.now c.take_batch.new.self c.in_ok-ended.ended (sym c.if-is_over.ensures.over) (sym c.if-has_pending.ensures) (sym c.if-has_rest.ensures) looked
+    next-idle c.args.self.now c.take_batch.new.self c.in_ok-ended.ended (sym c.if-is_finished.ensures.over) (sym c.if-has_pending.ensures) (sym c.if-has_rest.ensures) looked
     (c.in_ok-taken.ensures.none c.if-taken.false) c.in_ok-ended.ensures.ended c.if-ended.false
 
 pub returns-clause-moved : goal.returns-clause-moved
 returns-clause-moved c =
     let looked = not-taken _ c.take_batch.new.self c.in_ok-taken.taken c.if-taken.false c.in_ok-taken.ensures.found in
-    is-idle c.args.self.now c.take_batch.new.self c.finish.new.self c.in_ok-ended.ended (sym c.if-is_over.ensures.over) (sym c.if-has_pending.ensures) (sym c.if-has_rest.ensures) looked
+    is-idle c.args.self.now c.take_batch.new.self c.finish.new.self c.in_ok-ended.ended (sym c.if-is_finished.ensures.over) (sym c.if-has_pending.ensures) (sym c.if-has_rest.ensures) looked
     (c.in_ok-taken.ensures.none c.if-taken.false) c.in_ok-ended.ensures.ended c.if-ended.false c.in_ok-ended.ensures.done
 
 -- ---- nothing is sent
@@ -174,16 +174,16 @@ pub returns-then-has_rest-clause-unlooked : goal.returns-then-has_rest-clause-un
 returns-then-has_rest-clause-unlooked c h = ap (λ (w : WorkerState). w.ins) c.in_ok-take_row.ensures.ok.after
 
 pub returns-in_err-taken-clause-unlooked : goal.returns-in_err-taken-clause-unlooked
-returns-in_err-taken-clause-unlooked c h = unwanted c.args.self.now _ c.is_over.ensures.calm (sym c.if-is_over.ensures.over) (sym c.if-has_pending.ensures) (sym c.if-has_rest.ensures) h
+returns-in_err-taken-clause-unlooked c h = unwanted c.args.self.now _ c.is_finished.ensures.calm (sym c.if-is_finished.ensures.over) (sym c.if-has_pending.ensures) (sym c.if-has_rest.ensures) h
 
 pub returns-then-taken-clause-unlooked : goal.returns-then-taken-clause-unlooked
-returns-then-taken-clause-unlooked c h = unwanted c.args.self.now _ c.is_over.ensures.calm (sym c.if-is_over.ensures.over) (sym c.if-has_pending.ensures) (sym c.if-has_rest.ensures) h
+returns-then-taken-clause-unlooked c h = unwanted c.args.self.now _ c.is_finished.ensures.calm (sym c.if-is_finished.ensures.over) (sym c.if-has_pending.ensures) (sym c.if-has_rest.ensures) h
 
 pub returns-in_err-ended-clause-unlooked : goal.returns-in_err-ended-clause-unlooked
-returns-in_err-ended-clause-unlooked c h = unwanted c.args.self.now _ c.is_over.ensures.calm (sym c.if-is_over.ensures.over) (sym c.if-has_pending.ensures) (sym c.if-has_rest.ensures) h
+returns-in_err-ended-clause-unlooked c h = unwanted c.args.self.now _ c.is_finished.ensures.calm (sym c.if-is_finished.ensures.over) (sym c.if-has_pending.ensures) (sym c.if-has_rest.ensures) h
 
 pub returns-then-ended-clause-unlooked : goal.returns-then-ended-clause-unlooked
-returns-then-ended-clause-unlooked c h = unwanted c.args.self.now _ c.is_over.ensures.calm (sym c.if-is_over.ensures.over) (sym c.if-has_pending.ensures) (sym c.if-has_rest.ensures) h
+returns-then-ended-clause-unlooked c h = unwanted c.args.self.now _ c.is_finished.ensures.calm (sym c.if-is_finished.ensures.over) (sym c.if-has_pending.ensures) (sym c.if-has_rest.ensures) h
 
 pub returns-clause-unlooked : goal.returns-clause-unlooked
-returns-clause-unlooked c h = unwanted c.args.self.now _ c.is_over.ensures.calm (sym c.if-is_over.ensures.over) (sym c.if-has_pending.ensures) (sym c.if-has_rest.ensures) h
+returns-clause-unlooked c h = unwanted c.args.self.now _ c.is_finished.ensures.calm (sym c.if-is_finished.ensures.over) (sym c.if-has_pending.ensures) (sym c.if-has_rest.ensures) h
