@@ -13,16 +13,13 @@ use crate::whole::whole_items;
 use crate::words::read_line;
 use amber_log::{Items, Log, Reading};
 use std::alloc::{AllocError, Global};
-use thiserror::Error;
 
 /// Why a log's file was not read.
-#[derive(Debug, Drop, Error)]
+#[derive(Drop)]
 pub enum LogErr {
     /// The whole items are no log's text. `line` is the number of the first line that cannot stand there, from 1.
-    #[error("line {line} of the log cannot stand there")]
     Text { line: u64 },
     /// Memory ran out.
-    #[error("out of memory")]
     NoMemory,
 }
 
