@@ -67,5 +67,11 @@ few-made f few unfinished less k d there = let h = few.sent unfinished k d there
 pub few-noted : (f : WorkerFields) (rows outs : ℕ) → AreFew f → rows + outs ≡ 1 → f.taken + f.emitted + f.batches + one_if f.finished < 2 ^ 40 → All (λ one. rows_moved one + rows + outs < 2 ^ 64) f.journal
 few-noted f rows outs few one less k d there = let h = few.moved k d there in omega arith
 
+pub few-taken : (f : WorkerFields) → AreFew f → All (λ one. one.taken + 1 < 2 ^ 64) f.ins
+few-taken f few k d there =
+    let h = few.received k d there in
+    let steps = few.steps in
+    omega arith
+
 pub steps-few : {w now : WorkerState} {n : ℕ} → w ≡ now → steps_made now < n → steps_made w < n
 steps-few {n = n} is less = subst (λ w. steps_made w < n) (sym is) less

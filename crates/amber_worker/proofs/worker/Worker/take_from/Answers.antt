@@ -1,10 +1,14 @@
 -- A batch is taken.
-use Rattle.std.proofs.Common.{◌≡◌, ◌<◌, ◌^◌, ◌∙◌, length, ap, arith, rules, refl, sym}
+use Rattle.std.proofs.Common.{◌≡◌, true, subst, ◌<◌, ◌^◌, ◌∙◌, length, ap, arith, rules, refl, sym}
+use Rattle.amber_link.specs.Links.{has_some}
 use Rattle.amber_link.specs.Sides.{IsLooked, have_all_ended}
 use Rattle.amber_link.specs.declared.senders.Sender.{Sender}
 use Rattle.amber_link.proofs.Sides.{looked-same, pairwise-refl}
+use Rattle.amber_worker.specs.Links.{MayTakeAt}
+use Rattle.amber_worker.specs.WorkerState.{WorkerState, has_ready}
+use Rattle.amber_link.proofs.LinkEnds.{none-first}
 use Rattle.amber_worker.proofs.Bounds.{few-batch, no-share, takes-batch, written-back}
-use Rattle.amber_worker.proofs.Unchanged.{err_so, same-journal}
+use Rattle.amber_worker.proofs.Unchanged.{err_so, few-taken, same-journal, steps-few}
 use Rattle.amber_worker.proofs.worker.Worker.take_from.Goals as goal
 
 pub invariant_of-self-in_err-last : goal.invariant_of-self-in_err-last
@@ -12,8 +16,8 @@ invariant_of-self-in_err-last c = rw c.reserve.ensures.items c.self.invariant
 
 pub invariant_of-self-2 : goal.invariant_of-self-2
 invariant_of-self-2 c =
-    let few = rw (← c.self.view_is) at c.requires.few in
-    let there = rw (← c.self.view_is) at c.requires.there in
+    let few = steps-few c.self.view_is c.requires.few in
+    let there : c.args.place < length c.self.inside.ins.items = subst (λ (w : WorkerState). c.args.place < length w.ins) (sym c.self.view_is) c.requires.there in
     let lent = ap length c.as_mut_slice.ensures.value in
     let len : c.self.inside.ins.len ≡ length c.self.inside.ins.items = omega (arith, lent, c.as_mut_slice.ensures.len) in
     let stays : length c.take_at-from.new.ins ≡ length c.self.inside.ins.items = omega (arith, lent, c.take_at-from.auto.ins) in
@@ -25,8 +29,8 @@ pub returns-clause-ok : goal.returns-clause-ok
 returns-clause-ok c =
     let from_small : c.take_at-from.result.from < 2 ^ 32 = search rules in
     let number_small : c.take_at-from.result.number < 2 ^ 64 = search rules in
-    let there = rw (← c.self.view_is) at c.requires.there in
-    let ready = rw (← c.self.view_is) at c.requires.ready in
+    let there : c.args.place < length c.self.inside.ins.items = subst (λ (w : WorkerState). c.args.place < length w.ins) (sym c.self.view_is) c.requires.there in
+    let ready : has_ready c.self.inside.ins.items ≡ true = ap (λ (w : WorkerState). has_ready w.ins) c.self.view_is ∙ c.requires.ready in
     let lent = ap length c.as_mut_slice.ensures.value in
     let len : c.self.inside.ins.len ≡ length c.self.inside.ins.items = omega (arith, lent, c.as_mut_slice.ensures.len) in
     let stays : length c.take_at-from.new.ins ≡ length c.self.inside.ins.items = omega (arith, lent, c.take_at-from.auto.ins) in
@@ -51,3 +55,15 @@ returns-in_err-last-clause-err c = err_so c.from_residual-in_err-last.result _ (
 
 pub invariant_of-self : goal.invariant_of-self
 invariant_of-self c = rw c.reserve.ensures.items c.self.invariant
+
+pub take_at-from-requires-clause-there : goal.take_at-from-requires-clause-there
+take_at-from-requires-clause-there c = rw c.as_mut_slice.ensures.value (subst (λ (w : WorkerState). c.args.place < length w.ins) (sym c.self.view_is) c.requires.there)
+
+pub take_at-from-requires-clause-ready : goal.take_at-from-requires-clause-ready
+take_at-from-requires-clause-ready c = rw c.as_mut_slice.ensures.value (subst (λ (w : WorkerState). MayTakeAt w.ins c.args.place) (sym c.self.view_is) c.requires.may)
+
+pub take_at-from-requires-clause-few : goal.take_at-from-requires-clause-few
+take_at-from-requires-clause-few c = rw c.as_mut_slice.ensures.value (few-taken _ c.self.invariant)
+
+pub close-requires : goal.close-requires
+close-requires c = record { none = none-first c.self.inside.gains.pending.items (ap (λ (w : WorkerState). has_some w.pending) c.self.view_is ∙ c.requires.none) }

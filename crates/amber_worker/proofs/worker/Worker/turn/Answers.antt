@@ -1,15 +1,11 @@
 -- Each kind of turn.
-use Rattle.std.proofs.Common.{Result, Ok, Err, refl, sym, subst, ap, ◌∙◌}
-use Rattle.std.specs.Result.{OnErr}
+use Rattle.std.proofs.Common.{refl, sym, subst, ap, ◌∙◌}
 use Rattle.amber_worker.specs.WorkerState.{WorkerState}
 use Rattle.amber_worker.specs.AtPosition.{HasSameEnds, Keeps}
 use Rattle.amber_worker.proofs.KeptPosition.{Keeps-refl}
 use Rattle.amber_worker.proofs.Turns.{ends-done, ends-emitted, ends-looked, ends-same, ends-taken_batch, ends-taken_row, is-idle, keeps-done, keeps-emitted, keeps-idle, keeps-looked, keeps-same, keeps-taken_batch, keeps-taken_row, looked-none, next-done, next-idle, next-over, next-pending, next-plain, next-rest, next-taken, not-taken, unsent-done, unsent-emitted, unsent-looked, unsent-same, unsent-taken_batch, unsent-taken_row, unwanted}
+use Rattle.amber_worker.proofs.Unchanged.{err_so}
 use Rattle.amber_worker.proofs.worker.Worker.turn.Goals as goal
-
-err_so : {T E : Type 0} (r : Result T E) (P : Type 0) → P → OnErr r P
-err_so (Ok x) P h = tt
-err_so (Err x) P h = h
 
 pub returns-then-is_finished-clause-keeps : goal.returns-then-is_finished-clause-keeps
 returns-then-is_finished-clause-keeps c = Keeps-refl _ _
