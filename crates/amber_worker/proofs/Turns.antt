@@ -1,9 +1,10 @@
 -- Each kind of turn leaves a worker where its journal leads, with the same ends.
-use Rattle.std.proofs.Common.{◌≡◌, ℕ, eqb, get_or, map, ◌||◌, not, List, [], ◌∷◌, Option, Some, None, if◌then◌else◌, Bool, true, false, MatchBool, refl, sym, ap, ◌∙◌, subst}
+use Rattle.std.proofs.Common.{◌≡◌, ◌+◌, ◌<◌, arith, ℕ, eqb, get_or, map, ◌||◌, not, List, [], ◌∷◌, Option, Some, None, if◌then◌else◌, Bool, true, false, MatchBool, refl, sym, ap, ◌∙◌, subst}
 use Rattle.std.specs.List.{list_any}
 use Rattle.std.specs.Option.{MatchOption}
 use Rattle.std.proofs.lemmas.Bool.{false≢true}
 use Rattle.amber_rows.specs.declared.value.Value.{Value}
+use Rattle.amber_meaning.specs.Position.{one_if}
 use Rattle.amber_meaning.specs.Rules.{is_watched}
 use Rattle.amber_link.specs.Links.{has_some}
 use Rattle.amber_link.specs.Sides.{AreEnded, AreSameReceivers, HandsOn, IsLooked, Pairwise, have_all_ended}
@@ -13,7 +14,7 @@ use Rattle.amber_link.proofs.Sides.{get_or-any, looked-same, map-set-same, pairw
 use Rattle.amber_worker.specs.AtPosition.{HasSameEnds, IsIdleAt, IsLookedAt, IsNextTurn, Keeps}
 use Rattle.amber_worker.specs.Links.{IsHandedOn, HaveSentNothing, number_to}
 use Rattle.amber_worker.specs.Changes.{wants_batch}
-use Rattle.amber_worker.specs.WorkerState.{WorkerState, has_ready, next_turn}
+use Rattle.amber_worker.specs.WorkerState.{WorkerState, has_ready, next_turn, steps_made}
 use Rattle.amber_worker.specs.Steps.{EmitsRow, Finishes, IsCalm, TakesBatch, TakesRow, batch_taken}
 use Rattle.amber_worker.specs.declared.turn.Turn.{Turn}
 use Rattle.amber_worker.specs.declared.turn.Turn.TheVariants as turn
@@ -282,3 +283,21 @@ unwanted-by false false false false h e1 e2 e3 e4 = false≢true (sym h)
 -- where nothing is pending and nothing is left a look is made
 pub unwanted : (w : WorkerState) (P : Type 0) → IsCalm w → w.finished ≡ false → has_some w.pending ≡ false → has_some w.rest ≡ false → wants_batch w ≡ false → P
 unwanted w P calm unfinished none nothing_left h = absurd (unwanted-by w.finished w.paused (has_some w.pending) (has_some w.rest) h unfinished calm.running none nothing_left)
+
+-- ---- how many steps were made
+
+pub moved-row : (old new : WorkerState) → TakesRow old new → steps_made new ≡ steps_made old + 1
+moved-row old new takes = rw takes.after (omega arith)
+
+pub moved-emitted : (old new : WorkerState) → EmitsRow false old new → steps_made new ≡ steps_made old + 1
+moved-emitted old new emits = rw emits.after (omega arith)
+
+pub moved-batch : (old new : WorkerState) (taken : Bool) → taken ≡ true → MatchBool taken (TakesBatch old new) (IsLookedAt old new) → steps_made new ≡ steps_made old + 1
+moved-batch old new true so takes = rw takes.after (omega arith)
+moved-batch old new false so takes = absurd (false≢true so)
+
+pub looked-few : (old between : WorkerState) (n : ℕ) → IsLookedAt old between → steps_made old < n → steps_made between < n
+looked-few old between n looked few = same-after old between looked (λ w. steps_made w < n) few
+
+pub looked-unfinished : (old between : WorkerState) → IsLookedAt old between → old.finished ≡ false → between.finished ≡ false
+looked-unfinished old between looked unfinished = same-after old between looked (λ w. w.finished ≡ false) unfinished

@@ -1,9 +1,9 @@
 -- Each kind of turn.
 use Rattle.std.proofs.Common.{refl, sym, subst, ap, ◌∙◌}
 use Rattle.amber_worker.specs.WorkerState.{WorkerState}
-use Rattle.amber_worker.specs.AtPosition.{HasSameEnds, Keeps}
+use Rattle.amber_worker.specs.AtPosition.{HasSameEnds, IsLookedAt, Keeps}
 use Rattle.amber_worker.proofs.KeptPosition.{Keeps-refl}
-use Rattle.amber_worker.proofs.Turns.{ends-done, ends-emitted, ends-looked, ends-same, ends-taken_batch, ends-taken_row, is-idle, keeps-done, keeps-emitted, keeps-idle, keeps-looked, keeps-same, keeps-taken_batch, keeps-taken_row, looked-none, next-done, next-idle, next-over, next-pending, next-plain, next-rest, next-taken, not-taken, unsent-done, unsent-emitted, unsent-looked, unsent-same, unsent-taken_batch, unsent-taken_row, unwanted}
+use Rattle.amber_worker.proofs.Turns.{ends-done, ends-emitted, ends-looked, ends-same, ends-taken_batch, ends-taken_row, is-idle, keeps-done, keeps-emitted, keeps-idle, keeps-looked, keeps-same, keeps-taken_batch, keeps-taken_row, looked-few, looked-none, looked-unfinished, moved-batch, moved-emitted, moved-row, next-done, next-idle, next-over, next-pending, next-plain, next-rest, next-taken, not-taken, unsent-done, unsent-emitted, unsent-looked, unsent-same, unsent-taken_batch, unsent-taken_row, unwanted}
 use Rattle.amber_worker.proofs.Unchanged.{err_so}
 use Rattle.amber_worker.proofs.worker.Worker.turn.Goals as goal
 
@@ -183,3 +183,36 @@ returns-then-ended-clause-unlooked c h = unwanted c.args.self.now _ c.is_finishe
 
 pub returns-clause-unlooked : goal.returns-clause-unlooked
 returns-clause-unlooked c h = unwanted c.args.self.now _ c.is_finished.ensures.calm (sym c.if-is_finished.ensures.over) (sym c.if-has_pending.ensures) (sym c.if-has_rest.ensures) h
+
+pub finish-requires-clause-few : goal.finish-requires-clause-few
+finish-requires-clause-few c =
+    let looked = not-taken _ c.take_batch.new.self c.in_ok-taken.taken c.if-taken.false c.in_ok-taken.ensures.found in
+    looked-few c.args.self.now c.take_batch.new.self _ looked c.requires
+
+pub finish-requires-clause-unfinished : goal.finish-requires-clause-unfinished
+finish-requires-clause-unfinished c =
+    let looked = not-taken _ c.take_batch.new.self c.in_ok-taken.taken c.if-taken.false c.in_ok-taken.ensures.found in
+    looked-unfinished c.args.self.now c.take_batch.new.self looked (sym c.if-is_finished.ensures.over)
+
+pub take_batch-requires-clause-none : goal.take_batch-requires-clause-none
+take_batch-requires-clause-none c = sym c.if-has_pending.ensures
+
+pub emit_row-requires-clause-unfinished : goal.emit_row-requires-clause-unfinished
+emit_row-requires-clause-unfinished c = sym c.if-is_finished.ensures.over
+
+pub returns-in_err-taken-clause-err : goal.returns-in_err-taken-clause-err
+returns-in_err-taken-clause-err c = err_so c.from_residual-in_err-taken.result _ c.in_err-taken.ensures.err
+
+pub returns-in_err-ended-clause-err : goal.returns-in_err-ended-clause-err
+returns-in_err-ended-clause-err c =
+    let looked = not-taken _ c.take_batch.new.self c.in_ok-taken.taken c.if-taken.false c.in_ok-taken.ensures.found in
+    err_so c.from_residual-in_err-ended.result _ (subst (λ w. IsLookedAt c.args.self.now w) (sym c.in_err-ended.ensures.err) looked)
+
+pub returns-then-has_rest-clause-moved : goal.returns-then-has_rest-clause-moved
+returns-then-has_rest-clause-moved c = moved-row _ _ c.in_ok-take_row.ensures.ok
+
+pub returns-then-has_pending-clause-moved : goal.returns-then-has_pending-clause-moved
+returns-then-has_pending-clause-moved c = moved-emitted _ _ c.in_ok-emit_row.ensures.ok
+
+pub returns-then-taken-clause-moved : goal.returns-then-taken-clause-moved
+returns-then-taken-clause-moved c = moved-batch _ _ c.in_ok-taken.taken c.if-taken.true c.in_ok-taken.ensures.found
