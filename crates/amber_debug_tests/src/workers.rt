@@ -85,12 +85,14 @@ fn fed(alloc: Global, number: i64) -> Result<Worker, Fail> {
     Ok(filter)
 }
 
-// For whom a batch waits, of all receivers: a 0 where none does.
+// For whom a batch waits, of all receivers.
 fn waiting(alloc: Global, worker: &Worker) -> Result<String, NoMemory> {
     let mut told = String::new(alloc);
     for place in 0..worker.receivers() {
-        let to = worker.waiting_at(place).unwrap_or(0);
-        told.push_str(&format!(in alloc; "{to} ")?)?;
+        match worker.waiting_at(place) {
+            Some(to) => told.push_str(&format!(in alloc; "{to} ")?)?,
+            None => told.push_str("- ")?,
+        }
     }
     Ok(told)
 }
@@ -106,11 +108,11 @@ fn waiting_after(alloc: Global, number: i64) -> Result<String, Fail> {
 fn a_filter_feeds_a_group_of_four(rt: HostRuntime) -> Result<(), Fail> {
     let alloc = rt.alloc();
     for (number, want) in [
-        (1, "2 0 0 0 "),
-        (0, "0 3 0 0 "),
-        (3, "0 0 4 0 "),
-        (2, "0 0 0 5 "),
-        (-1, "0 0 0 0 "),
+        (1, "2 - - - "),
+        (0, "- 3 - - "),
+        (3, "- - 4 - "),
+        (2, "- - - 5 "),
+        (-1, "- - - - "),
     ] {
         expect_text(waiting_after(alloc, number)?, want)?;
     }
