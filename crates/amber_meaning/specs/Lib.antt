@@ -1,5 +1,6 @@
 pub mod Behaviour
 pub mod Given
+pub mod InTime
 pub mod Kinds
 pub mod Laws
 pub mod Legal
