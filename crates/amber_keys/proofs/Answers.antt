@@ -1,5 +1,5 @@
 -- What follows of a call's answer, where one fact follows from another.
-use Rattle.std.proofs.Common.{◌≡◌, ◌∙◌, ◌++◌, List, Result, Ok, Err, IfOk, OnErr, ap}
+use Rattle.std.proofs.Common.{◌≡◌, ◌∙◌, ◌++◌, List, Result, Ok, Err, IfOk, OnErr, OnOk, ap}
 use Rattle.std.specs.List.{AppendsClones}
 use Rattle.std.proofs.lemmas.List.Elements.{same_from_all_zip}
 
@@ -14,6 +14,10 @@ err_so (Err e) P p = p
 pub on_err : {T E : Type 0} (r : Result T E) (P Q : Type 0) → OnErr r P → (P → Q) → OnErr r Q
 on_err (Ok x) P Q h f = tt
 on_err (Err e) P Q h f = f h
+
+pub on_ok : {T E : Type 0} (r : Result T E) (P Q : Type 0) → OnOk r P → (P → Q) → OnOk r Q
+on_ok (Ok x) P Q h f = f h
+on_ok (Err e) P Q h f = tt
 
 -- clones that are the same are the same list
 pub appended : {A : Type 0} (old new more : List A) → AppendsClones (λ x copy. copy ≡ x) old new more → new ≡ old ++ more

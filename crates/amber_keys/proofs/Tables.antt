@@ -1,13 +1,14 @@
 -- Entries of keys, as what one of them stands for changes or a new one comes.
-use Rattle.std.proofs.Common.{◌≡◌, ℕ, ◌||◌, Bool, true, false, cond, List, [], ◌∷◌, ◌++◌, Option, Some, None, is_some, refl, sym, ap, ◌∙◌}
-use Rattle.std.specs.List.{AllByRecursion}
-use Rattle.std.specs.Map.{lookup}
+use Rattle.std.proofs.Common.{◌≡◌, ℕ, zero, suc, ◌||◌, Bool, true, false, cond, List, [], ◌∷◌, ◌++◌, Option, Some, None, is_some, slice_get, refl, sym, ap, subst, ◌∙◌}
+use Rattle.std.specs.List.{AllByRecursion, IsDistinct}
+use Rattle.std.specs.Map.{keys_of, lookup, values_of}
 use Rattle.std.proofs.lemmas.List.{map-append}
+use Rattle.indexmap.specs.IndexMap.{set_value_at}
 use Rattle.amber_rows.specs.Operators.{first_keys, pick_cells, same_row}
 use Rattle.amber_rows.specs.declared.value.Value.{Value}
 use Rattle.amber_keys.specs.Tables.{among, replaced, table_entries}
 use Rattle.amber_keys.proofs.FirstKeys.{first_keys-push}
-use Rattle.amber_keys.specs.SameRows.{same-is, same-swap}
+use Rattle.amber_keys.specs.SameRows.{same-is, same-itself, same-swap}
 
 abbrev Row : Type 0
 Row = List Value
@@ -25,9 +26,14 @@ cond_some : {A : Type 0} (t : Bool) (x y : A) → cond t (Some x) None ≡ Some 
 cond_some true x y e = (refl, cc)
 cond_some false x y e = absurd (cc)
 
-cond_none : {A : Type 0} (t : Bool) (x : A) → cond t (Some x) None ≡ None → t ≡ false
+pub cond_none : {A : Type 0} (t : Bool) (x : A) → cond t (Some x) None ≡ None → t ≡ false
 cond_none true x e = absurd (cc)
 cond_none false x e = refl
+
+differs-at : (x key : Row) (ks : List Row) (place : ℕ) → AllByRecursion (λ y. same_row x y ≡ false) ks → slice_get ks place ≡ Some key → same_row x key ≡ false
+differs-at x key [] place later here = absurd (cc)
+differs-at x key (y ∷ ks) zero later here = let same : y ≡ key = cc in ap (same_row x) (sym same) ∙ later.0
+differs-at x key (y ∷ ks) (suc place) later here = differs-at x key ks place later.1 here
 
 module _ {A : Type 0} where
   lookup_by : (f : Row → A) (k x : Row) (xs : List Row) (t : Bool) → same_row x k ≡ t → lookup (same_row k) (table_entries f xs) ≡ cond (among k xs) (Some (f k)) None
@@ -84,6 +90,43 @@ module _ {A : Type 0} where
   lookup-replaced k new [] = refl
   lookup-replaced k new (entry ∷ entries) =
       there_by new entry (lookup (same_row k) entries) (lookup (same_row k) (replaced k new entries)) (same_row k entry.0) (lookup-replaced k new entries)
+
+  -- ---- a key at its place
+
+  replaced-apart : (key : Row) (new : A) (entries : List (Row × A)) → AllByRecursion (λ y. same_row key y ≡ false) (keys_of entries) → replaced key new entries ≡ entries
+  replaced-apart key new [] later = refl
+  replaced-apart key new (entry ∷ entries) later = λ i. (entry.0, cond (later.0 i) new entry.1) ∷ replaced-apart key new entries later.1 i
+
+  -- a value that is written where it stands changes nothing
+  pub set-same : (entries : List (Row × A)) (place : ℕ) (old : A) → slice_get (values_of entries) place ≡ Some old → set_value_at entries place old ≡ entries
+  set-same [] place old here = absurd (cc)
+  set-same (entry ∷ entries) zero old here = let same : old ≡ entry.1 = cc in ap (λ value. (entry.0, value) ∷ entries) same
+  set-same (entry ∷ entries) (suc place) old here = ap (λ rest. entry ∷ rest) (set-same entries place old here)
+
+  module _ (key : Row) where
+    -- what stands beside a key at its place is what the key stands for
+    pub lookup-at : (entries : List (Row × A)) (place : ℕ) → IsDistinct same_row (keys_of entries) → slice_get (keys_of entries) place ≡ Some key
+        → lookup (same_row key) entries ≡ slice_get (values_of entries) place
+    unfolding IsDistinct
+    lookup-at [] place distinct here = absurd (cc)
+    lookup-at (entry ∷ entries) zero distinct here =
+        let own : entry.0 ≡ key = cc in
+        ap (λ t. cond t (Some entry.1) (lookup (same_row key) entries)) (ap (same_row key) own ∙ same-itself key)
+    lookup-at (entry ∷ entries) (suc place) distinct here =
+        ap (λ t. cond t (Some entry.1) (lookup (same_row key) entries)) (same-swap key entry.0 ∙ differs-at entry.0 key (keys_of entries) place distinct.0 here)
+        ∙ lookup-at entries place distinct.1 here
+
+    -- a value that is written at a key's place is what the key stands for
+    pub set-at : (new : A) (entries : List (Row × A)) (place : ℕ) → IsDistinct same_row (keys_of entries) → slice_get (keys_of entries) place ≡ Some key
+        → set_value_at entries place new ≡ replaced key new entries
+    unfolding IsDistinct
+    set-at new [] place distinct here = absurd (cc)
+    set-at new (entry ∷ entries) zero distinct here =
+        let own : entry.0 ≡ key = cc in
+        let later : AllByRecursion (λ y. same_row key y ≡ false) (keys_of entries) = subst (λ x. AllByRecursion (λ y. same_row x y ≡ false) (keys_of entries)) own distinct.0 in
+        λ i. (entry.0, cond (sym (ap (same_row key) own ∙ same-itself key) i) new entry.1) ∷ sym (replaced-apart key new entries later) i
+    set-at new (entry ∷ entries) (suc place) distinct here =
+        λ i. (entry.0, cond (sym (same-swap key entry.0 ∙ differs-at entry.0 key (keys_of entries) place distinct.0 here) i) new entry.1) ∷ set-at new entries place distinct.1 here i
 
   module _ (of_rows : List Row → Row → A) (keys : List ℕ) (rows : List Row) (row : Row)
       (agree : (x : Row) → same_row (pick_cells keys row) x ≡ false → of_rows (rows ++ row ∷ []) x ≡ of_rows rows x)

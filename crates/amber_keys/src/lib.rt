@@ -1,12 +1,17 @@
-//! Keys: what a join and a group look rows up by.
+//! Keys: what a join and a group look rows up by, and the table that they look them up in.
 //!
 //! A `Key` is the list of the cells that a row has in some columns. Two keys are equal exactly where their cells
-//! are, so rows that belong together are found by one look-up in a hashed table. The lemmas in `proofs/` say how
-//! such a table follows a list of rows that grows: `FirstKeys` the keys, each where it stands first, and `Tables`
-//! what stands beside each key.
+//! are, so rows that belong together are found by one look-up. A `KeyTable` has keys in the order in which they were
+//! added, each with a value, and is seen as that list; inside it is an `indexmap`, which no contract names. A step on it
+//! can be prepared or taken back without memory: room that was reserved stays, and the last key can be taken off.
+//!
+//! The lemmas in `proofs/` say how such a table follows a list of rows that grows: `FirstKeys` the keys, each where it
+//! stands first, and `Tables` what stands beside each key.
 #![tactic(auto)]
 
 mod key;
+mod table;
 
 pub use key::Key;
 pub use std::alloc::AllocError as NoMemory;
+pub use table::KeyTable;
