@@ -1,14 +1,16 @@
 -- The table of the places as a row is added, and what the places of a key lead to.
-use Rattle.std.proofs.Common.{◌≡◌, ℕ, suc, ◌+◌, ◌||◌, Bool, true, false, cond, List, [], ◌∷◌, ◌++◌, length, filter, map, Option, Some, None, slice_get, refl, sym, ap, ◌∙◌, append_assoc, arith, length-append}
-use Rattle.std.specs.List.{filter_map, list_any}
-use Rattle.std.specs.Map.{lookup}
-use Rattle.std.proofs.lemmas.List.{append-nil}
+use Rattle.std.proofs.Common.{◌≡◌, ℕ, suc, ◌+◌, ◌||◌, Bool, true, false, cond, List, [], ◌∷◌, ◌++◌, length, filter, map, Some, None, slice_get, refl, sym, ap, ◌∙◌, append_assoc, arith, length-append}
+use Rattle.std.specs.List.{filter_map, list_any, IsDistinct}
+use Rattle.std.specs.Map.{keys_of, lookup, values_of}
+use Rattle.std.proofs.lemmas.List.{append-nil, length-map}
+use Rattle.amber_keys.specs.KeyTable.{set_value_at}
 use Rattle.amber_rows.specs.Operators.{first_keys, matches_of, pick_cells, same_row}
 use Rattle.amber_rows.specs.declared.value.Value.{Value}
-use Rattle.amber_keys.specs.SameRows.{same-is}
+use Rattle.amber_keys.specs.SameRows.{same-itself}
 use Rattle.amber_keys.specs.Tables.{among}
-use Rattle.amber_keys.proofs.FirstKeys.{among-first_keys, first_keys-push}
-use Rattle.amber_join.specs.Places.{TellsPlaces, if_any, places_from, places_of}
+use Rattle.amber_keys.proofs.FirstKeys.{among-first_keys, rows_with-absent}
+use Rattle.amber_keys.proofs.Tables.{cond_none, entries-known, entries-new, lookup-at, lookup-entries, set-at}
+use Rattle.amber_join.specs.Places.{places_from, places_of, table_of}
 
 abbrev Row : Type 0
 Row = List Value
@@ -40,21 +42,16 @@ unfolding places_from
 places-push test n [] y = one_place test n y (test y) refl
 places-push test n (x ∷ xs) y = push_by test n x y xs (test x) refl (places-push test (n + 1) xs y)
 
--- whether one passes is whether there is a place
-abbrev is_some_place : List ℕ → Bool
-is_some_place [] = false
-is_some_place (place ∷ places) = true
-
-any_by : {A : Type 0} (test : A → Bool) (n : ℕ) (x : A) (xs : List A) (t : Bool) → test x ≡ t → is_some_place (places_from test (n + 1) xs) ≡ list_any test xs
-    → is_some_place (places_from test n (x ∷ xs)) ≡ (t || list_any test xs)
+none_by : {A : Type 0} (test : A → Bool) (n : ℕ) (x : A) (xs : List A) (t : Bool) → test x ≡ t → (t || list_any test xs) ≡ false → (list_any test xs ≡ false → places_from test (n + 1) xs ≡ [])
+    → places_from test n (x ∷ xs) ≡ []
 unfolding places_from
-any_by test n x xs true e h = rw e refl
-any_by test n x xs false e h = rw e h
+none_by test n x xs true e h rest = absurd (cc)
+none_by test n x xs false e h rest = rw e (rest h)
 
-places-any : {A : Type 0} (test : A → Bool) (n : ℕ) (xs : List A) → is_some_place (places_from test n xs) ≡ list_any test xs
+places-none : {A : Type 0} (test : A → Bool) (n : ℕ) (xs : List A) → list_any test xs ≡ false → places_from test n xs ≡ []
 unfolding places_from
-places-any test n [] = refl
-places-any test n (x ∷ xs) = any_by test n x xs (test x) refl (places-any test (n + 1) xs)
+places-none test n [] h = refl
+places-none test n (x ∷ xs) h = none_by test n x xs (test x) refl h (places-none test (n + 1) xs)
 
 read_by : {A : Type 0} (test : A → Bool) (before : List A) (x : A) (xs : List A) (t : Bool) → test x ≡ t
     → filter_map (slice_get (before ++ x ∷ xs)) (places_from test (length before + 1) xs) ≡ filter test xs
@@ -80,99 +77,78 @@ read-places test xs = read-from test [] xs
 
 -- ---- the table
 
-some_is : (found places : List ℕ) → Some found ≡ if_any places → (found ≡ places) × (is_some_place places ≡ true)
-some_is found [] e = absurd (cc)
-some_is found (place ∷ places) e = (cc, refl)
-
-none_is : (places : List ℕ) → None ≡ if_any places → places ≡ []
-none_is [] e = refl
-none_is (place ∷ places) e = absurd (cc)
-
-if_any-push : (places : List ℕ) (place : ℕ) → Some (places ++ place ∷ []) ≡ if_any (places ++ place ∷ [])
-if_any-push [] place = refl
-if_any-push (first ∷ places) place = refl
-
--- no row makes no key
-pub tells-none : (keys : List ℕ) (rows : List Row) (entries : List (Row × List ℕ)) → rows ≡ [] → entries ≡ [] → TellsPlaces keys rows entries
-unfolding places_from first_keys
-tells-none keys rows entries none e =
-    record {
-      places = λ key. ap (lookup (same_row key)) e ∙ ap (λ rs. if_any (places_of keys rs key)) (sym none);
-      count = ap length e ∙ ap (λ rs. length (first_keys keys rs)) (sym none);
-    }
-
 module _ (keys : List ℕ) (rows : List Row) (row : Row) where
-  next_by : (q : Row) (t : Bool) → same_row (pick_cells keys row) q ≡ t → (old : Option (List ℕ)) → old ≡ if_any (places_of keys rows q)
-      → cond t (Some (places_of keys rows (pick_cells keys row) ++ length rows ∷ [])) old ≡ if_any (places_of keys (rows ++ row ∷ []) q)
-  next_by q true e old is =
-      let k = pick_cells keys row in
+  agree : (x : Row) → same_row (pick_cells keys row) x ≡ false → places_of keys (rows ++ row ∷ []) x ≡ places_of keys rows x
+  agree x e =
+      places-push (λ other. same_row (pick_cells keys other) x) 0 rows row
+      ∙ ap (λ t. places_of keys rows x ++ cond t ((0 + length rows) ∷ []) []) e
+      ∙ append-nil (places_of keys rows x)
+
+  own : places_of keys (rows ++ row ∷ []) (pick_cells keys row) ≡ places_of keys rows (pick_cells keys row) ++ length rows ∷ []
+  own =
       let same : 0 + length rows ≡ length rows = omega arith in
-      ap (λ x. Some (places_of keys rows x ++ length rows ∷ [])) (same-is k q e)
-      ∙ if_any-push (places_of keys rows q) (length rows)
-      ∙ ap if_any (ap (λ n. places_of keys rows q ++ n ∷ []) (sym same)
-      ∙ ap (λ t. places_of keys rows q ++ cond t ((0 + length rows) ∷ []) []) (sym e)
-      ∙ sym (places-push (λ other. same_row (pick_cells keys other) q) 0 rows row))
-  next_by q false e old is =
-      is ∙ ap if_any (sym (places-push (λ other. same_row (pick_cells keys other) q) 0 rows row
-      ∙ ap (λ t. places_of keys rows q ++ cond t ((0 + length rows) ∷ []) []) e
-      ∙ append-nil (places_of keys rows q)))
+      places-push (λ other. same_row (pick_cells keys other) (pick_cells keys row)) 0 rows row
+      ∙ ap (λ t. places_of keys rows (pick_cells keys row) ++ cond t ((0 + length rows) ∷ []) []) (same-itself (pick_cells keys row))
+      ∙ ap (λ n. places_of keys rows (pick_cells keys row) ++ n ∷ []) same
 
-  is-among : among (pick_cells keys row) (first_keys keys rows) ≡ is_some_place (places_of keys rows (pick_cells keys row))
-  is-among = among-first_keys keys rows (pick_cells keys row) ∙ sym (places-any (λ other. same_row (pick_cells keys other) (pick_cells keys row)) 0 rows)
-
-  module _ (old new : List (Row × List ℕ)) (key : Row) (place : ℕ) (tells : TellsPlaces keys rows old) (own : key ≡ pick_cells keys row) (at : place ≡ length rows) where
+  module _ (entries : List (Row × List ℕ)) (is : entries ≡ table_of keys rows) where
     -- the key is there: it has one place more
-    pub tells-known : (found places : List ℕ) → lookup (same_row key) old ≡ Some found → places ≡ found ++ place ∷ []
-        → ((q : Row) → lookup (same_row q) new ≡ cond (same_row key q) (Some places) (lookup (same_row q) old)) → length new ≡ length old → TellsPlaces keys (rows ++ row ∷ []) new
-    tells-known found places was more updates long =
-        let ks = first_keys keys rows in
-        let here = some_is found (places_of keys rows key) (sym was ∙ tells.places key) in
-        let all : places ≡ places_of keys rows (pick_cells keys row) ++ length rows ∷ [] = more ∙ (λ i. (here.0 ∙ ap (places_of keys rows) own) i ++ at i ∷ []) in
-        let there : among (pick_cells keys row) ks ≡ true = is-among ∙ ap (λ x. is_some_place (places_of keys rows x)) (sym own) ∙ here.1 in
-        record {
-          places = λ q.
-              updates q ∙ (λ i. cond (same_row (own i) q) (Some (all i)) (lookup (same_row q) old))
-              ∙ next_by q (same_row (pick_cells keys row) q) refl (lookup (same_row q) old) (tells.places q);
-          count = long ∙ tells.count ∙ ap length (sym (first_keys-push keys rows row ∙ ap (λ t. cond t ks (ks ++ pick_cells keys row ∷ [])) there));
-        }
+    pub table-known : (place : ℕ) (old new : List ℕ) → IsDistinct same_row (keys_of entries) → slice_get (keys_of entries) place ≡ Some (pick_cells keys row)
+        → slice_get (values_of entries) place ≡ Some old → new ≡ old ++ length rows ∷ [] → set_value_at entries place new ≡ table_of keys (rows ++ row ∷ [])
+    unfolding table_of
+    table-known place old new distinct here found more =
+        set-at (pick_cells keys row) new entries place distinct here
+        ∙ entries-known (places_of keys) keys rows row agree entries is old new (lookup-at (pick_cells keys row) entries place distinct here ∙ found)
+        (λ e. more ∙ ap (λ ps. ps ++ length rows ∷ []) e ∙ sym own)
 
     -- the key is new: it has this place alone
-    pub tells-new : lookup (same_row key) old ≡ None → (places : List ℕ) → places ≡ place ∷ []
-        → ((q : Row) → lookup (same_row q) new ≡ cond (same_row key q) (Some places) (lookup (same_row q) old)) → length new ≡ length old + 1 → TellsPlaces keys (rows ++ row ∷ []) new
-    tells-new was places one updates long =
-        let ks = first_keys keys rows in
-        let none : places_of keys rows (pick_cells keys row) ≡ [] = none_is (places_of keys rows (pick_cells keys row)) (sym was ∙ tells.places key ∙ ap (λ x. if_any (places_of keys rows x)) own) in
-        let all : places ≡ places_of keys rows (pick_cells keys row) ++ length rows ∷ [] = one ∙ (λ i. sym none i ++ at i ∷ []) in
-        let absent : among (pick_cells keys row) ks ≡ false = is-among ∙ ap is_some_place none in
-        record {
-          places = λ q.
-              updates q ∙ (λ i. cond (same_row (own i) q) (Some (all i)) (lookup (same_row q) old))
-              ∙ next_by q (same_row (pick_cells keys row) q) refl (lookup (same_row q) old) (tells.places q);
-          count =
-              long ∙ ap (λ n. n + 1) tells.count ∙ sym (length-append ks (pick_cells keys row ∷ []))
-              ∙ ap length (sym (first_keys-push keys rows row ∙ ap (λ t. cond t ks (ks ++ pick_cells keys row ∷ [])) absent));
-        }
+    pub table-new : (new : List ℕ) → lookup (same_row (pick_cells keys row)) entries ≡ None → new ≡ length rows ∷ []
+        → entries ++ (pick_cells keys row, new) ∷ [] ≡ table_of keys (rows ++ row ∷ [])
+    unfolding table_of
+    table-new new none one =
+        entries-new (places_of keys) keys rows row agree entries is new none
+        (λ absent.
+        one
+        ∙ ap (λ ps. ps ++ length rows ∷ []) (sym (places-none (λ other. same_row (pick_cells keys other) (pick_cells keys row)) 0 rows (sym (among-first_keys keys rows (pick_cells keys row)) ∙ absent)))
+        ∙ sym own)
+
+pub length-table : (keys : List ℕ) (rows : List Row) → length (table_of keys rows) ≡ length (first_keys keys rows)
+unfolding table_of
+length-table keys rows = length-map (first_keys keys rows) (λ key. (key, places_of keys rows key))
+
+-- no row makes no key
+pub no-table : (keys : List ℕ) (rows : List Row) → rows ≡ [] → [] ≡ table_of keys rows
+unfolding table_of first_keys
+no-table keys rows none = sym (ap (table_of keys) none)
 
 -- ---- a probe
 
--- the rows at the places of a probe row's key give its matches
-places-give : (build_keys probe_keys : List ℕ) (build : List Row) (row : Row)
-    → map (λ other. row ++ other) (filter_map (slice_get build) (places_of build_keys build (pick_cells probe_keys row))) ≡ matches_of build_keys probe_keys build row
-unfolding matches_of
-places-give build_keys probe_keys build row = ap (map (λ other. row ++ other)) (read-places (λ other. same_row (pick_cells build_keys other) (pick_cells probe_keys row)) build)
+module _ (build_keys probe_keys : List ℕ) (build : List Row) (row : Row) (entries : List (Row × List ℕ)) (is : entries ≡ table_of build_keys build) where
+  found_by : (t : Bool) → among (pick_cells probe_keys row) (first_keys build_keys build) ≡ t → (places : List ℕ)
+      → cond t (Some (places_of build_keys build (pick_cells probe_keys row))) None ≡ Some places
+      → map (λ other. row ++ other) (filter_map (slice_get build) places) ≡ matches_of build_keys probe_keys build row
+  unfolding matches_of
+  found_by true e places h =
+      let same : places ≡ places_of build_keys build (pick_cells probe_keys row) = cc in
+      ap (map (λ other. row ++ other))
+      (ap (filter_map (slice_get build)) same ∙ read-places (λ other. same_row (pick_cells build_keys other) (pick_cells probe_keys row)) build)
+  found_by false e places h = absurd (cc)
 
-module _ (build_keys probe_keys : List ℕ) (build : List Row) (row key : Row) (entries : List (Row × List ℕ)) (tells : TellsPlaces build_keys build entries)
-    (own : key ≡ pick_cells probe_keys row) where
-  -- so do those that the table has
-  pub probe-found : (places : List ℕ) → Some places ≡ lookup (same_row key) entries → map (λ other. row ++ other) (filter_map (slice_get build) places) ≡ matches_of build_keys probe_keys build row
-  probe-found places found =
-      ap (λ ps. map (λ other. row ++ other) (filter_map (slice_get build) ps))
-      ((some_is places (places_of build_keys build key) (found ∙ tells.places key)).0 ∙ ap (places_of build_keys build) own)
-      ∙ places-give build_keys probe_keys build row
+  -- the rows at the places that the table has for a probe row's key give its matches
+  pub probe-found : (place : ℕ) (places : List ℕ) → IsDistinct same_row (keys_of entries) → slice_get (keys_of entries) place ≡ Some (pick_cells probe_keys row)
+      → slice_get (values_of entries) place ≡ Some places → map (λ other. row ++ other) (filter_map (slice_get build) places) ≡ matches_of build_keys probe_keys build row
+  unfolding table_of
+  probe-found place places distinct here found =
+      let k = pick_cells probe_keys row in
+      let ks = first_keys build_keys build in
+      found_by (among k ks) refl places
+      (sym (lookup-entries (places_of build_keys build) k ks) ∙ ap (lookup (same_row k)) (sym is) ∙ lookup-at k entries place distinct here ∙ found)
 
-  -- no match where it has none
-  pub probe-none : None ≡ lookup (same_row key) entries → [] ≡ matches_of build_keys probe_keys build row
-  probe-none found =
-      ap (λ ps. map (λ other. row ++ other) (filter_map (slice_get build) ps))
-      (sym (none_is (places_of build_keys build key) (found ∙ tells.places key)) ∙ ap (places_of build_keys build) own)
-      ∙ places-give build_keys probe_keys build row
+  -- no match where the table has none
+  pub probe-none : lookup (same_row (pick_cells probe_keys row)) entries ≡ None → [] ≡ matches_of build_keys probe_keys build row
+  unfolding table_of matches_of
+  probe-none none =
+      let k = pick_cells probe_keys row in
+      let ks = first_keys build_keys build in
+      let absent : among k ks ≡ false = cond_none (among k ks) _ (sym (lookup-entries (places_of build_keys build) k ks) ∙ ap (lookup (same_row k)) (sym is) ∙ none) in
+      ap (map (λ other. row ++ other)) (sym (rows_with-absent build_keys build k absent))

@@ -1,11 +1,10 @@
 ghost use Rattle.std.specs.Prelude.{◌≡◌, ◌^◌, ◌-◌, ◌++◌, ◌∷◌, [], ℕ, List, OnErr, OnOk, length, min};
 ghost use Rattle.amber_rows.specs.Operators.{pick_cells};
 ghost use Rattle.amber_rows.specs.declared.value.Value.{Value as Cell};
-ghost use Rattle.amber_join.specs.Places.{TellsPlaces};
+ghost use Rattle.amber_join.specs.Places.{table_of};
 
-use amber_keys::Key;
+use amber_keys::{Key, KeyTable};
 use std::alloc::{AllocError, Global};
-use std::collections::HashMap;
 use std::marker::Model;
 
 /// Places of build rows in the order in which they came, seen as a list. There is one at least. Most keys have one row,
@@ -69,24 +68,23 @@ impl Clone for Places {
 /// of these rows and the next one.
 pub fn note(
     alloc: Global,
-    table: &mut HashMap<Key, Places>,
+    table: &mut KeyTable<Places>,
     key: Key,
     place: usize,
 ) -> Result<(), AllocError>
     ensures ok { OnOk result ((keys : List ℕ) (rows : List (List Cell)) (row : List Cell)
-        → TellsPlaces keys rows table.old.entries → key ≡ pick_cells keys row → place ≡ length rows
-        → TellsPlaces keys (rows ++ row ∷ []) table.new.entries) }
+        → table.old.entries ≡ table_of keys rows → key ≡ pick_cells keys row → place ≡ length rows
+        → table.new.entries ≡ table_of keys (rows ++ row ∷ [])) }
     ensures same { OnErr result (table.new.entries ≡ table.old.entries) }
 {
-    match table.get_mut(&key) {
-        Some(places) => places.add(place),
+    match table.place_of(&key) {
+        Some(at) => table.value_mut(at).add(place),
         None => {
             let places = Places {
                 first: place,
                 more: Vec::new(alloc),
             };
-            table.insert(key, places)?;
-            Ok(())
+            table.add(key, places)
         }
     }
 }

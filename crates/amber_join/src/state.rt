@@ -3,10 +3,9 @@ ghost use Rattle.amber_rows.specs.Operators.{first_keys, matches_of};
 
 use crate::matches::matches;
 use crate::places::{Places, note};
-use amber_keys::Key;
+use amber_keys::{Key, KeyTable};
 use amber_rows::{Cols, Row, Rows};
 use std::alloc::{AllocError, Global};
-use std::collections::HashMap;
 use std::marker::Model;
 
 /// What a join keeps: the columns by which the rows of both sides are compared, the build rows in the order in
@@ -17,7 +16,7 @@ pub struct JoinState {
     probe_keys: Cols,
     rows: Vec<Row>,
     // The places of the rows with each key.
-    table: HashMap<Key, Places>,
+    table: KeyTable<Places>,
     sealed: bool,
 }
 
@@ -36,7 +35,8 @@ impl Drop for JoinState {
 
 impl Model for JoinState {
     ghost use Rattle.amber_join.specs.Join.{Join};
-    ghost use Rattle.amber_join.specs.Places.{TellsPlaces};
+    ghost use Rattle.std.specs.Prelude.{◌≡◌};
+    ghost use Rattle.amber_join.specs.Places.{table_of};
 
     ghost Value = { Join };
 
@@ -47,7 +47,7 @@ impl Model for JoinState {
       sealed = a.sealed;
     } };
 
-    ghost invariant = { λ a. TellsPlaces a.build_keys a.rows.items a.table.entries };
+    ghost invariant = { λ a. a.table.entries ≡ table_of a.build_keys a.rows.items };
 }
 
 impl JoinState {
@@ -65,7 +65,7 @@ impl JoinState {
             build_keys,
             probe_keys,
             rows: Vec::new(alloc),
-            table: HashMap::new(alloc),
+            table: KeyTable::new(alloc),
             sealed: false,
         }
     }
@@ -108,10 +108,12 @@ impl JoinState {
             self.now.rows row.now) }
     {
         let key = Key::of(alloc, row, &self.probe_keys)?;
-        match self.table.get(&key) {
-            Some(places) => Ok(Rows::new(matches(alloc, row, self.rows.as_slice(), places)?)),
-            None => Ok(Rows::new(Vec::new(alloc))),
-        }
+        let Some(place) = self.table.place_of(&key) else {
+            return Ok(Rows::new(Vec::new(alloc)));
+        };
+        let (_, places) = self.table.entry(place);
+        let made = matches(alloc, row, self.rows.as_slice(), places)?;
+        Ok(Rows::new(made))
     }
 
     /// How many different keys the build rows have.
