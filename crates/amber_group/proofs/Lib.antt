@@ -2,7 +2,6 @@ pub mod Examples
 pub mod FewOrMany
 pub mod Finishing
 pub mod GroupTables
-pub mod Keeping
 pub mod Stepping
 pub mod Settling
 pub mod Within

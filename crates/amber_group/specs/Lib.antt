@@ -1,6 +1,5 @@
 pub mod Finished
 pub mod Group
-pub mod Keeping
 pub mod Running
 pub mod Steps
 pub mod Taking

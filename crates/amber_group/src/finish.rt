@@ -63,9 +63,9 @@ impl Groups {
         ensures rows { IfOk result (λ grouped. grouped.rows ≡ finished_rows self.now) }
         ensures refused { IfOk result (λ grouped. grouped.refused ≡ refused_of self.now) }
     {
-        let mut rows = Vec::with_capacity(alloc, self.groups.len())?;
+        let mut rows = Vec::with_capacity(alloc, self.table.len())?;
         let mut refused = Vec::new(alloc);
-        for (key, totals) in &self.groups {
+        for (key, totals) in self.table.iter() {
             add_group(alloc, key.row(), totals.get(), &mut rows, &mut refused)?;
         }
         Ok(Grouped {

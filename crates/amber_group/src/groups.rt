@@ -8,40 +8,31 @@ ghost use Rattle.amber_group.specs.Steps.{GroupsWithin};
 ghost use Rattle.amber_group.specs.Taking.{TakesIn};
 
 use crate::totals::Totals;
-use amber_keys::Key;
+use amber_keys::{Key, KeyTable};
 use amber_rows::{Aggs, Row, Value};
 use std::alloc::{AllocError, Global};
-use std::collections::HashMap;
 use std::marker::Model;
 use std::mem;
 
 /// The groups in the order in which their keys came first, seen as each key beside what is kept for it.
 pub struct Groups {
-    pub(crate) groups: Vec<(Key, Totals)>,
-    // The place of each key in that list.
-    pub(crate) places: HashMap<Key, usize>,
+    pub(crate) table: KeyTable<Totals>,
 }
 
 impl Drop for Groups {
     fn drop(self) {
-        let Groups {
-            groups: _,
-            places: _,
-        } = self;
+        let Groups { table: _ } = self;
     }
 }
 
 impl Model for Groups {
     ghost use Rattle.std.specs.Prelude.{List};
     ghost use Rattle.amber_rows.specs.declared.value.Value.{Value as Cell};
-    ghost use Rattle.amber_group.specs.Keeping.{TellsPlaces, group_keys};
     ghost use Rattle.amber_group.specs.declared.running.Running.{Running as One};
 
     ghost Value = { List (List Cell × List One) };
 
-    ghost view = { λ a. a.groups.items };
-
-    ghost invariant = { λ a. TellsPlaces (group_keys a.groups.items) a.places.entries };
+    ghost view = { λ a. a.table.entries };
 }
 
 impl Groups {
@@ -50,8 +41,7 @@ impl Groups {
         ensures { result ≡ [] }
     {
         Groups {
-            groups: Vec::new(alloc),
-            places: HashMap::new(alloc),
+            table: KeyTable::new(alloc),
         }
     }
 
@@ -59,7 +49,7 @@ impl Groups {
     pub(crate) fn len(&self) -> usize
         ensures { result ≡ length self.now }
     {
-        self.groups.len()
+        self.table.len()
     }
 
     // Takes in a row with this key: the groups of some rows become those of these rows and this one. What is in
@@ -79,9 +69,9 @@ impl Groups {
             self.new) }
         ensures same { OnErr result (self.new ≡ self.old) }
     {
-        match self.places.get(&key) {
+        match self.table.place_of(&key) {
             Some(place) => {
-                self.groups[*place].1.add(row, changes)?;
+                self.table.value_mut(place).add(row, changes)?;
                 *room = key.into_cells();
                 Ok(())
             }
@@ -98,11 +88,7 @@ impl Groups {
         ensures groups { OnOk result (self.new ≡ self.old ++ (key, totals) ∷ []) }
         ensures same { OnErr result (self.new ≡ self.old) }
     {
-        let first = key.clone()?;
-        self.groups.reserve(1)?;
-        self.places.insert(key, self.groups.len())?;
-        self.groups.push_reserved((first, totals));
-        Ok(())
+        self.table.add(key, totals)
     }
 
     // Swaps what is kept for a key that has a group with other totals.
@@ -112,9 +98,9 @@ impl Groups {
         ensures given { lookup (same_row key.now) self.old ≡ Some totals.new }
         ensures back { replaced key.now totals.new self.old ≡ self.old }
     {
-        let Some(place) = self.places.get(key) else {
+        let Some(place) = self.table.place_of(key) else {
             unreachable!()
         };
-        mem::swap(&mut self.groups[*place].1, totals);
+        mem::swap(self.table.value_mut(place), totals);
     }
 }

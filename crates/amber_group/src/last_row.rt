@@ -35,9 +35,9 @@ impl Groups {
         ensures groups_on_err { OnErr result (self.new ≡ self.old) }
         ensures rows_on_err { OnErr result (out.new.items ≡ out.old.items) }
     {
-        match self.places.get(&key) {
+        match self.table.place_of(&key) {
             Some(place) => {
-                let mut totals = self.groups[*place].1.clone()?;
+                let mut totals = self.table.entry(place).1.clone()?;
                 totals.add(row, changes)?;
                 self.change(alloc, &key, totals, out)
             }
