@@ -1,5 +1,6 @@
 mod Carried
 mod Chunked
+mod Examples
 pub mod LinkEnds
 mod Rooms
 pub mod SameEnds

@@ -46,7 +46,7 @@ abbrev pub starts_empty : List Batch → Bool
 starts_empty [] = false
 starts_empty (batch ∷ later) = length batch.rows == 0
 
--- all batches that waited were sent, or the ring is full
+-- all batches that waited were sent, or no free slot of the ring is known
 abbrev pub IsSentTo : Sent → Out → Type 0
 IsSentTo Sent.All out = out.kept.waiting ≡ []
 IsSentTo Sent.Kept out = known_free out.ring ≡ 0

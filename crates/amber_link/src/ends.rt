@@ -43,7 +43,7 @@ impl Drop for In {
 #[derive(Clone, Copy, PartialEq, Eq)]
 pub enum Sent {
     All,
-    /// The ring was full.
+    /// No free slot of the ring was known any more.
     Kept,
 }
 
@@ -147,7 +147,7 @@ impl Out {
         Ok(())
     }
 
-    /// Sends the batches that wait, in their order, as far as the ring takes them.
+    /// Sends the batches that wait, in their order, until none waits or no free slot of the ring is known.
     pub fn send(&mut self) -> Sent
         ensures forwards { Forwards self.old self.new }
         ensures sent { IsSentTo result self.new }
@@ -173,7 +173,8 @@ impl Out {
 }
 
 impl In {
-    /// Takes the first batch that waits, of those in the inbox, and else of those in the ring.
+    /// Takes the first batch that waits, of those in the inbox, and else of those in the ring. `None` where the inbox has none
+    /// and none is known to be in the ring.
     pub fn take(&mut self) -> Option<Batch>
         ensures gives { GivesBatches self.old (option_to_list result) self.new }
         ensures none { IfNone result ((self.old.inbox.items ≡ [])
@@ -190,7 +191,7 @@ impl In {
         }
     }
 
-    /// Looks for a batch, in the ring where the inbox has none, and says whether one waits.
+    /// Looks for a batch, and says whether one is known to wait. Nothing is taken.
     pub fn look(&mut self) -> bool
         ensures gives { GivesBatches self.old [] self.new }
         ensures found { result ≡ has_some (waiting self.new) }

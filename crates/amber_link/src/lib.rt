@@ -6,8 +6,8 @@
 //! moves all that was made into the inbox, for whoever holds both ends.
 //!
 //! The batches that were taken, those in the inbox, in the ring and in the outbox, one after the other, are the pieces of
-//! the rows that were pushed. After `reserve` as many pushes, and an end, want no memory. Rows are moved and never
-//! copied. Where memory runs out, nothing is lost or out of order.
+//! the rows that were pushed. After `reserve` as many pushes, and an end, want no memory. Where memory runs out, nothing is
+//! lost or out of order.
 //!
 //! A worker holds its ends as `Sender`s and `Receiver`s. A sender of the probe side of a join gives a batch only once the
 //! last batches of all of the build side were taken.

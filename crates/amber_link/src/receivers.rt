@@ -67,6 +67,8 @@ pub fn waiting_at(outs: &[Receiver], place: usize) -> Option<u32>
         → has_some (slice_index_or outs.now place d).link.kept.waiting ≡ false) }
     ensures some { IfSome result
         (λ to. (d : OneReceiver) → (slice_index_or outs.now place d).to ≡ to) }
+    ensures waits { IfSome result (λ _. (d : OneReceiver)
+        → has_some (slice_index_or outs.now place d).link.kept.waiting ≡ true) }
 {
     let one = &outs[place];
     if one.link.is_sent() {

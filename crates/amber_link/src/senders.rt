@@ -1,6 +1,6 @@
 //! The workers that send to one worker, each with its end of the link.
 
-ghost use Rattle.std.specs.Prelude.{◌≡◌, ◌==◌, ◌+◌, ◌^◌, ◌<◌, ◌≤◌, ◌∷◌, [], ℕ, All, true, false, length, slice_index_or, take, IfNone, IfSome};
+ghost use Rattle.std.specs.Prelude.{◌≡◌, ◌≢◌, ◌==◌, ◌+◌, ◌^◌, ◌<◌, ◌≤◌, ◌∷◌, [], ℕ, All, true, false, length, slice_index_or, take, IfNone, IfSome};
 ghost use Rattle.std.specs.List.{list_any};
 ghost use Rattle.amber_link.specs.Links.{GivesBatches, has_some, starts_empty, waiting};
 ghost use Rattle.amber_link.specs.Sides.{AreLooked, IsLooked, IsTaken, have_all_ended, have_builders_ended, may_come};
@@ -67,7 +67,8 @@ impl Sender {
         self.from
     }
 
-    // Whether a batch may be taken, where the build side has ended or not. It looks for one.
+    // Whether a batch may be taken, where the build side has ended or not. Nothing is taken, but more batches may be known
+    // than before.
     fn is_ready(&mut self, built: bool) -> bool
         ensures looked { IsLooked self.old self.new }
         ensures ready { result ≡ may_come built self.new }
@@ -126,7 +127,8 @@ pub fn have_ended(ins: &[Sender]) -> bool
     ins.iter().all(|one| one.ended)
 }
 
-/// The place of the first sender of whom a batch may be taken, where the build side has ended or not. It looks for batches.
+/// The place of a sender of whom a batch may be taken, where the build side has ended or not. Nothing is taken, but more
+/// batches may be known than before.
 pub fn ready_place(ins: &mut [Sender], built: bool) -> Option<usize>
     ensures looked { AreLooked ins.old ins.new }
     ensures none { IfNone result (list_any (may_come built) ins.new ≡ false) }
@@ -160,6 +162,8 @@ pub fn take_at(ins: &mut [Sender], i: usize) -> Found
     requires few { All (λ one. one.taken + 1 < 2 ^ 64) ins.old }
     ensures taken { (one : OneSender) × (one.from ≡ result.from) × (one.taken ≡ result.number)
         × (one.builds ≡ result.builds) × IsTaken ins.old one result.batch ins.new }
+    ensures others { (place : ℕ) (d : OneSender) → place ≢ i
+        → slice_index_or ins.new place d ≡ slice_index_or ins.old place d }
     ensures empty { (d : OneSender) → starts_empty (waiting (slice_index_or ins.old i d).link)
         ≡ (length result.batch.rows == 0) }
     ensures few { (n : ℕ) → All (λ one. one.taken ≤ n) ins.old
