@@ -55,7 +55,7 @@ logs_on_literals = tt
 abbrev Typed : Type 0
 Typed = Result (List Value) RowFault
 
-abbrev cell : ℕ → List Value
+abbrev pub cell : ℕ → List Value
 cell n = value.Int (pos n) ∷ []
 
 -- a record of one number
@@ -154,7 +154,7 @@ faulty_is_answered = refl
 
 -- ---- the filter's steps over the five numbers
 
-abbrev batch_of_five : Batch
+abbrev pub batch_of_five : Batch
 batch_of_five = record { seq = 0; rows = cell 3 ∷ cell 1 ∷ cell 2 ∷ cell 5 ∷ cell 0 ∷ []; last = true }
 
 -- the batch was taken, so many of its rows, and so many rows were emitted

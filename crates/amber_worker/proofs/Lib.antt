@@ -14,6 +14,7 @@ pub mod Sent
 pub mod Settling
 pub mod Shares
 pub mod States
+pub mod StepFacts
 pub mod Received
 pub mod Takes
 pub mod Turns
@@ -27,3 +28,4 @@ pub mod Refusals
 pub mod ExampleFlow
 pub mod ExampleWorkers
 pub mod ExampleKeyed
+pub mod ExampleStates

@@ -1,5 +1,5 @@
 -- Receivers, whatever room there is.
-use Rattle.std.proofs.Common.{◌≡◌, ℕ, ◌<◌, eqb, ◌||◌, List, [], ◌∷◌, length, map, get_or, All, Bool, true, false, refl, sym, ap, ◌∙◌, subst}
+use Rattle.std.proofs.Common.{◌≡◌, ℕ, ◌<◌, eqb, ◌||◌, List, [], ◌∷◌, length, map, get_or, All, refl, sym, ap, ◌∙◌, subst}
 use Rattle.std.specs.List.{list_any}
 use Rattle.amber_link.specs.Sides.{without_room}
 use Rattle.amber_link.specs.declared.receivers.Receiver.{Receiver}

@@ -1,27 +1,37 @@
 -- Each kind of turn leaves a worker where its journal leads, with the same ends.
-use Rattle.std.proofs.Common.{◌≡◌, ◌+◌, ◌<◌, arith, ℕ, eqb, get_or, map, ◌||◌, not, List, [], ◌∷◌, Option, Some, None, if◌then◌else◌, Bool, true, false, MatchBool, refl, sym, ap, ◌∙◌, subst}
+use Rattle.std.proofs.Common.{◌≡◌, ◌^◌, ◌<◌, ℕ, All, eqb, get_or, map, ◌||◌, not, List, [], ◌∷◌, Option, Some, None, if◌then◌else◌, Bool, true, false, MatchBool, inl, inr, refl, sym, ap, ◌∙◌, subst}
 use Rattle.std.specs.List.{list_any}
 use Rattle.std.specs.Option.{MatchOption}
 use Rattle.std.proofs.lemmas.Bool.{false≢true}
 use Rattle.amber_rows.specs.declared.value.Value.{Value}
-use Rattle.amber_meaning.specs.Position.{one_if}
 use Rattle.amber_meaning.specs.Rules.{is_watched}
 use Rattle.amber_link.specs.Links.{has_some}
 use Rattle.amber_link.specs.Sides.{AreEnded, AreSameReceivers, HandsOn, IsLooked, Pairwise, have_all_ended}
 use Rattle.amber_link.specs.declared.receivers.Receiver.{Receiver}
 use Rattle.amber_link.proofs.SameEnds.{ended-ends, handed-ends, looked-ends, receivers-same, receivers-then, senders-same, senders-then, taken-ends}
 use Rattle.amber_link.proofs.Sides.{get_or-any, looked-same, map-set-same, pairwise-refl}
-use Rattle.amber_worker.specs.AtPosition.{HasSameEnds, IsIdleAt, IsLookedAt, IsNextTurn, Keeps}
+use Rattle.amber_worker.specs.AtPosition.{HasSameEnds, IsLookedAt, Keeps}
 use Rattle.amber_worker.specs.Links.{IsHandedOn, HaveSentNothing, number_to}
 use Rattle.amber_worker.specs.Changes.{wants_batch}
+use Rattle.amber_worker.specs.Fields.{rows_moved}
 use Rattle.amber_worker.specs.WorkerState.{WorkerState, has_ready, next_turn, steps_made}
-use Rattle.amber_worker.specs.Steps.{EmitsRow, Finishes, IsCalm, TakesBatch, TakesRow, batch_taken}
+use Rattle.amber_worker.specs.Steps.{EmitsRow, Finishes, TakesBatch, TakesRow, batch_taken}
+use Rattle.amber_worker.specs.Turning.{IsIdleAt, IsNextTurn, MakesStep}
 use Rattle.amber_worker.specs.declared.turn.Turn.{Turn}
 use Rattle.amber_worker.specs.declared.turn.Turn.TheVariants as turn
 use Rattle.amber_worker.proofs.Emits.{Keeps-all_done, Keeps-row_emitted}
 use Rattle.amber_worker.proofs.Moves.{HasUnit, IsWorking, Keeps-row_taken, lets_by}
 use Rattle.amber_worker.proofs.KeptPosition.{Keeps-refl, Keeps-then}
 use Rattle.amber_worker.proofs.Takes.{Keeps-batch_taken, Keeps-looked}
+
+-- neither paused nor held nor waved on, no condition is watched, no unit is at hand, and no entry speaks of very many rows
+pub record IsCalm (w : WorkerState) : Type 0 where
+  pub unwatched : w.watch ≡ None
+  pub running : w.paused ≡ false
+  pub loose : w.held ≡ false
+  pub unwaved : w.waved ≡ false
+  pub empty_hand : w.hand ≡ 0
+  pub few : All (λ one. rows_moved one < 2 ^ 63) w.journal
 
 working : (w : WorkerState) → IsCalm w → w.finished ≡ false → IsWorking w
 working w calm unfinished = record { unfinished = unfinished; running = calm.running; loose = calm.loose; few = calm.few }
@@ -284,17 +294,16 @@ unwanted-by false false false false h e1 e2 e3 e4 = false≢true (sym h)
 pub unwanted : (w : WorkerState) (P : Type 0) → IsCalm w → w.finished ≡ false → has_some w.pending ≡ false → has_some w.rest ≡ false → wants_batch w ≡ false → P
 unwanted w P calm unfinished none nothing_left h = absurd (unwanted-by w.finished w.paused (has_some w.pending) (has_some w.rest) h unfinished calm.running none nothing_left)
 
--- ---- how many steps were made
+-- ---- the step that was made
 
-pub moved-row : (old new : WorkerState) → TakesRow old new → steps_made new ≡ steps_made old + 1
-moved-row old new takes = rw takes.after (omega arith)
+pub step-batch : (old new : WorkerState) (taken : Bool) → taken ≡ true → MatchBool taken (TakesBatch old new) (IsLookedAt old new) → MakesStep old new
+step-batch old new true so takes = inr (inr (inl takes))
+step-batch old new false so takes = absurd (false≢true so)
 
-pub moved-emitted : (old new : WorkerState) → EmitsRow false old new → steps_made new ≡ steps_made old + 1
-moved-emitted old new emits = rw emits.after (omega arith)
-
-pub moved-batch : (old new : WorkerState) (taken : Bool) → taken ≡ true → MatchBool taken (TakesBatch old new) (IsLookedAt old new) → steps_made new ≡ steps_made old + 1
-moved-batch old new true so takes = rw takes.after (omega arith)
-moved-batch old new false so takes = absurd (false≢true so)
+pub step-done : (old between new : WorkerState) (ended : Bool) → old.finished ≡ false → IsLookedAt old between → ended ≡ true
+    → MatchBool ended (Finishes between new) (new ≡ between) → MakesStep old new
+step-done old between new true unfinished looked so done = inr (inr (inr (record { unfinished = unfinished; between = between; looked = looked; finishes = done })))
+step-done old between new false unfinished looked so done = absurd (false≢true so)
 
 pub looked-few : (old between : WorkerState) (n : ℕ) → IsLookedAt old between → steps_made old < n → steps_made between < n
 looked-few old between n looked few = same-after old between looked (λ w. steps_made w < n) few

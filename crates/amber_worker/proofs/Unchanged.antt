@@ -1,5 +1,5 @@
 -- A worker that stays as it was after an error.
-use Rattle.std.proofs.Common.{◌≡◌, ◌+◌, ◌<◌, ◌≤◌, ◌^◌, ℕ, List, All, Option, Bool, false, Result, Ok, Err, ap, sym, ◌∙◌, arith, subst}
+use Rattle.std.proofs.Common.{◌≡◌, ◌+◌, ◌<◌, ◌^◌, ℕ, List, All, Option, false, Result, Ok, Err, ap, sym, ◌∙◌, arith, subst}
 use Rattle.std.specs.Option.{is_some}
 use Rattle.std.specs.Result.{OnErr}
 use Rattle.amber_rows.specs.declared.value.Value.{Value}

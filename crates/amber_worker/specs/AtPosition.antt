@@ -1,5 +1,5 @@
 -- Where a worker stands: the position that it shows, and that its journal leads there.
-use Rattle.std.specs.Prelude.{◌≡◌, ℕ, ◌+◌, ◌==◌, ◌<◌, ◌≤◌, List, [], ◌∷◌, length, map, filter, take, All, Option, Some, None, Result, Bool, true, false}
+use Rattle.std.specs.Prelude.{◌≡◌, ℕ, ◌==◌, ◌<◌, ◌≤◌, List, [], ◌∷◌, length, map, filter, take, All, Option, Some, None, Result, Bool, true, false}
 use Rattle.std.specs.List.{list_any}
 use Rattle.amber_meaning.specs.Kinds.{kept_rows}
 use Rattle.amber_rows.specs.Crew.{op_of, receiver_of, receivers_of, what_at}
@@ -29,12 +29,10 @@ use Rattle.amber_link.specs.declared.senders.Sender.{Sender}
 use Rattle.amber_link.specs.declared.receivers.Receiver.{Receiver}
 use Rattle.amber_worker.specs.Fields.{arrival_of}
 use Rattle.amber_worker.specs.Links.{number_to}
-use Rattle.amber_worker.specs.WorkerState.{WorkerState, next_turn, steps_made}
+use Rattle.amber_worker.specs.WorkerState.{WorkerState}
 use Rattle.amber_worker.specs.declared.operator_state.OperatorState.{OperatorState}
 use Rattle.amber_worker.specs.declared.operator_state.OperatorState.TheVariants as operator_state
 use Rattle.amber_worker.specs.declared.given.Given.{Given}
-use Rattle.amber_worker.specs.declared.turn.Turn.{Turn}
-use Rattle.amber_worker.specs.declared.turn.Turn.TheVariants as turn
 
 -- ---- a worker's place in a run
 
@@ -214,23 +212,6 @@ pub record HasSameEnds (old new : WorkerState) : Type 0 where
   pub number : new.number ≡ old.number
   pub watch : new.watch ≡ old.watch
   pub route : new.route ≡ old.route
-
--- the turn that a worker makes, by what it found when it looked
-pub record IsNextTurn (old : WorkerState) (turn : Turn) : Type 0 where
-  pub found : List Sender
-  pub looked : AreLooked old.ins found
-  pub is : turn ≡ next_turn (record old { ins = found })
-
--- a look found nothing to do
-pub record IsIdleAt (old new : WorkerState) : Type 0 where
-  pub looked : IsLookedAt old new
-  pub idle : next_turn new ≡ turn.Idle
-
--- what a turn has done: one step more, or nothing but a look
-abbrev pub HasTurned : Turn → WorkerState → WorkerState → Type 0
-HasTurned turn.Moved old new = steps_made new ≡ steps_made old + 1
-HasTurned turn.Idle old new = IsIdleAt old new
-HasTurned turn.Ended old new = new ≡ old
 
 -- ---- what a worker gives
 

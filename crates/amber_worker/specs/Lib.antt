@@ -6,5 +6,6 @@ pub mod AtPosition
 pub mod WorkerState
 pub mod Steps
 pub mod RowsTaken
+pub mod Turning
 pub mod Pairs
 pub mod Changes

@@ -1,5 +1,5 @@
 -- What each single step of a worker changes.
-use Rattle.std.specs.Prelude.{◌≡◌, ℕ, ◌+◌, ◌^◌, ◌<◌, ◌≤◌, ◌-◌, ◌==◌, ◌&&◌, option_to_list, not, Bool, All, List, [], ◌∷◌, ◌++◌, length, map, Option, Some, None, true, false, if◌then◌else◌}
+use Rattle.std.specs.Prelude.{◌≡◌, ℕ, ◌+◌, ◌^◌, ◌<◌, ◌≤◌, ◌-◌, ◌==◌, ◌&&◌, option_to_list, not, Bool, List, [], ◌∷◌, ◌++◌, length, map, Option, Some, None, true, false, if◌then◌else◌}
 use Rattle.amber_rows.specs.Cond.{holds_of}
 use Rattle.amber_rows.specs.Order.{sort_rows}
 use Rattle.amber_rows.specs.Operators.{first_keys, group_result, matches_of, pick_cells, refused_keys}
@@ -22,7 +22,7 @@ use Rattle.amber_meaning.specs.declared.view.WorkerView.{WorkerView}
 use Rattle.amber_link.specs.Sides.{AreEnded, AreLooked, IsTaken, have_all_ended}
 use Rattle.amber_link.specs.declared.senders.Sender.{Sender}
 use Rattle.amber_link.specs.declared.receivers.Receiver.{Receiver}
-use Rattle.amber_worker.specs.Fields.{row_from, rows_moved}
+use Rattle.amber_worker.specs.Fields.{row_from}
 use Rattle.amber_worker.specs.Links.{IsHandedOn, number_to}
 use Rattle.amber_worker.specs.WorkerState.{WorkerState, has_ready}
 use Rattle.amber_worker.specs.declared.operator_state.OperatorState.{OperatorState}
@@ -242,15 +242,6 @@ pub record TakesBatch (old new : WorkerState) : Type 0 where
   pub last : List (List Value)
   pub closes : Closes old.operator_state ((length batch.rows == 0) && have_all_ended ins) last
   pub after : new ≡ batch_taken one batch ins last old
-
--- neither paused nor held nor waved on, no condition is watched, no unit is at hand, and no entry speaks of very many rows
-pub record IsCalm (w : WorkerState) : Type 0 where
-  pub unwatched : w.watch ≡ None
-  pub running : w.paused ≡ false
-  pub loose : w.held ≡ false
-  pub unwaved : w.waved ≡ false
-  pub empty_hand : w.hand ≡ 0
-  pub few : All (λ one. rows_moved one < 2 ^ 63) w.journal
 
 -- what a worker shows by what it does
 abbrev pub IsExtra : OperatorState → ℕ → ℕ → Extra → Type 0

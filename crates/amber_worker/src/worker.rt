@@ -8,7 +8,6 @@ ghost use Rattle.amber_link.specs.Links.{has_some};
 ghost use Rattle.amber_link.specs.declared.receivers.Receiver.{Receiver as OneReceiver};
 ghost use Rattle.amber_link.specs.declared.senders.Sender.{Sender as OneSender};
 ghost use Rattle.amber_worker.specs.WorkerState.{steps_made};
-ghost use Rattle.amber_worker.specs.Steps.{IsCalm};
 ghost use Rattle.amber_worker.specs.Made.{IsFreshIn, IsFreshOut, end_of, link_of, roomless};
 ghost use Rattle.amber_worker.specs.Changes.{ShowsSet, StandsAtLeg, StandsNew, wants_batch, at_leg_start, with_value};
 
@@ -171,8 +170,7 @@ impl Worker {
 
     /// Whether the worker has nothing more to do.
     pub fn is_finished(&self) -> bool
-        ensures over { result ≡ self.now.finished }
-        ensures calm { IsCalm self.now }
+        ensures { result ≡ self.now.finished }
     {
         self.finished
     }
@@ -203,7 +201,7 @@ impl Worker {
     pub fn wants_batch(&self) -> bool
         ensures { result ≡ wants_batch self.now }
     {
-        !(self.is_finished() || self.has_pending() || self.has_rest())
+        !(self.finished || self.has_pending() || self.has_rest())
     }
 
     /// Whether the worker may make another turn: its steps are not yet 2^40.
@@ -242,6 +240,8 @@ impl Worker {
             → has_some (slice_index_or self.now.outs place d).link.kept.waiting ≡ false) }
         ensures some { IfSome result
             (λ to. (d : OneReceiver) → (slice_index_or self.now.outs place d).to ≡ to) }
+        ensures waits { IfSome result (λ _. (d : OneReceiver)
+            → has_some (slice_index_or self.now.outs place d).link.kept.waiting ≡ true) }
     {
         waiting_at(self.outs.as_slice(), place)
     }

@@ -1,13 +1,15 @@
 //! The steps that a worker makes, and the turn that makes one of them.
 
-ghost use Rattle.std.specs.Prelude.{false, true, IfNone, IfSome, MatchBool, length, IfOk, OnErr, OnOk, ◌≡◌, ◌^◌, ◌<◌};
+ghost use Rattle.std.specs.Prelude.{false, true, IfNone, IfSome, MatchBool, length, slice_index_or, IfOk, OnErr, OnOk, ◌≡◌, ◌≢◌, ◌^◌, ◌<◌, ℕ};
 ghost use Rattle.amber_link.specs.Links.{has_some};
 ghost use Rattle.amber_link.specs.Sides.{have_all_ended};
+ghost use Rattle.amber_link.specs.declared.senders.Sender.{Sender as OneSender};
 ghost use Rattle.amber_worker.specs.WorkerState.{has_ready, steps_made};
 ghost use Rattle.amber_worker.specs.Steps.{EmitsRow, Finishes, TakesBatch, TakesRow};
-ghost use Rattle.amber_worker.specs.AtPosition.{HasSameEnds, HasTurned, IsLookedAt, IsNextTurn, Keeps};
+ghost use Rattle.amber_worker.specs.AtPosition.{HasSameEnds, IsLookedAt, Keeps};
 ghost use Rattle.amber_worker.specs.Changes.{wants_batch};
 ghost use Rattle.amber_worker.specs.Links.{HaveSentNothing, MayTakeAt};
+ghost use Rattle.amber_worker.specs.Turning.{HasTurned, IsNextTurn};
 
 use super::Worker;
 use crate::journal::note_go;
@@ -77,7 +79,8 @@ impl Worker {
         Ok(())
     }
 
-    // The place of the first sender of whom a batch may be taken. It looks for batches.
+    // The place of a sender of whom a batch may be taken. Nothing is taken, but more batches may be
+    // known than before.
     fn ready(&mut self) -> Option<usize>
         ensures looked { IsLookedAt self.old self.new }
         ensures none { IfNone result (has_ready self.new.ins ≡ false) }
@@ -97,6 +100,8 @@ impl Worker {
         requires may { MayTakeAt self.old.ins place }
         requires ready { has_ready self.old.ins ≡ true }
         ensures ok { OnOk result (TakesBatch self.old self.new) }
+        ensures others { OnOk result ((other : ℕ) (d : OneSender) → other ≢ place
+            → slice_index_or self.new.ins other d ≡ slice_index_or self.old.ins other d) }
         ensures err { OnErr result (self.new ≡ self.old) }
     {
         let empty = is_empty_at(self.ins.as_slice(), place);
@@ -122,7 +127,7 @@ impl Worker {
         Ok(())
     }
 
-    // Takes a batch of the first sender of whom one may be taken, and says whether there was one.
+    // Takes a batch of a sender of whom one may be taken, and says whether one was known.
     fn take_batch(&mut self) -> Result<bool, AllocError>
         requires few { steps_made self.old < 2 ^ 40 }
         requires none { has_some self.old.pending ≡ false }
@@ -169,7 +174,7 @@ impl Worker {
         ensures unsent { HaveSentNothing self.old.outs self.new.outs }
         ensures unlooked { wants_batch self.old ≡ false → self.new.ins ≡ self.old.ins }
     {
-        if self.is_finished() {
+        if self.finished {
             return Ok(Turn::Ended);
         }
         if self.has_pending() {

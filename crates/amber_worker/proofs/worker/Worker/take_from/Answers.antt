@@ -47,6 +47,13 @@ returns-clause-ok c =
     c.turn_to.ensures (sym (before d) ∙ after d) (c.have_ended-over.ensures ∙ ap have_all_ended (c.as_slice-2.ensures.value ∙ written-back _ _ _ len stays))
     c.in_ok-last.ensures c.close.ensures)
 
+pub returns-clause-others : goal.returns-clause-others
+returns-clause-others c =
+    let lent = ap length c.as_mut_slice.ensures.value in
+    let len : c.self.inside.ins.len ≡ length c.self.inside.ins.items = omega (arith, lent, c.as_mut_slice.ensures.len) in
+    let stays : length c.take_at-from.new.ins ≡ length c.self.inside.ins.items = omega (arith, lent, c.take_at-from.auto.ins) in
+    rw (← c.self.view_is, written-back _ _ _ len stays) (rw c.as_mut_slice.ensures.value at c.take_at-from.ensures.others)
+
 pub returns-in_err-reserve-clause-err : goal.returns-in_err-reserve-clause-err
 returns-in_err-reserve-clause-err c = err_so c.from_residual.result _ (same-journal _ _ _ c.reserve.ensures.items c.self.view_is)
 

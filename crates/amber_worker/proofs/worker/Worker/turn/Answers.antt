@@ -1,34 +1,42 @@
 -- Each kind of turn.
-use Rattle.std.proofs.Common.{refl, sym, subst, ap, ◌∙◌}
+use Rattle.std.proofs.Common.{◌≡◌, false, inl, inr, arith, refl, sym, subst, ap, ◌∙◌}
 use Rattle.amber_worker.specs.WorkerState.{WorkerState}
 use Rattle.amber_worker.specs.AtPosition.{HasSameEnds, IsLookedAt, Keeps}
-use Rattle.amber_worker.proofs.KeptPosition.{Keeps-refl}
-use Rattle.amber_worker.proofs.Turns.{ends-done, ends-emitted, ends-looked, ends-same, ends-taken_batch, ends-taken_row, is-idle, keeps-done, keeps-emitted, keeps-idle, keeps-looked, keeps-same, keeps-taken_batch, keeps-taken_row, looked-few, looked-none, looked-unfinished, moved-batch, moved-emitted, moved-row, next-done, next-idle, next-over, next-pending, next-plain, next-rest, next-taken, not-taken, unsent-done, unsent-emitted, unsent-looked, unsent-same, unsent-taken_batch, unsent-taken_row, unwanted}
+use Rattle.amber_worker.specs.contracts.worker.Worker.{the_invariant, the_view}
+use Rattle.amber_worker.specs.declared.worker.Worker.TheInside.{Inside}
+use Rattle.amber_worker.proofs.Turns.{IsCalm, ends-done, ends-emitted, ends-looked, ends-same, ends-taken_batch, ends-taken_row, is-idle, keeps-done, keeps-emitted, keeps-idle, keeps-looked, keeps-same, keeps-taken_batch, keeps-taken_row, looked-few, looked-none, looked-unfinished, next-done, next-idle, next-over, next-pending, next-plain, next-rest, next-taken, not-taken, step-batch, step-done, unsent-done, unsent-emitted, unsent-looked, unsent-same, unsent-taken_batch, unsent-taken_row, unwanted}
 use Rattle.amber_worker.proofs.Unchanged.{err_so}
 use Rattle.amber_worker.proofs.worker.Worker.turn.Goals as goal
 
-pub returns-then-is_finished-clause-keeps : goal.returns-then-is_finished-clause-keeps
-returns-then-is_finished-clause-keeps c = Keeps-refl _ _
+-- a worker is calm, as its fields are seen
+calm : (a : Inside) (w : WorkerState) → the_view a ≡ w → the_invariant a → IsCalm w
+calm a w is bounds = subst IsCalm is (record { unwatched = refl; running = refl; loose = refl; unwaved = refl; empty_hand = refl; few = λ k d less. let moved = bounds.moved k d less in let steps = bounds.steps in omega arith })
+
+unfinished : (a : Inside) (w : WorkerState) → the_view a ≡ w → a.finished ≡ false → w.finished ≡ false
+unfinished a w is not-yet = ap (λ (v : WorkerState). v.finished) (sym is) ∙ not-yet
+
+pub returns-then-self-clause-keeps : goal.returns-then-self-clause-keeps
+returns-then-self-clause-keeps c = keeps-same _ _ refl
 
 pub returns-in_err-emit_row-clause-keeps : goal.returns-in_err-emit_row-clause-keeps
 returns-in_err-emit_row-clause-keeps c = keeps-same _ _ c.in_err-emit_row.ensures.err
 
 pub returns-then-has_pending-clause-keeps : goal.returns-then-has_pending-clause-keeps
-returns-then-has_pending-clause-keeps c = keeps-emitted _ c.emit_row.new.self c.is_finished.ensures.calm (sym c.if-is_finished.ensures.over) c.in_ok-emit_row.ensures.ok
+returns-then-has_pending-clause-keeps c = keeps-emitted _ c.emit_row.new.self (calm c.self.inside c.args.self.now c.self.view_is c.self.invariant) (unfinished c.self.inside c.args.self.now c.self.view_is c.if-self.false) c.in_ok-emit_row.ensures.ok
 
 pub returns-in_err-take_row-clause-keeps : goal.returns-in_err-take_row-clause-keeps
 returns-in_err-take_row-clause-keeps c = keeps-same _ _ c.in_err-take_row.ensures.err
 
 pub returns-then-has_rest-clause-keeps : goal.returns-then-has_rest-clause-keeps
 returns-then-has_rest-clause-keeps c =
-    keeps-taken_row _ c.take_row.new.self c.is_finished.ensures.calm (sym c.if-is_finished.ensures.over) (sym c.if-has_pending.ensures) c.in_ok-take_row.ensures.ok
+    keeps-taken_row _ c.take_row.new.self (calm c.self.inside c.args.self.now c.self.view_is c.self.invariant) (unfinished c.self.inside c.args.self.now c.self.view_is c.if-self.false) (sym c.if-has_pending.ensures) c.in_ok-take_row.ensures.ok
 
 pub returns-in_err-taken-clause-keeps : goal.returns-in_err-taken-clause-keeps
 returns-in_err-taken-clause-keeps c = keeps-looked _ c.take_batch.new.self c.in_err-taken.ensures.err
 
 pub returns-then-taken-clause-keeps : goal.returns-then-taken-clause-keeps
 returns-then-taken-clause-keeps c =
-    keeps-taken_batch _ c.take_batch.new.self c.in_ok-taken.taken c.is_finished.ensures.calm (sym c.if-is_finished.ensures.over) (sym c.if-has_pending.ensures) (sym c.if-has_rest.ensures)
+    keeps-taken_batch _ c.take_batch.new.self c.in_ok-taken.taken (calm c.self.inside c.args.self.now c.self.view_is c.self.invariant) (unfinished c.self.inside c.args.self.now c.self.view_is c.if-self.false) (sym c.if-has_pending.ensures) (sym c.if-has_rest.ensures)
     c.if-taken.true c.in_ok-taken.ensures.found
 
 pub returns-in_err-ended-clause-keeps : goal.returns-in_err-ended-clause-keeps
@@ -39,7 +47,7 @@ returns-in_err-ended-clause-keeps c =
 pub returns-then-ended-clause-keeps : goal.returns-then-ended-clause-keeps
 returns-then-ended-clause-keeps c =
     let looked = not-taken _ c.take_batch.new.self c.in_ok-taken.taken c.if-taken.false c.in_ok-taken.ensures.found in
-    keeps-done _ c.take_batch.new.self c.finish.new.self c.in_ok-ended.ended c.is_finished.ensures.calm (sym c.if-is_finished.ensures.over) (sym c.if-has_pending.ensures)
+    keeps-done _ c.take_batch.new.self c.finish.new.self c.in_ok-ended.ended (calm c.self.inside c.args.self.now c.self.view_is c.self.invariant) (unfinished c.self.inside c.args.self.now c.self.view_is c.if-self.false) (sym c.if-has_pending.ensures)
     (sym c.if-has_rest.ensures) looked c.in_ok-ended.ensures.ended c.if-ended.true c.in_ok-ended.ensures.done
 
 pub returns-clause-keeps : goal.returns-clause-keeps
@@ -47,8 +55,8 @@ returns-clause-keeps c =
     let looked = not-taken _ c.take_batch.new.self c.in_ok-taken.taken c.if-taken.false c.in_ok-taken.ensures.found in
     keeps-looked _ c.finish.new.self (keeps-idle _ c.take_batch.new.self c.finish.new.self c.in_ok-ended.ended looked c.if-ended.false c.in_ok-ended.ensures.done)
 
-pub returns-then-is_finished-clause-ends : goal.returns-then-is_finished-clause-ends
-returns-then-is_finished-clause-ends c = ends-same _ _ refl
+pub returns-then-self-clause-ends : goal.returns-then-self-clause-ends
+returns-then-self-clause-ends c = ends-same _ _ refl
 
 pub returns-in_err-emit_row-clause-err : goal.returns-in_err-emit_row-clause-err
 returns-in_err-emit_row-clause-err c = err_so c.from_residual.result _ (looked-none c.args.self.now c.emit_row.new.self c.in_err-emit_row.ensures.err)
@@ -84,19 +92,19 @@ returns-clause-ends c =
     let looked = not-taken _ c.take_batch.new.self c.in_ok-taken.taken c.if-taken.false c.in_ok-taken.ensures.found in
     ends-done _ c.take_batch.new.self c.finish.new.self c.in_ok-ended.ended looked c.in_ok-ended.ensures.done
 
-pub returns-then-is_finished-clause-answer : goal.returns-then-is_finished-clause-answer
-returns-then-is_finished-clause-answer c = next-plain c.args.self.now _ (next-over c.args.self.now (sym c.if-is_finished.ensures.over))
+pub returns-then-self-clause-answer : goal.returns-then-self-clause-answer
+returns-then-self-clause-answer c = next-plain c.args.self.now _ (next-over c.args.self.now (ap (λ (w : WorkerState). w.finished) (sym c.self.view_is) ∙ c.if-self.true))
 
 pub returns-then-has_pending-clause-answer : goal.returns-then-has_pending-clause-answer
-returns-then-has_pending-clause-answer c = next-plain c.args.self.now _ (next-pending c.args.self.now (sym c.if-is_finished.ensures.over) (sym c.if-has_pending.ensures))
+returns-then-has_pending-clause-answer c = next-plain c.args.self.now _ (next-pending c.args.self.now (unfinished c.self.inside c.args.self.now c.self.view_is c.if-self.false) (sym c.if-has_pending.ensures))
 
 pub returns-then-has_rest-clause-answer : goal.returns-then-has_rest-clause-answer
 returns-then-has_rest-clause-answer c =
-    next-plain c.args.self.now _ (next-rest c.args.self.now (sym c.if-is_finished.ensures.over) (sym c.if-has_pending.ensures) (sym c.if-has_rest.ensures))
+    next-plain c.args.self.now _ (next-rest c.args.self.now (unfinished c.self.inside c.args.self.now c.self.view_is c.if-self.false) (sym c.if-has_pending.ensures) (sym c.if-has_rest.ensures))
 
 pub returns-then-taken-clause-answer : goal.returns-then-taken-clause-answer
 returns-then-taken-clause-answer c =
-    next-taken c.args.self.now c.take_batch.new.self c.in_ok-taken.taken (sym c.if-is_finished.ensures.over) (sym c.if-has_pending.ensures) (sym c.if-has_rest.ensures)
+    next-taken c.args.self.now c.take_batch.new.self c.in_ok-taken.taken (unfinished c.self.inside c.args.self.now c.self.view_is c.if-self.false) (sym c.if-has_pending.ensures) (sym c.if-has_rest.ensures)
     c.if-taken.true c.in_ok-taken.ensures.found
 
 pub returns-in_err-ended-clause-ends : goal.returns-in_err-ended-clause-ends
@@ -107,19 +115,19 @@ returns-in_err-ended-clause-ends c =
 pub returns-then-ended-clause-answer : goal.returns-then-ended-clause-answer
 returns-then-ended-clause-answer c =
     let looked = not-taken _ c.take_batch.new.self c.in_ok-taken.taken c.if-taken.false c.in_ok-taken.ensures.found in
-    next-done c.args.self.now c.take_batch.new.self c.in_ok-ended.ended (sym c.if-is_finished.ensures.over) (sym c.if-has_pending.ensures) (sym c.if-has_rest.ensures) looked
+    next-done c.args.self.now c.take_batch.new.self c.in_ok-ended.ended (unfinished c.self.inside c.args.self.now c.self.view_is c.if-self.false) (sym c.if-has_pending.ensures) (sym c.if-has_rest.ensures) looked
     (c.in_ok-taken.ensures.none c.if-taken.false) c.in_ok-ended.ensures.ended c.if-ended.true
 
 pub returns-clause-answer : goal.returns-clause-answer
 returns-clause-answer c =
     let looked = not-taken _ c.take_batch.new.self c.in_ok-taken.taken c.if-taken.false c.in_ok-taken.ensures.found in
-    next-idle c.args.self.now c.take_batch.new.self c.in_ok-ended.ended (sym c.if-is_finished.ensures.over) (sym c.if-has_pending.ensures) (sym c.if-has_rest.ensures) looked
+    next-idle c.args.self.now c.take_batch.new.self c.in_ok-ended.ended (unfinished c.self.inside c.args.self.now c.self.view_is c.if-self.false) (sym c.if-has_pending.ensures) (sym c.if-has_rest.ensures) looked
     (c.in_ok-taken.ensures.none c.if-taken.false) c.in_ok-ended.ensures.ended c.if-ended.false
 
 pub returns-clause-moved : goal.returns-clause-moved
 returns-clause-moved c =
     let looked = not-taken _ c.take_batch.new.self c.in_ok-taken.taken c.if-taken.false c.in_ok-taken.ensures.found in
-    is-idle c.args.self.now c.take_batch.new.self c.finish.new.self c.in_ok-ended.ended (sym c.if-is_finished.ensures.over) (sym c.if-has_pending.ensures) (sym c.if-has_rest.ensures) looked
+    is-idle c.args.self.now c.take_batch.new.self c.finish.new.self c.in_ok-ended.ended (unfinished c.self.inside c.args.self.now c.self.view_is c.if-self.false) (sym c.if-has_pending.ensures) (sym c.if-has_rest.ensures) looked
     (c.in_ok-taken.ensures.none c.if-taken.false) c.in_ok-ended.ensures.ended c.if-ended.false c.in_ok-ended.ensures.done
 
 -- ---- nothing is sent
@@ -170,19 +178,19 @@ pub returns-then-has_rest-clause-unlooked : goal.returns-then-has_rest-clause-un
 returns-then-has_rest-clause-unlooked c h = ap (λ (w : WorkerState). w.ins) c.in_ok-take_row.ensures.ok.after
 
 pub returns-in_err-taken-clause-unlooked : goal.returns-in_err-taken-clause-unlooked
-returns-in_err-taken-clause-unlooked c h = unwanted c.args.self.now _ c.is_finished.ensures.calm (sym c.if-is_finished.ensures.over) (sym c.if-has_pending.ensures) (sym c.if-has_rest.ensures) h
+returns-in_err-taken-clause-unlooked c h = unwanted c.args.self.now _ (calm c.self.inside c.args.self.now c.self.view_is c.self.invariant) (unfinished c.self.inside c.args.self.now c.self.view_is c.if-self.false) (sym c.if-has_pending.ensures) (sym c.if-has_rest.ensures) h
 
 pub returns-then-taken-clause-unlooked : goal.returns-then-taken-clause-unlooked
-returns-then-taken-clause-unlooked c h = unwanted c.args.self.now _ c.is_finished.ensures.calm (sym c.if-is_finished.ensures.over) (sym c.if-has_pending.ensures) (sym c.if-has_rest.ensures) h
+returns-then-taken-clause-unlooked c h = unwanted c.args.self.now _ (calm c.self.inside c.args.self.now c.self.view_is c.self.invariant) (unfinished c.self.inside c.args.self.now c.self.view_is c.if-self.false) (sym c.if-has_pending.ensures) (sym c.if-has_rest.ensures) h
 
 pub returns-in_err-ended-clause-unlooked : goal.returns-in_err-ended-clause-unlooked
-returns-in_err-ended-clause-unlooked c h = unwanted c.args.self.now _ c.is_finished.ensures.calm (sym c.if-is_finished.ensures.over) (sym c.if-has_pending.ensures) (sym c.if-has_rest.ensures) h
+returns-in_err-ended-clause-unlooked c h = unwanted c.args.self.now _ (calm c.self.inside c.args.self.now c.self.view_is c.self.invariant) (unfinished c.self.inside c.args.self.now c.self.view_is c.if-self.false) (sym c.if-has_pending.ensures) (sym c.if-has_rest.ensures) h
 
 pub returns-then-ended-clause-unlooked : goal.returns-then-ended-clause-unlooked
-returns-then-ended-clause-unlooked c h = unwanted c.args.self.now _ c.is_finished.ensures.calm (sym c.if-is_finished.ensures.over) (sym c.if-has_pending.ensures) (sym c.if-has_rest.ensures) h
+returns-then-ended-clause-unlooked c h = unwanted c.args.self.now _ (calm c.self.inside c.args.self.now c.self.view_is c.self.invariant) (unfinished c.self.inside c.args.self.now c.self.view_is c.if-self.false) (sym c.if-has_pending.ensures) (sym c.if-has_rest.ensures) h
 
 pub returns-clause-unlooked : goal.returns-clause-unlooked
-returns-clause-unlooked c h = unwanted c.args.self.now _ c.is_finished.ensures.calm (sym c.if-is_finished.ensures.over) (sym c.if-has_pending.ensures) (sym c.if-has_rest.ensures) h
+returns-clause-unlooked c h = unwanted c.args.self.now _ (calm c.self.inside c.args.self.now c.self.view_is c.self.invariant) (unfinished c.self.inside c.args.self.now c.self.view_is c.if-self.false) (sym c.if-has_pending.ensures) (sym c.if-has_rest.ensures) h
 
 pub finish-requires-clause-few : goal.finish-requires-clause-few
 finish-requires-clause-few c =
@@ -192,13 +200,13 @@ finish-requires-clause-few c =
 pub finish-requires-clause-unfinished : goal.finish-requires-clause-unfinished
 finish-requires-clause-unfinished c =
     let looked = not-taken _ c.take_batch.new.self c.in_ok-taken.taken c.if-taken.false c.in_ok-taken.ensures.found in
-    looked-unfinished c.args.self.now c.take_batch.new.self looked (sym c.if-is_finished.ensures.over)
+    looked-unfinished c.args.self.now c.take_batch.new.self looked (unfinished c.self.inside c.args.self.now c.self.view_is c.if-self.false)
 
 pub take_batch-requires-clause-none : goal.take_batch-requires-clause-none
 take_batch-requires-clause-none c = sym c.if-has_pending.ensures
 
 pub emit_row-requires-clause-unfinished : goal.emit_row-requires-clause-unfinished
-emit_row-requires-clause-unfinished c = sym c.if-is_finished.ensures.over
+emit_row-requires-clause-unfinished c = unfinished c.self.inside c.args.self.now c.self.view_is c.if-self.false
 
 pub returns-in_err-taken-clause-err : goal.returns-in_err-taken-clause-err
 returns-in_err-taken-clause-err c = err_so c.from_residual-in_err-taken.result _ c.in_err-taken.ensures.err
@@ -208,11 +216,18 @@ returns-in_err-ended-clause-err c =
     let looked = not-taken _ c.take_batch.new.self c.in_ok-taken.taken c.if-taken.false c.in_ok-taken.ensures.found in
     err_so c.from_residual-in_err-ended.result _ (subst (λ w. IsLookedAt c.args.self.now w) (sym c.in_err-ended.ensures.err) looked)
 
+-- ---- the step that was made
+
 pub returns-then-has_rest-clause-moved : goal.returns-then-has_rest-clause-moved
-returns-then-has_rest-clause-moved c = moved-row _ _ c.in_ok-take_row.ensures.ok
+returns-then-has_rest-clause-moved c = inr (inl c.in_ok-take_row.ensures.ok)
 
 pub returns-then-has_pending-clause-moved : goal.returns-then-has_pending-clause-moved
-returns-then-has_pending-clause-moved c = moved-emitted _ _ c.in_ok-emit_row.ensures.ok
+returns-then-has_pending-clause-moved c = inl c.in_ok-emit_row.ensures.ok
 
 pub returns-then-taken-clause-moved : goal.returns-then-taken-clause-moved
-returns-then-taken-clause-moved c = moved-batch _ _ c.in_ok-taken.taken c.if-taken.true c.in_ok-taken.ensures.found
+returns-then-taken-clause-moved c = step-batch _ _ c.in_ok-taken.taken c.if-taken.true c.in_ok-taken.ensures.found
+
+pub returns-then-ended-clause-moved : goal.returns-then-ended-clause-moved
+returns-then-ended-clause-moved c =
+    let looked = not-taken _ c.take_batch.new.self c.in_ok-taken.taken c.if-taken.false c.in_ok-taken.ensures.found in
+    step-done c.args.self.now c.take_batch.new.self c.finish.new.self c.in_ok-ended.ended (unfinished c.self.inside c.args.self.now c.self.view_is c.if-self.false) looked c.if-ended.true c.in_ok-ended.ensures.done
