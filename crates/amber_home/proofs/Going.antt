@@ -1,9 +1,21 @@
 -- Workers that go on.
-use Rattle.std.proofs.Common.{◌≡◌, refl, sym, ap, ◌∙◌, ℕ, ◌+◌, ◌<◌, List, length, get_or, true, inl, inr, arith, ◌≤◌}
+use Rattle.std.proofs.Common.{◌≡◌, refl, sym, ap, ◌∙◌, ℕ, ◌+◌, ◌<◌, List, length, get_or, true, inl, inr, Result, Ok, Err, OnOk, arith, ◌≤◌}
 use Rattle.std.proofs.lemmas.Bool.Decides.{eqb_tells}
 use Rattle.amber_worker.specs.WorkerState.{WorkerState}
 use Rattle.amber_home.specs.AtWork.{FirstGoesOn, GoesOn, GoOn, HaveFinished, IsCrew, MovesOnly, worker_state_at}
 use Rattle.amber_home.proofs.Split.{read-at}
+
+-- ---- where a call is done, so is what follows from what it promises then
+
+pub on_ok_both : {T E P Q R : Type 0} (result : Result T E) → (P → Q → R) → OnOk result P → OnOk result Q → OnOk result R
+on_ok_both (Ok done) both p q = both p q
+on_ok_both (Err error) both p q = tt
+
+pub on_ok_all : {T E P Q R S : Type 0} (result : Result T E) → (P → Q → R → S) → OnOk result P → OnOk result Q → OnOk result R → OnOk result S
+on_ok_all (Ok done) all p q r = all p q r
+on_ok_all (Err error) all p q r = tt
+
+-- ---- workers that go on
 
 pub on-refl : (crew : List WorkerState) → GoOn crew crew
 unfolding GoOn
@@ -45,6 +57,13 @@ finished-more crew worker d inside done first k below =
       | inl same ↦ ap (λ n. (worker_state_at crew n).finished) same.1 ∙ ap (λ (w : WorkerState). w.finished) (sym (read-at crew worker d inside)) ∙ done
       | inr other ↦ first k (let ne = other.1 in omega arith)
     ]
+
+-- where all have finished and nobody has moved, one of them does not move either
+pub still-driven : (first old new : List WorkerState) (worker : ℕ) → worker < length first → length old ≡ length first → HaveFinished (length first) first
+    → (HaveFinished (length first) first → old ≡ first) → ((worker_state_at old worker).finished ≡ true → new ≡ old) → new ≡ first
+still-driven first old new worker inside long finished before here =
+    let same = before finished in
+    here (ap (λ crew. (worker_state_at crew worker).finished) same ∙ finished worker inside) ∙ same
 
 -- ---- steps
 

@@ -8,10 +8,12 @@ pub mod Crews
 pub mod Cut
 pub mod Dealing
 pub mod Ended
+pub mod Examples
 pub mod Fresh
 pub mod Gathered
 pub mod Going
 pub mod Homes
+pub mod InTime
 pub mod Legs
 pub mod Linked
 pub mod Links

@@ -4,13 +4,14 @@ use Rattle.std.specs.List.{list_all}
 use Rattle.std.proofs.lemmas.Bool.{false≢true}
 use Rattle.amber_rows.specs.Crew.{crew_of}
 use Rattle.amber_meaning.specs.declared.view.Stop.{Stop}
-use Rattle.amber_meaning.specs.Legal.{Query}
+use Rattle.amber_meaning.specs.Legal.{Query, entries_of}
 use Rattle.amber_meaning.specs.Position.{Position}
 use Rattle.amber_meaning.specs.Replay.{after_leg}
 use Rattle.amber_meaning.specs.State.{Arms, State, have_finished, position_at, steps_in}
+use Rattle.amber_worker.specs.Turning.{WritesStep}
 use Rattle.amber_worker.specs.WorkerState.{WorkerState}
-use Rattle.amber_home.specs.AtWork.{AreAtWork, FirstGoesOn, GoesOn, IsCrew, steps_by}
-use Rattle.amber_home.specs.HomeState.{HomeState, StepsOn, first_unfinished, has_crew, is_open, query_of, state_of}
+use Rattle.amber_home.specs.AtWork.{AreAtWork, FirstGoesOn, GoesOn, IsCrew, MovesOnly, steps_by, worker_state_at}
+use Rattle.amber_home.specs.HomeState.{HomeState, IsLeftAlone, StepsOn, first_unfinished, has_crew, is_open, next_worker, query_of, state_of}
 use Rattle.amber_home.specs.Kept.{IsHome}
 use Rattle.amber_home.specs.Parts.{open_parts, parts_from, state_reached}
 use Rattle.amber_home.specs.declared.phase.Phase.{Phase}
@@ -21,7 +22,7 @@ use Rattle.amber_home.proofs.Legs.{start, state-here}
 use Rattle.amber_home.proofs.Reached.{first-listed, listed-same}
 use Rattle.amber_home.proofs.Saying.{finished-state, in_phase, stands-somewhere}
 use Rattle.amber_home.proofs.Whole.{steps-are}
-use Rattle.amber_home.proofs.Within.{after-is}
+use Rattle.amber_home.proofs.Within.{after-is, entries-here}
 
 open-there : (now : Phase) → is_open now ≡ true → has_crew now ≡ true
 open-there phase.Resting within = refl
@@ -61,20 +62,42 @@ others-reached query start crew after old work on worker other =
     ap (λ (s : State). position_at s.positions worker) (after-is query start after next.0 next.1)
     ∙ listed-same old next.0 (crew_of query.flow) worker (next.2 worker (λ same. other (same ∙ sym (first-reached query start crew after old work on))))
 
-others-open : (e : HomeState) (crew after : List WorkerState) (arms : List Arms) (stops : List Stop) (now : Phase) → IsHome (record e { phase = now }) crew arms stops → is_open now ≡ true
-    → FirstGoesOn crew after → (worker : ℕ) → worker ≢ first_unfinished (state_of (in_phase e crew now)).positions
-    → position_at (state_of (record e { phase = now; parts = open_parts now after })).positions worker ≡ position_at (state_of (in_phase e crew now)).positions worker
+-- what a worker has written
+journal-same : (crew after : List WorkerState) (worker other : ℕ) → MovesOnly crew after worker → other ≢ worker → entries_of (parts_from 0 after) other ≡ entries_of (parts_from 0 crew) other
+journal-same crew after worker other only apart =
+    entries-here after other ∙ ap (λ (w : WorkerState). w.journal) (only other apart) ∙ sym (entries-here crew other)
+
+journal-more : (crew after : List WorkerState) (worker : ℕ) → WritesStep (worker_state_at crew worker).journal (worker_state_at after worker).journal
+    → WritesStep (entries_of (parts_from 0 crew) worker) (entries_of (parts_from 0 after) worker)
+journal-more crew after worker writes = rw (entries-here crew worker, entries-here after worker) writes
+
+-- of the first that has not finished, and of another
+pub record StepsIn (old new : HomeState) : Type 0 where
+  pub writes : WritesStep (entries_of old.parts (next_worker old)) (entries_of new.parts (next_worker old))
+  pub others : (worker : ℕ) → worker ≢ next_worker old → IsLeftAlone old new worker
+
+steps-in : (e : HomeState) (crew after : List WorkerState) (arms : List Arms) (stops : List Stop) (now : Phase) → IsHome (record e { phase = now }) crew arms stops → is_open now ≡ true
+    → FirstGoesOn crew after → StepsIn (in_phase e crew now) (in_phase e after now)
 unfolding state_of
-others-open e crew after arms stops phase.Resting home within on worker other = absurd (false≢true within)
-others-open e crew after arms stops phase.Over home within on worker other = absurd (false≢true within)
-others-open e crew after arms stops phase.Spent home within on worker other = absurd (false≢true within)
-others-open e crew after arms stops (phase.Open to_end) home within on worker other =
+steps-in e crew after arms stops phase.Resting home within on = absurd (false≢true within)
+steps-in e crew after arms stops phase.Over home within on = absurd (false≢true within)
+steps-in e crew after arms stops phase.Spent home within on = absurd (false≢true within)
+steps-in e crew after arms stops (phase.Open to_end) home within on =
     let here : HomeState = record e { phase = phase.Open to_end } in
     let leg = home.stands in
+    let begin = start to_end here crew arms leg home.legal in
     let reached = state-here to_end here crew arms leg home.legal in
-    others-reached (query_of e) (start to_end here crew arms leg home.legal) crew after leg.positions leg.at on worker
-    (λ same. other (same ∙ ap (λ (s : State). first_unfinished s.positions) (sym reached)))
-    ∙ ap (λ (s : State). position_at s.positions worker) (sym reached)
+    let next : first_unfinished (state_of (in_phase e crew (phase.Open to_end))).positions ≡ on.worker =
+    ap (λ (s : State). first_unfinished s.positions) reached ∙ first-reached (query_of e) begin crew after leg.positions leg.at on in
+    record {
+      writes = rw next (journal-more crew after on.worker on.writes);
+      others = λ worker other. record {
+        stands = others-reached (query_of e) begin crew after leg.positions leg.at on worker
+            (λ same. other (same ∙ ap (λ (s : State). first_unfinished s.positions) (sym reached)))
+            ∙ ap (λ (s : State). position_at s.positions worker) (sym reached);
+        writes = journal-same crew after on.worker worker on.only (λ same. other (same ∙ sym next));
+      };
+    }
 
 -- as the code has it: the workers stand in a slice of a `Vec`
 module _ (e : HomeState) (crew lent after back : List WorkerState) (arms : List Arms) (stops : List Stop) (now : Phase) (n : ℕ)
@@ -94,12 +117,11 @@ module _ (e : HomeState) (crew lent after back : List WorkerState) (arms : List 
       sym (steps-open (record e { parts = open_parts now back }) back arms stops now home-stepped within)
       ∙ grown ∙ ap (λ m. m + 1) (steps-open e crew arms stops now home within)
 
-  pub others-stepped : (worker : ℕ) → worker ≢ first_unfinished (state_of (in_phase e crew now)).positions
-      → position_at (state_of (record e { phase = now; parts = open_parts now back })).positions worker ≡ position_at (state_of (in_phase e crew now)).positions worker
-  others-stepped worker other =
-      ap (λ xs. position_at (state_of (record e { phase = now; parts = open_parts now xs })).positions worker) (back-is ∙ written-back crew after n (long ∙ ap length lent-is) size)
-      ∙ others-open e crew after arms stops now home within (subst (λ xs. FirstGoesOn xs after) lent-is on) worker other
+  pub left-stepped : StepsIn (in_phase e crew now) (record e { phase = now; parts = open_parts now back })
+  left-stepped =
+      subst (λ xs. StepsIn (in_phase e crew now) (in_phase e xs now)) (sym (back-is ∙ written-back crew after n (long ∙ ap length lent-is) size))
+      (steps-in e crew after arms stops now home within (subst (λ xs. FirstGoesOn xs after) lent-is on))
 
-pub steps-on : (e old new : HomeState) → e ≡ old → new ≡ record e { parts = new.parts } → steps_in (state_of new) ≡ steps_in (state_of e) + 1
-    → ((worker : ℕ) → worker ≢ first_unfinished (state_of e).positions → position_at (state_of new).positions worker ≡ position_at (state_of e).positions worker) → StepsOn old new
-steps-on e old new same only one others = subst (λ (h : HomeState). StepsOn h new) same (record { only = only; one = one; others = others })
+pub steps-on : (e old new : HomeState) → e ≡ old → new ≡ record e { parts = new.parts } → steps_in (state_of new) ≡ steps_in (state_of e) + 1 → StepsIn e new → StepsOn old new
+steps-on e old new same only one left =
+    subst (λ (h : HomeState). StepsOn h new) same (record { only = only; one = one; writes = left.writes; others = left.others })

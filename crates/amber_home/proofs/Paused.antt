@@ -1,7 +1,8 @@
 -- The rows that an operator's workers have emitted, and whether its pause stands.
-use Rattle.std.proofs.Common.{◌≡◌, ◌≢◌, refl, sym, ap, ◌∙◌, ℕ, ◌+◌, ◌-◌, ◌*◌, ◌^◌, ◌<◌, ◌≤◌, List, [], ◌∷◌, ◌++◌, length, get_or, map, sum_by, true, false, inl, inr, arith, add-one, zero-add}
+use Rattle.std.proofs.Common.{◌≡◌, ◌≢◌, refl, sym, ap, ◌∙◌, ℕ, zero, suc, ◌+◌, ◌-◌, ◌*◌, ◌^◌, ◌<◌, ◌≤◌, List, [], ◌∷◌, ◌++◌, length, get_or, map, sum_by, Option, Some, true, false, inl, inr, arith, add-one, zero-add}
 use Rattle.std.proofs.lemmas.List.{map-append}
 use Rattle.std.proofs.lemmas.List.Sums.{sum_by-append, sum_by-cons}
+use Rattle.std.proofs.lemmas.Bool.{cases_lt, leb-false}
 use Rattle.std.proofs.lemmas.Bool.Decides.{eqb_tells}
 use Rattle.amber_rows.specs.Crew.{crew_of, first_worker_of, op_of, worker_count, workers_of}
 use Rattle.amber_rows.specs.FlowRules.{IsFlow}
@@ -12,7 +13,7 @@ use Rattle.amber_meaning.proofs.Crews.{place-worker, worker-known, worker-op}
 use Rattle.amber_meaning.proofs.Numbers.{among, among-first, among-more}
 use Rattle.amber_worker.specs.WorkerState.{WorkerState}
 use Rattle.amber_home.specs.AtWork.{MovesOnly, steps_by, worker_state_at}
-use Rattle.amber_home.specs.Leg.{NonePaused, Run, emitted_at, is_paused, pause_at, stands_after}
+use Rattle.amber_home.specs.Leg.{NoneIsLate, NonePaused, Run, emitted_at, is_paused, pause_at, stands_after}
 use Rattle.amber_home.proofs.Split.{read-at}
 use Rattle.amber_home.proofs.Steps.{sum-member}
 
@@ -88,4 +89,68 @@ none-moved run old new number only none here op =
     elim (eqb_tells op (op_of run.flow number)) [
       | inl same ↦ ap (is_paused run new) same.1 ∙ here
       | inr other ↦ ap (stands_after (pause_at run.arms op)) (others-emitted run.flow old new number op only other.1) ∙ none op
+    ]
+
+-- ---- one more row at most
+
+-- what so many workers in a row have emitted
+abbrev row_emitted : List WorkerState → ℕ → ℕ → ℕ
+row_emitted crew first n = emitted_at crew (map (λ place. first + place) (numbers_below n))
+
+row-none : (crew : List WorkerState) (first : ℕ) → row_emitted crew first 0 ≡ 0
+unfolding numbers_below
+row-none crew first = refl
+
+row-more : (crew : List WorkerState) (first n : ℕ) → row_emitted crew first n + (worker_state_at crew (first + n)).emitted ≡ row_emitted crew first (suc n)
+row-more crew first n = emitted-more crew first n (row_emitted crew first n) refl ∙ ap (row_emitted crew first) (add-one n)
+
+module _ (old new : List WorkerState) (number : ℕ) (only : MovesOnly old new number) (rows : (worker_state_at new number).emitted ≤ (worker_state_at old number).emitted + 1) where
+  -- whether the one that moved is among them or not
+  emitted-row : (first n : ℕ) → (number < first + n → row_emitted new first n ≤ row_emitted old first n + 1) × (first + n ≤ number → row_emitted new first n ≤ row_emitted old first n)
+  emitted-row first zero =
+      let before = row-none old first in
+      let now = row-none new first in
+      (λ below. omega arith, λ above. omega arith)
+  emitted-row first (suc n) =
+      let parts = emitted-row first n in
+      let before = row-more old first n in
+      let now = row-more new first n in
+      elim (eqb_tells (first + n) number) [
+        | inl same ↦
+            let is = same.1 in
+            let here = ap (λ worker. (worker_state_at new worker).emitted) is in
+            let there = ap (λ worker. (worker_state_at old worker).emitted) is in
+            let less = parts.1 (omega arith) in
+            (λ below. omega arith, λ above. absurd (omega arith))
+        | inr other ↦
+            let apart = other.1 in
+            let last = ap (λ (w : WorkerState). w.emitted) (only (first + n) apart) in
+            (λ below. let less = parts.0 (omega arith) in omega arith, λ above. let less = parts.1 (omega arith) in omega arith)
+      ]
+
+  pub emitted-one : (flow : List Operator) (op : ℕ) → emitted_at new (workers_of flow op) ≤ emitted_at old (workers_of flow op) + 1
+  unfolding workers_of
+  emitted-one flow op =
+      let parts = emitted-row (first_worker_of flow op) (worker_count flow op) in
+      elim (cases_lt number (first_worker_of flow op + worker_count flow op)) [ inl below ↦ parts.0 below | inr above ↦ let less = parts.1 above in omega arith ]
+
+-- ---- in time
+
+not-yet : (pause : Option ℕ) (rows n : ℕ) → stands_after pause rows ≡ false → pause ≡ Some n → rows < n
+not-yet pause rows n stands is = leb-false n rows (ap (λ found. stands_after found rows) (sym is) ∙ stands)
+
+-- where no pause stands, none is late
+pub none-late : (run : Run) (crew : List WorkerState) → NonePaused run crew → NoneIsLate run crew
+none-late run crew none op n is = let less = not-yet (pause_at run.arms op) (emitted_at crew (workers_of run.flow op)) n (none op) is in omega arith
+
+-- a step of a worker whose operator's pause did not stand makes none late
+pub late-moved : (run : Run) (old new : List WorkerState) (number : ℕ) → MovesOnly old new number → (worker_state_at new number).emitted ≤ (worker_state_at old number).emitted + 1
+    → is_paused run old (op_of run.flow number) ≡ false → NoneIsLate run old → NoneIsLate run new
+late-moved run old new number only rows here late op n is =
+    elim (eqb_tells op (op_of run.flow number)) [
+      | inl same ↦
+          let less = not-yet (pause_at run.arms op) (emitted_at old (workers_of run.flow op)) n (ap (is_paused run old) same.1 ∙ here) is in
+          let one = emitted-one old new number only rows run.flow op in
+          omega arith
+      | inr other ↦ let same = others-emitted run.flow old new number op only other.1 in let before = late op n is in omega arith
     ]

@@ -1,15 +1,17 @@
 -- A turn of one worker, and then its links settled again: all are at work.
-use Rattle.std.proofs.Common.{◌≡◌, ◌≢◌, refl, sym, ap, subst, ◌∙◌, ℕ, suc, ◌+◌, ◌<◌, List, [], ◌∷◌, length, get_or, set, nat_eq, Bool, true, false, if◌then◌else◌, arith, length-set}
+use Rattle.std.proofs.Common.{◌≡◌, ◌≢◌, refl, sym, ap, subst, ◌∙◌, ℕ, suc, ◌+◌, ◌<◌, ◌≤◌, List, [], ◌∷◌, length, get_or, set, nat_eq, Bool, true, false, if◌then◌else◌, arith, length-set}
 use Rattle.std.specs.List.{list_any}
 use Rattle.std.proofs.lemmas.Bool.{ne_eqb}
 use Rattle.amber_meaning.specs.Legal.{Query}
 use Rattle.amber_meaning.specs.Position.{Position}
 use Rattle.amber_meaning.specs.State.{State}
-use Rattle.amber_worker.specs.AtPosition.{HasSameEnds, HasTurned, IsNextTurn, Keeps}
+use Rattle.amber_worker.specs.AtPosition.{HasSameEnds, Keeps}
+use Rattle.amber_worker.specs.Turning.{HasTurned, IsNextTurn, MakesStep, WritesStep}
 use Rattle.amber_worker.specs.Changes.{wants_batch}
 use Rattle.amber_worker.specs.Links.{HaveSentNothing}
 use Rattle.amber_worker.specs.WorkerState.{WorkerState, steps_made}
 use Rattle.amber_worker.specs.declared.turn.Turn.{Turn}
+use Rattle.amber_worker.proofs.StepFacts.{step-steps, step-writes, turned-counts}
 use Rattle.amber_home.specs.AtWork.{AreAtWork, AreJoinedAt, GoesOn, HaveFinished, IsCrew, IsJoinedCrew, MovesOnly, SendsTo, StayPut, steps_by, worker_state_at}
 use Rattle.amber_home.specs.Passing.{AreSameBesides, Come, Settled, SettledStay}
 use Rattle.amber_home.proofs.Crews.{at-each, here-now, joined-turned, placed, there-still}
@@ -74,11 +76,29 @@ module _ (crew : List WorkerState) (number : ℕ) (now d : WorkerState) (inside 
         (come-turned (worker_state_at crew number) (worker_state_at crew to) now (subst (λ w. HasSameEnds w now) here turn.ends) (subst (λ w. HaveSentNothing w.outs now.outs) here turn.unsent)
         (work.3.settled number to one.does))
 
-    -- one step more was made
+    -- one step was made
+    pub made-then : IsCrew crew → HaveFinished number crew → (worker_state_at crew number).finished ≡ false → MakesStep (worker_state_at crew number) now
+    made-then work first unfinished =
+        moves crew number now done work inside first unfinished (subst (λ w. IsNextTurn w done) here turn.answer) (subst (λ w. HasTurned done w now) here turn.moved)
+
     pub one-then : IsCrew crew → HaveFinished number crew → (worker_state_at crew number).finished ≡ false → steps_by turned ≡ steps_by crew + 1
-    one-then work first unfinished =
-        sum-more crew number now inside (moves crew number now done work inside first unfinished
-        (subst (λ w. IsNextTurn w done) here turn.answer) (subst (λ w. HasTurned done w now) here turn.moved))
+    one-then work first unfinished = sum-more crew number now inside (step-steps (worker_state_at crew number) now (made-then work first unfinished))
+
+    -- which may have emitted a row, and is in the journal
+    pub rows-then : (after : List WorkerState) → AreSameBesides turned after → (worker_state_at after number).emitted ≤ (worker_state_at crew number).emitted + 1
+    rows-then after aside =
+        let counts = turned-counts done (worker_state_at crew number) now (subst (λ w. HasTurned done w now) here turn.moved) in
+        let taken = counts.taken in
+        let rows = counts.rows in
+        let same : (worker_state_at after number).emitted ≡ now.emitted = ap (λ (w : WorkerState). w.emitted) (aside number) ∙ ap (λ (w : WorkerState). w.emitted) (here-now crew number now inside) in
+        omega arith
+
+    pub writes-then : IsCrew crew → HaveFinished number crew → (worker_state_at crew number).finished ≡ false → (after : List WorkerState) → AreSameBesides turned after
+        → WritesStep (worker_state_at crew number).journal (worker_state_at after number).journal
+    writes-then work first unfinished after aside =
+        subst (WritesStep (worker_state_at crew number).journal)
+        (sym (ap (λ (w : WorkerState). w.journal) (aside number) ∙ ap (λ (w : WorkerState). w.journal) (here-now crew number now inside)))
+        (step-writes (worker_state_at crew number) now (made-then work first unfinished))
 
     -- ---- the links are settled again
 

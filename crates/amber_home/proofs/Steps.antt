@@ -15,7 +15,8 @@ use Rattle.amber_rows.specs.declared.batch.Batch.{Batch}
 use Rattle.amber_meaning.specs.Legal.{Query, role_in}
 use Rattle.amber_meaning.specs.Position.{Position, emitted_rows, taken_from}
 use Rattle.amber_meaning.specs.State.{State}
-use Rattle.amber_worker.specs.AtPosition.{HasTurned, IsNextTurn, placement_of, stream_to}
+use Rattle.amber_worker.specs.AtPosition.{placement_of, stream_to}
+use Rattle.amber_worker.specs.Turning.{HasTurned, IsNextTurn, MakesStep}
 use Rattle.amber_worker.specs.Pairs.{OffersAll}
 use Rattle.amber_worker.specs.WorkerState.{WorkerState, has_ready, next_turn, steps_made}
 use Rattle.amber_worker.specs.declared.turn.Turn.{Turn}
@@ -95,7 +96,7 @@ ended-finished false false false false false h = cc
 -- an unfinished worker whose senders have all finished makes a step
 pub moves : (crew : List WorkerState) (worker : ℕ) (now : WorkerState) (done : Turn) → IsCrew crew → worker < length crew → HaveFinished worker crew
     → (worker_state_at crew worker).finished ≡ false → IsNextTurn (worker_state_at crew worker) done → HasTurned done (worker_state_at crew worker) now
-    → steps_made now ≡ steps_made (worker_state_at crew worker) + 1
+    → MakesStep (worker_state_at crew worker) now
 moves crew worker now turn.Moved work inside finished not-yet is turned = turned
 moves crew worker now turn.Idle work inside finished not-yet is turned = absurd (busy work.0 work.1 crew work.2 work.3 worker inside finished is.found is.looked (sym is.is))
 moves crew worker now turn.Ended work inside finished not-yet is turned =

@@ -221,7 +221,7 @@ pauses-some run crew op long paused =
     some-stop (λ op. paused_stop op (pause_at run.arms op) (emitted_at crew (workers_of run.flow op))) (op_numbers run.flow) op
     (among-ops run.flow op within.0 (let most = within.1 in omega arith)) (stop-stands op (pause_at run.arms op) (emitted_at crew (workers_of run.flow op)) paused)
 
-stops-none : (run : Run) (crew : List WorkerState) → NonePaused run crew → list_all (λ (w : WorkerState). w.finished) crew ≡ false → stops_by run crew ≡ []
+pub stops-none : (run : Run) (crew : List WorkerState) → NonePaused run crew → list_all (λ (w : WorkerState). w.finished) crew ≡ false → stops_by run crew ≡ []
 stops-none run crew none unfinished = rw (pauses-none run crew none, unfinished) refl
 
 stops-some : (run : Run) (crew : List WorkerState) → length run.arms ≡ length run.flow

@@ -6,13 +6,14 @@ use Rattle.amber_log.specs.Grammar.{ends_over, is_last}
 use Rattle.amber_log.specs.declared.leg.Close.{Close}
 use Rattle.amber_log.specs.declared.log.Item.{Item}
 use Rattle.amber_meaning.specs.declared.view.Stop.{Stop}
+use Rattle.amber_meaning.specs.InTime.{IsInTime}
 use Rattle.amber_meaning.specs.State.{Arms, State, position_at, steps_in}
 use Rattle.amber_meaning.proofs.OneState.{legal_logs_have_one_state}
 use Rattle.amber_meaning.proofs.Rest.{legal_logs_rest}
 use Rattle.amber_meaning.proofs.Senders.{flows_send_forward}
 use Rattle.amber_worker.specs.WorkerState.{WorkerState}
 use Rattle.amber_home.specs.AtWork.{steps_by}
-use Rattle.amber_home.specs.HomeState.{ClosesIn, ClosesLeg, HomeState, has_crew, query_of, rest_state, runs_to_end, state_of, with_closed_leg}
+use Rattle.amber_home.specs.HomeState.{ClosesIn, ClosesLeg, HomeState, has_crew, item_of_leg, query_of, rest_state, runs_to_end, state_of, with_closed_leg}
 use Rattle.amber_home.specs.Kept.{IsHome}
 use Rattle.amber_home.specs.Parts.{open_parts}
 use Rattle.amber_home.specs.declared.phase.Phase.{Phase}
@@ -23,14 +24,18 @@ use Rattle.amber_home.proofs.Within.{steps-reached}
 
 -- opened, gone through and closed
 pub leg-closes : (to_end : Bool) (old begun ran now : HomeState) (closed : Close) → begun ≡ record old { phase = phase.Open to_end; parts = [] } → ran ≡ record begun { parts = ran.parts }
-    → ClosesIn (runs_to_end begun.phase) (query_of begun) (state_of ran) closed → now ≡ with_closed_leg ran closed → ClosesLeg to_end old now closed
+    → ClosesIn (runs_to_end begun.phase) (query_of begun) (state_of ran) closed
+    → (begun.parts ≡ [] → IsInTime (query_of begun) 0 (rest_state begun) (item_of_leg (runs_to_end begun.phase) ran.parts closed))
+    → now ≡ with_closed_leg ran closed → ClosesLeg to_end old now closed
 unfolding state_of
-leg-closes to_end old begun ran now closed begun-is ran-is closes now-is =
+leg-closes to_end old begun ran now closed begun-is ran-is closes in_time now-is =
     let whole : ran ≡ record old { phase = phase.Open to_end; parts = ran.parts } = ran-is ∙ ap (λ (h : HomeState). record h { parts = ran.parts }) begun-is in
     record {
       parts = ran.parts;
       so = subst (λ (h : HomeState). ClosesIn to_end (query_of old) (state_of h) closed) whole
           (subst (λ (h : HomeState). ClosesIn (runs_to_end h.phase) (query_of h) (state_of ran) closed) begun-is closes);
+      in_time = subst (λ (h : HomeState). IsInTime (query_of h) 0 (rest_state h) (item_of_leg (runs_to_end h.phase) ran.parts closed)) begun-is
+          (in_time (ap (λ (h : HomeState). h.parts) begun-is));
       is = now-is ∙ ap (λ (h : HomeState). with_closed_leg h closed) whole;
     }
 

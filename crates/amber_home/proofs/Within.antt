@@ -34,7 +34,7 @@ first-of-senders (one ∷ ins) place less = one
 none-some : {A : Type 0} {x : A} → None ≡ Some x → ⊥
 none-some e = cc
 
-entries-here : (crew : List WorkerState) (worker : ℕ) → entries_of (parts_from 0 crew) worker ≡ (worker_state_at crew worker).journal
+pub entries-here : (crew : List WorkerState) (worker : ℕ) → entries_of (parts_from 0 crew) worker ≡ (worker_state_at crew worker).journal
 entries-here crew worker = ap (entries_of (parts_from 0 crew)) (sym (zero-add worker)) ∙ entries-at 0 crew worker
 
 module _ (query : Query) (start : State) (crew : List WorkerState) (positions : ℕ → Position) (work : AreAtWork query start crew positions) where

@@ -13,6 +13,7 @@ use Rattle.amber_meaning.specs.Position.{Position}
 use Rattle.amber_meaning.specs.State.{Arms, State, arms_at, position_at}
 use Rattle.amber_worker.specs.AtPosition.{Context, IsAtPosition, Placement, no_base, placement_of}
 use Rattle.amber_worker.specs.Pairs.{AreJoined, AreSettledAt, IsLinkAt}
+use Rattle.amber_worker.specs.Turning.{WritesStep}
 use Rattle.amber_worker.specs.WorkerState.{WorkerState, empty_worker_state, steps_made}
 
 -- ---- one of the workers
@@ -116,10 +117,12 @@ steps_by crew = sum_by steps_made crew
 abbrev pub HaveFinished : ℕ → List WorkerState → Type 0
 HaveFinished workers crew = (worker : ℕ) → worker < workers → (worker_state_at crew worker).finished ≡ true
 
--- the first that has not finished has moved on, and the others stand where they stood
+-- the first that has not finished has moved on by a step, which its journal has, and the others have done nothing
 pub record FirstGoesOn (old new : List WorkerState) : Type 0 where
   pub worker : ℕ
   pub there : worker < length old
   pub first : HaveFinished worker old
   pub unfinished : (worker_state_at old worker).finished ≡ false
   pub on : GoesOn old new worker
+  pub only : MovesOnly old new worker
+  pub writes : WritesStep (worker_state_at old worker).journal (worker_state_at new worker).journal

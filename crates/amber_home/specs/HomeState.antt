@@ -11,11 +11,13 @@ use Rattle.amber_log.specs.declared.log.Item.{Item}
 use Rattle.amber_log.specs.declared.log.Item.TheVariants as item
 use Rattle.amber_log.specs.declared.log.Log.{Log}
 use Rattle.amber_meaning.specs.declared.view.Stop.{Stop}
-use Rattle.amber_meaning.specs.Legal.{ClosesEnd, ClosesRun, Query, leg_start, query_over, stops_in}
+use Rattle.amber_meaning.specs.InTime.{IsInTime}
+use Rattle.amber_meaning.specs.Legal.{ClosesEnd, ClosesRun, Query, entries_of, leg_start, query_over, stops_in}
 use Rattle.amber_meaning.specs.Plain.{wrong_header}
 use Rattle.amber_meaning.specs.Position.{Position}
 use Rattle.amber_meaning.specs.Replay.{after_leg, state_after}
 use Rattle.amber_meaning.specs.State.{State, have_finished, position_at, steps_in}
+use Rattle.amber_worker.specs.Turning.{WritesStep}
 use Rattle.amber_home.specs.declared.error.HomeErr.{HomeErr}
 use Rattle.amber_home.specs.declared.error.HomeErr.TheVariants as home_err
 use Rattle.amber_home.specs.declared.error.LegErr.{LegErr}
@@ -149,10 +151,11 @@ MayClose false e close.Long = (steps_in (state_of e) ≡ e.most) × (stops_of_ho
 abbrev pub with_closed_leg : HomeState → Close → HomeState
 with_closed_leg e closed = record e { log = with_item e.log (item_of_leg (runs_to_end e.phase) e.parts closed); phase = phase.Resting; parts = [] }
 
--- the leg stands in the log, closed so, and nothing else has changed
+-- the leg stands in the log, closed so and in time, and nothing else has changed
 pub record ClosesLeg (to_end : Bool) (old new : HomeState) (closed : Close) : Type 0 where
   pub parts : List Part
   pub so : ClosesIn to_end (query_of old) (leg_state old to_end parts) closed
+  pub in_time : IsInTime (query_of old) 0 (rest_state old) (item_of_leg to_end parts closed)
   pub is : new ≡ record old { log = with_item old.log (item_of_leg to_end parts closed); phase = phase.Resting; parts = [] }
 
 -- what a leg leaves: a stop stands, to the end all have finished; or the steps are as many as may be, and that is not so; or only
@@ -167,10 +170,18 @@ unfoldable pub first_unfinished : List Position → ℕ
 first_unfinished [] = 0
 first_unfinished (p ∷ more) = if p.finished then suc (first_unfinished more) else 0
 
--- a leg has gone on by one step, and nothing else has changed: the step is that of the unfinished worker with the smallest number,
--- since all the others stand where they stood
+-- the worker whose step comes next: of those that have not finished the one with the smallest number
+abbrev pub next_worker : HomeState → ℕ
+next_worker e = first_unfinished (state_of e).positions
+
+-- a worker stands where it stood, and has written nothing
+pub record IsLeftAlone (old new : HomeState) (worker : ℕ) : Type 0 where
+  pub stands : position_at (state_of new).positions worker ≡ position_at (state_of old).positions worker
+  pub writes : entries_of new.parts worker ≡ entries_of old.parts worker
+
+-- a leg has gone on by one step, and nothing else has changed: the next worker has written that step, and the others are left alone
 pub record StepsOn (old new : HomeState) : Type 0 where
   pub only : new ≡ record old { parts = new.parts }
   pub one : steps_in (state_of new) ≡ steps_in (state_of old) + 1
-  pub others : (worker : ℕ) → worker ≢ first_unfinished (state_of old).positions
-      → position_at (state_of new).positions worker ≡ position_at (state_of old).positions worker
+  pub writes : WritesStep (entries_of old.parts (next_worker old)) (entries_of new.parts (next_worker old))
+  pub others : (worker : ℕ) → worker ≢ next_worker old → IsLeftAlone old new worker

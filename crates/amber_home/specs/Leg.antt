@@ -1,5 +1,5 @@
 -- What a leg comes to.
-use Rattle.std.specs.Prelude.{◌≡◌, ℕ, ◌<◌, ◌⊎◌, List, [], ◌∷◌, ◌++◌, length, map, sum_by, nat_le, unwrap_or, Option, None, Some, Bool, true, false, if◌then◌else◌}
+use Rattle.std.specs.Prelude.{◌≡◌, ◌≢◌, ℕ, ◌<◌, ◌≤◌, ◌⊎◌, List, [], ◌∷◌, ◌++◌, length, map, max, sum_by, nat_le, unwrap_or, Option, None, Some, Bool, true, false, if◌then◌else◌}
 use Rattle.std.specs.List.{flat_map, list_all}
 use Rattle.amber_rows.specs.Crew.{workers_of}
 use Rattle.amber_rows.specs.Lists.{nth}
@@ -39,6 +39,10 @@ is_paused run crew op = stands_after (pause_at run.arms op) (emitted_at crew (wo
 abbrev pub NonePaused : Run → List WorkerState → Type 0
 NonePaused run crew = (op : ℕ) → is_paused run crew op ≡ false
 
+-- no operator has emitted more rows than its pause asks for
+abbrev pub NoneIsLate : Run → List WorkerState → Type 0
+NoneIsLate run crew = (op n : ℕ) → pause_at run.arms op ≡ Some n → emitted_at crew (workers_of run.flow op) ≤ n
+
 -- the stop of a pause, where these rows were emitted
 abbrev pub paused_stop : ℕ → Option ℕ → ℕ → List Stop
 paused_stop op None rows = []
@@ -53,6 +57,13 @@ stop_at_end crew = if list_all (λ w. w.finished) crew then stop.End ∷ [] else
 
 abbrev pub stops_by : Run → List WorkerState → List Stop
 stops_by run crew = pauses_of run crew ++ stop_at_end crew
+
+-- workers stop in time: where a stop stands already nobody does anything, and else an operator with a pause has emitted in the end no
+-- more rows than it asks for, or than before
+pub record CrewStopsInTime (run : Run) (old new : List WorkerState) : Type 0 where
+  pub at_once : stops_by run old ≢ [] → new ≡ old
+  pub pauses : (op n : ℕ) → pause_at run.arms op ≡ Some n
+      → emitted_at new (workers_of run.flow op) ≤ max n (emitted_at old (workers_of run.flow op))
 
 -- what is in force at an operator once its pause was taken away where it stands
 abbrev pub cut_at : Run → List WorkerState → ℕ → Arms

@@ -106,7 +106,7 @@ fn answer_of(flow: &Flow, given: Given) -> Result<Answer, AllocError>
     })
 }
 
-/// The answer, from workers of whom nothing more is asked: no row is copied.
+/// The answer, from workers of whom nothing more is asked.
 pub(crate) fn gather_all(
     alloc: Global,
     flow: &Flow,
@@ -118,7 +118,7 @@ pub(crate) fn gather_all(
     answer_of(flow, given)
 }
 
-/// The answer, from workers that stay as they are: their rows are copied.
+/// The answer, from workers that stay as they are.
 pub(crate) fn gather(alloc: Global, flow: &Flow, crew: &[Worker]) -> Result<Answer, AllocError>
     ensures { IfOk result (IsAnswerOf flow.now crew.now) }
 {

@@ -2,12 +2,13 @@ ghost use Rattle.std.specs.Prelude.{◌≡◌, ◌+◌, ◌^◌, ◌<◌, ◌≤
 ghost use Rattle.amber_log.specs.Fits.{fits_of};
 ghost use Rattle.amber_log.specs.Grammar.{ends_over};
 ghost use Rattle.amber_log.specs.declared.log.Item.TheVariants as item;
+ghost use Rattle.amber_meaning.specs.InTime.{IsInTime};
 ghost use Rattle.amber_meaning.specs.Legal.{IsLegal};
 ghost use Rattle.amber_meaning.specs.Plain.{scan_count};
 ghost use Rattle.amber_meaning.specs.State.{have_finished, steps_in};
 ghost use Rattle.amber_meaning.specs.Views.{answer_in, inspected_of};
 ghost use Rattle.amber_home.specs.HomeState.{BeginsOrNames, ClosesIn, Ends, MayClose, StepsOn, has_crew};
-ghost use Rattle.amber_home.specs.HomeState.{is_done_at_rest, is_open, query_of, runs_to_end, state_of};
+ghost use Rattle.amber_home.specs.HomeState.{is_done_at_rest, is_open, item_of_leg, query_of, rest_state, runs_to_end, state_of};
 ghost use Rattle.amber_home.specs.HomeState.{stops_of_home, with_item, with_closed_leg};
 
 use crate::answer::{gather, gather_all};
@@ -36,7 +37,7 @@ pub struct Home {
     most: u64,
     log: Log,
     phase: Phase,
-    // The workers; none once they have given their answer.
+    // The workers; none once they were asked to give their answer away.
     crew: Vec<Worker>,
     arms: InForce,
     // The stops of the last leg, as they stood before its end took any away.
@@ -177,12 +178,15 @@ impl Home {
         Ok(())
     }
 
-    // Runs the leg that is open, and says how it may be closed.
+    // Runs the leg that is open, and says how it may be closed. One in which nothing was done yet stops in time.
     fn run_open(&mut self) -> Result<Close, AllocError>
         requires within { is_open self.old.phase ≡ true }
         ensures ok { OnOk result (self.new ≡ record self.old { parts = self.new.parts }) }
         ensures closes { IfOk result (λ close. ClosesIn (runs_to_end self.old.phase)
             (query_of self.old) (state_of self.new) close) }
+        ensures in_time { IfOk result (λ close. self.old.parts ≡ []
+            → IsInTime (query_of self.old) 0 (rest_state self.old)
+            (item_of_leg (runs_to_end self.old.phase) self.new.parts close)) }
         ensures err { OnErr result
             (self.new ≡ record self.old { phase = Phase.Spent; parts = [] }) }
     {
@@ -224,8 +228,9 @@ impl Home {
         Ok(())
     }
 
-    /// Runs a leg, up to a stop or to the end: the unfinished worker with the smallest number makes its steps, until a stop
-    /// stands, or until all have finished. What stands then is taken away behind a leg up to a stop.
+    /// Runs a leg, up to a stop or to the end: the workers make their steps until a stop stands, or until all have finished. Up to a
+    /// stop nobody does anything where one stands already, and no operator emits more rows than its pause asks for. What stands at
+    /// the end of such a leg is taken away.
     ///
     /// # Errors
     ///
@@ -279,12 +284,19 @@ impl Home {
         gather(alloc, &self.flow, self.crew.as_slice())
     }
 
-    /// The same answer, handed out without a copy of its rows. The workers are then no longer there.
+    /// The same answer, which the workers give away: they are no longer there then.
+    ///
+    /// # Errors
+    ///
+    /// After `NoMemory` the workers are no longer there either. The home is over, its log is as before, and no call gives the answer
+    /// any more.
     pub fn take_answer(&mut self, alloc: Global) -> Result<Answer, AllocError>
         requires resting { self.old.phase ≡ Phase.Resting }
         requires finished { have_finished (state_of self.old) ≡ true }
         ensures answer { IfOk result
             (λ answer. answer ≡ answer_in (query_of self.old) (state_of self.old)) }
+
+        // Whatever the call answers.
         ensures over { self.new ≡ record self.old { phase = Phase.Over } }
     {
         self.phase = Phase::Over;

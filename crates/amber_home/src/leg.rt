@@ -1,13 +1,14 @@
 //! A leg: the workers make their steps, one worker after the other.
 
-ghost use Rattle.std.specs.Prelude.{◌≡◌, ◌+◌, ◌^◌, ◌<◌, ◌≤◌, ◌||◌, ℕ, IfOk, OnOk, false, length};
+ghost use Rattle.std.specs.Prelude.{◌≡◌, ◌+◌, ◌^◌, ◌<◌, ◌≤◌, ◌||◌, ℕ, IfOk, OnOk, false, true, length};
 ghost use Rattle.std.specs.List.{list_all};
 ghost use Rattle.amber_rows.specs.Crew.{crew_of, op_of, workers_of};
 ghost use Rattle.amber_rows.specs.FlowRules.{IsFlow};
+ghost use Rattle.amber_worker.specs.Turning.{WritesStep};
 ghost use Rattle.amber_worker.specs.WorkerState.{steps_made};
 ghost use Rattle.amber_home.specs.AtWork.{FirstGoesOn, GoesOn, GoOn, HaveFinished, IsCrew, MovesOnly};
 ghost use Rattle.amber_home.specs.AtWork.{steps_by, worker_state_at};
-ghost use Rattle.amber_home.specs.Leg.{IsLegDone, NonePaused, emitted_at, is_paused};
+ghost use Rattle.amber_home.specs.Leg.{IsLegDone, NoneIsLate, NonePaused, emitted_at, is_paused};
 
 use crate::settling::{settle_inputs, settle_outputs};
 use amber_arms::InForce;
@@ -26,6 +27,10 @@ pub(crate) fn step(crew: &mut [Worker], number: usize) -> Result<(), AllocError>
     ensures on { OnOk result (GoesOn crew.old crew.new number) }
     ensures one { OnOk result (steps_by crew.new ≡ steps_by crew.old + 1) }
     ensures only { OnOk result (MovesOnly crew.old crew.new number) }
+    ensures rows { OnOk result ((worker_state_at crew.new number).emitted
+        ≤ (worker_state_at crew.old number).emitted + 1) }
+    ensures writes { OnOk result (WritesStep (worker_state_at crew.old number).journal
+        (worker_state_at crew.new number).journal) }
 {
     let wanted = crew[number].wants_batch();
     crew[number].turn()?;
@@ -99,7 +104,7 @@ fn is_done(flow: &Flow, arms: &InForce, crew: &[Worker], number: usize) -> bool
 }
 
 // Steps of a worker whose senders have all finished, until it has nothing to do, or has made so many. The answer is how many
-// more it might have made.
+// more it might have made. No operator emits more rows than its pause asks for, and a worker that has finished does nothing.
 fn drive(
     flow: &Flow,
     arms: &InForce,
@@ -120,6 +125,10 @@ fn drive(
         → is_paused (record { flow = flow.now; arms = arms.now }) crew.new
         (op_of flow.now number) ≡ false
         → left ≡ 0) }
+    ensures in_time { OnOk result (NoneIsLate (record { flow = flow.now; arms = arms.now }) crew.old
+        → NoneIsLate (record { flow = flow.now; arms = arms.now }) crew.new) }
+    ensures still { OnOk result ((worker_state_at crew.old number).finished ≡ true
+        → crew.new ≡ crew.old) }
 {
     'steps: for made in 0..budget {
         if is_done(flow, arms, crew, number) {
@@ -130,8 +139,8 @@ fn drive(
     Ok(0)
 }
 
-/// Steps of the unfinished worker with the smallest number, until a pause stands, all have finished, or so many steps were
-/// made. The answer says how the leg may be closed.
+/// Steps of the workers until a pause stands, all have finished, or so many steps were made. The answer says how the leg may be
+/// closed. No operator emits more rows than its pause asks for, and where all have finished nobody does anything.
 pub(crate) fn run_crew(
     flow: &Flow,
     arms: &InForce,
@@ -147,6 +156,9 @@ pub(crate) fn run_crew(
     ensures few { OnOk result (steps_by crew.new ≤ steps_by crew.old + budget) }
     ensures done { IfOk result (λ close. IsLegDone close
         (record { flow = flow.now; arms = arms.now }) (steps_by crew.old + budget) crew.new) }
+    ensures in_time { OnOk result
+        (NoneIsLate (record { flow = flow.now; arms = arms.now }) crew.new) }
+    ensures still { OnOk result (HaveFinished (length crew.old) crew.old → crew.new ≡ crew.old) }
 {
     let mut left = budget;
     'workers: for number in 0..crew.len() {

@@ -8,7 +8,7 @@ pub enum Phase {
     Resting,
     /// Within a leg, up to a stop or to the end.
     Open { to_end: bool },
-    /// The workers have given their answer.
+    /// The workers were asked to give their answer away, and are no longer there.
     Over,
     /// Memory ran out inside a leg, and nothing can follow.
     Spent,

@@ -6,7 +6,7 @@ ghost use Rattle.amber_rows.specs.Crew.{crew_of, workers_of};
 ghost use Rattle.amber_rows.specs.FlowRules.{IsFlow};
 ghost use Rattle.amber_rows.specs.Lists.{changed_at};
 ghost use Rattle.amber_home.specs.AtWork.{GoOn, IsCrew, steps_by};
-ghost use Rattle.amber_home.specs.Leg.{IsLegDone, NonePaused, closed_arms, cut_arms, emitted_at, is_paused, pause_at, paused_stop, stops_by};
+ghost use Rattle.amber_home.specs.Leg.{CrewStopsInTime, IsLegDone, NonePaused, closed_arms, cut_arms, emitted_at, is_paused, pause_at, paused_stop, stops_by};
 
 use crate::leg::{emitted_by, is_paused, run_crew};
 use amber_arms::InForce;
@@ -152,7 +152,8 @@ pub(crate) fn close_arms(
     }
 }
 
-/// Runs the workers until a stop stands, or so many steps were made. The answer says how the leg may be closed.
+/// Runs the workers until a stop stands, or so many steps were made. Where a stop stands already nobody does anything. The answer
+/// says how the leg may be closed.
 pub(crate) fn run_leg(
     flow: &Flow,
     arms: &InForce,
@@ -168,6 +169,8 @@ pub(crate) fn run_leg(
     ensures few { OnOk result (steps_by crew.new ≤ steps_by crew.old + budget) }
     ensures done { IfOk result (λ close. IsLegDone close
         (record { flow = flow.now; arms = arms.now }) (steps_by crew.old + budget) crew.new) }
+    ensures in_time { OnOk result
+        (CrewStopsInTime (record { flow = flow.now; arms = arms.now }) crew.old crew.new) }
 {
     if any_paused(flow, arms, crew) {
         return Ok(Close::Cut);

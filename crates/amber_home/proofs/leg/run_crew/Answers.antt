@@ -5,8 +5,8 @@ use Rattle.amber_meaning.proofs.Crews.{op-within}
 use Rattle.amber_worker.specs.WorkerState.{WorkerState}
 use Rattle.amber_home.specs.AtWork.{worker_state_at}
 use Rattle.amber_home.specs.Leg.{Run, is_paused}
-use Rattle.amber_home.proofs.Going.{crew-on, finished-more, finished-on, on-refl, on-then, below-end, part-of, part-within}
-use Rattle.amber_home.proofs.Paused.{crew-few, none-moved}
+use Rattle.amber_home.proofs.Going.{crew-on, finished-more, finished-on, on-refl, on-then, below-end, part-of, part-within, still-driven}
+use Rattle.amber_home.proofs.Paused.{crew-few, none-late, none-moved}
 use Rattle.amber_home.proofs.Split.{read-at}
 use Rattle.amber_home.proofs.leg.run_crew.Goals as goal
 
@@ -16,6 +16,7 @@ workers-init c = record {
   made = refl;
   first = λ k below. absurd (omega arith);
   none = c.requires.none;
+  still = λ finished. refl;
 }
 
 pub drive-requires-clause-crew : goal.drive-requires-clause-crew
@@ -53,7 +54,7 @@ returns-then-not-is_finished-clause-done c =
     let made = c.workers.invariant.made in
     let inside : c.workers.number < length c.drive.new.crew = rw (c.drive.auto.crew, c.workers.auto.crew) c.workers-test.true in
     let not-yet : (worker_state_at c.drive.new.crew c.workers.number).finished ≡ false =
-    ap (λ (w : WorkerState). w.finished) (sym (read-at c.drive.new.crew c.workers.number c.index-crew-number.result inside)) ∙ sym c.is_finished.ensures.over ∙ c.if-not-is_finished.true in
+    ap (λ (w : WorkerState). w.finished) (sym (read-at c.drive.new.crew c.workers.number c.index-crew-number.result inside)) ∙ sym c.is_finished.ensures ∙ c.if-not-is_finished.true in
     let over = c.in_ok-left.ensures.stops not-yet here in
     (none, omega arith, (c.workers.number, inside, not-yet))
 
@@ -67,9 +68,11 @@ workers-preserved c =
     record {
       on = on-then c.args.crew.now c.workers.crew c.drive.new.crew c.workers.invariant.on c.in_ok-left.ensures.on;
       made = c.in_ok-left.ensures.left ∙ c.workers.invariant.made;
-      first = finished-more c.drive.new.crew c.workers.number c.index-crew-number.result inside (sym c.is_finished.ensures.over ∙ c.if-not-is_finished.false)
+      first = finished-more c.drive.new.crew c.workers.number c.index-crew-number.result inside (sym c.is_finished.ensures ∙ c.if-not-is_finished.false)
           (finished-on c.workers.crew c.drive.new.crew c.workers.number c.in_ok-left.ensures.only c.workers.invariant.first);
       none = none;
+      still = λ finished. still-driven c.args.crew.now c.workers.crew c.drive.new.crew c.workers.number c.workers-test.true c.workers.auto.crew finished c.workers.invariant.still
+          c.in_ok-left.ensures.still;
     }
 
 pub returns-clause-few : goal.returns-clause-few
@@ -104,3 +107,27 @@ bounds-crew-number c = rw (c.drive.auto.crew, c.workers.auto.crew) c.workers-tes
 
 pub drive-requires-clause-there : goal.drive-requires-clause-there
 drive-requires-clause-there c = rw c.workers.auto.crew c.workers-test.true
+
+pub returns-then-is_paused-clause-in_time : goal.returns-then-is_paused-clause-in_time
+returns-then-is_paused-clause-in_time c =
+    let run : Run = record { flow = c.args.flow.now; arms = c.args.arms.now } in
+    c.in_ok-left.ensures.in_time (none-late run c.workers.crew c.workers.invariant.none)
+
+pub returns-then-is_paused-clause-still : goal.returns-then-is_paused-clause-still
+returns-then-is_paused-clause-still c finished =
+    still-driven c.args.crew.now c.workers.crew c.drive.new.crew c.workers.number c.workers-test.true c.workers.auto.crew finished c.workers.invariant.still c.in_ok-left.ensures.still
+
+pub returns-then-not-is_finished-clause-in_time : goal.returns-then-not-is_finished-clause-in_time
+returns-then-not-is_finished-clause-in_time c =
+    let run : Run = record { flow = c.args.flow.now; arms = c.args.arms.now } in
+    c.in_ok-left.ensures.in_time (none-late run c.workers.crew c.workers.invariant.none)
+
+pub returns-then-not-is_finished-clause-still : goal.returns-then-not-is_finished-clause-still
+returns-then-not-is_finished-clause-still c finished =
+    still-driven c.args.crew.now c.workers.crew c.drive.new.crew c.workers.number c.workers-test.true c.workers.auto.crew finished c.workers.invariant.still c.in_ok-left.ensures.still
+
+pub returns-clause-in_time : goal.returns-clause-in_time
+returns-clause-in_time c = none-late (record { flow = c.args.flow.now; arms = c.args.arms.now }) c.workers.crew c.workers.invariant.none
+
+pub returns-clause-still : goal.returns-clause-still
+returns-clause-still c = c.workers.invariant.still

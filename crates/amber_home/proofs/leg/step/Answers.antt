@@ -1,9 +1,10 @@
 -- The worker moves, and its links are settled again.
-use Rattle.std.proofs.Common.{◌∙◌, Result, Ok, Err, OnOk, length-set}
+use Rattle.std.proofs.Common.{◌∙◌, length-set}
 use Rattle.std.proofs.lemmas.Result.{on_ok_weaker}
+use Rattle.amber_home.proofs.Going.{on_ok_all}
 use Rattle.amber_home.proofs.Numbers.{length-put}
 use Rattle.amber_home.proofs.Passed.{besides-then, joined-put}
-use Rattle.amber_home.proofs.Stepped.{IsTurn, at-crew, come-then, goes-on, goes-on-settled, joined-then, not-wanted, one-then, only-then, steps-then}
+use Rattle.amber_home.proofs.Stepped.{IsTurn, at-crew, come-then, goes-on, goes-on-settled, joined-then, not-wanted, one-then, only-then, rows-then, steps-then, writes-then}
 use Rattle.amber_home.proofs.Split.{read-at}
 use Rattle.amber_home.proofs.leg.step.Goals as goal
 
@@ -44,16 +45,27 @@ returns-then-not-wanted-clause-one c =
 pub returns-then-not-wanted-clause-only : goal.returns-then-not-wanted-clause-only
 returns-then-not-wanted-clause-only c = only-then c.args.crew.now c.args.number c.turn.new.self c.index-crew-number-2.result c.requires.there c.settle_outputs.new.crew c.in_ok-settle_outputs.ensures.aside
 
+pub returns-then-not-wanted-clause-rows : goal.returns-then-not-wanted-clause-rows
+returns-then-not-wanted-clause-rows c =
+    let t = c.in_ok-turn.ensures in
+    let turn : IsTurn c.args.crew.now c.args.number c.turn.new.self c.index-crew-number-2.result c.requires.there c.in_ok-turn.field-0 =
+    record { keeps = t.keeps; answer = t.answer; moved = t.moved; ends = t.ends; unsent = t.unsent; unlooked = t.unlooked } in
+    rows-then c.args.crew.now c.args.number c.turn.new.self c.index-crew-number-2.result c.requires.there c.in_ok-turn.field-0 turn c.settle_outputs.new.crew c.in_ok-settle_outputs.ensures.aside
+
+pub returns-then-not-wanted-clause-writes : goal.returns-then-not-wanted-clause-writes
+returns-then-not-wanted-clause-writes c =
+    let t = c.in_ok-turn.ensures in
+    let turn : IsTurn c.args.crew.now c.args.number c.turn.new.self c.index-crew-number-2.result c.requires.there c.in_ok-turn.field-0 =
+    record { keeps = t.keeps; answer = t.answer; moved = t.moved; ends = t.ends; unsent = t.unsent; unlooked = t.unlooked } in
+    writes-then c.args.crew.now c.args.number c.turn.new.self c.index-crew-number-2.result c.requires.there c.in_ok-turn.field-0 turn c.requires.crew c.requires.first c.requires.unfinished
+    c.settle_outputs.new.crew c.in_ok-settle_outputs.ensures.aside
+
 pub settle_inputs-requires-clause-crew : goal.settle_inputs-requires-clause-crew
 settle_inputs-requires-clause-crew c =
     let t = c.in_ok-turn.ensures in
     let turn : IsTurn c.args.crew.now c.args.number c.turn.new.self c.index-crew-number-2.result c.requires.there c.in_ok-turn.field-0 =
     record { keeps = t.keeps; answer = t.answer; moved = t.moved; ends = t.ends; unsent = t.unsent; unlooked = t.unlooked } in
     joined-put _ c.settle_outputs.new.crew (joined-then c.args.crew.now c.args.number c.turn.new.self c.index-crew-number-2.result c.requires.there c.in_ok-turn.field-0 turn (at-crew c.args.crew.now c.requires.crew)) c.in_ok-settle_outputs.ensures.put
-
-on_ok_all : {T E P Q R S : Type 0} (result : Result T E) → (P → Q → R → S) → OnOk result P → OnOk result Q → OnOk result R → OnOk result S
-on_ok_all (Ok done) all p q r = all p q r
-on_ok_all (Err error) all p q r = tt
 
 pub returns-clause-on : goal.returns-clause-on
 returns-clause-on c =
@@ -89,6 +101,26 @@ returns-clause-only c =
     on_ok_weaker c.settle_inputs.result
     (λ aside. only-then c.args.crew.now c.args.number c.turn.new.self c.index-crew-number-2.result c.requires.there c.settle_inputs.new.crew
     (besides-then _ c.settle_outputs.new.crew c.settle_inputs.new.crew c.in_ok-settle_outputs.ensures.aside aside))
+    c.settle_inputs.ensures.aside
+
+pub returns-clause-rows : goal.returns-clause-rows
+returns-clause-rows c =
+    let t = c.in_ok-turn.ensures in
+    let turn : IsTurn c.args.crew.now c.args.number c.turn.new.self c.index-crew-number-2.result c.requires.there c.in_ok-turn.field-0 =
+    record { keeps = t.keeps; answer = t.answer; moved = t.moved; ends = t.ends; unsent = t.unsent; unlooked = t.unlooked } in
+    on_ok_weaker c.settle_inputs.result
+    (λ aside. rows-then c.args.crew.now c.args.number c.turn.new.self c.index-crew-number-2.result c.requires.there c.in_ok-turn.field-0 turn c.settle_inputs.new.crew
+    (besides-then _ c.settle_outputs.new.crew c.settle_inputs.new.crew c.in_ok-settle_outputs.ensures.aside aside))
+    c.settle_inputs.ensures.aside
+
+pub returns-clause-writes : goal.returns-clause-writes
+returns-clause-writes c =
+    let t = c.in_ok-turn.ensures in
+    let turn : IsTurn c.args.crew.now c.args.number c.turn.new.self c.index-crew-number-2.result c.requires.there c.in_ok-turn.field-0 =
+    record { keeps = t.keeps; answer = t.answer; moved = t.moved; ends = t.ends; unsent = t.unsent; unlooked = t.unlooked } in
+    on_ok_weaker c.settle_inputs.result
+    (λ aside. writes-then c.args.crew.now c.args.number c.turn.new.self c.index-crew-number-2.result c.requires.there c.in_ok-turn.field-0 turn c.requires.crew c.requires.first
+    c.requires.unfinished c.settle_inputs.new.crew (besides-then _ c.settle_outputs.new.crew c.settle_inputs.new.crew c.in_ok-settle_outputs.ensures.aside aside))
     c.settle_inputs.ensures.aside
 
 pub turn-requires : goal.turn-requires

@@ -1,12 +1,11 @@
 -- The first that has not finished makes the step.
-use Rattle.std.proofs.Common.{◌≡◌, refl, sym, ap, subst, ◌∙◌, ◌+◌, false, arith, rules}
+use Rattle.std.proofs.Common.{◌≡◌, refl, sym, ap, subst, ◌∙◌, ◌+◌, ◌<◌, length, false, arith, rules}
 use Rattle.std.specs.List.{list_all}
 use Rattle.std.specs.Result.{OnOk}
 use Rattle.std.proofs.lemmas.Bool.{false≢true}
-use Rattle.std.proofs.lemmas.Result.{on_ok_weaker}
 use Rattle.amber_worker.specs.WorkerState.{WorkerState}
-use Rattle.amber_home.specs.AtWork.{FirstGoesOn, GoesOn, IsCrew, steps_by, worker_state_at}
-use Rattle.amber_home.proofs.Going.{finished-more}
+use Rattle.amber_home.specs.AtWork.{FirstGoesOn, IsCrew, steps_by, worker_state_at}
+use Rattle.amber_home.proofs.Going.{finished-more, on_ok_all}
 use Rattle.amber_home.proofs.Split.{read-at}
 use Rattle.amber_home.proofs.Steps.{sum-member}
 use Rattle.amber_home.proofs.Stopped.{have-all}
@@ -21,7 +20,7 @@ step-requires-clause-crew c = subst IsCrew (sym c.workers.invariant.same) c.requ
 pub step-requires-clause-unfinished : goal.step-requires-clause-unfinished
 step-requires-clause-unfinished c =
     ap (λ (w : WorkerState). w.finished) (sym (read-at c.workers.crew c.workers.number c.index-crew-number.result (search rules)))
-    ∙ sym c.is_finished.ensures.over ∙ c.if-not-is_finished.true
+    ∙ sym c.is_finished.ensures ∙ c.if-not-is_finished.true
 
 pub step-requires-clause-few : goal.step-requires-clause-few
 step-requires-clause-few c =
@@ -34,10 +33,12 @@ pub returns-then-not-is_finished-clause-on : goal.returns-then-not-is_finished-c
 returns-then-not-is_finished-clause-on c =
     let not-yet : (worker_state_at c.workers.crew c.workers.number).finished ≡ false =
     ap (λ (w : WorkerState). w.finished) (sym (read-at c.workers.crew c.workers.number c.index-crew-number.result (search rules)))
-    ∙ sym c.is_finished.ensures.over ∙ c.if-not-is_finished.true in
-    let first : GoesOn c.workers.crew c.step.new.crew c.workers.number → FirstGoesOn c.workers.crew c.step.new.crew =
-    λ on. record { worker = c.workers.number; there = search rules; first = c.workers.invariant.first; unfinished = not-yet; on = on } in
-    subst (λ xs. OnOk c.step.result (FirstGoesOn xs c.step.new.crew)) c.workers.invariant.same (on_ok_weaker c.step.result first c.step.ensures.on)
+    ∙ sym c.is_finished.ensures ∙ c.if-not-is_finished.true in
+    let inside : c.workers.number < length c.workers.crew = search rules in
+    subst (λ xs. OnOk c.step.result (FirstGoesOn xs c.step.new.crew)) c.workers.invariant.same
+    (on_ok_all c.step.result
+    (λ on only writes. record { worker = c.workers.number; there = inside; first = c.workers.invariant.first; unfinished = not-yet; on = on; only = only; writes = writes })
+    c.step.ensures.on c.step.ensures.only c.step.ensures.writes)
 
 pub returns-then-not-is_finished-clause-one : goal.returns-then-not-is_finished-clause-one
 returns-then-not-is_finished-clause-one c = subst (λ xs. OnOk c.step.result (steps_by c.step.new.crew ≡ steps_by xs + 1)) c.workers.invariant.same c.step.ensures.one
@@ -45,7 +46,7 @@ returns-then-not-is_finished-clause-one c = subst (λ xs. OnOk c.step.result (st
 pub workers-preserved : goal.workers-preserved
 workers-preserved c = record {
   same = c.workers.invariant.same;
-  first = finished-more c.workers.crew c.workers.number c.index-crew-number.result (search rules) (sym c.is_finished.ensures.over ∙ c.if-not-is_finished.false) c.workers.invariant.first;
+  first = finished-more c.workers.crew c.workers.number c.index-crew-number.result (search rules) (sym c.is_finished.ensures ∙ c.if-not-is_finished.false) c.workers.invariant.first;
 }
 
 pub unreachable-requires : goal.unreachable-requires

@@ -6,7 +6,7 @@ use Rattle.amber_worker.specs.WorkerState.{WorkerState}
 use Rattle.amber_home.specs.AtWork.{IsCrew, steps_by}
 use Rattle.amber_home.specs.HomeState.{HomeState, is_open, state_of}
 use Rattle.amber_home.specs.Parts.{open_parts}
-use Rattle.amber_home.proofs.OneMore.{crew-open, home-stepped, left-open, others-stepped, steps-on, steps-open, steps-stepped}
+use Rattle.amber_home.proofs.OneMore.{crew-open, home-stepped, left-open, left-stepped, steps-on, steps-open, steps-stepped}
 use Rattle.amber_home.proofs.home.Home.home_step.Goals as goal
 
 pub step_first-requires-clause-crew : goal.step_first-requires-clause-crew
@@ -49,6 +49,6 @@ returns-clause-ok c =
     (steps-stepped e i.crew.items c.as_mut_slice.result.now c.step_first.new.crew _ i.arms i.stops i.phase i.crew.len c.self.invariant
     (ap (λ (h : HomeState). is_open h.phase) c.self.view_is ∙ c.requires.within) c.as_mut_slice.ensures.value c.step_first.auto.crew i.crew.ok.0 refl
     (subst (λ (h : HomeState). steps_in (state_of h) < h.most) (sym c.self.view_is) c.requires.few) c.in_ok-step_first.ensures.on c.in_ok-step_first.ensures.one)
-    (others-stepped e i.crew.items c.as_mut_slice.result.now c.step_first.new.crew _ i.arms i.stops i.phase i.crew.len c.self.invariant
+    (left-stepped e i.crew.items c.as_mut_slice.result.now c.step_first.new.crew _ i.arms i.stops i.phase i.crew.len c.self.invariant
     (ap (λ (h : HomeState). is_open h.phase) c.self.view_is ∙ c.requires.within) c.as_mut_slice.ensures.value c.step_first.auto.crew i.crew.ok.0 refl
     (subst (λ (h : HomeState). steps_in (state_of h) < h.most) (sym c.self.view_is) c.requires.few) c.in_ok-step_first.ensures.on c.in_ok-step_first.ensures.one)
