@@ -1,8 +1,8 @@
 // A home called by hand: a leg step by step, commands at rest, and a leg to the end.
 use crate::expected::expect_text;
 use crate::home_calls::{
-    answer, apply, close_leg, end, finished, home_over, numbers, open_leg, shown, step, stops,
-    take_answer,
+    answer, apply, close_leg, finished, home_over, numbers, open_leg, run_leg, shown, step, stops,
+    take_answer, written,
 };
 use amber_home::{Home, NoMemory, Phase};
 use amber_log::Command;
@@ -89,12 +89,73 @@ fn a_filter_shows_what_was_asked_of_it(rt: HostRuntime) -> Result<(), Fail> {
     )
 }
 
+// ---- a leg up to a pause
+
+// Asks the filter to pause after so many rows, and runs a leg. Whether both was done.
+fn run_to_a_pause(alloc: Global, home: &mut Home, n: u64) -> Result<bool, Fail> {
+    let pause = Command::Pause { op: 2, n };
+    Ok(apply(alloc, home, &pause)? && run_leg(alloc, home, false)?)
+}
+
+// The stops of such a leg, what the filter shows behind it, and what each worker has written down.
+fn paused_text(alloc: Global, home: &mut Home, n: u64) -> Result<String, Fail> {
+    let ran = run_to_a_pause(alloc, home, n)?;
+    let stops = stops(alloc, home)?;
+    let shown = shown(alloc, home)?;
+    let written = written(alloc, home)?;
+    Ok(format!(in alloc; "ran {ran}\n{stops}{shown}{written}")?)
+}
+
+// The filter takes the third row and emits it, which is its second; then nobody does anything more.
+#[test]
+fn a_leg_stops_with_the_row_that_a_pause_asks_for(rt: HostRuntime) -> Result<(), Fail> {
+    let alloc = rt.alloc();
+    let mut home = home_over(alloc, "n\n2\n1\n3\n4\n")?;
+    expect_text(
+        paused_text(alloc, &mut home, 2)?,
+        "ran true\nstop pause big 2 2\ninspect big filter\nconstant 2\nworker 0 taken 3 rest 1 out 2 pending 0 ready\nw 0 g 4 4 f 0 0 w 1 t 0 0 g 3 2 ",
+    )
+}
+
+// Two rows were emitted, so a pause at one stands where the second leg begins.
+#[test]
+fn nobody_does_anything_where_a_pause_stands(rt: HostRuntime) -> Result<(), Fail> {
+    let alloc = rt.alloc();
+    let mut home = home_over(alloc, "n\n2\n1\n3\n4\n")?;
+    let _ran = run_to_a_pause(alloc, &mut home, 2)?;
+    expect_text(
+        paused_text(alloc, &mut home, 1)?,
+        "ran true\nstop pause big 1 2\ninspect big filter\nconstant 2\nworker 0 taken 3 rest 1 out 2 pending 0 ready\n",
+    )
+}
+
+// Stops behind the first row of the filter, sets another constant, and goes on to the end; and the answer.
+fn changed_text(alloc: Global, home: &mut Home) -> Result<String, Fail> {
+    let ran = run_to_a_pause(alloc, home, 1)?;
+    let value = Value::Int(4);
+    let set = apply(alloc, home, &Command::Set { op: 2, value })?;
+    let ended = run_leg(alloc, home, true)?;
+    let told = answer(alloc, home)?;
+    Ok(format!(in alloc; "ran {ran} set {set} ended {ended}\n{told}")?)
+}
+
+// The 2 has gone through; the 3, which comes behind the change, does not.
+#[test]
+fn a_constant_holds_from_the_next_row_on(rt: HostRuntime) -> Result<(), Fail> {
+    let alloc = rt.alloc();
+    let mut home = home_over(alloc, "n\n2\n1\n3\n4\n")?;
+    expect_text(
+        changed_text(alloc, &mut home)?,
+        "ran true set true ended true\nrows 2\nn\n2\n4\n",
+    )
+}
+
 // ---- a leg to the end
 
 // Brings a home to its end, after a look at the filter. Whether each call was made.
 fn come_to_the_end(alloc: Global, home: &mut Home) -> Result<bool, Fail> {
     let look = Command::Inspect { op: 2 };
-    Ok(ask(alloc, home)? && apply(alloc, home, &look)? && end(alloc, home)?)
+    Ok(ask(alloc, home)? && apply(alloc, home, &look)? && run_leg(alloc, home, true)?)
 }
 
 // The answer, as it is told and as it is taken out, and whether the home is over then.

@@ -3,9 +3,10 @@ ghost use Rattle.std.specs.Prelude.{◌≡◌, false, true};
 ghost use Rattle.amber_log.specs.Grammar.{ends_over};
 ghost use Rattle.amber_home.specs.HomeState.{has_crew, is_done_at_rest, is_open};
 
+use crate::journals::entries_text;
 use crate::query::{files_of, query};
 use amber_home::{Home, NoMemory, Phase};
-use amber_log::{Close, Command, fits};
+use amber_log::{Close, Command, Item, Leg, fits};
 use amber_meaning::Answer;
 use amber_report::{answer_lines, inspect_lines, stop_lines};
 use amber_rows::Bytes;
@@ -91,12 +92,12 @@ pub fn close_leg(alloc: Global, home: &mut Home) -> Result<bool, NoMemory> {
     }
 }
 
-/// Runs a leg to the end.
-pub fn end(alloc: Global, home: &mut Home) -> Result<bool, Fail> {
+/// Runs a leg, up to a stop or to the end.
+pub fn run_leg(alloc: Global, home: &mut Home, to_end: bool) -> Result<bool, Fail> {
     if !may_go_on(home) {
         return Ok(false);
     }
-    home.leg_home(alloc, true)?;
+    home.leg_home(alloc, to_end)?;
     Ok(true)
 }
 
@@ -128,6 +129,25 @@ pub fn stops(alloc: Global, home: &Home) -> Result<String, NoMemory> {
     let stops = home.stops(alloc)?;
     let lines = stop_lines(alloc, home.flow(), &stops)?;
     text_of(alloc, &lines)
+}
+
+// What each worker has written down in a leg that stands in the log.
+fn parts_text(alloc: Global, leg: &Leg) -> Result<String, NoMemory> {
+    let mut told = String::new(alloc);
+    for part in leg.parts.get() {
+        let worker = part.worker;
+        let entries = entries_text(alloc, part.entries.get())?;
+        told.push_str(&format!(in alloc; "w {worker} {entries}")?)?;
+    }
+    Ok(told)
+}
+
+/// What each worker has written down in the last leg; nothing where a command came behind it.
+pub fn written(alloc: Global, home: &Home) -> Result<String, NoMemory> {
+    match home.log().items.get().last() {
+        Some(Item::Run(leg) | Item::End(leg)) => parts_text(alloc, leg),
+        _ => Ok(String::new(alloc)),
+    }
 }
 
 /// What the filter shows.

@@ -19,6 +19,8 @@ mod home;
 #[cfg(test)]
 mod home_calls;
 #[cfg(test)]
+mod journals;
+#[cfg(test)]
 mod query;
 #[cfg(test)]
 mod workers;

@@ -5,9 +5,9 @@ ghost use Rattle.amber_worker.specs.Made.{IsFreshIn, IsFreshOut};
 
 use crate::ends::{deliver, last_end, links};
 use crate::expected::expect_text;
+use crate::journals::entries_text;
 use amber_flow::read_flow;
 use amber_link::{In, NoMemory, Out};
-use amber_log::Entry;
 use amber_rows::{Flow, What};
 use amber_worker::{Turn, Worker};
 use std::alloc::Global;
@@ -170,21 +170,6 @@ fn tell_all(
     Ok(())
 }
 
-// The entries of a journal: each a letter and two numbers, which are 0 where it has none.
-fn journal(alloc: Global, worker: &Worker) -> Result<String, NoMemory> {
-    let mut told = String::new(alloc);
-    for entry in worker.journal() {
-        let (what, one, other) = match entry {
-            Entry::Take { from, batch } => ("t", u64::from(*from), *batch),
-            Entry::Go { rows, outs } => ("g", *rows, *outs),
-            Entry::Finish => ("f", 0, 0),
-            _ => ("?", 0, 0),
-        };
-        told.push_str(&format!(in alloc; "{what} {one} {other} ")?)?;
-    }
-    Ok(told)
-}
-
 // The steps of a join after each of these rows, a row a sender, from the last sender on; and what it has written down.
 fn tell_join(
     alloc: Global,
@@ -196,7 +181,7 @@ fn tell_join(
     requires { All (IsFreshOut 1) senders.old.items }
 {
     tell_all(alloc, senders, join, numbers, told)?;
-    told.push_str(&journal(alloc, join)?)?;
+    told.push_str(&entries_text(alloc, join.journal())?)?;
     Ok(())
 }
 

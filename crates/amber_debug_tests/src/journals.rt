@@ -1,0 +1,19 @@
+// What workers have written down, as a text.
+use amber_log::Entry;
+use amber_worker::NoMemory;
+use std::alloc::Global;
+
+/// Entries: each a letter and two numbers, which are 0 where it has none.
+pub fn entries_text(alloc: Global, entries: &[Entry]) -> Result<String, NoMemory> {
+    let mut told = String::new(alloc);
+    for entry in entries {
+        let (what, one, other) = match entry {
+            Entry::Take { from, batch } => ("t", u64::from(*from), *batch),
+            Entry::Go { rows, outs } => ("g", *rows, *outs),
+            Entry::Finish => ("f", 0, 0),
+            _ => ("?", 0, 0),
+        };
+        told.push_str(&format!(in alloc; "{what} {one} {other} ")?)?;
+    }
+    Ok(told)
+}
