@@ -294,36 +294,44 @@ line-whole : (s : Failure) (line rest : List ℕ) (c d e : ℕ) → Counts {A = 
 line-whole failure.OutFault line rest c d e n split rose quiet small = no-front line rest split
 line-whole other line rest c d e n split rose quiet small = absurd (unrisen c d e n quiet small rose)
 
+-- the log could not be written, and a count shows it
+wrote-rose : (s : Failure) (a b : ℕ) → CountsWrites {A = Unit {0}} (Err s) a b → s ≡ failure.LogFault → Rose a b
+wrote-rose failure.LogFault a b n e = n.1
+wrote-rose other a b n e = cc
+
 pub ended : (s : Failure) (words : List (List ℕ)) (c : Change) (got : Option (List ℕ)) (counts : Counted) (result : Status)
-    → Runs {A = Unit {0}} (Err s) words c → Counts {A = Unit {0}} (Err s) counts.puts counts.mid → Refuses result s (putting c.now.got got counts.mid counts.puts_now) → IsToldAs s result
+    → Runs {A = Unit {0}} (Err s) words c → Counts {A = Unit {0}} (Err s) counts.puts counts.mid → CountsWrites {A = Unit {0}} (Err s) counts.writes counts.writes_now → Refuses result s (putting c.now.got got counts.mid counts.puts_now) → IsToldAs s result
     → Told c.before.files (λ files. Names s (IsReached words files)) → Ended words result (old_world c counts) (new_world c got counts)
-ended s words c got counts result r n (le, begun, inl (same, all, is)) tells named = record {
+ended s words c got counts result r n w (le, begun, inl (same, all, is)) tells named = record {
   cause = s;
   answer = tells;
   line = error_line_of s;
   rest = [];
   split = append-nil (error_line_of s);
   whole = λ some quiet small. refl;
+  wrote = wrote-rose s counts.writes counts.writes_now w;
   left = stops-on s words (error_line_of s) [] c got (append-nil (error_line_of s)) all r;
   named = named;
 }
-ended s words c got counts result r n (le, begun, inr (inl (same, none))) tells named = record {
+ended s words c got counts result r n w (le, begun, inr (inl (same, none))) tells named = record {
   cause = s;
   answer = tells;
   line = begun.0;
   rest = begun.1;
   split = begun.2;
   whole = λ some quiet small. absurd (some none);
+  wrote = wrote-rose s counts.writes counts.writes_now w;
   left = stops-on s words begun.0 begun.1 c got begun.2 begun.3 r;
   named = named;
 }
-ended s words c got counts result r n (le, begun, inr (inr (rose, is))) tells named = record {
+ended s words c got counts result r n w (le, begun, inr (inr (rose, is))) tells named = record {
   cause = s;
   answer = tells;
   line = begun.0;
   rest = begun.1;
   split = begun.2;
   whole = λ some quiet small. line-whole s begun.0 begun.1 counts.puts counts.mid counts.puts_now n begun.2 rose quiet small;
+  wrote = wrote-rose s counts.writes counts.writes_now w;
   left = stops-on s words begun.0 begun.1 c got begun.2 begun.3 r;
   named = named;
 }

@@ -132,6 +132,8 @@ pub record Ended (words : List (List ℕ)) (result : Status) (old new : World) :
   pub rest : List ℕ
   pub split : line ++ rest ≡ error_line_of cause
   pub whole : result ≢ status.NoMemory → new.puts ≡ old.puts → old.puts < 2 ^ 64 - 1 → line ≡ error_line_of cause
+  -- the log is blamed only where a write failed, also where memory ran out at its line
+  pub wrote : cause ≡ failure.LogFault → Rose old.writes new.writes
   pub left : Stops words cause line (change_between old new)
   pub named : Told old.files (λ files. Names cause (IsReached words files))
 

@@ -36,7 +36,7 @@ returns-in-Err g c =
     let late = lates s words did counts result ran c.in-Err.ensures.writes c.in-Err.ensures.puts le refused in
     record {
       ok = λ is. absurd (not-ok result s refused is);
-      ended = λ failed. ended s words did (g.O.Sink.written c.refuse.new.out) counts result ran c.in-Err.ensures.puts c.refuse.ensures.refuses c.refuse.ensures.told c.in-Err.ensures.named;
+      ended = λ failed. ended s words did (g.O.Sink.written c.refuse.new.out) counts result ran c.in-Err.ensures.puts c.in-Err.ensures.writes c.refuse.ensures.refuses c.refuse.ensures.told c.in-Err.ensures.named;
       course = answers s words did result ran refused;
       complete = complete words did counts result late;
       puts_grew = puts-grow words did counts result late;
