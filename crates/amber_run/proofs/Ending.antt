@@ -215,18 +215,18 @@ behind xs part line = append_assoc xs (part ++ []) line ∙ ap (λ p. xs ++ (p +
 
 left-on : (t : RunTask) (s : Failure) (line : List ℕ) (shown : Shown) (got : Option (List ℕ)) → Appends shown.got got line → IsLeft t s [] shown → IsLeft t s line (showing shown.files got)
 left-on t s line shown got p h = record {
-  bytes = h.bytes;
   batch = h.batch;
   done = h.done;
   last = h.last;
   left = h.left;
+  bytes = h.bytes;
   part = h.part;
   rest = h.rest;
   place = h.place;
   few = h.few;
   read = h.read;
+  stands = h.stands;
   legal = h.legal;
-  size = h.size;
   commands = h.commands;
   split = h.split;
   whole = h.whole;

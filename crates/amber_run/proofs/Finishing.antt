@@ -27,7 +27,7 @@ use Rattle.amber_laws.proofs.Counted.{schedules_take_one_total}
 use Rattle.amber_laws.proofs.Schedules.{ends_reply_the_answer}
 use Rattle.amber_debug.specs.Session.{Session, command_of, is_long_item}
 use Rattle.amber_run.specs.Outcome.{Counts}
-use Rattle.amber_run.specs.UnderWay.{Halts, HasAnswer, IsAt, IsBare, IsLeft, Leaves, Opens, IsUnderWay, Worked}
+use Rattle.amber_run.specs.UnderWay.{EndsTorn, Halts, HasAnswer, HasText, IsAt, IsBare, IsLeft, IsUnderWay, Leaves, Opens, Worked, log_of_items}
 use Rattle.amber_run.specs.RunTask.{AlterNothing, RunTask, end_alone, ends_long, most_steps, query_at}
 use Rattle.amber_run.specs.World.{Shown, showing}
 use Rattle.amber_course.specs.declared.failure.Failure.{Failure}
@@ -184,16 +184,22 @@ unaltered-items (item.Do c ∷ items) left h =
 unaltered-items (item.Run leg ∷ items) left h = unaltered-items items left h
 unaltered-items (item.End leg ∷ items) left h = unaltered-items items left h
 
-same-size : (a b : ℕ) (items : List Item) → (a ≡ b) ⊎ (items ≡ []) → EndsLong items → a ≡ b
-same-size a b items (inl e) h = e
-same-size a b items (inr e) h = absurd (no-push h.front h.one (sym e ∙ h.split))
+-- the log that is left is of the run's batch size, where it has an item
+same-size : (t : RunTask) (s : Failure) (line : List ℕ) (shown : Shown) → (h : IsLeft t s line shown) → EndsLong (h.done ++ h.last) → h.batch ≡ t.batch
+same-size t s line shown h ends = by-form h.stands
+  where
+    by-form : HasText t (log_of_items h.batch (h.done ++ h.last)) h.bytes
+        ⊎ ((s ≡ failure.LogFault) × (h.last ≡ []) × EndsTorn t h.left (log_of_items h.batch (h.done ++ h.last)) h.bytes) → h.batch ≡ t.batch
+    by-form (inl text) = text.batch
+    by-form (inr (is, all, inl torn)) = torn.batch
+    by-form (inr (is, all, inr torn)) = absurd (no-push ends.front ends.one (sym (ap (λ (log : Log). log.items) torn.none) ∙ ends.split))
 
 pub too-long : (t : RunTask) (line : List ℕ) (shown : Shown) → IsFlow t.flow → IsLeft t failure.Long line shown → AlterNothing t.commands
     → most_steps < step_total (query_at t t.batch)
 too-long t line shown flow h nothing =
     let items = h.done ++ h.last in
     let unaltered = unaltered-items items h.left (subst AlterNothing (sym h.commands) nothing) in
-    rw (same-size h.batch t.batch items h.size (some-long items h.closed)) at (total-of (query_at t h.batch) (record { batch = h.batch; items = items }) flow h.legal unaltered h.closed)
+    rw (same-size t failure.Long line shown h (some-long items h.closed)) at (total-of (query_at t h.batch) (record { batch = h.batch; items = items }) flow h.legal unaltered h.closed)
 
 -- ---- the run
 

@@ -1,11 +1,11 @@
 -- What stands after each step of a run.
-use Rattle.std.proofs.Common.{◌≡◌, ◌≢◌, ℕ, ◌≤◌, inl, inr, List, [], ◌∷◌, ◌++◌, length, map, take, Option, Result, Ok, Err, IfOk, Bool, true, false, refl, sym, ap, subst, ◌∙◌, arith, append_assoc}
+use Rattle.std.proofs.Common.{◌≡◌, ◌≢◌, ℕ, suc, ◌+◌, ◌≤◌, ◌⊎◌, inl, inr, length-append, List, [], ◌∷◌, ◌++◌, length, map, take, Option, Result, Ok, Err, IfOk, Bool, true, false, refl, sym, ap, subst, ◌∙◌, arith, append_assoc}
 use Rattle.std.proofs.lemmas.List.{append-nil, map-append}
 use Rattle.std.proofs.Math.Seq.{take-append_seam}
 use Rattle.std.specs.Io.KnownBytes.{Appends}
 use Rattle.amber_io.specs.Folder.{IsThere, Named, with_file, with_more}
 use Rattle.amber_io.proofs.Told.{more_there, with_more-with_file}
-use Rattle.amber_log.specs.Grammar.{AreItems, IsBatch, IsItem, is_last}
+use Rattle.amber_log.specs.Grammar.{AreItems, IsBatch, IsItem, IsLog, is_last}
 use Rattle.amber_log.specs.LogText.{head_text, item_text, log_text}
 use Rattle.amber_log.specs.ReadAs.{IsReadAs}
 use Rattle.amber_log.specs.declared.command.Command.{Command}
@@ -21,7 +21,7 @@ use Rattle.amber_meaning.proofs.Fronts.{transcripts_grow}
 use Rattle.amber_debug.specs.Session.{Does, Grew, Session, command_of, is_long_item, one_more, query_in}
 use Rattle.amber_debug.specs.declared.done.DebugErr.TheVariants as debug_err
 use Rattle.amber_debug.specs.declared.done.Done.{Done}
-use Rattle.amber_run.specs.UnderWay.{ClosesAs, Halts, IsBare, IsLeft, Opens, IsUnderWay}
+use Rattle.amber_run.specs.UnderWay.{ClosesAs, Halts, HasText, HasTornHead, HasTornItem, IsBare, IsLeft, IsNextItem, IsUnderWay, Opens, log_of_items}
 use Rattle.amber_course.specs.Steps.{Sent, putting}
 use Rattle.amber_run.specs.RunTask.{IsSession, RunTask, ends_long, query_at}
 use Rattle.amber_run.specs.World.{showing}
@@ -34,6 +34,13 @@ use Rattle.amber_course.proofs.Lines.{appends-on, appends-same, keeps-nil}
 
 take-front : (part rest whole : List ℕ) → part ++ rest ≡ whole → take (length part) whole ≡ part
 take-front part rest whole e = subst (λ w. take (length part) w ≡ part) e (take-append_seam part rest)
+
+-- a front part is not the whole where some is left
+not-whole : (part : List ℕ) (x : ℕ) (xs whole : List ℕ) → part ++ x ∷ xs ≡ whole → part ≡ whole → ⊥
+not-whole part x xs whole e all =
+    let longer : length part + suc (length xs) ≡ length whole = sym (length-append part (x ∷ xs)) ∙ ap length e in
+    let same : length part ≡ length whole = ap length all in
+    omega arith
 
 pub last-is : (over : Bool) (items : List Item) (one : Item) → AreItems over (items ++ one ∷ []) → IsItem one
 unfolding AreItems
@@ -65,23 +72,24 @@ stands-start t batch files written h is place sent = record {
   short = refl;
 }
 
--- a log of no item
-left-head : (t : RunTask) (bytes : List ℕ) (batch : ℕ) (files : Option Named) (written : Option (List ℕ)) → IsBatch batch → IsReadAs bytes (record { batch = batch; items = [] })
-    → files ≡ with_file t.told t.name bytes → Appends t.before written [] → IsLeft t failure.LogFault [] (showing files written)
+-- a log of no item, whose head was written, or is torn
+left-head : (t : RunTask) (bytes : List ℕ) (batch : ℕ) (files : Option Named) (written : Option (List ℕ)) → IsBatch batch → IsReadAs bytes (log_of_items batch [])
+    → HasText t (log_of_items batch []) bytes ⊎ HasTornHead t (log_of_items batch []) bytes → files ≡ with_file t.told t.name bytes → Appends t.before written []
+    → IsLeft t failure.LogFault [] (showing files written)
 unfolding transcript_of replies
-left-head t bytes batch files written h read place sent = record {
-  bytes = bytes;
+left-head t bytes batch files written h read stands place sent = record {
   batch = batch;
   done = [];
   last = [];
   left = t.commands;
+  bytes = bytes;
   part = [];
   rest = [];
   place = place;
   few = omega arith;
   read = read;
+  stands = elim stands [ inl text ↦ inl text | inr torn ↦ inr (refl, refl, inr torn) ];
   legal = legal-start t batch h;
-  size = inr refl;
   commands = refl;
   split = refl;
   whole = λ n. refl;
@@ -111,19 +119,29 @@ exit-create other t log files written h sent = absurd h
 pub exit-bare : (t : RunTask) (files : Option Named) (written : Option (List ℕ)) → files ≡ with_file t.told t.name [] → Appends t.before written [] → IsBare t [] (showing files written)
 exit-bare t files written h sent = (inr (inr h), sent)
 
+-- a head that is torn is read as the log of no item
+torn-read : (batch : ℕ) (part : List ℕ) (x : ℕ) (xs : List ℕ) → IsBatch batch → part ++ x ∷ xs ≡ head_text batch → IsReadAs part (log_of_items 400 [])
+torn-read batch part x xs h whole =
+    elim (rw (take-front part (x ∷ xs) (head_text batch) whole) at (reads-torn_head batch (length part) h)) [
+      | inl read ↦ read
+      | inr all ↦ absurd (not-whole part x xs (head_text batch) whole all)
+    ]
+
 -- its head was not written
-pub exit-head : (s : Failure) (t : RunTask) (log : Log) (batch : ℕ) (head : List ℕ) (mid files : Option Named) (written : Option (List ℕ)) → IsBatch batch → head ≡ head_text batch
-    → mid ≡ with_file t.told t.name [] → Wrote {A = Unit {0}} (Err s) mid files (record { name = t.name; bytes = head }) → Appends t.before written [] → Opens {A = Unit {0}} (Err s) t log (showing files written)
-exit-head failure.LogFault t log batch head mid files written h text made (part, rest, split, new) sent =
-    let place : files ≡ with_file t.told t.name part = new ∙ ap (λ m. with_more m t.name part) made ∙ with_more-with_file t.told t.name [] part in
-    let front : take (length part) (head_text batch) ≡ part = take-front part rest (head_text batch) (split ∙ text) in
-    let torn = rw front at (reads-torn_head batch (length part) h) in
-    inr (elim torn [
-      | inl read ↦ left-head t part 400 files written empty-batch read place sent
-      | inr all ↦ left-head t part batch files written h (rw all (head-read batch h)) place sent
-    ])
-exit-head failure.NoMemory t log batch head mid files written h text made new sent = (inr (inr (new ∙ made)), sent)
-exit-head other t log batch head mid files written h text made new sent = absurd new
+pub exit-head : (s : Failure) (t : RunTask) (log : Log) (batch : ℕ) (head : List ℕ) (mid files : Option Named) (written : Option (List ℕ)) → IsBatch batch → batch ≡ t.batch
+    → head ≡ head_text batch → mid ≡ with_file t.told t.name [] → Wrote {A = Unit {0}} (Err s) mid files (record { name = t.name; bytes = head }) → Appends t.before written []
+    → Opens {A = Unit {0}} (Err s) t log (showing files written)
+exit-head failure.LogFault t log batch head mid files written h is text made (part, rest, split, new) sent =
+    inr (by-rest rest (split ∙ text) (new ∙ ap (λ m. with_more m t.name part) made ∙ with_more-with_file t.told t.name [] part))
+  where
+    by-rest : (rest : List ℕ) → part ++ rest ≡ head_text batch → files ≡ with_file t.told t.name part → IsLeft t failure.LogFault [] (showing files written)
+    by-rest [] whole place =
+        let all : part ≡ head_text batch = sym (append-nil part) ∙ whole in
+        left-head t part batch files written h (rw all (head-read batch h)) (inl (record { batch = is; text = all ∙ sym (log_text-head batch) })) place sent
+    by-rest (x ∷ xs) whole place =
+        left-head t part 400 files written empty-batch (torn-read batch part x xs h whole) (inr (record { none = refl; front = (x ∷ xs, whole ∙ ap head_text is, λ e. cc) })) place sent
+exit-head failure.NoMemory t log batch head mid files written h is text made new sent = (inr (inr (new ∙ made)), sent)
+exit-head other t log batch head mid files written h is text made new sent = absurd new
 
 -- its head was written
 pub stands-head : (t : RunTask) (batch : ℕ) (head : List ℕ) (mid files : Option Named) (written : Option (List ℕ)) → IsBatch batch → batch ≡ t.batch → head ≡ head_text batch
@@ -136,7 +154,7 @@ stands-head t batch head mid files written h is text made new sent =
 pub opens-head : (r : Result (Unit {0}) Failure) (t : RunTask) (batch : ℕ) (head : List ℕ) (mid files : Option Named) (written : Option (List ℕ)) → IsBatch batch → batch ≡ t.batch → head ≡ head_text batch
     → mid ≡ with_file t.told t.name [] → Wrote r mid files (record { name = t.name; bytes = head }) → Appends t.before written [] → Opens r t (record { batch = batch; items = [] }) (showing files written)
 opens-head (Ok done) t batch head mid files written h is text made new sent = stands-head t batch head mid files written h is text made new sent
-opens-head (Err s) t batch head mid files written h is text made new sent = exit-head s t (record { batch = batch; items = [] }) batch head mid files written h text made new sent
+opens-head (Err s) t batch head mid files written h is text made new sent = exit-head s t (record { batch = batch; items = [] }) batch head mid files written h is text made new sent
 
 pub there-written : (r : Result (Unit {0}) Failure) (name bytes : List ℕ) (mid files : Option Named) → IsThere mid name → Wrote r mid files (record { name = name; bytes = bytes }) → IfOk r (λ done. IsThere files name)
 there-written (Ok done) name bytes mid files there new = subst (λ now. IsThere now name) (sym new) (more_there mid name bytes there)
@@ -144,23 +162,27 @@ there-written (Err s) name bytes mid files there new = tt
 
 -- ---- a command
 
+-- nothing stands behind the log's text, or the log could not be written, and a torn item does
+abbrev Stands : RunTask → Failure → List Command → Log → List ℕ → Type 0
+Stands t s left log bytes = (bytes ≡ log_text log) ⊎ ((s ≡ failure.LogFault) × HasTornItem t left log bytes)
+
 -- the log is as it was, and perhaps a torn item behind it
 left-log : (t : RunTask) (s : Failure) (left : List Command) (log : Log) (bytes : List ℕ) (mid files : Option Named) (written : Option (List ℕ)) → IsUnderWay t left log (showing mid written)
-    → files ≡ with_file t.told t.name bytes → IsReadAs bytes log → ClosesAs s false → IsLeft t s [] (showing files written)
+    → files ≡ with_file t.told t.name bytes → IsReadAs bytes log → Stands t s left log bytes → ClosesAs s false → IsLeft t s [] (showing files written)
 unfolding replies
-left-log t s left log bytes mid files written h place read closed = record {
-  bytes = bytes;
+left-log t s left log bytes mid files written h place read stands closed = record {
   batch = log.batch;
   done = log.items;
   last = [];
   left = left;
+  bytes = bytes;
   part = [];
   rest = [];
   place = place;
   few = omega arith;
   read = rw (append-nil log.items) read;
+  stands = rw (append-nil log.items) (elim stands [ inl text ↦ inl (record { batch = h.batch; text = text }) | inr torn ↦ inr (torn.0, refl, inl torn.1) ]);
   legal = rw (append-nil log.items) h.legal;
-  size = inl h.batch;
   commands = rw (append-nil log.items) h.commands;
   split = refl;
   whole = λ n. refl;
@@ -177,18 +199,18 @@ unfolding replies
 left-item t s left command log one part rest mid files written got h is legal place split whole put closed =
     let query = query_at t log.batch in
     record {
-      bytes = log_text (one_more log one);
       batch = log.batch;
       done = log.items;
       last = one ∷ [];
       left = left;
+      bytes = log_text (one_more log one);
       part = part;
       rest = rest;
       place = place;
       few = one-few one;
       read = reads-whole (one_more log one) legal.text;
+      stands = inl (record { batch = h.batch; text = refl });
       legal = legal;
-      size = inl h.batch;
       commands = ap (λ c. c ++ left) (map-append command_of log.items (one ∷ []) ∙ ap (λ c. map command_of log.items ++ c ∷ []) is)
           ∙ append_assoc (map command_of log.items) (command ∷ []) left ∙ h.commands;
       split = split ∙ sym (append-nil (reply_of query (state_after query log.items) one));
@@ -204,26 +226,40 @@ item-place t log one mid files piece place text new =
     new ∙ ap (λ m. with_more m t.name piece) place ∙ with_more-with_file t.told t.name (log_text log) piece
     ∙ ap (λ b. with_file t.told t.name (log_text log ++ b)) text ∙ ap (λ b. with_file t.told t.name b) (sym (log_text-push log one))
 
+-- behind a log an item that is torn changes nothing
+torn-item : (log : Log) (one : Item) (part : List ℕ) (x : ℕ) (xs : List ℕ) → IsLog log → IsItem one → part ++ x ∷ xs ≡ item_text one → IsReadAs (log_text log ++ part) log
+torn-item log one part x xs h i whole =
+    elim (rw (take-front part (x ∷ xs) (item_text one) whole) at (reads-torn log one (length part) h i)) [
+      | inl read ↦ read
+      | inr all ↦ absurd (not-whole part x xs (item_text one) whole all)
+    ]
+
 -- there was no item, for want of memory
 pub exit-memory : (t : RunTask) (left : List Command) (log : Log) (files : Option Named) (written : Option (List ℕ)) → IsUnderWay t left log (showing files written) → IsLeft t failure.NoMemory [] (showing files written)
-exit-memory t left log files written h = left-log t failure.NoMemory left log (log_text log) files files written h h.place (reads-whole log h.legal.text) tt
+exit-memory t left log files written h = left-log t failure.NoMemory left log (log_text log) files files written h h.place (reads-whole log h.legal.text) (inl refl) tt
 
 -- the item was not written
 pub exit-write : (s : Failure) (t : RunTask) (left : List Command) (command : Command) (log : Log) (one : Item) (piece : List ℕ) (mid files : Option Named) (written : Option (List ℕ))
     → IsUnderWay t (command ∷ left) log (showing mid written) → command_of one ≡ command → IsLegal (query_at t log.batch) (one_more log one) → piece ≡ item_text one
     → Wrote {A = Unit {0}} (Err s) mid files (record { name = t.name; bytes = piece }) → Halts t (showing files written) s
 exit-write failure.LogFault t left command log one piece mid files written h is legal text (part, rest, split, new) =
-    let place : files ≡ with_file t.told t.name (log_text log ++ part) =
-    new ∙ ap (λ m. with_more m t.name part) h.place ∙ with_more-with_file t.told t.name (log_text log) part in
-    let front : take (length part) (item_text one) ≡ part = take-front part rest (item_text one) (split ∙ text) in
-    let torn = rw front at (reads-torn log one (length part) h.legal.text (last-is false log.items one legal.text.items)) in
-    elim torn [
-      | inl read ↦ left-log t failure.LogFault (command ∷ left) log (log_text log ++ part) mid files written h place read tt
-      | inr all ↦ left-item t failure.LogFault left command log one [] (reply_of (query_at t log.batch) (state_after (query_at t log.batch) log.items) one) mid files written written h is legal
-          (item-place t log one mid files part h.place all new) refl (λ n. refl) (appends-same written) tt
-    ]
+    by-rest rest (split ∙ text)
+  where
+    place : files ≡ with_file t.told t.name (log_text log ++ part)
+    place = new ∙ ap (λ m. with_more m t.name part) h.place ∙ with_more-with_file t.told t.name (log_text log) part
+
+    by-rest : (rest : List ℕ) → part ++ rest ≡ item_text one → IsLeft t failure.LogFault [] (showing files written)
+    by-rest [] whole =
+        left-item t failure.LogFault left command log one [] (reply_of (query_at t log.batch) (state_after (query_at t log.batch) log.items) one) mid files written written h is legal
+        (item-place t log one mid files part h.place (sym (append-nil part) ∙ whole) new) refl (λ n. refl) (appends-same written) tt
+    by-rest (x ∷ xs) whole =
+        let next : IsNextItem t (command ∷ left) log one = record { legal = legal; later = left; command = ap (λ c. c ∷ left) (sym is) } in
+        let torn : HasTornItem t (command ∷ left) log (log_text log ++ part) =
+        record { batch = h.batch; one = one; next = next; torn = part; front = (x ∷ xs, whole, λ e. cc); text = refl } in
+        left-log t failure.LogFault (command ∷ left) log (log_text log ++ part) mid files written h place
+        (torn-item log one part x xs h.legal.text (last-is false log.items one legal.text.items) whole) (inr (refl, torn)) tt
 exit-write failure.NoMemory t left command log one piece mid files written h is legal text new =
-    left-log t failure.NoMemory (command ∷ left) log (log_text log) mid files written h (new ∙ h.place) (reads-whole log h.legal.text) tt
+    left-log t failure.NoMemory (command ∷ left) log (log_text log) mid files written h (new ∙ h.place) (reads-whole log h.legal.text) (inl refl) tt
 exit-write other t left command log one piece mid files written h is legal text new = absurd new
 
 -- the reply was not put

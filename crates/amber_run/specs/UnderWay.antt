@@ -3,8 +3,9 @@ use Rattle.std.specs.Prelude.{◌≡◌, ◌≢◌, ℕ, ◌<◌, ◌≤◌, ◌
 use Rattle.std.specs.Io.KnownBytes.{Appends}
 use Rattle.amber_io.specs.Folder.{with_file, without_file}
 use Rattle.amber_log.specs.Grammar.{ends_over}
-use Rattle.amber_log.specs.LogText.{log_text}
+use Rattle.amber_log.specs.LogText.{head_text, item_text, log_text}
 use Rattle.amber_log.specs.ReadAs.{IsReadAs}
+use Rattle.amber_log.specs.ReadLines.{empty_log}
 use Rattle.amber_log.specs.declared.command.Command.{Command}
 use Rattle.amber_log.specs.declared.log.Item.{Item}
 use Rattle.amber_log.specs.declared.log.Log.{Log}
@@ -14,7 +15,7 @@ use Rattle.amber_meaning.specs.Replay.{state_after}
 use Rattle.amber_meaning.specs.Texts.{answer_text}
 use Rattle.amber_meaning.specs.Total.{step_total}
 use Rattle.amber_meaning.specs.Transcript.{replies, reply_of, transcript_of}
-use Rattle.amber_debug.specs.Session.{Session, command_of}
+use Rattle.amber_debug.specs.Session.{Session, command_of, one_more}
 use Rattle.amber_run.specs.RunTask.{AlterNothing, IsSession, RunTask, ends_long, most_steps, query_at}
 use Rattle.amber_run.specs.World.{Shown, showing}
 use Rattle.amber_course.specs.declared.failure.Failure.{Failure}
@@ -57,6 +58,45 @@ HasAnswer t log =
 abbrev pub IsDone : RunTask → Shown → Type 0
 IsDone t shown = (log : Log) × IsUnderWay t [] log shown × HasAnswer t log
 
+-- ---- what a failed write leaves of the log
+
+-- the log of this batch size and these items
+abbrev pub log_of_items : ℕ → List Item → Log
+log_of_items batch items = record { batch = batch; items = items }
+
+-- a text whose end is missing: a front part of it, and not the whole
+abbrev pub IsTorn : List ℕ → List ℕ → Type 0
+IsTorn part whole = (rest : List ℕ) × (part ++ rest ≡ whole) × (rest ≢ [])
+
+-- an item that the run may write next: with it the log is legal, and it was made for the first of the commands that are left
+pub record IsNextItem (t : RunTask) (left : List Command) (log : Log) (one : Item) : Type 0 where
+  pub legal : IsLegal (query_at t log.batch) (one_more log one)
+  pub later : List Command
+  pub command : left ≡ command_of one ∷ later
+
+-- the file holds the log's text
+pub record HasText (t : RunTask) (log : Log) (bytes : List ℕ) : Type 0 where
+  pub batch : log.batch ≡ t.batch
+  pub text : bytes ≡ log_text log
+
+-- the file holds the log's text and behind it the next item, torn
+pub record HasTornItem (t : RunTask) (left : List Command) (log : Log) (bytes : List ℕ) : Type 0 where
+  pub batch : log.batch ≡ t.batch
+  pub one : Item
+  pub next : IsNextItem t left log one
+  pub torn : List ℕ
+  pub front : IsTorn torn (item_text one)
+  pub text : bytes ≡ log_text log ++ torn
+
+-- the file holds the head, torn, which reads as the log of no item
+pub record HasTornHead (t : RunTask) (log : Log) (bytes : List ℕ) : Type 0 where
+  pub none : log ≡ empty_log
+  pub front : IsTorn bytes (head_text t.batch)
+
+-- the last piece that was to be written into the file is torn
+abbrev pub EndsTorn : RunTask → List Command → Log → List ℕ → Type 0
+EndsTorn t left log bytes = HasTornItem t left log bytes ⊎ HasTornHead t log bytes
+
 -- ---- a run that ended early
 
 -- where the steps were as many as may be, that leg is the log's last item; where the sink failed, it was no such leg's reply
@@ -68,22 +108,24 @@ ClosesAs other long = ⊤
 -- the log's file reads as a legal log, whose commands are the first of those to be done, and all other files are as before. The sink
 -- got the replies to all items, where that to the last may be wanting, or cut if the sink failed; then a line
 pub record IsLeft (t : RunTask) (s : Failure) (line : List ℕ) (shown : Shown) : Type 0 where
-  -- the file's bytes
-  pub bytes : List ℕ
-  -- the log that is read of them: its batch size, the items that were replied to, and perhaps one more
+  -- the log: its batch size, the items that were replied to, and perhaps one more
   pub batch : ℕ
   pub done : List Item
   pub last : List Item
   -- the commands that are in none of them
   pub left : List Command
+  -- the file's bytes
+  pub bytes : List ℕ
   -- what was put of the reply to the last item, and what was not
   pub part : List ℕ
   pub rest : List ℕ
   pub place : shown.files ≡ with_file t.told t.name bytes
   pub few : length last ≤ 1
-  pub read : IsReadAs bytes (record { batch = batch; items = done ++ last })
-  pub legal : IsLegal (query_at t batch) (record { batch = batch; items = done ++ last })
-  pub size : (batch ≡ t.batch) ⊎ (done ++ last ≡ [])
+  pub read : IsReadAs bytes (log_of_items batch (done ++ last))
+  -- nothing is torn, unless the log could not be written behind the reply to the last item
+  pub stands : HasText t (log_of_items batch (done ++ last)) bytes
+      ⊎ ((s ≡ failure.LogFault) × (last ≡ []) × EndsTorn t left (log_of_items batch (done ++ last)) bytes)
+  pub legal : IsLegal (query_at t batch) (log_of_items batch (done ++ last))
   pub commands : map command_of (done ++ last) ++ left ≡ t.commands
   pub split : part ++ rest ≡ replies (query_at t batch) (state_after (query_at t batch) done) last
   pub whole : s ≢ failure.OutFault → part ≡ []
