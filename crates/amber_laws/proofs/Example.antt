@@ -40,7 +40,7 @@ use Rattle.amber_laws.proofs.Schedules.{schedules_have_one_answer}
 use Rattle.amber_laws.specs.StepLaws.{KeepsTotal}
 
 -- what files hold, and the answer over them
-files_on_literals : ⊤
+unfoldable pub files_on_literals : ⊤
 unfolding texts_on_literals tests_on_literals totals_on_literals answer_of answer_from outputs refusals refused_records records_of typed_records file_records row_of cells_of read_int_of is_utf8 chars lib.Utf8.encode
 files_on_literals = tt
 

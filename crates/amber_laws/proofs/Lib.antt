@@ -1,13 +1,17 @@
 pub mod Answered
+pub mod Arming
 pub mod Bags
+pub mod CountStops
 pub mod Counted
 pub mod Dealt
 pub mod Emitted
 pub mod Ended
 pub mod Example
+pub mod ExampleJoin
 pub mod Fed
 pub mod Finished
 pub mod Given
+pub mod GoingOn
 pub mod Grouping
 pub mod Links
 pub mod Made

@@ -110,7 +110,7 @@ after_leg-fit query before after parts h fit = record {
       (offered-orderly query after.positions worker h.offered less) (fit.sound worker less) (h.moved worker less);
 }
 
-let_go-at : (ps : List Position) (worker : ℕ) → position_at (map let_go ps) worker ≡ let_go (position_at ps worker)
+pub let_go-at : (ps : List Position) (worker : ℕ) → position_at (map let_go ps) worker ≡ let_go (position_at ps worker)
 let_go-at ps worker = rw (position-get_or (map let_go ps) worker, position-get_or ps worker) (by ps worker)
   where
     by : (ps : List Position) (n : ℕ) → get_or (map let_go ps) n origin ≡ let_go (get_or ps n origin)

@@ -1,3 +1,4 @@
 pub mod AnswerLaws
+pub mod CountLaws
 pub mod DealtLaws
 pub mod StepLaws

@@ -1,5 +1,6 @@
-//! Laws of runs: what a run answers, and how many steps it makes, do not depend on its schedule.
+//! Laws of runs, whatever their schedule: what a run answers, how many steps it makes, and where a count stops it.
 #![tactic(auto)]
 
 pub mod answer;
+pub mod counts;
 pub mod steps;

@@ -93,7 +93,7 @@ pub record IsWhole (size : ℕ) (stream : List (List Value)) (ended : Bool) (xs 
   pub rows : flat_map batch_rows xs ≡ stream
   pub count : length xs ≡ length stream / size + 1
 
-numbers-length : (n : ℕ) → length (numbers_below n) ≡ n
+pub numbers-length : (n : ℕ) → length (numbers_below n) ≡ n
 unfolding numbers_below
 numbers-length zero = refl
 numbers-length (suc n) = omega (arith, length-append (numbers_below n) (n ∷ []), numbers-length n)
