@@ -66,6 +66,7 @@ has-leg to_end old new closed leg = record {
     most = ap (λ (e : HomeState). e.most) leg.is;
     log = ap (λ (e : HomeState). e.log) leg.is;
   };
+  in_time = leg.in_time;
 }
 
 -- the text is the leg's
@@ -131,6 +132,7 @@ over-leg old mid new leg e =
         most = same.most ∙ leg.kept.most;
         log = same.log ∙ leg.kept.log;
       };
+      in_time = leg.in_time;
     }
 
 pub runs-end : (old mid new : HomeState) (done : Done) (flow : List Operator) (answer : Answer) → TellsLeg (Ok done.item) true old mid

@@ -8,8 +8,10 @@ use Rattle.amber_log.specs.declared.leg.Part.{Part}
 use Rattle.amber_log.specs.declared.log.Item.{Item}
 use Rattle.amber_log.specs.declared.log.Item.TheVariants as item
 use Rattle.amber_log.specs.declared.log.Log.{Log}
+use Rattle.amber_meaning.specs.InTime.{IsInTime}
 use Rattle.amber_meaning.specs.Transcript.{reply_of}
 use Rattle.amber_home.specs.HomeState.{ClosesLeg, HomeState, item_of_leg, query_of, rest_state, with_item}
+use Rattle.amber_debug.specs.Session.{most_late}
 use Rattle.amber_debug.specs.declared.done.EndErr.{EndErr}
 use Rattle.amber_debug.specs.declared.done.EndErr.TheVariants as end_err
 use Rattle.amber_debug.specs.declared.done.Done.{Done}
@@ -25,10 +27,11 @@ pub record HasLog (old new : HomeState) (grown : Log) : Type 0 where
   pub most : new.most ≡ old.most
   pub log : new.log ≡ grown
 
--- the log has a leg more, up to a stop or to the end, closed so
+-- the log has a leg more, up to a stop or to the end, closed so, which stops in time
 pub record HasLeg (to_end : Bool) (old new : HomeState) (closed : Close) : Type 0 where
   pub parts : List Part
   pub kept : HasLog old new (with_item old.log (item_of_leg to_end parts closed))
+  pub in_time : IsInTime (query_of old) most_late (rest_state old) (item_of_leg to_end parts closed)
 
 -- the leg stands in the log, with its text and the reply to it; or it was too long, and stands there; or memory ran out before or
 -- behind that

@@ -8,6 +8,7 @@ use Rattle.amber_log.specs.declared.command.Command.TheVariants as command
 use Rattle.amber_log.specs.declared.log.Item.{Item}
 use Rattle.amber_log.specs.declared.log.Item.TheVariants as item
 use Rattle.amber_log.specs.declared.log.Log.{Log}
+use Rattle.amber_meaning.specs.InTime.{IsInTime}
 use Rattle.amber_meaning.specs.Legal.{IsLegal, Query, query_over}
 use Rattle.amber_meaning.specs.Replay.{state_after}
 use Rattle.amber_meaning.specs.Transcript.{reply_of}
@@ -63,11 +64,19 @@ is_leg (command.Drop op worker) = false
 is_leg (command.Inspect op) = false
 is_leg (command.Lose op worker) = false
 
+-- the most rows that a worker emits past its operator's pause
+abbrev pub most_late : ℕ
+most_late = 0
+
+-- an item that the session has next stops in time
+abbrev pub IsNextInTime : Session → Item → Type 0
+IsNextInTime d one = IsInTime (query_in d) most_late (state_after (query_in d) d.log.items) one
+
 -- a log with an item more
 abbrev pub one_more : Log → Item → Log
 one_more log one = record log { items = log.items ++ one ∷ [] }
 
--- the session has one item more, that of this command
+-- the session has one item more, that of this command, and a leg stops in time
 pub record Grew (old new : Session) (done : Command) (one : Item) : Type 0 where
   pub flow : new.flow ≡ old.flow
   pub files : new.files ≡ old.files
@@ -75,6 +84,7 @@ pub record Grew (old new : Session) (done : Command) (one : Item) : Type 0 where
   pub threads : new.threads ≡ old.threads
   pub log : new.log ≡ one_more old.log one
   pub command : command_of one ≡ done
+  pub in_time : IsNextInTime old one
   pub unspent : new.spent ≡ false
 
 -- memory ran out at a command to run: the log is as before, or has that command's leg behind it, and no command follows
@@ -83,7 +93,7 @@ pub record IsCutOff (old new : Session) (done : Command) : Type 0 where
   pub files : new.files ≡ old.files
   pub most : new.most ≡ old.most
   pub threads : new.threads ≡ old.threads
-  pub log : (new.log ≡ old.log) ⊎ ((one : Item) × (new.log ≡ one_more old.log one) × (command_of one ≡ done))
+  pub log : (new.log ≡ old.log) ⊎ ((one : Item) × (new.log ≡ one_more old.log one) × (command_of one ≡ done) × IsNextInTime old one)
   pub spent : new.spent ≡ true
 
 -- memory ran out: at a command to run the session is cut off, and else as before

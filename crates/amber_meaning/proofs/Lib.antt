@@ -10,6 +10,7 @@ pub mod ExampleStops
 pub mod Flows
 pub mod Fronts
 pub mod Given
+pub mod InTime
 pub mod Led
 pub mod Lists
 pub mod Numbers
