@@ -227,6 +227,7 @@ left-on t s line shown got p h = record {
   read = h.read;
   stands = h.stands;
   legal = h.legal;
+  in_time = h.in_time;
   commands = h.commands;
   split = h.split;
   whole = h.whole;

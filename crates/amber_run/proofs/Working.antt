@@ -13,15 +13,17 @@ use Rattle.amber_log.specs.declared.log.Item.{Item}
 use Rattle.amber_log.specs.declared.log.Log.{Log}
 use Rattle.amber_log.proofs.Pushes.{log_text-head, log_text-push}
 use Rattle.amber_log.proofs.Torn.{reads-torn, reads-torn_head, reads-whole}
+use Rattle.amber_meaning.specs.InTime.{AreInTime, IsInTime}
 use Rattle.amber_meaning.specs.Legal.{IsLegal, Reaches}
 use Rattle.amber_meaning.specs.Replay.{state_after}
 use Rattle.amber_meaning.specs.State.{start_of}
 use Rattle.amber_meaning.specs.Transcript.{replies, reply_of, transcript_of}
 use Rattle.amber_meaning.proofs.Fronts.{transcripts_grow}
-use Rattle.amber_debug.specs.Session.{Does, Grew, Session, command_of, is_long_item, one_more, query_in}
+use Rattle.amber_meaning.proofs.InTime.{AreInTime-push}
+use Rattle.amber_debug.specs.Session.{Does, Grew, Session, command_of, is_long_item, most_late, one_more, query_in}
 use Rattle.amber_debug.specs.declared.done.DebugErr.TheVariants as debug_err
 use Rattle.amber_debug.specs.declared.done.Done.{Done}
-use Rattle.amber_run.specs.UnderWay.{ClosesAs, Halts, HasText, HasTornHead, HasTornItem, IsBare, IsLeft, IsNextItem, IsUnderWay, Opens, log_of_items}
+use Rattle.amber_run.specs.UnderWay.{ClosesAs, Halts, HasText, HasTornHead, HasTornItem, IsBare, IsItemFor, IsLeft, IsUnderWay, Opens, log_of_items}
 use Rattle.amber_course.specs.Steps.{Sent, putting}
 use Rattle.amber_run.specs.RunTask.{IsSession, RunTask, ends_long, query_at}
 use Rattle.amber_run.specs.World.{showing}
@@ -62,10 +64,11 @@ legal-start t batch h = record { text = record { batch = h; items = tt }; batch 
 
 pub stands-start : (t : RunTask) (batch : ℕ) (files : Option Named) (written : Option (List ℕ)) → IsBatch batch → batch ≡ t.batch
     → files ≡ with_file t.told t.name (head_text batch) → Appends t.before written [] → IsUnderWay t t.commands (record { batch = batch; items = [] }) (showing files written)
-unfolding log_text transcript_of replies
+unfolding log_text transcript_of replies AreInTime
 stands-start t batch files written h is place sent = record {
   batch = is;
   legal = legal-start t batch h;
+  in_time = tt;
   commands = refl;
   place = place ∙ ap (λ text. with_file t.told t.name text) (sym (append-nil (head_text batch)));
   sent = sent;
@@ -76,7 +79,7 @@ stands-start t batch files written h is place sent = record {
 left-head : (t : RunTask) (bytes : List ℕ) (batch : ℕ) (files : Option Named) (written : Option (List ℕ)) → IsBatch batch → IsReadAs bytes (log_of_items batch [])
     → HasText t (log_of_items batch []) bytes ⊎ HasTornHead t (log_of_items batch []) bytes → files ≡ with_file t.told t.name bytes → Appends t.before written []
     → IsLeft t failure.LogFault [] (showing files written)
-unfolding transcript_of replies
+unfolding transcript_of replies AreInTime
 left-head t bytes batch files written h read stands place sent = record {
   batch = batch;
   done = [];
@@ -90,6 +93,7 @@ left-head t bytes batch files written h read stands place sent = record {
   read = read;
   stands = elim stands [ inl text ↦ inl text | inr torn ↦ inr (refl, refl, inr torn) ];
   legal = legal-start t batch h;
+  in_time = tt;
   commands = refl;
   split = refl;
   whole = λ n. refl;
@@ -183,6 +187,7 @@ left-log t s left log bytes mid files written h place read stands closed = recor
   read = rw (append-nil log.items) read;
   stands = rw (append-nil log.items) (elim stands [ inl text ↦ inl (record { batch = h.batch; text = text }) | inr torn ↦ inr (torn.0, refl, inl torn.1) ]);
   legal = rw (append-nil log.items) h.legal;
+  in_time = rw (append-nil log.items) h.in_time;
   commands = rw (append-nil log.items) h.commands;
   split = refl;
   whole = λ n. refl;
@@ -190,13 +195,19 @@ left-log t s left log bytes mid files written h place read stands closed = recor
   closed = rw (append-nil log.items, h.short) closed;
 }
 
+-- an item more
+items-in-time : (t : RunTask) (log : Log) (command : Command) (one : Item) → AreInTime (query_at t log.batch) most_late (start_of t.flow) log.items → IsItemFor t log command one
+    → AreInTime (query_at t log.batch) most_late (start_of t.flow) (log.items ++ one ∷ [])
+unfolding state_after
+items-in-time t log command one h item = AreInTime-push (query_at t log.batch) most_late (start_of t.flow) log.items one h item.in_time
+
 -- the log has an item more, and a part of its reply was put
 left-item : (t : RunTask) (s : Failure) (left : List Command) (command : Command) (log : Log) (one : Item) (part rest : List ℕ) (mid files : Option Named) (written got : Option (List ℕ))
-    → IsUnderWay t (command ∷ left) log (showing mid written) → command_of one ≡ command → IsLegal (query_at t log.batch) (one_more log one)
+    → IsUnderWay t (command ∷ left) log (showing mid written) → IsItemFor t log command one
     → files ≡ with_file t.told t.name (log_text (one_more log one)) → part ++ rest ≡ reply_of (query_at t log.batch) (state_after (query_at t log.batch) log.items) one
     → (s ≢ failure.OutFault → part ≡ []) → Appends written got part → ClosesAs s (is_long_item one) → IsLeft t s [] (showing files got)
 unfolding replies
-left-item t s left command log one part rest mid files written got h is legal place split whole put closed =
+left-item t s left command log one part rest mid files written got h item place split whole put closed =
     let query = query_at t log.batch in
     record {
       batch = log.batch;
@@ -208,10 +219,11 @@ left-item t s left command log one part rest mid files written got h is legal pl
       rest = rest;
       place = place;
       few = one-few one;
-      read = reads-whole (one_more log one) legal.text;
+      read = reads-whole (one_more log one) item.legal.text;
       stands = inl (record { batch = h.batch; text = refl });
-      legal = legal;
-      commands = ap (λ c. c ++ left) (map-append command_of log.items (one ∷ []) ∙ ap (λ c. map command_of log.items ++ c ∷ []) is)
+      legal = item.legal;
+      in_time = items-in-time t log command one h.in_time item;
+      commands = ap (λ c. c ++ left) (map-append command_of log.items (one ∷ []) ∙ ap (λ c. map command_of log.items ++ c ∷ []) item.command)
           ∙ append_assoc (map command_of log.items) (command ∷ []) left ∙ h.commands;
       split = split ∙ sym (append-nil (reply_of query (state_after query log.items) one));
       whole = whole;
@@ -240,9 +252,9 @@ exit-memory t left log files written h = left-log t failure.NoMemory left log (l
 
 -- the item was not written
 pub exit-write : (s : Failure) (t : RunTask) (left : List Command) (command : Command) (log : Log) (one : Item) (piece : List ℕ) (mid files : Option Named) (written : Option (List ℕ))
-    → IsUnderWay t (command ∷ left) log (showing mid written) → command_of one ≡ command → IsLegal (query_at t log.batch) (one_more log one) → piece ≡ item_text one
+    → IsUnderWay t (command ∷ left) log (showing mid written) → IsItemFor t log command one → piece ≡ item_text one
     → Wrote {A = Unit {0}} (Err s) mid files (record { name = t.name; bytes = piece }) → Halts t (showing files written) s
-exit-write failure.LogFault t left command log one piece mid files written h is legal text (part, rest, split, new) =
+exit-write failure.LogFault t left command log one piece mid files written h item text (part, rest, split, new) =
     by-rest rest (split ∙ text)
   where
     place : files ≡ with_file t.told t.name (log_text log ++ part)
@@ -250,50 +262,59 @@ exit-write failure.LogFault t left command log one piece mid files written h is 
 
     by-rest : (rest : List ℕ) → part ++ rest ≡ item_text one → IsLeft t failure.LogFault [] (showing files written)
     by-rest [] whole =
-        left-item t failure.LogFault left command log one [] (reply_of (query_at t log.batch) (state_after (query_at t log.batch) log.items) one) mid files written written h is legal
+        left-item t failure.LogFault left command log one [] (reply_of (query_at t log.batch) (state_after (query_at t log.batch) log.items) one) mid files written written h item
         (item-place t log one mid files part h.place (sym (append-nil part) ∙ whole) new) refl (λ n. refl) (appends-same written) tt
     by-rest (x ∷ xs) whole =
-        let next : IsNextItem t (command ∷ left) log one = record { legal = legal; later = left; command = ap (λ c. c ∷ left) (sym is) } in
-        let torn : HasTornItem t (command ∷ left) log (log_text log ++ part) =
-        record { batch = h.batch; one = one; next = next; torn = part; front = (x ∷ xs, whole, λ e. cc); text = refl } in
+        let torn : HasTornItem t (command ∷ left) log (log_text log ++ part) = record {
+          batch = h.batch;
+          next = command;
+          later = left;
+          commands = refl;
+          one = one;
+          item = item;
+          torn = part;
+          front = (x ∷ xs, whole, λ e. cc);
+          text = refl;
+        } in
         left-log t failure.LogFault (command ∷ left) log (log_text log ++ part) mid files written h place
-        (torn-item log one part x xs h.legal.text (last-is false log.items one legal.text.items) whole) (inr (refl, torn)) tt
-exit-write failure.NoMemory t left command log one piece mid files written h is legal text new =
+        (torn-item log one part x xs h.legal.text (last-is false log.items one item.legal.text.items) whole) (inr (refl, torn)) tt
+exit-write failure.NoMemory t left command log one piece mid files written h item text new =
     left-log t failure.NoMemory (command ∷ left) log (log_text log) mid files written h (new ∙ h.place) (reads-whole log h.legal.text) (inl refl) tt
-exit-write other t left command log one piece mid files written h is legal text new = absurd new
+exit-write other t left command log one piece mid files written h item text new = absurd new
 
 -- the reply was not put
 pub exit-send : (s : Failure) (t : RunTask) (left : List Command) (command : Command) (log : Log) (one : Item) (piece reply : List ℕ) (mid files : Option Named) (written got : Option (List ℕ)) (a b : ℕ)
-    → IsUnderWay t (command ∷ left) log (showing mid written) → command_of one ≡ command → IsLegal (query_at t log.batch) (one_more log one) → piece ≡ item_text one
+    → IsUnderWay t (command ∷ left) log (showing mid written) → IsItemFor t log command one → piece ≡ item_text one
     → is_long_item one ≡ false → files ≡ with_more mid t.name piece → reply ≡ reply_of (query_at t log.batch) (state_after (query_at t log.batch) log.items) one
     → Sent {A = Unit {0}} (Err s) (putting written got a b) reply → Halts t (showing files got) s
-exit-send failure.OutFault t left command log one piece reply mid files written got a b h is legal text short new answer sent =
-    left-item t failure.OutFault left command log one sent.2.0 sent.2.1 mid files written got h is legal (item-place t log one mid files piece h.place text new) (sent.2.2 ∙ answer)
+exit-send failure.OutFault t left command log one piece reply mid files written got a b h item text short new answer sent =
+    left-item t failure.OutFault left command log one sent.2.0 sent.2.1 mid files written got h item (item-place t log one mid files piece h.place text new) (sent.2.2 ∙ answer)
     (λ n. absurd (n refl)) sent.2.3 short
-exit-send failure.NoMemory t left command log one piece reply mid files written got a b h is legal text short new answer sent =
-    left-item t failure.NoMemory left command log one [] reply mid files written got h is legal (item-place t log one mid files piece h.place text new) answer
+exit-send failure.NoMemory t left command log one piece reply mid files written got a b h item text short new answer sent =
+    left-item t failure.NoMemory left command log one [] reply mid files written got h item (item-place t log one mid files piece h.place text new) answer
     (λ n. refl) (keeps-nil written got sent.1) tt
-exit-send other t left command log one piece reply mid files written got a b h is legal text short new answer sent = absurd sent
+exit-send other t left command log one piece reply mid files written got a b h item text short new answer sent = absurd sent
 
 -- the steps were as many as may be
 pub exit-long : (t : RunTask) (left : List Command) (command : Command) (log : Log) (one : Item) (piece : List ℕ) (mid files : Option Named) (written : Option (List ℕ))
-    → IsUnderWay t (command ∷ left) log (showing mid written) → command_of one ≡ command → IsLegal (query_at t log.batch) (one_more log one) → piece ≡ item_text one
+    → IsUnderWay t (command ∷ left) log (showing mid written) → IsItemFor t log command one → piece ≡ item_text one
     → is_long_item one ≡ true → files ≡ with_more mid t.name piece → IsLeft t failure.Long [] (showing files written)
-exit-long t left command log one piece mid files written h is legal text long new =
-    left-item t failure.Long left command log one [] (reply_of (query_at t log.batch) (state_after (query_at t log.batch) log.items) one) mid files written written h is legal
+exit-long t left command log one piece mid files written h item text long new =
+    left-item t failure.Long left command log one [] (reply_of (query_at t log.batch) (state_after (query_at t log.batch) log.items) one) mid files written written h item
     (item-place t log one mid files piece h.place text new) refl (λ n. refl) (appends-same written) long
 
 -- the command was done
 pub stands-next : (t : RunTask) (left : List Command) (command : Command) (log : Log) (one : Item) (piece reply : List ℕ) (mid files : Option Named) (written got : Option (List ℕ))
-    → IsUnderWay t (command ∷ left) log (showing mid written) → command_of one ≡ command → IsLegal (query_at t log.batch) (one_more log one) → piece ≡ item_text one
+    → IsUnderWay t (command ∷ left) log (showing mid written) → IsItemFor t log command one → piece ≡ item_text one
     → is_long_item one ≡ false → files ≡ with_more mid t.name piece → reply ≡ reply_of (query_at t log.batch) (state_after (query_at t log.batch) log.items) one
     → Appends written got reply → IsUnderWay t left (one_more log one) (showing files got)
-stands-next t left command log one piece reply mid files written got h is legal text short new answer put =
+stands-next t left command log one piece reply mid files written got h item text short new answer put =
     let query = query_at t log.batch in
     record {
       batch = h.batch;
-      legal = legal;
-      commands = ap (λ c. c ++ left) (map-append command_of log.items (one ∷ []) ∙ ap (λ c. map command_of log.items ++ c ∷ []) is)
+      legal = item.legal;
+      in_time = items-in-time t log command one h.in_time item;
+      commands = ap (λ c. c ++ left) (map-append command_of log.items (one ∷ []) ∙ ap (λ c. map command_of log.items ++ c ∷ []) item.command)
           ∙ append_assoc (map command_of log.items) (command ∷ []) left ∙ h.commands;
       place = item-place t log one mid files piece h.place text new;
       sent = rw (transcripts_grow query log.items one).0 (rw answer at (appends-on t.before written got (transcript_of query log.items) reply h.sent put));
@@ -306,10 +327,14 @@ stands-next t left command log one piece reply mid files written got h is legal 
 pub session-query : (t : RunTask) (d : Session) → IsSession t d → query_in d ≡ query_at t d.log.batch
 session-query t d h = rw (h.flow, h.inputs, h.most) refl
 
--- a session that grew
-pub session-grown : (t : RunTask) (old new : Session) (command : Command) (one : Item) → IsSession t old → Grew old new command one → IsLegal (query_in new) new.log
-    → IsLegal (query_at t old.log.batch) (one_more old.log one)
-session-grown t old new command one h grew legal = rw (grew.flow, grew.files, grew.most, grew.log, h.flow, h.inputs, h.most) at legal
+-- a session grew by an item for its command
+session-item : (t : RunTask) (old new : Session) (command : Command) (one : Item) → IsSession t old → Grew old new command one → IsLegal (query_in new) new.log
+    → IsItemFor t old.log command one
+session-item t old new command one h grew legal = record {
+  command = grew.command;
+  legal = rw (grew.flow, grew.files, grew.most, grew.log, h.flow, h.inputs, h.most) at legal;
+  in_time = subst (λ query. IsInTime query most_late (state_after query old.log.items) one) (session-query t old h) grew.in_time;
+}
 
 -- ---- what the debugger did
 
@@ -318,7 +343,7 @@ pub done-write : (s : Failure) (t : RunTask) (left : List Command) (old new : Se
     → IsSession t old → IsUnderWay t (command ∷ left) old.log (showing mid written) → Does (Ok told) old new command → IsLegal (query_in new) new.log → piece ≡ told.item
     → Wrote {A = Unit {0}} (Err s) mid files (record { name = t.name; bytes = piece }) → Halts t (showing files written) s
 done-write s t left old new command told piece mid files written session h does legal is wrote =
-    exit-write s t left command old.log does.0 piece mid files written h does.1.command (session-grown t old new command does.0 session does.1 legal) (is ∙ does.3) wrote
+    exit-write s t left command old.log does.0 piece mid files written h (session-item t old new command does.0 session does.1 legal) (is ∙ does.3) wrote
 
 reply-is : (t : RunTask) (old new : Session) (command : Command) (told : Done) (reply : List ℕ) → IsSession t old → (does : Does (Ok told) old new command) → reply ≡ told.reply
     → reply ≡ reply_of (query_at t old.log.batch) (state_after (query_at t old.log.batch) old.log.items) does.0
@@ -330,7 +355,7 @@ pub done-send : (s : Failure) (t : RunTask) (left : List Command) (old new : Ses
     → IsSession t old → IsUnderWay t (command ∷ left) old.log (showing mid written) → Does (Ok told) old new command → IsLegal (query_in new) new.log → piece ≡ told.item → reply ≡ told.reply
     → files ≡ with_more mid t.name piece → Sent {A = Unit {0}} (Err s) (putting written got a b) reply → Halts t (showing files got) s
 done-send s t left old new command told piece reply mid files written got a b session h does legal is answer wrote sent =
-    exit-send s t left command old.log does.0 piece reply mid files written got a b h does.1.command (session-grown t old new command does.0 session does.1 legal) (is ∙ does.3) does.2 wrote
+    exit-send s t left command old.log does.0 piece reply mid files written got a b h (session-item t old new command does.0 session does.1 legal) (is ∙ does.3) does.2 wrote
     (reply-is t old new command told reply session does answer) sent
 
 -- all was written and put
@@ -339,7 +364,7 @@ pub done-next : (t : RunTask) (left : List Command) (old new : Session) (command
     → files ≡ with_more mid t.name piece → Appends written got reply → IsUnderWay t left new.log (showing files got)
 done-next t left old new command told piece reply mid files written got session h does legal is answer wrote sent =
     rw does.1.log
-    (stands-next t left command old.log does.0 piece reply mid files written got h does.1.command (session-grown t old new command does.0 session does.1 legal) (is ∙ does.3) does.2 wrote
+    (stands-next t left command old.log does.0 piece reply mid files written got h (session-item t old new command does.0 session does.1 legal) (is ∙ does.3) does.2 wrote
     (reply-is t old new command told reply session does answer) sent)
 
 -- a leg was too long, and was not written
@@ -347,11 +372,11 @@ pub long-write : (s : Failure) (t : RunTask) (left : List Command) (old new : Se
     → IsSession t old → IsUnderWay t (command ∷ left) old.log (showing mid written) → Does (Err (debug_err.Long text)) old new command → IsLegal (query_in new) new.log → piece ≡ text
     → Wrote {A = Unit {0}} (Err s) mid files (record { name = t.name; bytes = piece }) → Halts t (showing files written) s
 long-write s t left old new command text piece mid files written session h does legal is wrote =
-    exit-write s t left command old.log does.0 piece mid files written h does.1.command (session-grown t old new command does.0 session does.1 legal) (is ∙ does.3) wrote
+    exit-write s t left command old.log does.0 piece mid files written h (session-item t old new command does.0 session does.1 legal) (is ∙ does.3) wrote
 
 -- it was written
 pub long-next : (t : RunTask) (left : List Command) (old new : Session) (command : Command) (text piece : List ℕ) (mid files : Option Named) (written : Option (List ℕ))
     → IsSession t old → IsUnderWay t (command ∷ left) old.log (showing mid written) → Does (Err (debug_err.Long text)) old new command → IsLegal (query_in new) new.log → piece ≡ text
     → files ≡ with_more mid t.name piece → IsLeft t failure.Long [] (showing files written)
 long-next t left old new command text piece mid files written session h does legal is wrote =
-    exit-long t left command old.log does.0 piece mid files written h does.1.command (session-grown t old new command does.0 session does.1 legal) (is ∙ does.3) does.2 wrote
+    exit-long t left command old.log does.0 piece mid files written h (session-item t old new command does.0 session does.1 legal) (is ∙ does.3) does.2 wrote

@@ -9,13 +9,15 @@ use Rattle.amber_log.specs.ReadLines.{empty_log}
 use Rattle.amber_log.specs.declared.command.Command.{Command}
 use Rattle.amber_log.specs.declared.log.Item.{Item}
 use Rattle.amber_log.specs.declared.log.Log.{Log}
+use Rattle.amber_meaning.specs.InTime.{AreInTime, IsInTime}
 use Rattle.amber_meaning.specs.Legal.{IsLegal, IsUnaltered}
 use Rattle.amber_meaning.specs.Plain.{answer_of}
 use Rattle.amber_meaning.specs.Replay.{state_after}
+use Rattle.amber_meaning.specs.State.{start_of}
 use Rattle.amber_meaning.specs.Texts.{answer_text}
 use Rattle.amber_meaning.specs.Total.{step_total}
 use Rattle.amber_meaning.specs.Transcript.{replies, reply_of, transcript_of}
-use Rattle.amber_debug.specs.Session.{Session, command_of, one_more}
+use Rattle.amber_debug.specs.Session.{Session, command_of, most_late, one_more}
 use Rattle.amber_run.specs.RunTask.{AlterNothing, IsSession, RunTask, ends_long, most_steps, query_at}
 use Rattle.amber_run.specs.World.{Shown, showing}
 use Rattle.amber_course.specs.declared.failure.Failure.{Failure}
@@ -27,11 +29,12 @@ use Rattle.amber_course.specs.declared.failure.Failure.TheVariants as failure
 abbrev pub MayFollow : Log → Type 0
 MayFollow log = ends_over false log.items ≡ false
 
--- the log's file holds the text of a legal log, all other files are as before, and the sink got the log's transcript; `left` are
--- the commands that are still to be done
+-- the log's file holds the text of a legal log, whose legs stop in time, all other files are as before, and the sink got the log's
+-- transcript; `left` are the commands that are still to be done
 pub record IsUnderWay (t : RunTask) (left : List Command) (log : Log) (shown : Shown) : Type 0 where
   pub batch : log.batch ≡ t.batch
   pub legal : IsLegal (query_at t log.batch) log
+  pub in_time : AreInTime (query_at t log.batch) most_late (start_of t.flow) log.items
   pub commands : map command_of log.items ++ left ≡ t.commands
   pub place : shown.files ≡ with_file t.told t.name (log_text log)
   pub sent : Appends t.before shown.got (transcript_of (query_at t log.batch) log.items)
@@ -68,22 +71,25 @@ log_of_items batch items = record { batch = batch; items = items }
 abbrev pub IsTorn : List ℕ → List ℕ → Type 0
 IsTorn part whole = (rest : List ℕ) × (part ++ rest ≡ whole) × (rest ≢ [])
 
--- an item that the run may write next: with it the log is legal, and it was made for the first of the commands that are left
-pub record IsNextItem (t : RunTask) (left : List Command) (log : Log) (one : Item) : Type 0 where
+-- an item by which the log may grow at a command: with it the log is legal, and it stops in time
+pub record IsItemFor (t : RunTask) (log : Log) (done : Command) (one : Item) : Type 0 where
+  pub command : command_of one ≡ done
   pub legal : IsLegal (query_at t log.batch) (one_more log one)
-  pub later : List Command
-  pub command : left ≡ command_of one ∷ later
+  pub in_time : IsInTime (query_at t log.batch) most_late (state_after (query_at t log.batch) log.items) one
 
 -- the file holds the log's text
 pub record HasText (t : RunTask) (log : Log) (bytes : List ℕ) : Type 0 where
   pub batch : log.batch ≡ t.batch
   pub text : bytes ≡ log_text log
 
--- the file holds the log's text and behind it the next item, torn
+-- the file holds the log's text and behind it an item for the first of the commands that are left, torn
 pub record HasTornItem (t : RunTask) (left : List Command) (log : Log) (bytes : List ℕ) : Type 0 where
   pub batch : log.batch ≡ t.batch
+  pub next : Command
+  pub later : List Command
+  pub commands : left ≡ next ∷ later
   pub one : Item
-  pub next : IsNextItem t left log one
+  pub item : IsItemFor t log next one
   pub torn : List ℕ
   pub front : IsTorn torn (item_text one)
   pub text : bytes ≡ log_text log ++ torn
@@ -105,8 +111,9 @@ ClosesAs failure.Long long = long ≡ true
 ClosesAs failure.OutFault long = long ≡ false
 ClosesAs other long = ⊤
 
--- the log's file reads as a legal log, whose commands are the first of those to be done, and all other files are as before. The sink
--- got the replies to all items, where that to the last may be wanting, or cut if the sink failed; then a line
+-- the log's file reads as a legal log, whose legs stop in time and whose commands are the first of those to be done, and all other
+-- files are as before. The sink got the replies to all items, where that to the last may be wanting, or cut if the sink failed; then a
+-- line
 pub record IsLeft (t : RunTask) (s : Failure) (line : List ℕ) (shown : Shown) : Type 0 where
   -- the log: its batch size, the items that were replied to, and perhaps one more
   pub batch : ℕ
@@ -126,6 +133,7 @@ pub record IsLeft (t : RunTask) (s : Failure) (line : List ℕ) (shown : Shown) 
   pub stands : HasText t (log_of_items batch (done ++ last)) bytes
       ⊎ ((s ≡ failure.LogFault) × (last ≡ []) × EndsTorn t left (log_of_items batch (done ++ last)) bytes)
   pub legal : IsLegal (query_at t batch) (log_of_items batch (done ++ last))
+  pub in_time : AreInTime (query_at t batch) most_late (start_of t.flow) (done ++ last)
   pub commands : map command_of (done ++ last) ++ left ≡ t.commands
   pub split : part ++ rest ≡ replies (query_at t batch) (state_after (query_at t batch) done) last
   pub whole : s ≢ failure.OutFault → part ≡ []
