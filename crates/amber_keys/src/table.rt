@@ -57,6 +57,7 @@ impl<V> KeyTable<V> {
     }
 
     /// The place of a key; nothing where it was not added.
+    #[inline(always)]
     pub fn place_of(&self, key: &Key) -> Option<usize>
         ensures place { IfSome result
             (λ place. slice_get (table_keys self.now) place ≡ Some key.now) }
@@ -68,6 +69,7 @@ impl<V> KeyTable<V> {
     }
 
     /// The key and the value at a place.
+    #[inline(always)]
     pub fn entry(&self, place: usize) -> (&Key, &V)
         requires { place < length self.now.entries }
         ensures key { slice_get (table_keys self.now) place ≡ Some result.0.now }
@@ -77,6 +79,7 @@ impl<V> KeyTable<V> {
     }
 
     /// The value at a place, to be changed. Keys and places stay as they are.
+    #[inline(always)]
     pub fn value_mut(&mut self, place: usize) -> &mut V
         requires { place < length self.old.entries }
         ensures* writes_back { sem 𝓛 (LendsValue V.row self.entry place result) }
