@@ -14,7 +14,7 @@ const FEW: usize = 4;
 /// What is kept of the rows of a group, for one aggregate after the other. Seen as the list.
 pub struct Totals {
     count: usize,
-    // A few lie in the list of groups itself, so that a row which is taken in waits for memory once less. Places
+    // A few lie beside the key itself, so that a row which is taken in waits for memory once less. Places
     // beyond the count mean nothing.
     few: [Running; FEW],
     // All of them, where they are more than a few.
