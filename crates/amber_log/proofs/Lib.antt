@@ -2,8 +2,11 @@ pub mod BadLines
 pub mod Complete
 pub mod Endings
 pub mod Exact
+pub mod FoundOperands
 pub mod FoundWords
 pub mod Longest
+pub mod Named
+pub mod OperandsRead
 pub mod Pieces
 pub mod Plain
 pub mod Pushes

@@ -13,25 +13,22 @@ use Rattle.amber_rows.specs.declared.cond.Cmp.{Cmp}
 use Rattle.amber_rows.specs.declared.cond.Cmp.TheVariants as cmp
 use Rattle.amber_rows.specs.declared.value.Value.{Value}
 use Rattle.amber_rows.specs.declared.value.Value.TheVariants as value
-use Rattle.amber_log.specs.Grammar.{IsCommand, IsConstant, IsEntry, IsLine}
+use Rattle.amber_log.specs.Commands.{Action, AtRest, Leg, action_of}
+use Rattle.amber_log.specs.Effect.{Argument, Condition, Constant, Nothing, Rows, Worker}
+use Rattle.amber_log.specs.Grammar.{HasWords, IsArgument, IsConstant, IsEntry, IsLine}
 use Rattle.amber_log.specs.LogText.{unlines}
 use Rattle.amber_log.specs.ReadAs.{lines_of, onto_line}
 use Rattle.amber_log.specs.ReadWords.{line_of, parse}
-use Rattle.amber_log.specs.Words.{command_words, constant_word, entry_words, sign_of, spell, words_of}
+use Rattle.amber_log.specs.Words.{action_words, argument_words, constant_word, entry_words, sign_of, spell, words_of}
 use Rattle.amber_log.specs.declared.command.Command.{Command}
-use Rattle.amber_log.specs.declared.command.Command.TheVariants as command
 use Rattle.amber_log.specs.declared.entry.Entry.{Entry}
 use Rattle.amber_log.specs.declared.entry.Entry.TheVariants as entry
 use Rattle.amber_log.specs.declared.leg.Close.TheVariants as close
 use Rattle.amber_log.specs.declared.line.Line.{Line}
 use Rattle.amber_log.specs.declared.line.Line.TheVariants as line
 use Rattle.amber_log.proofs.WordsRead.{line_of-words_of}
+use Rattle.amber_log.proofs.Named.{IsNamed, above, command-named}
 use Rattle.amber_log.proofs.Utf8Bytes.{IsBytes-utf8}
-
--- whether every byte is above this one
-abbrev pub above : ℕ → List ℕ → Bool
-above least [] = true
-above least (byte ∷ bytes) = nat_lt least byte && above least bytes
 
 -- words, at least one, without spaces and line feeds
 abbrev pub AreWords : List (List ℕ) → Type 0
@@ -96,18 +93,16 @@ above-sign cmp.Le = refl
 above-sign cmp.Gt = refl
 above-sign cmp.Ge = refl
 
-AreWords-command : (one : Command) → IsCommand one → AreWords (codes "do" ∷ command_words one)
-AreWords-command command.Run h = absurd h
-AreWords-command command.End h = absurd h
-AreWords-command (command.Pause op n) h = (refl, (refl, (above32 op h.0, above-decimal n h.1)))
-AreWords-command (command.Count op n) h = (refl, (refl, (above32 op h.0, above-decimal n h.1)))
-AreWords-command (command.When op test) h =
-    (refl, (refl, (above32 op h.0, (above32 test.column h.1, (above-sign test.op, above-constant test.constant h.2)))))
-AreWords-command (command.Clear op) h = (refl, (refl, above32 op h))
-AreWords-command (command.Set op constant) h = (refl, (refl, (above32 op h.0, above-constant constant h.1)))
-AreWords-command (command.Drop op worker) h = (refl, (refl, (above32 op h.0, above32 worker h.1)))
-AreWords-command (command.Inspect op) h = (refl, (refl, above32 op h))
-AreWords-command (command.Lose op worker) h = (refl, (refl, (above32 op h.0, above32 worker h.1)))
+AreWords-argument : (argument : Argument) (op : ℕ) → op < 2 ^ 32 → IsArgument argument → AreWords (decimal op ∷ argument_words argument)
+AreWords-argument Nothing op small h = above32 op small
+AreWords-argument (Rows n) op small h = (above32 op small, above-decimal n h)
+AreWords-argument (Worker worker) op small h = (above32 op small, above32 worker h)
+AreWords-argument (Constant constant) op small h = (above32 op small, above-constant constant h)
+AreWords-argument (Condition test) op small h = (above32 op small, (above32 test.column h.0, (above-sign test.op, above-constant test.constant h.1)))
+
+AreWords-action : (one : Command) (action : Action) → IsNamed one action → HasWords action → AreWords (codes "do" ∷ action_words action)
+AreWords-action one (Leg to_end) named h = absurd h
+AreWords-action one (AtRest effect) named h = (refl, (named.plain, AreWords-argument effect.argument effect.op h.0 h.1))
 
 AreWords-entry : (one : Entry) → IsEntry one → AreWords (entry_words one)
 AreWords-entry (entry.Take sender batch) h = (refl, (above32 sender h.0, above-decimal batch h.1))
@@ -121,7 +116,7 @@ AreWords-entry entry.Finish h = refl
 
 AreWords-words_of : (one : Line) → IsLine one → AreWords (words_of one)
 AreWords-words_of (line.Head batch) h = (refl, (refl, above-decimal batch (omega arith)))
-AreWords-words_of (line.Do one) h = AreWords-command one h
+AreWords-words_of (line.Do one) h = AreWords-action one (action_of one) (command-named one) h
 AreWords-words_of line.Run h = refl
 AreWords-words_of line.End h = refl
 AreWords-words_of (line.Worker worker) h = (refl, above32 worker h)

@@ -1,14 +1,14 @@
 -- The whole items of a beginning of a log's text are those of its first items.
 use Rattle.std.proofs.Common.{◌≡◌, ℕ, ◌&&◌, ◌⊎◌, inl, inr, ◌++◌, Bool, true, false, not, List, [], ◌∷◌, map, refl, sym, ap, ◌∙◌}
-use Rattle.std.specs.List.{flat_map}
+use Rattle.std.specs.Prelude.{codes}
+use Rattle.std.specs.List.{flat_map, join_with_byte}
 use Rattle.std.proofs.lemmas.Bool.{and_from, and_parts, false≢true, not-true}
 use Rattle.std.proofs.lemmas.List.{map-append}
-use Rattle.amber_log.specs.Grammar.{IsItem}
+use Rattle.amber_log.specs.Commands.{Action, AtRest, Leg, action_of}
+use Rattle.amber_log.specs.Grammar.{HasWords, IsItem}
 use Rattle.amber_log.specs.LogText.{item_lines, part_lines}
 use Rattle.amber_log.specs.ReadAs.{closes, cut_back, keep}
-use Rattle.amber_log.specs.Words.{spell}
-use Rattle.amber_log.specs.declared.command.Command.{Command}
-use Rattle.amber_log.specs.declared.command.Command.TheVariants as command
+use Rattle.amber_log.specs.Words.{action_words, spell}
 use Rattle.amber_log.specs.declared.entry.Entry.{Entry}
 use Rattle.amber_log.specs.declared.entry.Entry.TheVariants as entry
 use Rattle.amber_log.specs.declared.leg.Close.{Close}
@@ -79,18 +79,10 @@ unfolding closes
 closes-close close.Cut = refl
 closes-close close.Long = refl
 
-closes-command : (one : Command) → IsItem (item.Do one) → closes (spell (line.Do one)) ≡ true
+closes-command : (action : Action) → HasWords action → closes (join_with_byte 32 (codes "do" ∷ action_words action)) ≡ true
 unfolding closes
-closes-command command.Run h = absurd h
-closes-command command.End h = absurd h
-closes-command (command.Pause op n) h = refl
-closes-command (command.Count op n) h = refl
-closes-command (command.When op test) h = refl
-closes-command (command.Clear op) h = refl
-closes-command (command.Set op constant) h = refl
-closes-command (command.Drop op worker) h = refl
-closes-command (command.Inspect op) h = refl
-closes-command (command.Lose op worker) h = refl
+closes-command (Leg to_end) h = absurd h
+closes-command (AtRest effect) h = refl
 
 are_open-entries : (entries : List Entry) → are_open (map spell (map (λ entry. line.Entry entry) entries)) ≡ true
 are_open-entries [] = refl
@@ -112,7 +104,7 @@ ends_once-leg parts close =
 
 -- an item ends with its last line, and with no other
 pub ends_once-item : (one : Item) → IsItem one → ends_once (map spell (item_lines one)) ≡ true
-ends_once-item (item.Do command) h = closes-command command h
+ends_once-item (item.Do command) h = closes-command (action_of command) h
 ends_once-item (item.Run leg) h =
     ends_once-cons (spell line.Run) (map spell (flat_map part_lines leg.parts ++ line.Close leg.close ∷ [])) open-run (ends_once-leg leg.parts leg.close)
 ends_once-item (item.End leg) h =

@@ -10,7 +10,8 @@ use Rattle.amber_rows.specs.declared.cond.Cond.{Cond}
 use Rattle.amber_rows.specs.declared.flow.What.{What}
 use Rattle.amber_rows.specs.declared.flow.Operator.{Operator}
 use Rattle.amber_log.specs.declared.command.Command.{Command}
-use Rattle.amber_log.specs.declared.command.Command.TheVariants as command
+use Rattle.amber_log.specs.Commands.{Action, AtRest, Leg, action_of}
+use Rattle.amber_log.specs.Effect.{Argument, Condition, Constant, Nothing, Rows, Worker}
 
 -- 1 to 2^40
 abbrev pub is_target : ℕ → Bool
@@ -53,15 +54,19 @@ abbrev pub takes_constant : Option Operator → Value → Bool
 takes_constant None value = false
 takes_constant (Some operator) value = may_be_set_to operator.what operator.schema value
 
+-- whether an operator takes what a command says beside it
+abbrev pub fits_at : Option Operator → Argument → Bool
+fits_at operator Nothing = is_there operator
+fits_at operator (Rows n) = is_source operator && is_target n
+fits_at operator (Worker worker) = has_worker operator worker
+fits_at operator (Constant value) = takes_constant operator value
+fits_at operator (Condition cond) = takes_cond operator cond
+
+-- a leg always may be run
+abbrev pub action_fits : List Operator → Action → Bool
+action_fits flow (Leg to_end) = true
+action_fits flow (AtRest effect) = fits_at (nth flow effect.op) effect.argument
+
 -- whether a workflow takes a command
 unfoldable pub fits_of : List Operator → Command → Bool
-fits_of flow command.Run = true
-fits_of flow command.End = true
-fits_of flow (command.Pause op n) = is_source (nth flow op) && is_target n
-fits_of flow (command.Count op n) = is_source (nth flow op) && is_target n
-fits_of flow (command.When op cond) = takes_cond (nth flow op) cond
-fits_of flow (command.Clear op) = is_there (nth flow op)
-fits_of flow (command.Set op value) = takes_constant (nth flow op) value
-fits_of flow (command.Drop op worker) = has_worker (nth flow op) worker
-fits_of flow (command.Inspect op) = is_there (nth flow op)
-fits_of flow (command.Lose op worker) = has_worker (nth flow op) worker
+fits_of flow command = action_fits flow (action_of command)

@@ -5,7 +5,6 @@ use Rattle.amber_rows.specs.Number.{fits_i64}
 use Rattle.amber_rows.specs.declared.value.Value.{Value}
 use Rattle.amber_rows.specs.declared.value.Value.TheVariants as value
 use Rattle.amber_log.specs.declared.command.Command.{Command}
-use Rattle.amber_log.specs.declared.command.Command.TheVariants as command
 use Rattle.amber_log.specs.declared.entry.Entry.{Entry}
 use Rattle.amber_log.specs.declared.entry.Entry.TheVariants as entry
 use Rattle.amber_log.specs.declared.leg.Close.{Close}
@@ -17,6 +16,9 @@ use Rattle.amber_log.specs.declared.log.Item.TheVariants as item
 use Rattle.amber_log.specs.declared.log.Log.{Log}
 use Rattle.amber_log.specs.declared.line.Line.{Line}
 use Rattle.amber_log.specs.declared.line.Line.TheVariants as line
+use Rattle.amber_log.specs.Commands.{Action, action_of}
+use Rattle.amber_log.specs.declared.effect.Action.TheVariants as action
+use Rattle.amber_log.specs.Effect.{Argument, Condition, Constant, Nothing, Rows, Worker}
 
 -- ---- lines
 
@@ -25,31 +27,31 @@ abbrev pub IsConstant : Value → Type 0
 IsConstant (value.Int n) = fits_i64 n ≡ true
 IsConstant (value.Text text) = is_utf8 text ≡ true
 
+-- what a command says beside its operator, where its numbers fit their types
+abbrev pub IsArgument : Argument → Type 0
+IsArgument Nothing = Unit {0}
+IsArgument (Rows n) = n < 2 ^ 64
+IsArgument (Worker worker) = worker < 2 ^ 32
+IsArgument (Constant constant) = IsConstant constant
+IsArgument (Condition test) = (test.column < 2 ^ 32) × IsConstant test.constant
+
+-- what is done at rest is no leg
+abbrev pub IsNoLeg : Action → Type 0
+IsNoLeg (action.Leg to_end) = ⊥
+IsNoLeg (action.AtRest effect) = Unit {0}
+
 -- a command that a log keeps as a line. Those that run are kept as legs
 abbrev pub IsKeptAsLine : Command → Type 0
-IsKeptAsLine command.Run = ⊥
-IsKeptAsLine command.End = ⊥
-IsKeptAsLine (command.Pause op n) = Unit {0}
-IsKeptAsLine (command.Count op n) = Unit {0}
-IsKeptAsLine (command.When op test) = Unit {0}
-IsKeptAsLine (command.Clear op) = Unit {0}
-IsKeptAsLine (command.Set op constant) = Unit {0}
-IsKeptAsLine (command.Drop op worker) = Unit {0}
-IsKeptAsLine (command.Inspect op) = Unit {0}
-IsKeptAsLine (command.Lose op worker) = Unit {0}
+IsKeptAsLine command = IsNoLeg (action_of command)
+
+-- something done at rest, whose numbers fit their types
+abbrev pub HasWords : Action → Type 0
+HasWords (action.Leg to_end) = ⊥
+HasWords (action.AtRest effect) = (effect.op < 2 ^ 32) × IsArgument effect.argument
 
 -- a command other than those that run, whose numbers fit their types
 abbrev pub IsCommand : Command → Type 0
-IsCommand command.Run = ⊥
-IsCommand command.End = ⊥
-IsCommand (command.Pause op n) = (op < 2 ^ 32) × (n < 2 ^ 64)
-IsCommand (command.Count op n) = (op < 2 ^ 32) × (n < 2 ^ 64)
-IsCommand (command.When op test) = (op < 2 ^ 32) × (test.column < 2 ^ 32) × IsConstant test.constant
-IsCommand (command.Clear op) = op < 2 ^ 32
-IsCommand (command.Set op constant) = (op < 2 ^ 32) × IsConstant constant
-IsCommand (command.Drop op worker) = (op < 2 ^ 32) × (worker < 2 ^ 32)
-IsCommand (command.Inspect op) = op < 2 ^ 32
-IsCommand (command.Lose op worker) = (op < 2 ^ 32) × (worker < 2 ^ 32)
+IsCommand command = HasWords (action_of command)
 
 -- an entry whose numbers fit their types. One that goes on moves a row, and units come one at least
 abbrev pub IsEntry : Entry → Type 0

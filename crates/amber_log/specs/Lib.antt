@@ -1,7 +1,10 @@
+pub mod Commands
+pub mod Effect
 pub mod Fits
 pub mod Grammar
 pub mod Laws
 pub mod LogText
+pub mod Operands
 pub mod ReadAs
 pub mod ReadLines
 pub mod ReadWords

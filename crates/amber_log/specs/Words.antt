@@ -8,13 +8,14 @@ use Rattle.amber_rows.specs.declared.cond.Cmp.TheVariants as cmp
 use Rattle.amber_rows.specs.declared.value.Value.{Value}
 use Rattle.amber_rows.specs.declared.value.Value.TheVariants as value
 use Rattle.amber_log.specs.declared.command.Command.{Command}
-use Rattle.amber_log.specs.declared.command.Command.TheVariants as command
 use Rattle.amber_log.specs.declared.entry.Entry.{Entry}
 use Rattle.amber_log.specs.declared.entry.Entry.TheVariants as entry
 use Rattle.amber_log.specs.declared.leg.Close.{Close}
 use Rattle.amber_log.specs.declared.leg.Close.TheVariants as close
 use Rattle.amber_log.specs.declared.line.Line.{Line}
 use Rattle.amber_log.specs.declared.line.Line.TheVariants as line
+use Rattle.amber_log.specs.Commands.{Action, AtRest, Leg, action_of}
+use Rattle.amber_log.specs.Effect.{Argument, Condition, Constant, Nothing, Rows, Worker}
 
 -- the sign of a comparison
 abbrev pub sign_of : Cmp → List ℕ
@@ -30,18 +31,22 @@ abbrev pub constant_word : Value → List ℕ
 constant_word (value.Int n) = 105 ∷ signed_decimal n
 constant_word (value.Text text) = 116 ∷ encode_lower text
 
--- a command's words behind `do`. Those that run are kept as legs and have none
+-- what a command says beside its operator
+abbrev pub argument_words : Argument → List (List ℕ)
+argument_words Nothing = []
+argument_words (Rows n) = decimal n ∷ []
+argument_words (Worker worker) = decimal worker ∷ []
+argument_words (Constant constant) = constant_word constant ∷ []
+argument_words (Condition test) = decimal test.column ∷ sign_of test.op ∷ constant_word test.constant ∷ []
+
+-- the words of what is done at rest. Legs are kept as such and have none
+abbrev pub action_words : Action → List (List ℕ)
+action_words (Leg to_end) = []
+action_words (AtRest effect) = effect.name ∷ decimal effect.op ∷ argument_words effect.argument
+
+-- a command's words behind `do`
 abbrev pub command_words : Command → List (List ℕ)
-command_words command.Run = []
-command_words command.End = []
-command_words (command.Pause op n) = codes "pause" ∷ decimal op ∷ decimal n ∷ []
-command_words (command.Count op n) = codes "count" ∷ decimal op ∷ decimal n ∷ []
-command_words (command.When op test) = codes "when" ∷ decimal op ∷ decimal test.column ∷ sign_of test.op ∷ constant_word test.constant ∷ []
-command_words (command.Clear op) = codes "clear" ∷ decimal op ∷ []
-command_words (command.Set op constant) = codes "set" ∷ decimal op ∷ constant_word constant ∷ []
-command_words (command.Drop op worker) = codes "drop" ∷ decimal op ∷ decimal worker ∷ []
-command_words (command.Inspect op) = codes "inspect" ∷ decimal op ∷ []
-command_words (command.Lose op worker) = codes "lose" ∷ decimal op ∷ decimal worker ∷ []
+command_words command = action_words (action_of command)
 
 abbrev pub entry_words : Entry → List (List ℕ)
 entry_words (entry.Take sender batch) = codes "t" ∷ decimal sender ∷ decimal batch ∷ []

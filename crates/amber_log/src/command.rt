@@ -1,5 +1,19 @@
-ghost use Rattle.std.specs.Prelude.{◌≡◌};
+//! The commands to a paused run, and what each does, beside the definitions in `specs/Commands/`.
 
+ghost use Rattle.std.specs.Prelude.{◌≡◌};
+ghost use Rattle.amber_log.specs.Effect.{done_at, no_change};
+ghost use Rattle.amber_log.specs.Commands.{action_of};
+ghost use Rattle.amber_log.specs.Commands.Clear.{clear};
+ghost use Rattle.amber_log.specs.Commands.Count.{count};
+ghost use Rattle.amber_log.specs.Commands.Drop.{drop};
+ghost use Rattle.amber_log.specs.Commands.Inspect.{inspect};
+ghost use Rattle.amber_log.specs.Commands.Lose.{lose};
+ghost use Rattle.amber_log.specs.Commands.Pause.{pause};
+ghost use Rattle.amber_log.specs.Commands.Set.{set};
+ghost use Rattle.amber_log.specs.Commands.When.{stop_when};
+
+use crate::effect::{Action, Argument, Arming, Change, Effect, Reply};
+use crate::lent::{Lent, Word, Words};
 use amber_rows::{Cond, Value};
 use std::alloc::AllocError;
 use std::marker::Model;
@@ -73,6 +87,169 @@ impl Clone for Command {
                 worker: *worker,
             }),
         }
+    }
+}
+
+impl Command {
+    /// What a command does. Here alone commands are told apart.
+    pub fn action(&self) -> Action<'_>
+        ensures { result ≡ action_of self.now }
+    {
+        match self {
+            Command::Run => Action::Leg { to_end: false },
+            Command::End => Action::Leg { to_end: true },
+            Command::Pause { op, n } => Action::AtRest(pause(*op, *n)),
+            Command::Count { op, n } => Action::AtRest(count(*op, *n)),
+            Command::When { op, cond } => Action::AtRest(stop_when(*op, cond)),
+            Command::Clear { op } => Action::AtRest(clear(*op)),
+            Command::Set { op, value } => Action::AtRest(set(*op, value)),
+            Command::Drop { op, worker } => Action::AtRest(drop(*op, *worker)),
+            Command::Inspect { op } => Action::AtRest(inspect(*op)),
+            Command::Lose { op, worker } => Action::AtRest(lose(*op, *worker)),
+        }
+    }
+}
+
+// All stays as it is.
+fn no_change<'a>() -> Arming<'a>
+    ensures { result ≡ no_change }
+{
+    Arming {
+        pause: Change::Keep,
+        count: Change::Keep,
+        watch: Change::Keep,
+        constant: None,
+    }
+}
+
+// At this operator, no_change is said, changed or lost, and it is replied that it was done.
+fn done_at<'a>(op: u32) -> Effect<'a>
+    ensures { result ≡ done_at op }
+{
+    Effect {
+        name: Word::new(b""),
+        words: Words::new(&[]),
+        op,
+        argument: Argument::Nothing,
+        alters: false,
+        arming: no_change(),
+        drops: None,
+        loses: None,
+        reply: Reply::Done,
+    }
+}
+
+fn pause<'a>(op: u32, n: u64) -> Effect<'a>
+    ensures { result ≡ pause op n }
+{
+    Effect {
+        name: Word::new(b"pause"),
+        words: Words::new(&[b"pause"]),
+        argument: Argument::Rows(n),
+        arming: Arming {
+            pause: Change::Put(n),
+            ..no_change()
+        },
+        ..done_at(op)
+    }
+}
+
+fn count<'a>(op: u32, n: u64) -> Effect<'a>
+    ensures { result ≡ count op n }
+{
+    Effect {
+        name: Word::new(b"count"),
+        words: Words::new(&[b"break", b"count"]),
+        argument: Argument::Rows(n),
+        arming: Arming {
+            count: Change::Put(n),
+            ..no_change()
+        },
+        ..done_at(op)
+    }
+}
+
+fn stop_when(op: u32, cond: &Cond) -> Effect<'_>
+    ensures { result ≡ stop_when op cond.now }
+{
+    Effect {
+        name: Word::new(b"when"),
+        words: Words::new(&[b"break", b"when"]),
+        argument: Argument::Condition(Lent::new(cond)),
+        arming: Arming {
+            watch: Change::Put(Lent::new(cond)),
+            ..no_change()
+        },
+        ..done_at(op)
+    }
+}
+
+fn clear<'a>(op: u32) -> Effect<'a>
+    ensures { result ≡ clear op }
+{
+    Effect {
+        name: Word::new(b"clear"),
+        words: Words::new(&[b"clear"]),
+        arming: Arming {
+            pause: Change::TakeBack,
+            count: Change::TakeBack,
+            watch: Change::TakeBack,
+            ..no_change()
+        },
+        ..done_at(op)
+    }
+}
+
+fn set(op: u32, value: &Value) -> Effect<'_>
+    ensures { result ≡ set op value.now }
+{
+    Effect {
+        name: Word::new(b"set"),
+        words: Words::new(&[b"set"]),
+        argument: Argument::Constant(Lent::new(value)),
+        alters: true,
+        arming: Arming {
+            constant: Some(Lent::new(value)),
+            ..no_change()
+        },
+        ..done_at(op)
+    }
+}
+
+fn drop<'a>(op: u32, worker: u32) -> Effect<'a>
+    ensures { result ≡ drop op worker }
+{
+    Effect {
+        name: Word::new(b"drop"),
+        words: Words::new(&[b"drop"]),
+        argument: Argument::Worker(worker),
+        alters: true,
+        drops: Some(worker),
+        reply: Reply::Dropped,
+        ..done_at(op)
+    }
+}
+
+fn inspect<'a>(op: u32) -> Effect<'a>
+    ensures { result ≡ inspect op }
+{
+    Effect {
+        name: Word::new(b"inspect"),
+        words: Words::new(&[b"inspect"]),
+        reply: Reply::Shown,
+        ..done_at(op)
+    }
+}
+
+fn lose<'a>(op: u32, worker: u32) -> Effect<'a>
+    ensures { result ≡ lose op worker }
+{
+    Effect {
+        name: Word::new(b"lose"),
+        words: Words::new(&[b"lose"]),
+        argument: Argument::Worker(worker),
+        loses: Some(worker),
+        ..done_at(op)
     }
 }
 

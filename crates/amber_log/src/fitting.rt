@@ -3,9 +3,10 @@
 ghost use Rattle.std.specs.Prelude.{◌≡◌};
 ghost use Rattle.amber_rows.specs.Lists.{nth};
 ghost use Rattle.amber_rows.specs.Kinds.{is_sink};
-ghost use Rattle.amber_log.specs.Fits.{may_be_set_to, fits_of, has_worker, is_cell_of, is_source, is_target, is_there, takes_cond, takes_constant};
+ghost use Rattle.amber_log.specs.Fits.{fits_at, fits_of, has_worker, is_cell_of, is_source, is_target, is_there, may_be_set_to, takes_cond, takes_constant};
 
 use crate::command::Command;
+use crate::effect::{Action, Argument};
 use amber_rows::{Cond, Flow, Schema, Value, What};
 
 // The most rows that a pause or a count may ask for.
@@ -85,22 +86,27 @@ fn takes_constant(flow: &Flow, op: u32, value: &Value) -> bool
     }
 }
 
+// Whether an operator takes what a command says beside it.
+fn fits_at(flow: &Flow, op: u32, argument: &Argument<'_>) -> bool
+    ensures { result ≡ fits_at (nth flow.now op) argument.now }
+{
+    match argument {
+        Argument::Nothing => is_there(flow, op),
+        Argument::Rows(n) => is_source(flow, op) && is_target(*n),
+        Argument::Worker(worker) => has_worker(flow, op, *worker),
+        Argument::Constant(value) => takes_constant(flow, op, value.get()),
+        Argument::Condition(cond) => takes_cond(flow, op, cond.get()),
+    }
+}
+
 /// Whether a workflow takes a command: the operator, its worker and its column are there, the operator is of a kind
 /// that takes it, and numbers of rows are 1 to 2^40.
 #[tactic(auto, unfolding(crate::specs::Fits::fits_of))]
 pub fn fits(flow: &Flow, command: &Command) -> bool
     ensures { result ≡ fits_of flow.now command.now }
 {
-    match command {
-        Command::Run | Command::End => true,
-        Command::Pause { op, n } | Command::Count { op, n } => {
-            is_source(flow, *op) && is_target(*n)
-        }
-        Command::When { op, cond } => takes_cond(flow, *op, cond),
-        Command::Set { op, value } => takes_constant(flow, *op, value),
-        Command::Clear { op } | Command::Inspect { op } => is_there(flow, *op),
-        Command::Drop { op, worker } | Command::Lose { op, worker } => {
-            has_worker(flow, *op, *worker)
-        }
+    match command.action() {
+        Action::Leg { to_end: _ } => true,
+        Action::AtRest(effect) => fits_at(flow, effect.op, &effect.argument),
     }
 }
