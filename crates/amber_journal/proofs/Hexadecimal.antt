@@ -5,7 +5,7 @@ use Rattle.std.specs.Str.{IsUtf8, is_utf8}
 use Rattle.std.proofs.lemmas.Slice.Eq.{bytes_eq-Decides}
 use Rattle.std.proofs.lemmas.Str.{IsUtf8-from_is_utf8, is_utf8-from_IsUtf8}
 use Rattle.hex.specs.Hex.{decode_of, encode_lower}
-use Rattle.amber_log.specs.ReadWords.{hex_text, text_when_exact}
+use Rattle.amber_log.specs.Operands.{hex_text, text_when_exact}
 
 none_from : {A : Type 0} (one other : Bool) (x : A) → (one ≡ true → ⊥) → None ≡ (if one && other then Some x else None)
 none_from true other x never = absurd (never refl)

@@ -1,15 +1,18 @@
 -- The text of an item, part by part.
-use Rattle.std.proofs.Common.{◌≡◌, ℕ, ◌++◌, List, [], ◌∷◌, map, refl, ap, ◌∙◌, append-nil}
-use Rattle.std.specs.List.{flat_map}
+use Rattle.std.proofs.Common.{◌≡◌, ℕ, ◌++◌, List, [], ◌∷◌, map, refl, sym, ap, ◌∙◌, append-nil}
+use Rattle.std.specs.Prelude.{codes, decimal}
+use Rattle.std.specs.List.{flat_map, join_with_byte}
 use Rattle.std.proofs.lemmas.List.Concat.{flat_map-append}
 use Rattle.amber_log.specs.LogText.{item_text, leg_lines, line_text, part_lines}
+use Rattle.amber_log.specs.declared.effect.Effect.{Effect}
+use Rattle.amber_log.specs.Words.{argument_words}
 use Rattle.amber_log.specs.declared.command.Command.{Command}
 use Rattle.amber_log.specs.declared.entry.Entry.{Entry}
 use Rattle.amber_log.specs.declared.leg.Leg.{Leg}
 use Rattle.amber_log.specs.declared.leg.Part.{Part}
 use Rattle.amber_log.specs.declared.log.Item.TheVariants as item
 use Rattle.amber_log.specs.declared.line.Line.TheVariants as line
-use Rattle.amber_journal.specs.Written.{entry_text, leg_text, part_text}
+use Rattle.amber_journal.specs.Written.{after_space, effect_line, entry_text, leg_text, part_text}
 
 entries_text : (entries : List Entry) → flat_map line_text (map (λ entry. line.Entry entry) entries) ≡ flat_map entry_text entries
 entries_text [] = refl
@@ -27,6 +30,16 @@ leg_text_of leg =
     flat_map-append line_text (flat_map part_lines leg.parts) (line.Close leg.close ∷ [])
     ∙ ap (λ (text : List ℕ). flat_map line_text (flat_map part_lines leg.parts) ++ text) (append-nil (line_text (line.Close leg.close)))
     ∙ ap (λ (text : List ℕ). text ++ line_text (line.Close leg.close)) (parts_text leg.parts)
+
+-- the words behind the first have a space before them
+join-spaced : (word : List ℕ) (words : List (List ℕ)) → join_with_byte 32 (word ∷ words) ≡ word ++ flat_map after_space words
+join-spaced word [] = sym (append-nil word)
+join-spaced word (next ∷ words) = ap (λ (text : List ℕ). word ++ (32 ∷ text)) (join-spaced next words)
+
+pub line_of_effect : (effect : Effect)
+    → effect_line effect ≡ ((codes "do " ++ effect.name) ++ (32 ∷ (decimal effect.op ++ flat_map after_space (argument_words effect.argument)))) ++ 10 ∷ []
+line_of_effect effect =
+    ap (λ (text : List ℕ). text ++ 10 ∷ []) (join-spaced (codes "do") (effect.name ∷ decimal effect.op ∷ argument_words effect.argument))
 
 pub text_of_command : (command : Command) → item_text (item.Do command) ≡ line_text (line.Do command)
 unfolding item_text

@@ -1,7 +1,7 @@
 pub mod Hexadecimal
 pub mod ItemText
 pub mod Kept
-pub mod Parsed
+pub mod Parted
 pub mod Pieces
 pub mod ReadBack
 pub mod Spelled

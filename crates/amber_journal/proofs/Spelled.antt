@@ -1,15 +1,13 @@
 -- Digits are a number exactly where they are its decimal.
-use Rattle.std.proofs.Common.{◌≡◌, ℕ, ◌+◌, ◌^◌, ◌<◌, ◌≤◌, ◌&&◌, Bool, List, Option, Some, None, Result, Ok, Err, refl, sym, ap, ◌∙◌, arith, subst}
-use Rattle.std.specs.Prelude.{IfSome, bytes_eq, decimal, nat_lt}
-use Rattle.std.specs.Str.{IsUtf8, all_ascii_digits}
-use Rattle.std.specs.Str.Parse.{ParsesUnsigned, digits_value}
-use Rattle.std.proofs.lemmas.Bool.{and_parts, cond_both, ltb-true}
+use Rattle.std.proofs.Common.{◌≡◌, ℕ, ◌+◌, ◌^◌, ◌<◌, ◌≤◌, List, Option, Some, None, Result, Ok, Err, refl, sym, ap, ◌∙◌, arith, subst}
+use Rattle.std.specs.Prelude.{IfSome, decimal}
+use Rattle.std.specs.Str.{IsUtf8}
+use Rattle.std.specs.Str.Parse.{ParsesUnsigned}
 use Rattle.std.proofs.lemmas.Fmt.{IsAscii-decimal, parse-decimal}
-use Rattle.std.proofs.lemmas.Slice.Eq.{bytes_eq-Decides}
 use Rattle.std.proofs.lemmas.Str.{IsUtf8-from_ascii}
-use Rattle.amber_log.specs.ReadWords.{number}
-use Rattle.amber_log.proofs.FoundWords.{IsNumber, number-found}
-use Rattle.amber_log.proofs.WordsRead.{number-decimal}
+use Rattle.amber_log.specs.Operands.{number}
+use Rattle.amber_log.proofs.FoundOperands.{IsNumber, number-found}
+use Rattle.amber_log.proofs.OperandsRead.{number-decimal}
 
 -- digits that are no number's decimal are no number
 none : (limit : ℕ) (digits : List ℕ) → ((n : ℕ) → n < limit → digits ≡ decimal n → ⊥) → None ≡ number limit digits

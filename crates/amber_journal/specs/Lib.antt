@@ -1,3 +1,4 @@
 pub mod Answered
+pub mod Parted
 pub mod ReadBack
 pub mod Written

@@ -1,120 +1,89 @@
 //! The commands of a log, word by word.
-ghost use Rattle.std.specs.Prelude.{◌≡◌, ◌^◌, IfOk, option_and_then, option_map};
-ghost use Rattle.amber_log.specs.ReadWords.{command_four, command_one, command_two, condition_of, constant_of, number, with_two};
-ghost use Rattle.amber_log.specs.declared.command.Command.TheVariants as command;
-ghost use Rattle.amber_log.specs.declared.line.Line.TheVariants as line;
+ghost use Rattle.std.specs.Prelude.{◌≡◌, ◌∷◌, [], None, option_copied, IfOk, MatchOption};
+ghost use Rattle.amber_log.specs.ReadWords.{command_in};
+ghost use Rattle.amber_log.specs.Operands.{condition_in, value_in, nothing_in, one_word, row_count_in, worker_in};
+ghost use Rattle.amber_log.specs.Commands.{command_named};
+ghost use Rattle.amber_journal.specs.Parted.{words_after};
 
 use crate::constants::{comparison, constant};
 use crate::numbers::{number, number32};
-use amber_log::{Command, Line};
-use amber_rows::Cond;
+use crate::parting::next_word;
+use amber_log::Command;
+use amber_rows::{Cond, Value};
 use std::alloc::{AllocError, Global};
 
-/// A command with one operand.
-#[tactic(auto, unfolding(amber_log::specs::ReadWords::command_one))]
-pub fn command_of_one(word: &[u8], op: &[u8]) -> Option<Line>
-    ensures { result ≡ command_one word.now op.now }
+// That no word is left.
+#[tactic(auto, using(crate::proofs::Parted::nothing_in_more))]
+fn nothing(rest: Option<&[u8]>) -> Option<()>
+    ensures { result ≡ nothing_in (words_after (option_copied rest.entry)) }
 {
-    if word == b"clear".as_slice() {
-        let op = number32(op)?;
-        Some(Line::Do(Command::Clear { op }))
-    } else if word == b"inspect".as_slice() {
-        let op = number32(op)?;
-        Some(Line::Do(Command::Inspect { op }))
-    } else {
-        None
+    match rest {
+        None => Some(()),
+        Some(_) => None,
     }
 }
 
-/// The command that stops behind so many rows.
-fn pause(op: &[u8], n: &[u8]) -> Option<Line>
-    ensures { result ≡ with_two (λ op n. line.Do (command.Pause op n)) (2 ^ 32) (2 ^ 64) op.now
-        n.now }
+// The one word that is left.
+#[tactic(auto, using(crate::proofs::Parted::one_word_more))]
+fn one_word(rest: Option<&[u8]>) -> Option<&[u8]>
+    ensures { option_copied result
+        ≡ one_word (words_after (option_copied rest.entry)) }
 {
-    let op = number32(op)?;
-    let n = number(n, u64::MAX)?;
-    Some(Line::Do(Command::Pause { op, n }))
+    match next_word(rest?) {
+        (word, None) => Some(word),
+        (_, Some(_)) => None,
+    }
 }
 
-/// The command that stops behind so many more rows.
-fn count(op: &[u8], n: &[u8]) -> Option<Line>
-    ensures { result ≡ with_two (λ op n. line.Do (command.Count op n)) (2 ^ 32) (2 ^ 64) op.now
-        n.now }
+// A number of rows.
+fn rows(rest: Option<&[u8]>) -> Option<u64>
+    ensures { result ≡ row_count_in (words_after (option_copied rest.entry)) }
 {
-    let op = number32(op)?;
-    let n = number(n, u64::MAX)?;
-    Some(Line::Do(Command::Count { op, n }))
+    number(one_word(rest)?, u64::MAX)
 }
 
-/// The command that drops a row.
-fn drop_row(op: &[u8], worker: &[u8]) -> Option<Line>
-    ensures { result ≡ with_two (λ op worker. line.Do (command.Drop op worker)) (2 ^ 32) (2 ^ 32)
-        op.now worker.now }
+// A worker's number.
+fn worker(rest: Option<&[u8]>) -> Option<u32>
+    ensures { result ≡ worker_in (words_after (option_copied rest.entry)) }
 {
-    let op = number32(op)?;
-    let worker = number32(worker)?;
-    Some(Line::Do(Command::Drop { op, worker }))
+    number32(one_word(rest)?)
 }
 
-/// The command that loses a worker.
-fn lose(op: &[u8], worker: &[u8]) -> Option<Line>
-    ensures { result ≡ with_two (λ op worker. line.Do (command.Lose op worker)) (2 ^ 32) (2 ^ 32)
-        op.now worker.now }
+// A constant.
+fn constant_behind(alloc: Global, rest: Option<&[u8]>) -> Result<Option<Value>, AllocError>
+    ensures { IfOk result (λ value. value
+        ≡ value_in (words_after (option_copied rest.entry))) }
 {
-    let op = number32(op)?;
-    let worker = number32(worker)?;
-    Some(Line::Do(Command::Lose { op, worker }))
+    match one_word(rest) {
+        None => Ok(None),
+        Some(word) => constant(alloc, word),
+    }
 }
 
-/// The command that changes a filter's constant.
-fn set(alloc: Global, op: &[u8], word: &[u8]) -> Result<Option<Line>, AllocError>
-    ensures { IfOk result (λ made. made ≡ option_and_then
-        (λ op. option_map (λ constant. line.Do (command.Set op constant)) (constant_of word.now))
-        (number (2 ^ 32) op.now)) }
+// The three words that are left.
+#[tactic(auto, using(crate::proofs::Parted::condition_in_more))]
+fn three_words(rest: Option<&[u8]>) -> Option<(&[u8], &[u8], &[u8])>
+    ensures { MatchOption result
+        (condition_in (words_after (option_copied rest.entry)) ≡ None)
+        (λ p. words_after (option_copied rest.entry)
+        ≡ p.0.now ∷ p.1.now ∷ p.2.now ∷ []) }
 {
-    let Some(op) = number32(op) else {
+    let (first, rest) = next_word(rest?);
+    let (second, rest) = next_word(rest?);
+    match next_word(rest?) {
+        (third, None) => Some((first, second, third)),
+        (_, Some(_)) => None,
+    }
+}
+
+// A condition: a column, a sign and a constant.
+fn condition(alloc: Global, rest: Option<&[u8]>) -> Result<Option<Cond>, AllocError>
+    ensures { IfOk result (λ cond. cond
+        ≡ condition_in (words_after (option_copied rest.entry))) }
+{
+    let Some((column, sign, word)) = three_words(rest) else {
         return Ok(None);
     };
-    match constant(alloc, word)? {
-        None => Ok(None),
-        Some(value) => Ok(Some(Line::Do(Command::Set { op, value }))),
-    }
-}
-
-/// A command with two operands.
-#[tactic(auto, unfolding(amber_log::specs::ReadWords::command_two))]
-pub fn command_of_two(
-    alloc: Global,
-    word: &[u8],
-    a: &[u8],
-    b: &[u8],
-) -> Result<Option<Line>, AllocError>
-    ensures { IfOk result (λ line. line ≡ command_two word.now a.now b.now) }
-{
-    if word == b"pause".as_slice() {
-        Ok(pause(a, b))
-    } else if word == b"count".as_slice() {
-        Ok(count(a, b))
-    } else if word == b"set".as_slice() {
-        set(alloc, a, b)
-    } else if word == b"drop".as_slice() {
-        Ok(drop_row(a, b))
-    } else if word == b"lose".as_slice() {
-        Ok(lose(a, b))
-    } else {
-        Ok(None)
-    }
-}
-
-/// A condition: a column, a sign and a constant.
-fn condition(
-    alloc: Global,
-    column: &[u8],
-    sign: &[u8],
-    word: &[u8],
-) -> Result<Option<Cond>, AllocError>
-    ensures { IfOk result (λ cond. cond ≡ condition_of column.now sign.now word.now) }
-{
     let Some(column) = number32(column) else {
         return Ok(None);
     };
@@ -131,27 +100,54 @@ fn condition(
     }
 }
 
-/// A command with four operands, of which the last three are a condition on the rows of an operator.
-#[tactic(auto, unfolding(amber_log::specs::ReadWords::command_four))]
-pub fn command_of_four(
+// The command of this name at this operator, and the words behind it.
+#[tactic(auto, unfolding(amber_log::specs::Commands::command_named))]
+fn command_named(
     alloc: Global,
-    kind: &[u8],
-    op: &[u8],
-    column: &[u8],
-    sign: &[u8],
-    word: &[u8],
-) -> Result<Option<Line>, AllocError>
+    name: &[u8],
+    op: u32,
+    rest: Option<&[u8]>,
+) -> Result<Option<Command>, AllocError>
     ensures { IfOk result (λ made. made
-        ≡ command_four kind.now op.now column.now sign.now word.now) }
+        ≡ command_named name.now op (words_after (option_copied rest.entry))) }
 {
-    if kind != b"when".as_slice() {
-        return Ok(None);
+    if name == b"pause".as_slice() {
+        Ok(rows(rest).map(|n| Command::Pause { op, n }))
+    } else if name == b"count".as_slice() {
+        Ok(rows(rest).map(|n| Command::Count { op, n }))
+    } else if name == b"when".as_slice() {
+        Ok(condition(alloc, rest)?.map(|cond| Command::When { op, cond }))
+    } else if name == b"clear".as_slice() {
+        Ok(nothing(rest).map(|()| Command::Clear { op }))
+    } else if name == b"set".as_slice() {
+        Ok(constant_behind(alloc, rest)?.map(|value| Command::Set { op, value }))
+    } else if name == b"drop".as_slice() {
+        Ok(worker(rest).map(|worker| Command::Drop { op, worker }))
+    } else if name == b"inspect".as_slice() {
+        Ok(nothing(rest).map(|()| Command::Inspect { op }))
+    } else if name == b"lose".as_slice() {
+        Ok(worker(rest).map(|worker| Command::Lose { op, worker }))
+    } else {
+        Ok(None)
     }
-    let Some(op) = number32(op) else {
+}
+
+/// The command of the words behind `do`: its name, its operator and what it says beside.
+#[tactic(auto, unfolding(amber_log::specs::ReadWords::command_in))]
+pub fn command(alloc: Global, rest: Option<&[u8]>) -> Result<Option<Command>, AllocError>
+    ensures { IfOk result (λ made. made
+        ≡ command_in (words_after (option_copied rest.entry))) }
+{
+    let Some(rest) = rest else {
         return Ok(None);
     };
-    match condition(alloc, column, sign, word)? {
+    let (name, rest) = next_word(rest);
+    let Some(rest) = rest else {
+        return Ok(None);
+    };
+    let (op, rest) = next_word(rest);
+    match number32(op) {
         None => Ok(None),
-        Some(cond) => Ok(Some(Line::Do(Command::When { op, cond }))),
+        Some(op) => command_named(alloc, name, op, rest),
     }
 }

@@ -1,12 +1,15 @@
 //! The lines of commands.
-ghost use Rattle.std.specs.Prelude.{◌≡◌, [], ◌∷◌, ◌++◌, OnOk, decimal};
+ghost use Rattle.std.specs.Prelude.{◌≡◌, ◌∷◌, ◌++◌, OnOk};
+ghost use Rattle.std.specs.List.{flat_map};
 ghost use Rattle.amber_log.specs.Grammar.{IsCommand};
 ghost use Rattle.amber_log.specs.LogText.{line_text};
-ghost use Rattle.amber_log.specs.Words.{constant_word};
+ghost use Rattle.amber_log.specs.Words.{argument_words, constant_word};
+ghost use Rattle.amber_log.specs.declared.effect.Argument.{Argument};
+ghost use Rattle.amber_journal.specs.Written.{after_space, effect_line};
 ghost use Rattle.amber_log.specs.declared.line.Line.{Line};
 
-use crate::lines::{push_number, push_one, push_two};
-use amber_log::{Command, sign};
+use crate::lines::push_number;
+use amber_log::{Action, Argument, Command, Effect, sign};
 use amber_rows::{Cond, Value};
 use itoa::Buffer;
 use std::alloc::{AllocError, Global};
@@ -29,28 +32,44 @@ fn push_constant(alloc: Global, out: &mut Vec<u8>, constant: &Value) -> Result<(
     }
 }
 
-/// The command that stops at rows for which a condition holds.
-fn push_when(alloc: Global, out: &mut Vec<u8>, op: u32, cond: &Cond) -> Result<(), AllocError>
+/// A space before each: a column, a sign and a constant.
+fn push_condition(alloc: Global, out: &mut Vec<u8>, cond: &Cond) -> Result<(), AllocError>
     ensures { OnOk result (out.new.items
-        ≡ out.old.items ++ line_text (Line.Do (Command.When op cond.now))) }
+        ≡ out.old.items ++ flat_map after_space (argument_words (Argument.Condition cond.now))) }
 {
-    out.extend_from_slice(b"do when")?;
-    push_number(out, u64::from(op))?;
     push_number(out, u64::from(cond.column))?;
     out.push(b' ')?;
     out.extend_from_slice(sign(cond.op))?;
-    push_constant(alloc, out, &cond.constant)?;
-    out.extend_from_slice(b"\n")
+    push_constant(alloc, out, &cond.constant)
 }
 
-/// The command that changes a filter's constant.
-fn push_set(alloc: Global, out: &mut Vec<u8>, op: u32, value: &Value) -> Result<(), AllocError>
+/// A space before each word that a command says beside its operator.
+fn push_argument(
+    alloc: Global,
+    out: &mut Vec<u8>,
+    argument: &Argument<'_>,
+) -> Result<(), AllocError>
     ensures { OnOk result (out.new.items
-        ≡ out.old.items ++ line_text (Line.Do (Command.Set op value.now))) }
+        ≡ out.old.items ++ flat_map after_space (argument_words argument.now)) }
 {
-    out.extend_from_slice(b"do set")?;
-    push_number(out, u64::from(op))?;
-    push_constant(alloc, out, value)?;
+    match argument {
+        Argument::Nothing => Ok(()),
+        Argument::Rows(n) => push_number(out, *n),
+        Argument::Worker(worker) => push_number(out, u64::from(*worker)),
+        Argument::Constant(value) => push_constant(alloc, out, value.get()),
+        Argument::Condition(cond) => push_condition(alloc, out, cond.get()),
+    }
+}
+
+/// The line of what is done at rest.
+#[tactic(auto, using(crate::proofs::ItemText::line_of_effect))]
+fn push_effect(alloc: Global, out: &mut Vec<u8>, effect: &Effect<'_>) -> Result<(), AllocError>
+    ensures { OnOk result (out.new.items ≡ out.old.items ++ effect_line effect.now) }
+{
+    out.extend_from_slice(b"do ")?;
+    out.extend_from_slice(effect.name.get())?;
+    push_number(out, u64::from(effect.op))?;
+    push_argument(alloc, out, &effect.argument)?;
     out.extend_from_slice(b"\n")
 }
 
@@ -59,19 +78,8 @@ pub fn push_command(alloc: Global, out: &mut Vec<u8>, command: &Command) -> Resu
     requires { IsCommand command.now }
     ensures { OnOk result (out.new.items ≡ out.old.items ++ line_text (Line.Do command.now)) }
 {
-    match command {
-        Command::Run | Command::End => unreachable!(),
-        Command::Pause { op, n } => push_two(out, b"do pause", u64::from(*op), *n),
-        Command::Count { op, n } => push_two(out, b"do count", u64::from(*op), *n),
-        Command::When { op, cond } => push_when(alloc, out, *op, cond),
-        Command::Clear { op } => push_one(out, b"do clear", u64::from(*op)),
-        Command::Set { op, value } => push_set(alloc, out, *op, value),
-        Command::Drop { op, worker } => {
-            push_two(out, b"do drop", u64::from(*op), u64::from(*worker))
-        }
-        Command::Inspect { op } => push_one(out, b"do inspect", u64::from(*op)),
-        Command::Lose { op, worker } => {
-            push_two(out, b"do lose", u64::from(*op), u64::from(*worker))
-        }
+    match command.action() {
+        Action::Leg { to_end: _ } => unreachable!(),
+        Action::AtRest(effect) => push_effect(alloc, out, &effect),
     }
 }

@@ -1,6 +1,6 @@
 //! The signs and constants of a log's commands.
 ghost use Rattle.std.specs.Prelude.{◌≡◌, IfOk};
-ghost use Rattle.amber_log.specs.ReadWords.{comparison_of, constant_of, hex_text};
+ghost use Rattle.amber_log.specs.Operands.{comparison_of, constant_of, hex_text};
 
 use crate::numbers::signed;
 use amber_rows::{Cmp, Text, Value};
@@ -8,7 +8,7 @@ use hex::FromHexError;
 use std::alloc::{AllocError, Global};
 
 /// The comparison with this sign.
-#[tactic(auto, unfolding(amber_log::specs::ReadWords::comparison_of))]
+#[tactic(auto, unfolding(amber_log::specs::Operands::comparison_of))]
 pub fn comparison(word: &[u8]) -> Option<Cmp>
     ensures { result ≡ comparison_of word.now }
 {
@@ -24,7 +24,7 @@ pub fn comparison(word: &[u8]) -> Option<Cmp>
 }
 
 /// The text whose UTF-8 bytes these digits are in hexadecimal, in lower case.
-#[tactic(auto, unfolding(amber_log::specs::ReadWords::hex_text))]
+#[tactic(auto, unfolding(amber_log::specs::Operands::hex_text))]
 fn text(alloc: Global, digits: &[u8]) -> Result<Option<Text>, AllocError>
     ensures { IfOk result (λ text. text ≡ hex_text digits.now) }
 {
@@ -45,7 +45,7 @@ fn text(alloc: Global, digits: &[u8]) -> Result<Option<Text>, AllocError>
 }
 
 /// The constant that a word is.
-#[tactic(auto, unfolding(amber_log::specs::ReadWords::constant_of))]
+#[tactic(auto, unfolding(amber_log::specs::Operands::constant_of))]
 pub fn constant(alloc: Global, word: &[u8]) -> Result<Option<Value>, AllocError>
     ensures { IfOk result (λ constant. constant ≡ constant_of word.now) }
 {

@@ -1,6 +1,6 @@
 //! The numbers of a log's lines.
 ghost use Rattle.std.specs.Prelude.{◌≡◌, ◌+◌, ◌^◌, ◌≤◌, IfSome};
-ghost use Rattle.amber_log.specs.ReadWords.{number, signed_number};
+ghost use Rattle.amber_log.specs.Operands.{number, signed_number};
 
 use itoa::Buffer;
 use std::str;
@@ -36,7 +36,7 @@ pub fn number32(digits: &[u8]) -> Option<u32>
 }
 
 /// The number of 64 bits with a sign that these bytes are. There is no `-0`.
-#[tactic(auto, unfolding(amber_log::specs::ReadWords::signed_number))]
+#[tactic(auto, unfolding(amber_log::specs::Operands::signed_number))]
 pub fn signed(bytes: &[u8]) -> Option<i64>
     ensures { result ≡ signed_number bytes.now }
 {

@@ -1,7 +1,7 @@
 //! Lines and words of a text, one after the other.
-ghost use Rattle.std.specs.Prelude.{◌≡◌, ◌+◌, ◌∷◌, ◌==◌, [], length, IfSome, MatchOption};
-ghost use Rattle.std.specs.List.{slice_split};
+ghost use Rattle.std.specs.Prelude.{◌≡◌, ◌+◌, ◌∷◌, [], length, option_copied, IfSome, MatchOption};
 ghost use Rattle.amber_log.specs.ReadAs.{lines_of};
+ghost use Rattle.amber_journal.specs.Parted.{words, words_after};
 
 /// The first line, without its line feed, and what stands behind the feed. Without a feed there is no line.
 #[tactic(auto, using(crate::proofs::Pieces::first_line, amber_log::proofs::Pieces::lacks_more))]
@@ -22,10 +22,7 @@ pub fn next_line(bytes: &[u8]) -> Option<(&[u8], &[u8])>
 /// The first word, up to a space, and what stands behind the space, if there is one.
 #[tactic(auto, using(crate::proofs::Pieces::first_word, amber_log::proofs::Pieces::lacks_more))]
 pub fn next_word(bytes: &[u8]) -> (&[u8], Option<&[u8]>)
-    ensures { MatchOption result.1
-        (slice_split (λ b. b == 32) bytes.now ≡ result.0.now ∷ [])
-        (λ rest. slice_split (λ b. b == 32) bytes.now
-        ≡ result.0.now ∷ slice_split (λ b. b == 32) rest.now) }
+    ensures { words bytes.now ≡ result.0.now ∷ words_after (option_copied result.1) }
 {
     for place in 0..bytes.len() {
         if bytes[place] == b' ' {

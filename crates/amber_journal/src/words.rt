@@ -1,11 +1,12 @@
 //! The lines of a log, by the number of their words.
-ghost use Rattle.std.specs.Prelude.{◌≡◌, ◌∷◌, ◌==◌, [], ◌^◌, IfOk, codes, option_and_then};
-ghost use Rattle.std.specs.List.{slice_split};
-ghost use Rattle.amber_log.specs.ReadWords.{above_zero, command_four, command_one, command_two, condition_of, head_line, line_of, line_one, line_three, line_two, number, parse, with_two, moving};
+ghost use Rattle.std.specs.Prelude.{◌≡◌, ◌^◌, IfOk, option_and_then, option_copied};
+ghost use Rattle.amber_log.specs.ReadWords.{head_line, line_by, line_one, line_three, line_two, moving, parse, with_two};
+ghost use Rattle.amber_log.specs.Operands.{above_zero, number};
 ghost use Rattle.amber_log.specs.declared.entry.Entry.TheVariants as entry;
 ghost use Rattle.amber_log.specs.declared.line.Line.TheVariants as line;
+ghost use Rattle.amber_journal.specs.Parted.{words_after};
 
-use crate::command_lines::{command_of_four, command_of_one, command_of_two};
+use crate::command_lines::command;
 use crate::numbers::{number, number32};
 use crate::parting::next_word;
 use amber_log::{Close, Entry, Line};
@@ -106,8 +107,6 @@ fn line_of_three(word: &[u8], a: &[u8], b: &[u8]) -> Option<Line>
         take(a, b)
     } else if word == b"g".as_slice() {
         go(a, b)
-    } else if word == b"do".as_slice() {
-        command_of_one(a, b)
     } else if word == b"amber".as_slice() {
         head(a, b)
     } else {
@@ -115,47 +114,35 @@ fn line_of_three(word: &[u8], a: &[u8], b: &[u8]) -> Option<Line>
     }
 }
 
-/// A command of these two words behind the first and those of the rest.
-#[tactic(auto, using(crate::proofs::Parsed::more_two, crate::proofs::Parsed::more_five, crate::proofs::Parsed::more_four, crate::proofs::Parsed::more_seven))]
-fn command(alloc: Global, kind: &[u8], a: &[u8], rest: &[u8]) -> Result<Option<Line>, AllocError>
-    ensures { IfOk result (λ made. made
-        ≡ line_of (codes "do" ∷ kind.now ∷ a.now ∷ slice_split (λ b. b == 32) rest.now)) }
+/// A line other than a command's, by how many words it has.
+#[tactic(auto, using(crate::proofs::Parted::line_by_more))]
+fn line_by(word: &[u8], rest: Option<&[u8]>) -> Option<Line>
+    ensures { result ≡ line_by word.now (words_after (option_copied rest.entry)) }
 {
-    let (b, rest) = next_word(rest);
     let Some(rest) = rest else {
-        return command_of_two(alloc, kind, a, b);
+        return line_of_one(word);
     };
-    let (c, rest) = next_word(rest);
+    let (a, rest) = next_word(rest);
     let Some(rest) = rest else {
-        return Ok(None);
+        return line_of_two(word, a);
     };
-    let (d, rest) = next_word(rest);
-    match rest {
-        None => command_of_four(alloc, kind, a, b, c, d),
-        Some(_) => Ok(None),
+    match next_word(rest) {
+        (b, None) => line_of_three(word, a, b),
+        (_, Some(_)) => None,
     }
 }
 
 /// The line that these bytes are, if they are one.
-#[tactic(auto, using(crate::proofs::Parsed::parse_one, crate::proofs::Parsed::parse_two, crate::proofs::Parsed::parse_three, crate::proofs::Parsed::parse_more, crate::proofs::Parsed::parse_none))]
+#[tactic(auto, unfolding(amber_log::specs::ReadWords::parse, amber_log::specs::ReadWords::line_of))]
 pub fn read_line(alloc: Global, bytes: &[u8]) -> Result<Option<Line>, AllocError>
     ensures { IfOk result (λ made. made ≡ parse bytes.now) }
 {
     let (word, rest) = next_word(bytes);
-    let Some(rest) = rest else {
-        return Ok(line_of_one(word));
-    };
-    let (a, rest) = next_word(rest);
-    let Some(rest) = rest else {
-        return Ok(line_of_two(word, a));
-    };
-    let (b, rest) = next_word(rest);
-    let Some(rest) = rest else {
-        return Ok(line_of_three(word, a, b));
-    };
-    if word == b"do".as_slice() {
-        command(alloc, a, b, rest)
-    } else {
-        Ok(None)
+    if word != b"do".as_slice() {
+        return Ok(line_by(word, rest));
+    }
+    match command(alloc, rest)? {
+        None => Ok(None),
+        Some(command) => Ok(Some(Line::Do(command))),
     }
 }

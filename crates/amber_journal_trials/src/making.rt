@@ -13,12 +13,14 @@ fn add(text: &mut Vec<u8>, line: &str) -> Result<(), AllocError> {
 fn add_command(alloc: Global, text: &mut Vec<u8>, dice: &mut Dice) -> Result<(), AllocError> {
     let op = dice.roll(40);
     let n = dice.roll(5000);
-    let (word, before, behind) = match dice.roll(6) {
+    let (word, before, behind) = match dice.roll(8) {
         0 => ("pause", "", ""),
         1 => ("count", "", ""),
         2 => ("set", "i-", "1"),
         3 => return add(text, &format!(in alloc; "do when {op} 2 <= t636f67")?),
         4 => ("lose", "", ""),
+        5 => ("drop", "", ""),
+        6 => return add(text, &format!(in alloc; "do clear {op}")?),
         _ => return add(text, &format!(in alloc; "do inspect {op}")?),
     };
     add(
