@@ -1,6 +1,6 @@
 -- Scripts read on literals.
 use Rattle.std.specs.Prelude.{⊤}
-use Rattle.std.proofs.Common.{◌≡◌, ℕ, pos, negsuc, List, [], ◌∷◌, ◌++◌, codes, Option, None, Some, Result, Ok, Err, refl}
+use Rattle.std.proofs.Common.{◌≡◌, ℕ, pos, negsuc, List, [], ◌∷◌, ◌++◌, codes, None, Some, Ok, Err, refl}
 use Rattle.std.specs.List.{flat_map}
 use Rattle.std.specs.Fmt.{digits}
 use Rattle.std.specs.Str.{chars, is_utf8}
@@ -11,10 +11,9 @@ use Rattle.amber_rows.specs.declared.column.Column.{Column}
 use Rattle.amber_rows.specs.declared.cond.Cmp.TheVariants as cmp
 use Rattle.amber_rows.specs.declared.flow.What.TheVariants as what
 use Rattle.amber_rows.specs.declared.flow.Operator.{Operator}
-use Rattle.amber_log.specs.ReadWords.{comparison_of}
 use Rattle.amber_log.specs.declared.command.Command.{Command}
 use Rattle.amber_log.specs.declared.command.Command.TheVariants as command
-use Rattle.amber_script.specs.Commands.{any_command_of, built_command_of, read_command, is_unbuilt}
+use Rattle.amber_script.specs.Commands.{command_by, read_command}
 use Rattle.amber_script.specs.Numbers.{number_up_to}
 use Rattle.amber_script.specs.Script.{commands_from, says, script_of}
 use Rattle.amber_script.specs.Words.{words_from, script_words_of}
@@ -23,7 +22,7 @@ use Rattle.amber_script.specs.declared.error.ScriptWhy.TheVariants as why
 
 -- what unfolds
 unfoldable pub scripts_on_literals : ⊤
-unfolding any_command_of built_command_of read_command is_unbuilt number_up_to commands_from says script_of words_from read_int_of comparison_of digits is_utf8 chars lib.Utf8.encode
+unfolding command_by read_command number_up_to commands_from says script_of words_from read_int_of digits is_utf8 chars lib.Utf8.encode
 scripts_on_literals = tt
 
 -- ---- a workflow: orders, those of some quantity by two workers, the sink
@@ -45,17 +44,6 @@ Reads bytes commands = script_of bytes flow ≡ Ok commands
 -- a script whose first bad line, for this reason, is this one
 abbrev pub Refuses : List ℕ → ℕ → ScriptWhy → Type 0
 Refuses bytes line reason = script_of bytes flow ≡ Err (record { line = line; why = reason })
-
--- what a line means with all commands, also those that no run does yet
-abbrev pub meant : Option (List (List ℕ)) → Result Command ScriptWhy
-meant None = Err why.Word
-meant (Some words) = any_command_of flow words
-
-abbrev pub Means : List ℕ → Command → Type 0
-Means line one = meant (script_words_of line) ≡ Ok one
-
-abbrev pub Lacks : List ℕ → ScriptWhy → Type 0
-Lacks line reason = meant (script_words_of line) ≡ Err reason
 
 -- lines that end with a line feed
 abbrev pub lines : List (List ℕ) → List ℕ
@@ -256,54 +244,10 @@ not_built_before_operator : Refuses (codes "break count x 1") 1 why.Word
 unfolding scripts_on_literals
 not_built_before_operator = refl
 
-count : Means (codes "break count f 3") (command.Count 2 3)
+stop_at_a_condition : Refuses (codes "break when f item = cog") 1 why.Word
 unfolding scripts_on_literals
-count = refl
+stop_at_a_condition = refl
 
-count_at_the_sink : Lacks (codes "break count s 0") why.Kind
+loss : Refuses (codes "lose o 0") 1 why.Word
 unfolding scripts_on_literals
-count_at_the_sink = refl
-
-when : Means (codes "break when f item = cog") (command.When 2 (record { column = 2; op = cmp.Eq; constant = value.Text (codes "cog") }))
-unfolding scripts_on_literals
-when = refl
-
-sign_before_operator : Lacks (codes "break when x item == cog") why.Word
-unfolding scripts_on_literals
-sign_before_operator = refl
-
-kind_before_column : Lacks (codes "break when s no = cog") why.Kind
-unfolding scripts_on_literals
-kind_before_column = refl
-
-no_column : Lacks (codes "break when f no = x") why.Column
-unfolding scripts_on_literals
-no_column = refl
-
-no_int_in_a_condition : Lacks (codes "break when f qty = x") why.Mismatch
-unfolding scripts_on_literals
-no_int_in_a_condition = refl
-
-neither_count_nor_when : Lacks (codes "break sum f 3") why.Word
-unfolding scripts_on_literals
-neither_count_nor_when = refl
-
-drop : Means (codes "drop f 1") (command.Drop 2 1)
-unfolding scripts_on_literals
-drop = refl
-
-no_worker : Lacks (codes "drop f 2") why.Worker
-unfolding scripts_on_literals
-no_worker = refl
-
-huge_worker : Lacks (codes "drop f 99999999999999999999999999") why.Worker
-unfolding scripts_on_literals
-huge_worker = refl
-
-number_before_worker : Lacks (codes "lose f 02") why.Number
-unfolding scripts_on_literals
-number_before_worker = refl
-
-lose : Means (codes "lose o 0") (command.Lose 1 0)
-unfolding scripts_on_literals
-lose = refl
+loss = refl

@@ -1,43 +1,77 @@
 //! The command that a line's words mean.
-ghost use Rattle.std.specs.Prelude.{◌≡◌, IfOk, false, true};
-ghost use Rattle.amber_log.specs.Fits.{fits_of};
-ghost use Rattle.amber_log.specs.declared.command.Command.TheVariants as command;
-ghost use Rattle.amber_script.specs.Commands.{built_command_of, is_scripted, is_unbuilt, of_three, of_two, on_rows, set_of};
+ghost use Rattle.std.specs.Prelude.{◌≡◌, IfOk, true};
+ghost use Rattle.amber_rows.specs.Lists.{nth};
+ghost use Rattle.amber_log.specs.Fits.{fits_at, fits_of};
+ghost use Rattle.amber_log.specs.declared.effect.Argument.TheVariants as argument;
+ghost use Rattle.amber_script.specs.Commands.{command_by, command_said, operator_and_constant, is_scripted, nothing_behind, of_two, operator_behind, operator_and_rows};
 
 use crate::error::ScriptWhy;
 use crate::numbers::read_number;
 use crate::operators::{find_operator, read_constant, settable_kind};
 use amber_log::{Command, is_source};
-use amber_rows::{Flow, Text};
+use amber_rows::{Flow, Text, Value};
 use std::alloc::AllocError;
 
 // The most rows that a command may ask for.
 const MOST_ROWS: u64 = 1 << 40;
 
-#[tactic(auto, unfolding(amber_log::specs::Fits::fits_of))]
-fn read_pause(flow: &Flow, id: &str, word: &str) -> Result<Command, ScriptWhy>
-    ensures command { result ≡ on_rows (λ op n. command.Pause op n) flow.now id.now word.now }
-    ensures fits { IfOk result (λ command. fits_of flow.now command ≡ true) }
-    ensures scripted { IfOk result (λ command. is_scripted command ≡ true) }
+// No word.
+fn nothing(words: &[Text]) -> Result<(), ScriptWhy>
+    ensures { result ≡ nothing_behind words.now }
 {
-    let op = match find_operator(flow, id) {
-        Ok(op) => op,
-        Err(why) => return Err(why),
-    };
+    match words {
+        [] => Ok(()),
+        _ => Err(ScriptWhy::Word),
+    }
+}
+
+// An operator alone.
+fn operator(flow: &Flow, words: &[Text]) -> Result<u32, ScriptWhy>
+    ensures operator { result ≡ operator_behind flow.now words.now }
+    ensures fits { IfOk result (λ op. fits_at (nth flow.now op) argument.Nothing ≡ true) }
+{
+    match words {
+        [id] => find_operator(flow, id.get()),
+        _ => Err(ScriptWhy::Word),
+    }
+}
+
+fn operator_and_rows(flow: &Flow, id: &str, word: &str) -> Result<(u32, u64), ScriptWhy>
+    ensures said { result ≡ operator_and_rows flow.now id.now word.now }
+    ensures fits { IfOk result (λ said.
+        fits_at (nth flow.now said.0) (argument.Rows said.1) ≡ true) }
+{
+    let op = find_operator(flow, id)?;
     if !is_source(flow, op) {
         return Err(ScriptWhy::Kind);
     }
     match read_number(word, MOST_ROWS) {
-        Some(n) => Ok(Command::Pause { op, n }),
+        Some(n) => Ok((op, n)),
         None => Err(ScriptWhy::Number),
     }
 }
 
-#[tactic(auto, using(crate::proofs::Fitting::is_taken), unfolding(amber_log::specs::Fits::fits_of))]
-fn read_set(flow: &Flow, id: &str, word: &Text) -> Result<Result<Command, ScriptWhy>, AllocError>
-    ensures command { IfOk result (λ read. read ≡ set_of flow.now id.now word.now) }
-    ensures fits { IfOk result (λ read. IfOk read (λ command. fits_of flow.now command ≡ true)) }
-    ensures scripted { IfOk result (λ read. IfOk read (λ command. is_scripted command ≡ true)) }
+// An operator that emits rows, and a number of rows.
+fn rows(flow: &Flow, words: &[Text]) -> Result<(u32, u64), ScriptWhy>
+    ensures said { result ≡ of_two (operator_and_rows flow.now) words.now }
+    ensures fits { IfOk result (λ said.
+        fits_at (nth flow.now said.0) (argument.Rows said.1) ≡ true) }
+{
+    match words {
+        [id, word] => operator_and_rows(flow, id.get(), word.get()),
+        _ => Err(ScriptWhy::Word),
+    }
+}
+
+#[tactic(auto, using(crate::proofs::Fitting::is_taken))]
+fn operator_and_constant(
+    flow: &Flow,
+    id: &str,
+    word: &Text,
+) -> Result<Result<(u32, Value), ScriptWhy>, AllocError>
+    ensures said { IfOk result (λ read. read ≡ operator_and_constant flow.now id.now word.now) }
+    ensures fits { IfOk result (λ read. IfOk read (λ said.
+        fits_at (nth flow.now said.0) (argument.Constant said.1) ≡ true)) }
 {
     let op = match find_operator(flow, id) {
         Ok(op) => op,
@@ -47,68 +81,52 @@ fn read_set(flow: &Flow, id: &str, word: &Text) -> Result<Result<Command, Script
         return Ok(Err(ScriptWhy::Kind));
     };
     match read_constant(kind, word)? {
-        Ok(value) => Ok(Ok(Command::Set { op, value })),
+        Ok(value) => Ok(Ok((op, value))),
         Err(why) => Ok(Err(why)),
     }
 }
 
-#[tactic(auto, unfolding(amber_log::specs::Fits::fits_of))]
-fn read_two(flow: &Flow, name: &str, id: &str) -> Result<Command, ScriptWhy>
-    ensures command { result ≡ of_two flow.now name.now id.now }
-    ensures fits { IfOk result (λ command. fits_of flow.now command ≡ true) }
-    ensures scripted { IfOk result (λ command. is_scripted command ≡ true) }
+// A filter, and another constant for it.
+fn constant(flow: &Flow, words: &[Text]) -> Result<Result<(u32, Value), ScriptWhy>, AllocError>
+    ensures said { IfOk result (λ read. read ≡ of_two (operator_and_constant flow.now) words.now) }
+    ensures fits { IfOk result (λ read. IfOk read (λ said.
+        fits_at (nth flow.now said.0) (argument.Constant said.1) ≡ true)) }
 {
-    let clears = name == "clear";
-    if !clears && name != "inspect" {
-        return Err(ScriptWhy::Word);
-    }
-    match find_operator(flow, id) {
-        Ok(op) if clears => Ok(Command::Clear { op }),
-        Ok(op) => Ok(Command::Inspect { op }),
-        Err(why) => Err(why),
+    match words {
+        [id, word] => operator_and_constant(flow, id.get(), word),
+        _ => Ok(Err(ScriptWhy::Word)),
     }
 }
 
-// The command of three words, where it is one that runs do.
-#[tactic(auto, unfolding(crate::specs::Commands::is_unbuilt))]
-fn read_three(
+// The command of this word and those behind it, where runs do it.
+#[tactic(auto, unfolding(crate::specs::Commands::command_by, amber_log::specs::Fits::fits_of))]
+fn command_by(
     flow: &Flow,
     name: &str,
-    id: &str,
-    word: &Text,
+    words: &[Text],
 ) -> Result<Result<Command, ScriptWhy>, AllocError>
-    requires { is_unbuilt name.now ≡ false }
-    ensures command { IfOk result (λ read. read ≡ of_three flow.now name.now id.now word.now) }
+    ensures command { IfOk result (λ read. read ≡ command_by flow.now name.now words.now) }
     ensures fits { IfOk result (λ read. IfOk read (λ command. fits_of flow.now command ≡ true)) }
     ensures scripted { IfOk result (λ read. IfOk read (λ command. is_scripted command ≡ true)) }
 {
     match name {
-        "pause" => Ok(read_pause(flow, id, word.get())),
-        "set" => read_set(flow, id, word),
+        "run" => Ok(nothing(words).map(|()| Command::Run)),
+        "pause" => Ok(rows(flow, words).map(|(op, n)| Command::Pause { op, n })),
+        "clear" => Ok(operator(flow, words).map(|op| Command::Clear { op })),
+        "set" => Ok(constant(flow, words)?.map(|(op, value)| Command::Set { op, value })),
+        "inspect" => Ok(operator(flow, words).map(|op| Command::Inspect { op })),
         _ => Ok(Err(ScriptWhy::Word)),
     }
 }
 
-// Whether this is the first word of a command that no run does yet.
-#[tactic(auto, unfolding(crate::specs::Commands::is_unbuilt))]
-fn is_unbuilt(name: &str) -> bool
-    ensures { result ≡ is_unbuilt name.now }
-{
-    name == "break" || name == "drop" || name == "lose"
-}
-
 /// The command of these words, where runs do it, or the first reason why they mean none.
-#[tactic(auto, unfolding(crate::specs::Commands::built_command_of, crate::specs::Commands::any_command_of, crate::specs::Commands::is_unbuilt, amber_log::specs::Fits::fits_of))]
 pub fn read_command(flow: &Flow, words: &[Text]) -> Result<Result<Command, ScriptWhy>, AllocError>
-    ensures command { IfOk result (λ read. read ≡ built_command_of flow.now words.now) }
+    ensures command { IfOk result (λ read. read ≡ command_said flow.now words.now) }
     ensures fits { IfOk result (λ read. IfOk read (λ command. fits_of flow.now command ≡ true)) }
     ensures scripted { IfOk result (λ read. IfOk read (λ command. is_scripted command ≡ true)) }
 {
     match words {
-        [name, ..] if is_unbuilt(name.get()) => Ok(Err(ScriptWhy::Word)),
-        [name] if name.get() == "run" => Ok(Ok(Command::Run)),
-        [name, id] => Ok(read_two(flow, name.get(), id.get())),
-        [name, id, word] => read_three(flow, name.get(), id.get(), word),
-        _ => Ok(Err(ScriptWhy::Word)),
+        [name, words @ ..] => command_by(flow, name.get(), words),
+        [] => Ok(Err(ScriptWhy::Word)),
     }
 }
