@@ -176,9 +176,9 @@ no_count state (suc k) counting less e =
 settled-from : (query : Query) (state : State) → is_settled query state ≡ true → IsSettled query state
 unfolding is_settled
 settled-from query state e =
-    let parts = and_parts (list_all (λ worker. eqb (position_at state.positions worker).hand 0) (numbers_below (crew_of query.flow))) _ e in
+    let parts = and_parts (list_all (λ worker. eqb (position_at state.positions worker).restraint.hand 0) (numbers_below (crew_of query.flow))) _ e in
     record {
-      hands = λ worker less. eqb-true _ _ (list_all-at (λ worker. eqb (position_at state.positions worker).hand 0) (crew_of query.flow) worker parts.0 less);
+      hands = λ worker less. eqb-true _ _ (list_all-at (λ worker. eqb (position_at state.positions worker).restraint.hand 0) (crew_of query.flow) worker parts.0 less);
       counts = counts parts.1;
     }
   where

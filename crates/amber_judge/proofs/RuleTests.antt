@@ -96,15 +96,15 @@ may_grant-so orders p = (
 pub may_give_back-so : (orders : Orders) (p : Position) (n : ℕ) → (may_give_back orders p n ≡ true) ↔ MayGiveBack orders p n
 unfolding may_give_back
 may_give_back-so orders p n = (
-  λ e. let a = and_parts orders.counted (eqb n p.hand) e in record { counted = a.0; whole = eqb-true _ _ a.1 },
-  λ h. and_from orders.counted (eqb n p.hand) h.counted (eq-eqb _ _ h.whole),
+  λ e. let a = and_parts orders.counted (eqb n p.restraint.hand) e in record { counted = a.0; whole = eqb-true _ _ a.1 },
+  λ h. and_from orders.counted (eqb n p.restraint.hand) h.counted (eq-eqb _ _ h.whole),
 )
 
 pub may_pause-so : (p : Position) → (may_pause p ≡ true) ↔ MayPause p
 unfolding may_pause
 may_pause-so p = (
-  λ e. let a = and_parts (not p.paused) (not p.finished) e in record { running = not-true _ a.0; unfinished = not-true _ a.1 },
-  λ h. and_from (not p.paused) (not p.finished) (not_from_false _ h.running) (not_from_false _ h.unfinished),
+  λ e. let a = and_parts (not p.restraint.paused) (not p.finished) e in record { running = not-true _ a.0; unfinished = not-true _ a.1 },
+  λ h. and_from (not p.restraint.paused) (not p.finished) (not_from_false _ h.running) (not_from_false _ h.unfinished),
 )
 
 pub may_resume-so : (p : Position) → (may_resume p ≡ true) ↔ MayResume p

@@ -86,7 +86,7 @@ is_within query state op (Some counting) = nat_le (counted_at query.flow state o
 -- no hand holds a unit, and no count has counted more than it asks for
 unfoldable pub is_settled : Query → State → Bool
 is_settled query state =
-    list_all (λ worker. (position_at state.positions worker).hand == 0) (numbers_below (crew_of query.flow))
+    list_all (λ worker. (position_at state.positions worker).restraint.hand == 0) (numbers_below (crew_of query.flow))
     && list_all (λ op. is_within query state op (arms_at state op).count) (map suc (numbers_below (length state.arms)))
 
 unfoldable pub may_close_run : Query → State → Close → Bool

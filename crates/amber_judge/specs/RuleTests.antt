@@ -10,7 +10,7 @@ use Rattle.amber_meaning.specs.Rules.{Assignment, Orders, first_is_watched, may_
 
 -- neither paused nor held nor finished
 abbrev pub is_free : Position → Bool
-is_free p = not p.paused && (not p.held && not p.finished)
+is_free p = not p.restraint.paused && (not p.restraint.held && not p.finished)
 
 unfoldable pub may_take : Role → Position → ℕ → ℕ → Bool
 may_take role p from number =
@@ -22,25 +22,25 @@ may_go it p rows outs =
     is_free p && (nat_le (length p.constants + rows) (length (all_arrivals it.role p.taken))
     && (nat_le (length p.outcomes + outs) (produced_with it.role it.orders p rows)
     && ((not (nat_lt 0 rows) || nat_le (produced_with it.role it.orders p (rows - 1)) (length p.outcomes + outs))
-    && ((not it.orders.counted || nat_le outs p.hand)
-    && ((not it.orders.counted || (not (nat_lt 0 rows) || nat_lt (produced_with it.role it.orders p (rows - 1)) (length p.outcomes + p.hand)))
-    && pass_by it.orders.watch p.waved (take outs (drop (length p.outcomes) (product_with it.role it.orders p rows))))))))
+    && ((not it.orders.counted || nat_le outs p.restraint.hand)
+    && ((not it.orders.counted || (not (nat_lt 0 rows) || nat_lt (produced_with it.role it.orders p (rows - 1)) (length p.outcomes + p.restraint.hand)))
+    && pass_by it.orders.watch p.restraint.waved (take outs (drop (length p.outcomes) (product_with it.role it.orders p rows))))))))
 
 unfoldable pub may_grant : Orders → Position → Bool
 may_grant orders p = orders.counted && not p.finished
 
 unfoldable pub may_give_back : Orders → Position → ℕ → Bool
-may_give_back orders p n = orders.counted && (n == p.hand)
+may_give_back orders p n = orders.counted && (n == p.restraint.hand)
 
 unfoldable pub may_pause : Position → Bool
-may_pause p = not p.paused && not p.finished
+may_pause p = not p.restraint.paused && not p.finished
 
 unfoldable pub may_resume : Position → Bool
-may_resume p = p.paused && (not p.held && not p.finished)
+may_resume p = p.restraint.paused && (not p.restraint.held && not p.finished)
 
 unfoldable pub may_hold : Assignment → Position → Bool
 may_hold it p =
-    is_free p && (first_is_watched it.orders.watch (pending_rows it.role p) && (not p.waved && (not it.orders.counted || nat_lt 0 p.hand)))
+    is_free p && (first_is_watched it.orders.watch (pending_rows it.role p) && (not p.restraint.waved && (not it.orders.counted || nat_lt 0 p.restraint.hand)))
 
 unfoldable pub may_finish : Role → Position → Bool
 may_finish role p = is_free p && (is_empty (rest_of role p) && (is_empty (pending_rows role p) && have_ended role.senders p.taken))

@@ -1,19 +1,19 @@
 -- What holds of a worker's position in every log, also where constants were set and rows dropped.
-use Rattle.std.proofs.Common.{◌≡◌, ℕ, zero, suc, ◌+◌, ◌<◌, ◌≤◌, eqb, List, [], ◌∷◌, ◌++◌, length, replicate, Option, Bool, true, false, if◌then◌else◌, refl, sym, ap, ◌∙◌, arith, append_assoc, length-append}
+use Rattle.std.proofs.Common.{◌≡◌, ℕ, ◌+◌, ◌<◌, ◌≤◌, eqb, List, [], ◌∷◌, ◌++◌, length, replicate, Option, Bool, true, false, if◌then◌else◌, refl, sym, ap, ◌∙◌, arith, length-append}
 use Rattle.std.specs.List.{list_any}
-use Rattle.std.proofs.lemmas.Bool.{and_parts, eqb-true, false≢true, false_from_ne_true}
-use Rattle.std.proofs.lemmas.List.{append-nil, length-drop, length-replicate}
+use Rattle.std.proofs.lemmas.Bool.{false≢true, false_from_ne_true}
+use Rattle.std.proofs.lemmas.List.{length-drop, length-replicate}
 use Rattle.amber_rows.specs.declared.value.Value.{Value}
 use Rattle.amber_rows.specs.declared.batch.Batch.{Batch}
 use Rattle.amber_rows.specs.declared.cond.Cond.{Cond}
 use Rattle.amber_log.specs.declared.entry.Entry.{Entry}
 use Rattle.amber_log.specs.declared.entry.Entry.TheVariants as entry
 use Rattle.amber_rows.specs.Lists.{IsPrefix}
-use Rattle.amber_meaning.specs.Position.{Position, Taken, all_arrivals, has_last, have_ended, is_complete, origin, pending_rows, produced_rows, product}
+use Rattle.amber_meaning.specs.Position.{Position, Restraint, Taken, all_arrivals, has_last, have_ended, is_complete, origin, pending_rows, produced_rows, product}
 use Rattle.amber_meaning.specs.Rules.{Leads, MayGo, MayHold, MayTake, Moves, Orders, assigned, first_is_watched, with_batch, with_rows}
 use Rattle.amber_meaning.specs.State.{let_go, without_held}
-use Rattle.amber_meaning.specs.Task.{Arrival, Role, Task}
-use Rattle.amber_meaning.specs.Produce.{closing, produce, yields}
+use Rattle.amber_meaning.specs.Task.{Arrival, Role}
+use Rattle.amber_meaning.specs.Produce.{closing, produce}
 use Rattle.amber_meaning.proofs.Lists.{list_all-member}
 use Rattle.amber_meaning.proofs.OneState.{Leads-keeps}
 use Rattle.amber_meaning.proofs.Orderly.{IsOrderly, fed-more, marked-front, not-ended, produce-more, product-before}
@@ -21,7 +21,7 @@ use Rattle.amber_meaning.proofs.Orderly.{IsOrderly, fed-more, marked-front, not-
 pub record IsBounded (role : Role) (p : Position) : Type 0 where
   pub within : length p.constants ≤ length (all_arrivals role p.taken)
   pub produced : length p.outcomes ≤ length (produced_rows role p)
-  pub held : p.held ≡ true → length p.outcomes < length (produced_rows role p)
+  pub held : p.restraint.held ≡ true → length p.outcomes < length (produced_rows role p)
 
 -- ---- what was produced only grows
 
@@ -42,44 +42,6 @@ product-taken role taken from batch ks within orderly known =
           (product-before role taken ks early ∙ sym same),
     )
 
--- as rows of them are taken
-produce-later : (task : Task) (before hs : List Arrival) (ks later : List (List Value))
-    → (more : List (List Value)) × (produce task before (hs) (ks ++ later) ≡ produce task before hs ks ++ more)
-unfolding produce
-produce-later task before [] ks later = ([], refl)
-produce-later task before (one ∷ hs) [] later = (produce task before (one ∷ hs) later, refl)
-produce-later task before (one ∷ hs) (k ∷ ks) later =
-    let rest = produce-later task (before ++ one ∷ []) hs ks later in (
-      rest.0,
-      ap (λ (rows : List (List Value)). yields task before one k ++ rows) rest.1
-          ∙ sym (append_assoc (yields task before one k) (produce task (before ++ one ∷ []) hs ks) rest.0),
-    )
-
-incomplete : (role : Role) (taken : List Taken) (rows : ℕ) → rows < length (all_arrivals role taken) → is_complete role taken rows ≡ false
-incomplete role taken rows less =
-    false_from_ne_true _ (λ e. let all = eqb-true rows (length (all_arrivals role taken)) ((and_parts _ _ e).1) in absurd (omega arith))
-
-some-later : (role : Role) (taken : List Taken) (ks later : List (List Value)) → length ks < length (all_arrivals role taken)
-    → (more : List (List Value)) × (product role taken (ks ++ later) ≡ product role taken ks ++ more)
-unfolding product
-some-later role taken ks later within =
-    let all = ks ++ later in
-    let rest = produce-later role.task [] (all_arrivals role taken) ks later in
-    let closed : List (List Value) = if is_complete role taken (length all) then closing role.task (all_arrivals role taken) else [] in
-    let early : product role taken ks ≡ produce role.task [] (all_arrivals role taken) ks =
-    ap (λ (b : Bool). produce role.task [] (all_arrivals role taken) ks ++ (if b then closing role.task (all_arrivals role taken) else [])) (incomplete role taken (length ks) within)
-    ∙ append-nil (produce role.task [] (all_arrivals role taken) ks) in (
-      rest.0 ++ closed,
-      ap (λ (rows : List (List Value)). rows ++ closed) rest.1
-          ∙ append_assoc (produce role.task [] (all_arrivals role taken) ks) rest.0 closed
-          ∙ ap (λ (rows : List (List Value)). rows ++ (rest.0 ++ closed)) (sym early),
-    )
-
-pub product-later : (role : Role) (taken : List Taken) (ks : List (List Value)) (n : ℕ) (now : List Value) → length ks + n ≤ length (all_arrivals role taken)
-    → (more : List (List Value)) × (product role taken (ks ++ replicate n now) ≡ product role taken ks ++ more)
-product-later role taken ks zero now within = ([], ap (product role taken) (append-nil ks) ∙ sym (append-nil (product role taken ks)))
-product-later role taken ks (suc n) now within = some-later role taken ks (replicate (suc n) now) (omega arith)
-
 begins-length : {A : Type 0} (xs ys : List A) → IsPrefix xs ys → length xs ≤ length ys
 begins-length xs ys b =
     let size = ap length (b.1) in
@@ -92,23 +54,19 @@ pub origin-bounded : (role : Role) → IsBounded role origin
 origin-bounded role = record { within = omega arith; produced = omega arith; held = λ e. absurd (false≢true e) }
 
 pub let_go-bounded : (role : Role) (p : Position) → IsBounded role p → IsBounded role (let_go p)
-let_go-bounded role p h = by p.held refl
-  where
-    by : (b : Bool) → p.held ≡ b → IsBounded role (if b then record p { paused = false; held = false; waved = true } else record p { paused = false })
-    by true e = record { within = h.within; produced = h.produced; held = λ f. absurd (false≢true f) }
-    by false e = record { within = h.within; produced = h.produced; held = h.held }
+let_go-bounded role p h = record { within = h.within; produced = h.produced; held = λ e. absurd (false≢true e) }
 
 pub without_held-bounded : (role : Role) (p : Position) → IsBounded role p → IsBounded role (without_held p)
-without_held-bounded role p h = by p.held refl
+without_held-bounded role p h = by p.restraint.held refl
   where
-    by : (b : Bool) → p.held ≡ b → IsBounded role (if b then record p { outcomes = p.outcomes ++ false ∷ []; held = false } else p)
+    by : (b : Bool) → p.restraint.held ≡ b → IsBounded role (if b then record p { outcomes = p.outcomes ++ false ∷ []; restraint = record p.restraint { held = false } } else p)
     by true e =
         let less = h.held e in
         let size : length (p.outcomes ++ false ∷ []) ≡ length p.outcomes + 1 = length-append p.outcomes (false ∷ []) in
         record { within = h.within; produced = omega arith; held = λ f. absurd (false≢true f) }
     by false e = h
 
-not_held : (p : Position) (A : Type 0) → p.held ≡ false → p.held ≡ true → A
+not_held : (p : Position) (A : Type 0) → p.restraint.held ≡ false → p.restraint.held ≡ true → A
 not_held p A e f = absurd (false≢true (sym e ∙ f))
 
 with_batch-bounded : (role : Role) (p : Position) (from number : ℕ) (batch : Batch) → IsOrderly role (with_batch from batch p).taken → MayTake role p from number
@@ -136,25 +94,26 @@ watched-some : (watch : Option Cond) (rows : List (List Value)) → first_is_wat
 watched-some watch [] e = absurd (false≢true e)
 watched-some watch (row ∷ rows) e = omega arith
 
-held-bounded : (role : Role) (orders : Orders) (p : Position) → MayHold (assigned role orders) p → IsBounded role p → IsBounded role (record p { held = true })
+held-bounded : (role : Role) (orders : Orders) (p : Position) → MayHold (assigned role orders) p → IsBounded role p → IsBounded role (record p { restraint = record p.restraint { held = true } })
 held-bounded role orders p may h =
     let some = watched-some orders.watch (pending_rows role p) may.watched in
     let size = length-drop (length p.outcomes) (produced_rows role p) in
     record { within = h.within; produced = h.produced; held = λ e. omega arith }
 
-flags-bounded : (role : Role) (p : Position) (hand : ℕ) (waved paused finished : Bool) → IsBounded role p
-    → IsBounded role (record p { hand = hand; waved = waved; paused = paused; finished = finished })
-flags-bounded role p hand waved paused finished h = record { within = h.within; produced = h.produced; held = h.held }
+-- under another restraint that holds it or not as before, finished or not
+restrained-bounded : (role : Role) (p : Position) (r : Restraint) (finished : Bool) → r.held ≡ p.restraint.held → IsBounded role p
+    → IsBounded role (record p { restraint = r; finished = finished })
+restrained-bounded role p r finished same h = record { within = h.within; produced = h.produced; held = λ e. h.held (sym same ∙ e) }
 
 pub moved-bounded : (role : Role) (orders : Orders) (p q : Position) (one : Entry) → IsOrderly role q.taken → Moves (assigned role orders) p one q → IsBounded role p → IsBounded role q
 moved-bounded role orders p q (entry.Take from number) orderly h bounded = rw h.2 (with_batch-bounded role p from number h.0 (rw h.2 at orderly) h.1 bounded)
 moved-bounded role orders p q (entry.Go rows outs) orderly h bounded = rw h.2 (with_rows-bounded role orders p rows outs h.1)
-moved-bounded role orders p q (entry.Grant n) orderly h bounded = rw h.2 (flags-bounded role p (p.hand + n) p.waved p.paused p.finished bounded)
-moved-bounded role orders p q (entry.Back n) orderly h bounded = rw h.2 (flags-bounded role p 0 p.waved p.paused p.finished bounded)
-moved-bounded role orders p q entry.Pause orderly h bounded = rw h.2 (flags-bounded role p p.hand p.waved true p.finished bounded)
-moved-bounded role orders p q entry.Resume orderly h bounded = rw h.2 (flags-bounded role p p.hand p.waved false p.finished bounded)
+moved-bounded role orders p q (entry.Grant n) orderly h bounded = rw h.2 (restrained-bounded role p _ _ refl bounded)
+moved-bounded role orders p q (entry.Back n) orderly h bounded = rw h.2 (restrained-bounded role p _ _ refl bounded)
+moved-bounded role orders p q entry.Pause orderly h bounded = rw h.2 (restrained-bounded role p _ _ refl bounded)
+moved-bounded role orders p q entry.Resume orderly h bounded = rw h.2 (restrained-bounded role p _ _ refl bounded)
 moved-bounded role orders p q entry.Hold orderly h bounded = rw h.2 (held-bounded role orders p h.1 bounded)
-moved-bounded role orders p q entry.Finish orderly h bounded = rw h.2 (flags-bounded role p p.hand p.waved p.paused true bounded)
+moved-bounded role orders p q entry.Finish orderly h bounded = rw h.2 (restrained-bounded role p _ _ refl bounded)
 
 pub sooner-orderly : (role : Role) (orders : Orders) (p q : Position) (entries : List Entry) → Leads (assigned role orders) p entries q → IsOrderly role q.taken → IsOrderly role p.taken
 sooner-orderly role orders p q entries h orderly sender known =

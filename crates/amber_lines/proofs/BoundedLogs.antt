@@ -1,8 +1,10 @@
 -- In every state that a legal log leads to, and in a leg that goes on, each worker's position is bounded.
-use Rattle.std.proofs.Common.{◌≡◌, ℕ, zero, suc, ◌+◌, ◌<◌, eqb, List, [], ◌∷◌, map, get_or, Bool, true, false, if◌then◌else◌, ◌⊎◌, inl, inr, refl}
+use Rattle.std.proofs.Common.{◌≡◌, ℕ, zero, suc, ◌+◌, ◌<◌, eqb, List, [], ◌∷◌, map, get_or, Option, Some, None, Bool, true, false, if◌then◌else◌, ◌⊎◌, inl, inr, refl}
 use Rattle.amber_rows.specs.Crew.{crew_of}
+use Rattle.amber_log.specs.Commands.{action_of}
 use Rattle.amber_log.specs.declared.command.Command.{Command}
-use Rattle.amber_log.specs.declared.command.Command.TheVariants as command
+use Rattle.amber_log.specs.declared.effect.Action.{Action}
+use Rattle.amber_log.specs.declared.effect.Action.TheVariants as action
 use Rattle.amber_log.specs.declared.leg.Close.{Close}
 use Rattle.amber_log.specs.declared.leg.Close.TheVariants as close
 use Rattle.amber_log.specs.declared.leg.Part.{Part}
@@ -11,7 +13,7 @@ use Rattle.amber_log.specs.declared.log.Item.TheVariants as item
 use Rattle.amber_log.specs.declared.log.Log.{Log}
 use Rattle.amber_meaning.specs.Legal.{IsLegal, IsOpen, IsWorked, Makes, Query, Reaches, after_close, entries_of, leg_start, role_in}
 use Rattle.amber_meaning.specs.Position.{Position, origin}
-use Rattle.amber_meaning.specs.State.{State, begin_leg, begin_last_leg, after_command, let_go, position_at, start_of, worker_at, without_held}
+use Rattle.amber_meaning.specs.State.{State, after_action, after_command, begin_leg, begin_last_leg, let_go, position_at, start_of, without_held, without_row, worker_at}
 use Rattle.amber_rows.specs.Lists.{changed_from}
 use Rattle.amber_meaning.specs.Stops.{without_stops}
 use Rattle.amber_meaning.specs.Task.{Role}
@@ -75,18 +77,17 @@ dropped-bounded query number positions h worker less = by (changed-or number 1 p
     by (inl same) = rw (position-get_or (changed_from without_held number 1 positions) worker, same) at
     by (inr new) = rw (position-get_or (changed_from without_held number 1 positions) worker, new) (without_held-bounded role (get_or positions worker origin) at)
 
+row-bounded : (query : Query) (op : ℕ) (drops : Option ℕ) (positions : List Position) → AreBounded query positions → AreBounded query (without_row query.flow op drops positions)
+row-bounded query op None positions h = h
+row-bounded query op (Some worker) positions h = dropped-bounded query (worker_at query.flow op worker + 1) positions h
+
 after_command-bounded : (query : Query) (state : State) (done : Command) → AreBounded query state.positions → AreBounded query (after_command query.flow done state).positions
 unfolding after_command
-after_command-bounded query state command.Run h = h
-after_command-bounded query state command.End h = h
-after_command-bounded query state (command.Pause op n) h = h
-after_command-bounded query state (command.Count op n) h = h
-after_command-bounded query state (command.When op cond) h = h
-after_command-bounded query state (command.Clear op) h = h
-after_command-bounded query state (command.Set op value) h = h
-after_command-bounded query state (command.Drop op worker) h = dropped-bounded query (worker_at query.flow op worker + 1) state.positions h
-after_command-bounded query state (command.Inspect op) h = h
-after_command-bounded query state (command.Lose op worker) h = h
+after_command-bounded query state done h = by (action_of done)
+  where
+    by : (action : Action) → AreBounded query (after_action query.flow action state).positions
+    by (action.Leg to_end) = h
+    by (action.AtRest effect) = row-bounded query effect.op effect.drops state.positions h
 
 pub after_leg-bounded : (query : Query) (before after : State) (parts : List Part) → IsWorked query before parts after → AreBounded query before.positions
     → AreBounded query after.positions

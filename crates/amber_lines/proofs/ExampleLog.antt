@@ -4,7 +4,9 @@ use Rattle.std.proofs.Common.{ℕ, ◌-◌, List, [], ◌∷◌, ◌++◌, take,
 use Rattle.amber_log.specs.LogText.{unlines}
 use Rattle.amber_log.specs.ReadAs.{closes, cut_back, lines_of, read_of, whole_lines}
 use Rattle.amber_log.specs.ReadLines.{finish, read_lines, read_on, step}
-use Rattle.amber_log.specs.ReadWords.{command_four, command_one, command_two, comparison_of, constant_of, head_line, line_of, line_one, line_three, line_two, number, parse, signed_number}
+use Rattle.amber_log.specs.ReadWords.{command_in, head_line, line_of, line_one, line_three, line_two, parse}
+use Rattle.amber_log.specs.Operands.{comparison_of, constant_of, number, signed_number}
+use Rattle.amber_log.specs.Commands.{command_named}
 use Rattle.amber_log.specs.declared.log.Log.{Log}
 use Rattle.amber_meaning.specs.Legal.{Query}
 use Rattle.amber_meaning.proofs.ExampleCases.{kept_from, query_of}
@@ -13,7 +15,7 @@ use Rattle.amber_lines.specs.Lines.{bad_line_from, illegal_line, judge_all, may_
 
 -- what texts read as
 unfoldable pub reading_on_literals : ⊤
-unfolding read_of whole_lines cut_back closes lines_of read_lines read_on step finish parse line_of line_one line_two line_three head_line command_one command_two command_four comparison_of constant_of signed_number number
+unfolding read_of whole_lines cut_back closes lines_of read_lines read_on step finish parse line_of line_one line_two line_three head_line command_in command_named comparison_of constant_of signed_number number
 reading_on_literals = tt
 
 -- how lines are judged

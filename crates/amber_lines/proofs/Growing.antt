@@ -19,17 +19,17 @@ use Rattle.amber_log.specs.declared.entry.Entry.TheVariants as entry
 use Rattle.amber_log.specs.declared.log.Log.{Log}
 use Rattle.amber_meaning.specs.Legal.{AreOffered, IsLegal, Query, assignment_in, batches_for, entries_of, leg_start, role_in, stream_of}
 use Rattle.amber_meaning.specs.Plan.{role_of}
-use Rattle.amber_meaning.specs.Position.{Position, emitted_rows, kept, produced_rows, taken_from}
+use Rattle.amber_meaning.specs.Position.{Position, Restraint, emitted_rows, kept, produced_rows, taken_from}
 use Rattle.amber_meaning.specs.Rules.{Leads, MayGo, MayTake, Moves, Orders, assigned, with_batch, with_rows}
 use Rattle.amber_meaning.specs.State.{position_at}
 use Rattle.amber_meaning.specs.Task.{Role}
 use Rattle.amber_meaning.proofs.Chunks.{chunks-marked, full_batch, fulls-longer}
 use Rattle.amber_meaning.proofs.Lists.{IsPrefix-refl, IsPrefix-trans, nth-next, slice_get-seam}
 use Rattle.amber_meaning.proofs.OneState.{same-batches, taken_from-other, taken_from-push}
-use Rattle.amber_meaning.proofs.Orderly.{IsOrderly, marked-front}
+use Rattle.amber_meaning.proofs.Orderly.{IsOrderly, marked-front, product-later}
 use Rattle.amber_lines.specs.Moving.{HaveMoved, IsNextEntry, NextEntry, TakesOffered, orders_in}
 use Rattle.amber_lines.specs.MovingLaws.{OpenLegsGrow}
-use Rattle.amber_lines.proofs.Bounded.{IsBounded, product-later, product-taken}
+use Rattle.amber_lines.proofs.Bounded.{IsBounded, product-taken}
 use Rattle.amber_lines.proofs.BoundedLogs.{open-bounded}
 use Rattle.amber_lines.proofs.Splitting.{moved-of, after_leg-of}
 
@@ -80,17 +80,18 @@ with_rows-grown role orders p rows outs may h =
       over = still p _ may.free.unfinished;
     }
 
-flags-grown : (role : Role) (p : Position) (hand : ℕ) (held waved paused : Bool) → IsGrown role p (record p { hand = hand; held = held; waved = waved; paused = paused })
-flags-grown role p hand held waved paused = record { emitted = IsPrefix-refl (emitted_rows role p); over = λ e. (refl, e) }
+-- under another restraint
+restrained-grown : (role : Role) (p : Position) (r : Restraint) → IsGrown role p (record p { restraint = r })
+restrained-grown role p r = record { emitted = IsPrefix-refl (emitted_rows role p); over = λ e. (refl, e) }
 
 pub moved-grown : (role : Role) (orders : Orders) (p q : Position) (one : Entry) → IsOrderly role q.taken → Moves (assigned role orders) p one q → IsBounded role p → IsGrown role p q
 moved-grown role orders p q (entry.Take from number) orderly h bounded = rw h.2 (with_batch-grown role p from number h.0 (rw h.2 at orderly) h.1 bounded)
 moved-grown role orders p q (entry.Go rows outs) orderly h bounded = rw h.2 (with_rows-grown role orders p rows outs h.1 bounded)
-moved-grown role orders p q (entry.Grant n) orderly h bounded = rw h.2 (flags-grown role p (p.hand + n) p.held p.waved p.paused)
-moved-grown role orders p q (entry.Back n) orderly h bounded = rw h.2 (flags-grown role p 0 p.held p.waved p.paused)
-moved-grown role orders p q entry.Pause orderly h bounded = rw h.2 (flags-grown role p p.hand p.held p.waved true)
-moved-grown role orders p q entry.Resume orderly h bounded = rw h.2 (flags-grown role p p.hand p.held p.waved false)
-moved-grown role orders p q entry.Hold orderly h bounded = rw h.2 (flags-grown role p p.hand true p.waved p.paused)
+moved-grown role orders p q (entry.Grant n) orderly h bounded = rw h.2 (restrained-grown role p _)
+moved-grown role orders p q (entry.Back n) orderly h bounded = rw h.2 (restrained-grown role p _)
+moved-grown role orders p q entry.Pause orderly h bounded = rw h.2 (restrained-grown role p _)
+moved-grown role orders p q entry.Resume orderly h bounded = rw h.2 (restrained-grown role p _)
+moved-grown role orders p q entry.Hold orderly h bounded = rw h.2 (restrained-grown role p _)
 moved-grown role orders p q entry.Finish orderly h bounded = rw h.2 (record { emitted = IsPrefix-refl (emitted_rows role p); over = λ e. (refl, refl) })
 
 -- ---- batches of a stream that grows

@@ -1,11 +1,12 @@
--- The stops of a state, and what a cut removes.
+-- The stops of a state, and what a cut and a command remove.
 use Rattle.std.proofs.Common.{◌≡◌, pos, List, [], ◌∷◌, replicate, codes, Some, true, refl}
 use Rattle.amber_rows.specs.declared.value.Value.{Value}
 use Rattle.amber_rows.specs.declared.value.Value.TheVariants as value
+use Rattle.amber_log.specs.declared.command.Command.TheVariants as command
 use Rattle.amber_meaning.specs.declared.view.Stop.TheVariants as stop
 use Rattle.amber_meaning.specs.Plan.{role_of}
-use Rattle.amber_meaning.specs.Position.{origin}
-use Rattle.amber_meaning.specs.State.{Counting, State, no_arms}
+use Rattle.amber_meaning.specs.Position.{origin, no_restraint}
+use Rattle.amber_meaning.specs.State.{Counting, State, after_command, no_arms}
 use Rattle.amber_meaning.specs.Stops.{stops_of, without_stops}
 use Rattle.amber_meaning.proofs.ExampleCases.{five, kept_from, order, states_on_literals, typed}
 
@@ -24,7 +25,7 @@ stopped = record {
         taken = record { from = 0; batch = record { seq = 0; rows = five; last = true } } ∷ [];
         constants = replicate 4 zero;
         outcomes = replicate 3 true;
-        held = true;
+        restraint = record no_restraint { held = true };
         finished = true;
       }
       ∷ record origin { finished = true } ∷ [];
@@ -40,3 +41,9 @@ cut_removes : without_stops (kept_from 0) stopped
     ≡ record stopped { arms = no_arms ∷ record no_arms { pause = Some 4; constants = zero } ∷ no_arms ∷ [] }
 unfolding states_on_literals
 cut_removes = refl
+
+-- what was asked to stop is taken back at the filter, whose constant stays
+clear_takes_back : after_command (kept_from 0) (command.Clear 2) stopped
+    ≡ record stopped { arms = record no_arms { pause = Some 2 } ∷ record no_arms { constants = zero } ∷ no_arms ∷ [] }
+unfolding states_on_literals
+clear_takes_back = refl

@@ -1,3 +1,4 @@
+pub mod AtRest
 pub mod Chunks
 pub mod Crews
 pub mod ExampleCases
@@ -10,6 +11,7 @@ pub mod ExampleStops
 pub mod Flows
 pub mod Fronts
 pub mod Given
+pub mod Going
 pub mod InTime
 pub mod Led
 pub mod Lists

@@ -1,11 +1,11 @@
 -- Facts on lists that several proofs share.
-use Rattle.std.proofs.Common.{◌≡◌, ℕ, zero, suc, ◌+◌, ◌-◌, ◌<◌, ◌≤◌, eqb, List, [], ◌∷◌, ◌++◌, length, get_or, Some, unwrap_or, Bool, true, ◌⊎◌, inl, inr, refl, sym, ap, ◌∙◌, arith, append_assoc}
+use Rattle.std.proofs.Common.{◌≡◌, ℕ, zero, suc, ◌+◌, ◌-◌, ◌<◌, ◌≤◌, eqb, List, [], ◌∷◌, ◌++◌, length, get_or, Some, unwrap_or, Bool, true, false, if◌then◌else◌, ◌⊎◌, inl, inr, refl, sym, ap, ◌∙◌, arith, append_assoc}
 use Rattle.std.specs.List.{list_all, list_any, slice_get}
 use Rattle.std.proofs.lemmas.Bool.{and_from, and_parts, cases_lt, eq-eqb, eqb-true, false≢true, ne_eqb, or_cases, or_left, or_right}
 use Rattle.std.proofs.lemmas.List.{append-nil}
 use Rattle.std.proofs.lemmas.List.Folds.{list_all-append}
 use Rattle.std.proofs.lemmas.Option.{unwrap_or-slice_get}
-use Rattle.amber_rows.specs.Lists.{numbers_below, nth, IsPrefix}
+use Rattle.amber_rows.specs.Lists.{numbers_below, nth, changed_from, IsPrefix}
 
 pub IsPrefix-refl : {A : Type 0} (xs : List A) → IsPrefix xs xs
 IsPrefix-refl xs = ([], append-nil xs)
@@ -30,6 +30,15 @@ nth-behind xs ys y n e b =
 
 pub numbered_or : {A : Type 0} (xs : List A) (n : ℕ) (d : A) → unwrap_or (nth xs (n + 1)) d ≡ get_or xs n d
 numbered_or xs n d = rw (nth-next xs n) (unwrap_or-slice_get xs n d)
+
+-- a change that leaves each element as it is
+pub changed-same : {A : Type 0} (change : A → A) (number place : ℕ) (xs : List A) → ((x : A) → change x ≡ x) → changed_from change number place xs ≡ xs
+changed-same change number place [] same = refl
+changed-same change number place (x ∷ xs) same = by (eqb place number) (changed-same change number (suc place) xs same)
+  where
+    by : (b : Bool) → changed_from change number (suc place) xs ≡ xs → (if b then change x else x) ∷ changed_from change number (suc place) xs ≡ x ∷ xs
+    by true e = rw (same x, e) refl
+    by false e = rw e refl
 
 -- ---- tests of all elements
 

@@ -1,8 +1,8 @@
--- What holds of batches that were taken in order, and how far what was handed and produced stays as more are taken.
-use Rattle.std.proofs.Common.{◌≡◌, ℕ, ◌≤◌, eqb, List, [], ◌∷◌, ◌++◌, length, map, Bool, true, false, if◌then◌else◌, ◌⊎◌, inl, inr, refl, sym, ap, arith, length-append}
+-- What holds of batches that were taken in order, and how far what was handed and produced stays as more batches and rows are taken.
+use Rattle.std.proofs.Common.{◌≡◌, ℕ, zero, suc, ◌+◌, ◌<◌, ◌≤◌, eqb, List, [], ◌∷◌, ◌++◌, length, map, replicate, Bool, true, false, if◌then◌else◌, ◌⊎◌, inl, inr, refl, sym, ap, ◌∙◌, arith, append_assoc, length-append}
 use Rattle.std.specs.Prelude.{filter}
 use Rattle.std.specs.List.{flat_map, list_any}
-use Rattle.std.proofs.lemmas.Bool.{and_from, and_parts, false≢true, or_cases, or_left}
+use Rattle.std.proofs.lemmas.Bool.{and_from, and_parts, eqb-true, false≢true, false_from_ne_true, or_cases, or_left}
 use Rattle.std.proofs.lemmas.List.{append-nil}
 use Rattle.std.proofs.lemmas.List.Concat.{flat_map-append}
 use Rattle.std.proofs.lemmas.List.Folds.{list_any-append}
@@ -11,8 +11,8 @@ use Rattle.amber_rows.specs.declared.value.Value.{Value}
 use Rattle.amber_rows.specs.declared.batch.Batch.{Batch}
 use Rattle.amber_rows.specs.declared.flow.What.{What}
 use Rattle.amber_meaning.specs.Task.{Arrival, Role, Task}
-use Rattle.amber_meaning.specs.Produce.{produce, yields}
-use Rattle.amber_meaning.specs.Position.{Taken, all_arrivals, arrivals_of, has_last, have_ended, product, share_or, taken_from}
+use Rattle.amber_meaning.specs.Produce.{closing, produce, yields}
+use Rattle.amber_meaning.specs.Position.{Taken, all_arrivals, arrivals_of, has_last, have_ended, is_complete, product, share_or, taken_from}
 use Rattle.amber_meaning.proofs.OneState.{taken_from-push}
 
 -- ---- lists of batches of which only the last may be marked
@@ -117,3 +117,42 @@ product-grows role taken t ks within e =
     let more = fed-more role taken (t ∷ []) in
     rw (product-before role taken ks e, more.1, produce-more role.task [] (all_arrivals role taken) more.0 ks within)
     (rw (length-append (produce role.task [] (all_arrivals role taken) ks) _) (omega arith))
+
+-- ---- as rows are taken, what was produced only grows
+
+produce-later : (task : Task) (before hs : List Arrival) (ks later : List (List Value))
+    → (more : List (List Value)) × (produce task before hs (ks ++ later) ≡ produce task before hs ks ++ more)
+unfolding produce
+produce-later task before [] ks later = ([], refl)
+produce-later task before (one ∷ hs) [] later = (produce task before (one ∷ hs) later, refl)
+produce-later task before (one ∷ hs) (k ∷ ks) later =
+    let rest = produce-later task (before ++ one ∷ []) hs ks later in (
+      rest.0,
+      ap (λ (rows : List (List Value)). yields task before one k ++ rows) rest.1
+          ∙ sym (append_assoc (yields task before one k) (produce task (before ++ one ∷ []) hs ks) rest.0),
+    )
+
+incomplete : (role : Role) (taken : List Taken) (rows : ℕ) → rows < length (all_arrivals role taken) → is_complete role taken rows ≡ false
+incomplete role taken rows less =
+    false_from_ne_true _ (λ e. let all = eqb-true rows (length (all_arrivals role taken)) ((and_parts _ _ e).1) in absurd (omega arith))
+
+some-later : (role : Role) (taken : List Taken) (ks later : List (List Value)) → length ks < length (all_arrivals role taken)
+    → (more : List (List Value)) × (product role taken (ks ++ later) ≡ product role taken ks ++ more)
+unfolding product
+some-later role taken ks later within =
+    let all = ks ++ later in
+    let rest = produce-later role.task [] (all_arrivals role taken) ks later in
+    let closed : List (List Value) = if is_complete role taken (length all) then closing role.task (all_arrivals role taken) else [] in
+    let early : product role taken ks ≡ produce role.task [] (all_arrivals role taken) ks =
+    ap (λ (b : Bool). produce role.task [] (all_arrivals role taken) ks ++ (if b then closing role.task (all_arrivals role taken) else [])) (incomplete role taken (length ks) within)
+    ∙ append-nil (produce role.task [] (all_arrivals role taken) ks) in (
+      rest.0 ++ closed,
+      ap (λ (rows : List (List Value)). rows ++ closed) rest.1
+          ∙ append_assoc (produce role.task [] (all_arrivals role taken) ks) rest.0 closed
+          ∙ ap (λ (rows : List (List Value)). rows ++ (rest.0 ++ closed)) (sym early),
+    )
+
+pub product-later : (role : Role) (taken : List Taken) (ks : List (List Value)) (n : ℕ) (now : List Value) → length ks + n ≤ length (all_arrivals role taken)
+    → (more : List (List Value)) × (product role taken (ks ++ replicate n now) ≡ product role taken ks ++ more)
+product-later role taken ks zero now within = ([], ap (product role taken) (append-nil ks) ∙ sym (append-nil (product role taken ks)))
+product-later role taken ks (suc n) now within = some-later role taken ks (replicate (suc n) now) (omega arith)

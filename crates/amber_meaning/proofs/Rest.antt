@@ -1,5 +1,5 @@
 -- How states stand between legs, and how legs are opened and closed.
-use Rattle.std.proofs.Common.{◌≡◌, ℕ, zero, suc, ◌≤◌, eqb, List, [], ◌∷◌, ◌++◌, length, map, get_or, replicate, Bool, true, false, if◌then◌else◌, refl, sym, ap, ◌∙◌, arith, length-append}
+use Rattle.std.proofs.Common.{◌≡◌, ℕ, zero, suc, ◌+◌, ◌≤◌, eqb, List, [], ◌∷◌, ◌++◌, length, map, get_or, replicate, Option, Some, None, Bool, true, false, if◌then◌else◌, refl, sym, ap, ◌∙◌, arith, length-append}
 use Rattle.std.specs.List.{sum_by}
 use Rattle.std.proofs.lemmas.Bool.{false≢true}
 use Rattle.std.proofs.lemmas.List.{length-map, length-replicate}
@@ -9,9 +9,11 @@ use Rattle.amber_rows.specs.Crew.{crew_of}
 use Rattle.amber_rows.specs.Lists.{numbers_below, changed_from}
 use Rattle.amber_rows.specs.declared.value.Value.{Value}
 use Rattle.amber_rows.specs.declared.flow.Operator.{Operator}
+use Rattle.amber_log.specs.Commands.{action_of}
 use Rattle.amber_log.specs.Grammar.{AreParts}
 use Rattle.amber_log.specs.declared.command.Command.{Command}
-use Rattle.amber_log.specs.declared.command.Command.TheVariants as command
+use Rattle.amber_log.specs.declared.effect.Action.{Action}
+use Rattle.amber_log.specs.declared.effect.Action.TheVariants as action
 use Rattle.amber_log.specs.declared.leg.Close.{Close}
 use Rattle.amber_log.specs.declared.leg.Close.TheVariants as close
 use Rattle.amber_log.specs.declared.leg.Part.{Part}
@@ -21,17 +23,17 @@ use Rattle.amber_meaning.specs.Laws.{EndsClose, IsResting, LegalLogsRest, LegsOp
 use Rattle.amber_meaning.specs.Legal.{AreOffered, ClosesEnd, ClosesRun, IsSettled, IsWorked, Makes, Query, Reaches, after_close, batches_for, entries_of, leg_start, stream_of}
 use Rattle.amber_meaning.specs.Position.{Position, emitted_count, is_emitted, kept, origin, steps_of, taken_from}
 use Rattle.amber_meaning.specs.Rules.{Leads}
-use Rattle.amber_meaning.specs.State.{Arms, State, begin_leg, begin_last_leg, after_command, without_arms, let_go, position_at, start_of, steps_in, with_arms, without_held}
+use Rattle.amber_meaning.specs.State.{State, after_action, after_command, begin_leg, begin_last_leg, let_go, position_at, start_of, steps_in, without_arms, without_held, without_row, worker_at}
 use Rattle.amber_meaning.specs.Stops.{op_numbers, without_stops}
 use Rattle.amber_meaning.proofs.Fronts.{legal_logs_grow}
 use Rattle.amber_meaning.proofs.OneState.{origin-at, position-get_or}
 
--- ---- positions that differ in flags and dropped rows alone
+-- ---- positions that differ in what holds them back but the hand, and in dropped rows, alone
 
 record IsLike (p q : Position) : Type 0 where
   taken : p.taken ≡ q.taken
   constants : p.constants ≡ q.constants
-  hand : p.hand ≡ q.hand
+  hand : p.restraint.hand ≡ q.restraint.hand
   finished : p.finished ≡ q.finished
   emitted : (rows : List (List Value)) → kept rows p.outcomes ≡ kept rows q.outcomes
   steps : steps_of p ≡ steps_of q
@@ -40,11 +42,7 @@ IsLike-refl : (p : Position) → IsLike p p
 IsLike-refl p = record { taken = refl; constants = refl; hand = refl; finished = refl; emitted = λ rows. refl; steps = refl }
 
 let_go-like : (p : Position) → IsLike p (let_go p)
-let_go-like p = by p.held
-  where
-    by : (b : Bool) → IsLike p (if b then record p { paused = false; held = false; waved = true } else record p { paused = false })
-    by true = record { taken = refl; constants = refl; hand = refl; finished = refl; emitted = λ rows. refl; steps = refl }
-    by false = record { taken = refl; constants = refl; hand = refl; finished = refl; emitted = λ rows. refl; steps = refl }
+let_go-like p = record { taken = refl; constants = refl; hand = refl; finished = refl; emitted = λ rows. refl; steps = refl }
 
 kept-dropped : (rows : List (List Value)) (outcomes : List Bool) → kept rows outcomes ≡ kept rows (outcomes ++ false ∷ [])
 unfolding kept
@@ -58,9 +56,9 @@ emitted-dropped : (outcomes : List Bool) → emitted_count outcomes ≡ emitted_
 emitted-dropped outcomes = let more = sum_by_push (λ outcome. if is_emitted outcome then 1 else 0) outcomes false in omega arith
 
 without_held-like : (p : Position) → IsLike p (without_held p)
-without_held-like p = by p.held
+without_held-like p = by p.restraint.held
   where
-    by : (b : Bool) → IsLike p (if b then record p { outcomes = p.outcomes ++ false ∷ []; held = false } else p)
+    by : (b : Bool) → IsLike p (if b then record p { outcomes = p.outcomes ++ false ∷ []; restraint = record p.restraint { held = false } } else p)
     by true = record {
       taken = refl;
       constants = refl;
@@ -147,22 +145,19 @@ changed-length : {A : Type 0} (change : A → A) (number place : ℕ) (xs : List
 changed-length change number place [] = refl
 changed-length change number place (x ∷ xs) = ap suc (changed-length change number (suc place) xs)
 
-rearmed : (query : Query) (state : State) (change : Arms → Arms) (op : ℕ) → IsResting query state → IsResting query (with_arms change op state)
-rearmed query state change op h =
-    resting-like query state (with_arms change op state) (changed-length change op 1 state.arms) (like-itself state.positions) h
+dropped-like : (flow : List Operator) (op : ℕ) (drops : Option ℕ) (ps : List Position) → AreLike ps (without_row flow op drops ps)
+dropped-like flow op None ps = like-itself ps
+dropped-like flow op (Some worker) ps = like-changed (worker_at flow op worker + 1) 1 ps
 
 after_command-rests : (query : Query) (state : State) (done : Command) → IsResting query state → IsResting query (after_command query.flow done state)
 unfolding after_command
-after_command-rests query state command.Run h = h
-after_command-rests query state command.End h = h
-after_command-rests query state (command.Pause op n) h = rearmed query state _ op h
-after_command-rests query state (command.Count op n) h = rearmed query state _ op h
-after_command-rests query state (command.When op cond) h = rearmed query state _ op h
-after_command-rests query state (command.Clear op) h = rearmed query state _ op h
-after_command-rests query state (command.Set op value) h = rearmed query state _ op h
-after_command-rests query state (command.Drop op worker) h = resting-like query state _ refl (like-changed _ 1 state.positions) h
-after_command-rests query state (command.Inspect op) h = h
-after_command-rests query state (command.Lose op worker) h = h
+after_command-rests query state done h = by (action_of done)
+  where
+    by : (action : Action) → IsResting query (after_action query.flow action state)
+    by (action.Leg to_end) = h
+    by (action.AtRest effect) =
+        resting-like query state (after_action query.flow (action.AtRest effect) state) (changed-length _ effect.op 1 state.arms)
+        (dropped-like query.flow effect.op effect.drops state.positions) h
 
 start-rests : (query : Query) → IsResting query (start_of query.flow)
 unfolding start_of steps_in AreOffered taken_from

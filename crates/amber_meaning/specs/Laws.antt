@@ -31,7 +31,7 @@ LegalLogsGrow = (query : Query) (batch : ℕ) (items : List Item) (one : Item) (
 pub record IsResting (query : Query) (state : State) : Type 0 where
   pub arms : length state.arms ≡ length query.flow
   pub crew : length state.positions ≡ crew_of query.flow
-  pub hands : (worker : ℕ) → worker < crew_of query.flow → (position_at state.positions worker).hand ≡ 0
+  pub hands : (worker : ℕ) → worker < crew_of query.flow → (position_at state.positions worker).restraint.hand ≡ 0
   pub offered : AreOffered query state.positions
   pub few : steps_in state ≤ query.most
 

@@ -8,9 +8,11 @@ use Rattle.amber_rows.specs.declared.value.Value.{Value}
 use Rattle.amber_rows.specs.declared.batch.Batch.{Batch}
 use Rattle.amber_rows.specs.declared.record.RowFault.{RowFault}
 use Rattle.amber_rows.specs.declared.flow.Operator.{Operator}
+use Rattle.amber_log.specs.Commands.{action_of}
 use Rattle.amber_log.specs.Fits.{fits_of}
 use Rattle.amber_log.specs.Grammar.{AreParts, IsLog, ends_over}
-use Rattle.amber_log.specs.declared.command.Command.TheVariants as command
+use Rattle.amber_log.specs.declared.effect.Action.{Action}
+use Rattle.amber_log.specs.declared.effect.Action.TheVariants as action
 use Rattle.amber_log.specs.declared.entry.Entry.{Entry}
 use Rattle.amber_log.specs.declared.leg.Close.{Close}
 use Rattle.amber_log.specs.declared.leg.Close.TheVariants as close
@@ -84,7 +86,7 @@ pub record IsWorked (query : Query) (before : State) (parts : List Part) (after 
 
 -- no hand holds a unit, and no count has counted more than it asks for
 pub record IsSettled (query : Query) (state : State) : Type 0 where
-  pub hands : (worker : ℕ) → worker < crew_of query.flow → (position_at state.positions worker).hand ≡ 0
+  pub hands : (worker : ℕ) → worker < crew_of query.flow → (position_at state.positions worker).restraint.hand ≡ 0
   pub counts : (op : ℕ) (counting : Counting) → (arms_at state op).count ≡ Some counting → counted_at query.flow state op counting ≤ counting.target
 
 abbrev pub stops_in : Query → State → List Stop
@@ -139,18 +141,14 @@ pub record IsOpen (query : Query) (log : Log) (to_end : Bool) (parts : List Part
   pub worked : IsWorked query (leg_start to_end legal.after) parts now
   pub few : steps_in now ≤ query.most
 
--- whether an item changes what comes out: a filter's constant, or a row that is dropped
+-- whether it changes what comes out: a filter's constant, or a row that is dropped
+abbrev pub action_alters : Action → Bool
+action_alters (action.Leg to_end) = false
+action_alters (action.AtRest effect) = effect.alters
+
+-- so does an item
 abbrev pub alters : Item → Bool
-alters (item.Do command.Run) = false
-alters (item.Do command.End) = false
-alters (item.Do (command.Pause op n)) = false
-alters (item.Do (command.Count op n)) = false
-alters (item.Do (command.When op cond)) = false
-alters (item.Do (command.Clear op)) = false
-alters (item.Do (command.Set op value)) = true
-alters (item.Do (command.Drop op worker)) = true
-alters (item.Do (command.Inspect op)) = false
-alters (item.Do (command.Lose op worker)) = false
+alters (item.Do command) = action_alters (action_of command)
 alters (item.Run leg) = false
 alters (item.End leg) = false
 

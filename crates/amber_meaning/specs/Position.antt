@@ -13,13 +13,8 @@ pub record Taken : Type 0 where
   pub from : ℕ
   pub batch : Batch
 
-pub record Position : Type 0 where
-  -- the batches that were taken, in order
-  pub taken : List Taken
-  -- for each row that was taken the constants that were in force then; so its length is how many were taken
-  pub constants : List (List Value)
-  -- for each produced row that is gone whether it was emitted, and not dropped; so its length is how many are gone
-  pub outcomes : List Bool
+-- what holds a worker back, or lets it on
+pub record Restraint : Type 0 where
   -- units of an armed count that were claimed and not used
   pub hand : ℕ
   -- stands before a row that meets the operator's condition
@@ -27,11 +22,24 @@ pub record Position : Type 0 where
   -- may emit the next row although it meets the condition
   pub waved : Bool
   pub paused : Bool
+
+-- nothing does
+abbrev pub no_restraint : Restraint
+no_restraint = record { hand = 0; held = false; waved = false; paused = false }
+
+pub record Position : Type 0 where
+  -- the batches that were taken, in order
+  pub taken : List Taken
+  -- for each row that was taken the constants that were in force then; so its length is how many were taken
+  pub constants : List (List Value)
+  -- for each produced row that is gone whether it was emitted, and not dropped; so its length is how many are gone
+  pub outcomes : List Bool
+  pub restraint : Restraint
   pub finished : Bool
 
 -- before anything was done
 abbrev pub origin : Position
-origin = record { taken = []; constants = []; outcomes = []; hand = 0; held = false; waved = false; paused = false; finished = false }
+origin = record { taken = []; constants = []; outcomes = []; restraint = no_restraint; finished = false }
 
 -- ---- what was handed
 

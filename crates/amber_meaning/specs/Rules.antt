@@ -8,7 +8,7 @@ use Rattle.amber_rows.specs.declared.cond.Cond.{Cond}
 use Rattle.amber_log.specs.declared.entry.Entry.{Entry}
 use Rattle.amber_log.specs.declared.entry.Entry.TheVariants as entry
 use Rattle.amber_meaning.specs.Task.{Role, is_builder}
-use Rattle.amber_meaning.specs.Position.{Position, Taken, all_arrivals, have_ended, pending_rows, product, rest_of, taken_from}
+use Rattle.amber_meaning.specs.Position.{Position, Restraint, Taken, all_arrivals, have_ended, pending_rows, product, rest_of, taken_from}
 
 -- what commands have put in force for a leg: a filter's constants, the operator's condition, and whether a count is armed
 pub record Orders : Type 0 where
@@ -29,8 +29,8 @@ assigned role orders = record { role = role; orders = orders }
 
 -- neither paused nor held nor finished
 pub record IsFree (p : Position) : Type 0 where
-  pub running : p.paused ≡ false
-  pub loose : p.held ≡ false
+  pub running : p.restraint.paused ≡ false
+  pub loose : p.restraint.held ≡ false
   pub unfinished : p.finished ≡ false
 
 -- the rows that the worker has produced once it took so many more under the orders
@@ -80,9 +80,9 @@ pub record MayGo (it : Assignment) (p : Position) (rows outs : ℕ) : Type 0 whe
   -- a row is taken only where all that was produced before it is gone
   pub drained : 0 < rows → produced_with it.role it.orders p (rows - 1) ≤ length p.outcomes + outs
   -- under a count each row is emitted with a unit, and each is taken while there is one
-  pub in_hand : it.orders.counted ≡ true → outs ≤ p.hand
-  pub before_taking : it.orders.counted ≡ true → 0 < rows → produced_with it.role it.orders p (rows - 1) < length p.outcomes + p.hand
-  pub no_stop : pass_by it.orders.watch p.waved (take outs (drop (length p.outcomes) (product_with it.role it.orders p rows))) ≡ true
+  pub in_hand : it.orders.counted ≡ true → outs ≤ p.restraint.hand
+  pub before_taking : it.orders.counted ≡ true → 0 < rows → produced_with it.role it.orders p (rows - 1) < length p.outcomes + p.restraint.hand
+  pub no_stop : pass_by it.orders.watch p.restraint.waved (take outs (drop (length p.outcomes) (product_with it.role it.orders p rows))) ≡ true
 
 -- claiming units of a count
 pub record MayGrant (orders : Orders) (p : Position) : Type 0 where
@@ -92,23 +92,23 @@ pub record MayGrant (orders : Orders) (p : Position) : Type 0 where
 -- giving the whole hand back
 pub record MayGiveBack (orders : Orders) (p : Position) (n : ℕ) : Type 0 where
   pub counted : orders.counted ≡ true
-  pub whole : n ≡ p.hand
+  pub whole : n ≡ p.restraint.hand
 
 pub record MayPause (p : Position) : Type 0 where
-  pub running : p.paused ≡ false
+  pub running : p.restraint.paused ≡ false
   pub unfinished : p.finished ≡ false
 
 pub record MayResume (p : Position) : Type 0 where
-  pub paused : p.paused ≡ true
-  pub loose : p.held ≡ false
+  pub paused : p.restraint.paused ≡ true
+  pub loose : p.restraint.held ≡ false
   pub unfinished : p.finished ≡ false
 
 -- stopping before a row that meets the condition
 pub record MayHold (it : Assignment) (p : Position) : Type 0 where
   pub free : IsFree p
   pub watched : first_is_watched it.orders.watch (pending_rows it.role p) ≡ true
-  pub not_waved : p.waved ≡ false
-  pub in_hand : it.orders.counted ≡ true → 0 < p.hand
+  pub not_waved : p.restraint.waved ≡ false
+  pub in_hand : it.orders.counted ≡ true → 0 < p.restraint.hand
 
 pub record MayFinish (role : Role) (p : Position) : Type 0 where
   pub free : IsFree p
@@ -138,24 +138,27 @@ abbrev pub with_offered : ℕ → Option Batch → Position → Position
 with_offered from None p = p
 with_offered from (Some batch) p = with_batch from batch p
 
+-- so many rows were emitted: under a count each has restraint_used a unit of the hand, and the row that was waved on is gone
+abbrev pub restraint_used : Bool → ℕ → Restraint → Restraint
+restraint_used counted outs r = record r { hand = if counted then r.hand - outs else r.hand; waved = r.waved && (outs == 0) }
+
 -- rows taken under the orders, and rows emitted
 abbrev pub with_rows : Orders → ℕ → ℕ → Position → Position
 with_rows orders rows outs p = record p {
   constants = p.constants ++ replicate rows orders.constants;
   outcomes = p.outcomes ++ replicate outs true;
-  hand = if orders.counted then p.hand - outs else p.hand;
-  waved = p.waved && (outs == 0);
+  restraint = restraint_used orders.counted outs p.restraint;
 }
 
 -- where an entry leads, to which this batch is offered; a batch that is not there is not taken
 abbrev pub position_after : Orders → Option Batch → Entry → Position → Position
 position_after orders offered (entry.Take from number) p = with_offered from offered p
 position_after orders offered (entry.Go rows outs) p = with_rows orders rows outs p
-position_after orders offered (entry.Grant n) p = record p { hand = p.hand + n }
-position_after orders offered (entry.Back n) p = record p { hand = 0 }
-position_after orders offered entry.Pause p = record p { paused = true }
-position_after orders offered entry.Resume p = record p { paused = false }
-position_after orders offered entry.Hold p = record p { held = true }
+position_after orders offered (entry.Grant n) p = record p { restraint = record p.restraint { hand = p.restraint.hand + n } }
+position_after orders offered (entry.Back n) p = record p { restraint = record p.restraint { hand = 0 } }
+position_after orders offered entry.Pause p = record p { restraint = record p.restraint { paused = true } }
+position_after orders offered entry.Resume p = record p { restraint = record p.restraint { paused = false } }
+position_after orders offered entry.Hold p = record p { restraint = record p.restraint { held = true } }
 position_after orders offered entry.Finish p = record p { finished = true }
 
 -- ---- one entry, and a journal

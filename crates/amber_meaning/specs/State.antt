@@ -1,5 +1,5 @@
 -- The state of a run: how far its workers are, and what commands have put in force.
-use Rattle.std.specs.Prelude.{ℕ, ◌+◌, List, [], ◌∷◌, ◌++◌, length, map, drop, replicate, sum_by, Option, Some, None, is_some, unwrap_or, Bool, true, false, if◌then◌else◌}
+use Rattle.std.specs.Prelude.{ℕ, ◌+◌, ◌||◌, List, [], ◌∷◌, ◌++◌, length, map, drop, replicate, sum_by, Option, Some, None, is_some, unwrap_or, Bool, false, if◌then◌else◌}
 use Rattle.std.specs.List.{list_all}
 use Rattle.amber_rows.specs.Kinds.{settable_cond}
 use Rattle.amber_rows.specs.Lists.{nth, changed_at}
@@ -8,12 +8,17 @@ use Rattle.amber_rows.specs.declared.value.Value.{Value}
 use Rattle.amber_rows.specs.declared.cond.Cond.{Cond}
 use Rattle.amber_rows.specs.declared.flow.What.{What}
 use Rattle.amber_rows.specs.declared.flow.Operator.{Operator}
+use Rattle.amber_log.specs.Commands.{action_of}
 use Rattle.amber_log.specs.declared.command.Command.{Command}
-use Rattle.amber_log.specs.declared.command.Command.TheVariants as command
-use Rattle.amber_meaning.specs.Position.{Position, emitted_count, origin, steps_of}
+use Rattle.amber_log.specs.declared.effect.Action.{Action}
+use Rattle.amber_log.specs.declared.effect.Action.TheVariants as action
+use Rattle.amber_log.specs.declared.effect.Arming.{Arming}
+use Rattle.amber_log.specs.declared.effect.Change.{Change}
+use Rattle.amber_log.specs.declared.effect.Change.TheVariants as change
+use Rattle.amber_meaning.specs.Position.{Position, Restraint, emitted_count, origin, steps_of}
 use Rattle.amber_meaning.specs.Rules.{Orders}
 
--- an armed count: how many rows it asks for, and how many rows of each of its operator's workers were gone when it was armed
+-- an arms_changed count: how many rows it asks for, and how many rows of each of its operator's workers were gone when it was arms_changed
 pub record Counting : Type 0 where
   pub target : ℕ
   pub base : List ℕ
@@ -87,7 +92,7 @@ constant_in (Some cond) = cond.constant ∷ []
 abbrev pub first_constants : What → List Value
 first_constants kind = constant_in (settable_cond kind)
 
--- nothing was done, nothing is armed
+-- nothing was done, nothing is arms_changed
 unfoldable pub start_of : List Operator → State
 start_of flow = record {
   arms = map (λ operator. record no_arms { constants = first_constants operator.what }) flow;
@@ -96,44 +101,76 @@ start_of flow = record {
 
 -- ---- what commands change
 
--- other arms at an operator
-abbrev pub with_arms : (Arms → Arms) → ℕ → State → State
-with_arms change op state = record state { arms = changed_at change op state.arms }
-
 -- no pause, count or condition
 abbrev pub without_arms : Arms → Arms
 without_arms arms = record arms { pause = None; count = None; watch = None }
 
+-- what a change leaves of something that may be in force
+abbrev pub put : {A : Type 0} → Change A → Option A → Option A
+put change.Keep before = before
+put change.TakeBack before = None
+put (change.Put one) before = Some one
+
+-- the constants stay, or another one takes their place
+abbrev pub put_constant : Option Value → List Value → List Value
+put_constant None before = before
+put_constant (Some value) before = value ∷ []
+
+-- a change of a count: what is put counts from where so many rows of each of the operator's workers are gone
+abbrev pub counting_from : List ℕ → Change ℕ → Change Counting
+counting_from gone change.Keep = change.Keep
+counting_from gone change.TakeBack = change.TakeBack
+counting_from gone (change.Put n) = change.Put (record { target = n; base = gone })
+
+-- what is in force at an operator afterwards, of whose workers so many rows are gone
+abbrev pub arms_changed : Arming → List ℕ → Arms → Arms
+arms_changed arming gone arms = record {
+  pause = put arming.pause arms.pause;
+  count = put (counting_from gone arming.count) arms.count;
+  watch = put arming.watch arms.watch;
+  constants = put_constant arming.constant arms.constants;
+}
+
+-- how many rows of each of an operator's workers are gone
+abbrev pub gone_at : List Operator → State → ℕ → List ℕ
+gone_at flow state op = map (λ p. length p.outcomes) (crew_at flow state op)
+
 -- the row before which a worker is held is dropped, neither emitted nor counted
 abbrev pub without_held : Position → Position
-without_held p = if p.held then record p { outcomes = p.outcomes ++ false ∷ []; held = false } else p
+without_held p = if p.restraint.held then record p { outcomes = p.outcomes ++ false ∷ []; restraint = record p.restraint { held = false } } else p
 
 -- the running number of an operator's worker
 abbrev pub worker_at : List Operator → ℕ → ℕ → ℕ
 worker_at flow op worker = first_worker_of flow op + worker
 
+-- so it is with one of an operator's workers, where one is named
+abbrev pub without_row : List Operator → ℕ → Option ℕ → List Position → List Position
+without_row flow op None positions = positions
+without_row flow op (Some worker) positions = changed_at without_held (worker_at flow op worker + 1) positions
+
+-- a leg changes nothing here: what its workers do comes behind it
+abbrev pub after_action : List Operator → Action → State → State
+after_action flow (action.Leg to_end) state = state
+after_action flow (action.AtRest effect) state = record {
+  arms = changed_at (arms_changed effect.arming (gone_at flow state effect.op)) effect.op state.arms;
+  positions = without_row flow effect.op effect.drops state.positions;
+}
+
 -- the state after a command that is no leg
 unfoldable pub after_command : List Operator → Command → State → State
-after_command flow command.Run state = state
-after_command flow command.End state = state
-after_command flow (command.Pause op n) state = with_arms (λ arms. record arms { pause = Some n }) op state
-after_command flow (command.Count op n) state =
-    with_arms (λ arms. record arms { count = Some (record { target = n; base = map (λ p. length p.outcomes) (crew_at flow state op) }) }) op state
-after_command flow (command.When op cond) state = with_arms (λ arms. record arms { watch = Some cond }) op state
-after_command flow (command.Clear op) state = with_arms without_arms op state
-after_command flow (command.Set op value) state = with_arms (λ arms. record arms { constants = value ∷ [] }) op state
-after_command flow (command.Drop op worker) state = record state { positions = changed_at without_held (worker_at flow op worker + 1) state.positions }
-after_command flow (command.Inspect op) state = state
-after_command flow (command.Lose op worker) state = state
+after_command flow command state = after_action flow (action_of command) state
 
 -- a leg begins: pauses end, and a held row may go
+abbrev pub restraint_released : Restraint → Restraint
+restraint_released r = record r { paused = false; held = false; waved = r.held || r.waved }
+
 abbrev pub let_go : Position → Position
-let_go p = if p.held then record p { paused = false; held = false; waved = true } else record p { paused = false }
+let_go p = record p { restraint = restraint_released p.restraint }
 
 unfoldable pub begin_leg : State → State
 begin_leg state = record state { positions = map let_go state.positions }
 
--- the last leg begins: the same, and nothing is armed any more
+-- the last leg begins: the same, and nothing is arms_changed any more
 unfoldable pub begin_last_leg : State → State
 begin_last_leg state = record {
   arms = map without_arms state.arms;

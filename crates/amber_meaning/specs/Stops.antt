@@ -24,7 +24,7 @@ held_stop op worker true (row ∷ pending) = stop.Held op worker row ∷ []
 unfoldable pub held_stops : List Operator → (ℕ → Role) → State → List Stop
 held_stops flow role state =
     flat_map (λ worker. held_stop (op_of flow worker) (worker - first_worker_of flow (op_of flow worker))
-    (position_at state.positions worker).held (pending_rows (role worker) (position_at state.positions worker))) (numbers_below (crew_of flow))
+    (position_at state.positions worker).restraint.held (pending_rows (role worker) (position_at state.positions worker))) (numbers_below (crew_of flow))
 
 -- a count stands where it has counted as many rows as it asks for
 abbrev pub count_stop : List Operator → State → ℕ → Option Counting → List Stop

@@ -1,5 +1,5 @@
 -- The printed texts. Every line ends with a line feed.
-use Rattle.std.specs.Prelude.{ℕ, ◌+◌, ◌==◌, ◌&&◌, nat_le, not, List, [], ◌∷◌, ◌++◌, length, codes, Option, Some, None, Bool, false, if◌then◌else◌}
+use Rattle.std.specs.Prelude.{ℕ, ◌+◌, ◌==◌, ◌&&◌, nat_le, not, List, [], ◌∷◌, ◌++◌, length, codes, Option, Some, None, Bool, true, false, if◌then◌else◌}
 use Rattle.std.specs.List.{flat_map, list_all}
 use Rattle.std.specs.Fmt.{decimal, signed_decimal}
 use Rattle.amber_meaning.specs.Kinds.{kind_word}
@@ -13,9 +13,13 @@ use Rattle.amber_rows.specs.declared.cond.Cond.{Cond}
 use Rattle.amber_rows.specs.declared.record.RowFault.{RowFault}
 use Rattle.amber_rows.specs.declared.record.RowFault.TheVariants as fault
 use Rattle.amber_rows.specs.declared.flow.Operator.{Operator}
+use Rattle.amber_log.specs.Commands.{action_of}
 use Rattle.amber_log.specs.Words.{sign_of}
 use Rattle.amber_log.specs.declared.command.Command.{Command}
-use Rattle.amber_log.specs.declared.command.Command.TheVariants as command
+use Rattle.amber_log.specs.declared.effect.Action.{Action}
+use Rattle.amber_log.specs.declared.effect.Action.TheVariants as action
+use Rattle.amber_log.specs.declared.effect.Argument.{Argument}
+use Rattle.amber_log.specs.declared.effect.Argument.TheVariants as argument
 use Rattle.amber_meaning.specs.declared.answer.Answer.{Answer}
 use Rattle.amber_meaning.specs.declared.answer.Refusal.{Refusal}
 use Rattle.amber_meaning.specs.declared.answer.Refusal.TheVariants as refusal
@@ -93,18 +97,23 @@ cond_words flow op cond = word_of (column_name_at flow op cond.column) ∷ sign_
 
 -- ---- replies to commands
 
+-- what a command says beside its operator, as it stands in a script
+abbrev pub argument_reply : List Operator → ℕ → Argument → List (List ℕ)
+argument_reply flow op argument.Nothing = []
+argument_reply flow op (argument.Rows n) = decimal n ∷ []
+argument_reply flow op (argument.Worker worker) = decimal worker ∷ []
+argument_reply flow op (argument.Constant constant) = value_word constant ∷ []
+argument_reply flow op (argument.Condition cond) = cond_words flow op cond
+
+-- what is done as it stands in a script
+abbrev pub script_words : List Operator → Action → List (List ℕ)
+script_words flow (action.Leg false) = codes "run" ∷ []
+script_words flow (action.Leg true) = codes "end" ∷ []
+script_words flow (action.AtRest effect) = effect.words ++ (id_at flow effect.op ∷ argument_reply flow effect.op effect.argument)
+
 -- a command as it stands in a script
 abbrev pub reply_words : List Operator → Command → List (List ℕ)
-reply_words flow command.Run = codes "run" ∷ []
-reply_words flow command.End = codes "end" ∷ []
-reply_words flow (command.Pause op n) = codes "pause" ∷ id_at flow op ∷ decimal n ∷ []
-reply_words flow (command.Count op n) = codes "break" ∷ codes "count" ∷ id_at flow op ∷ decimal n ∷ []
-reply_words flow (command.When op cond) = codes "break" ∷ codes "when" ∷ id_at flow op ∷ cond_words flow op cond
-reply_words flow (command.Clear op) = codes "clear" ∷ id_at flow op ∷ []
-reply_words flow (command.Set op constant) = codes "set" ∷ id_at flow op ∷ value_word constant ∷ []
-reply_words flow (command.Drop op worker) = codes "drop" ∷ id_at flow op ∷ decimal worker ∷ []
-reply_words flow (command.Inspect op) = codes "inspect" ∷ id_at flow op ∷ []
-reply_words flow (command.Lose op worker) = codes "lose" ∷ id_at flow op ∷ decimal worker ∷ []
+reply_words flow command = script_words flow (action_of command)
 
 -- that a command was done
 unfoldable pub ok_text : List Operator → Command → List ℕ

@@ -1,8 +1,13 @@
 -- What a run prints: the replies to the items of its log, one after the other.
-use Rattle.std.specs.Prelude.{ℕ, List, [], ◌∷◌, ◌++◌, Option, None, if◌then◌else◌}
+use Rattle.std.specs.Prelude.{ℕ, List, [], ◌∷◌, ◌++◌, Option, Some, None, if◌then◌else◌}
 use Rattle.amber_rows.specs.declared.value.Value.{Value}
+use Rattle.amber_log.specs.Commands.{action_of}
 use Rattle.amber_log.specs.declared.command.Command.{Command}
-use Rattle.amber_log.specs.declared.command.Command.TheVariants as command
+use Rattle.amber_log.specs.declared.effect.Action.{Action}
+use Rattle.amber_log.specs.declared.effect.Action.TheVariants as action
+use Rattle.amber_log.specs.declared.effect.Effect.{Effect}
+use Rattle.amber_log.specs.declared.effect.Reply.{Reply}
+use Rattle.amber_log.specs.declared.effect.Reply.TheVariants as reply
 use Rattle.amber_log.specs.declared.leg.Close.{Close}
 use Rattle.amber_log.specs.declared.leg.Close.TheVariants as close
 use Rattle.amber_log.specs.declared.log.Item.{Item}
@@ -18,20 +23,26 @@ use Rattle.amber_rows.specs.Lists.{first_of}
 -- the row before which a worker is held
 abbrev pub held_row : Query → State → ℕ → Option (List Value)
 held_row query state worker =
-    if (position_at state.positions worker).held then first_of (pending_rows (role_in query worker) (position_at state.positions worker)) else None
+    if (position_at state.positions worker).restraint.held then first_of (pending_rows (role_in query worker) (position_at state.positions worker)) else None
+
+-- the row that is dropped of one of an operator's workers, or that there is none; where no worker is named nothing
+abbrev pub dropped_reply : Query → State → ℕ → Option ℕ → List ℕ
+dropped_reply query state op None = []
+dropped_reply query state op (Some worker) = drop_text query.flow op worker (held_row query state (worker_at query.flow op worker))
+
+-- a reply to a command with this effect, in the state before it
+abbrev pub effect_reply : Query → State → Command → Effect → Reply → List ℕ
+effect_reply query state command effect reply.Done = ok_text query.flow command
+effect_reply query state command effect reply.Dropped = dropped_reply query state effect.op effect.drops
+effect_reply query state command effect reply.Shown = inspected_text query.flow (inspected_of query state effect.op)
+
+abbrev pub action_reply : Query → State → Command → Action → List ℕ
+action_reply query state command (action.Leg to_end) = []
+action_reply query state command (action.AtRest effect) = effect_reply query state command effect effect.reply
 
 -- the reply to a command that is no leg, in the state before it
 abbrev pub command_reply : Query → State → Command → List ℕ
-command_reply query state command.Run = []
-command_reply query state command.End = []
-command_reply query state (command.Pause op n) = ok_text query.flow (command.Pause op n)
-command_reply query state (command.Count op n) = ok_text query.flow (command.Count op n)
-command_reply query state (command.When op cond) = ok_text query.flow (command.When op cond)
-command_reply query state (command.Clear op) = ok_text query.flow (command.Clear op)
-command_reply query state (command.Set op value) = ok_text query.flow (command.Set op value)
-command_reply query state (command.Drop op worker) = drop_text query.flow op worker (held_row query state (worker_at query.flow op worker))
-command_reply query state (command.Inspect op) = inspected_text query.flow (inspected_of query state op)
-command_reply query state (command.Lose op worker) = ok_text query.flow (command.Lose op worker)
+command_reply query state command = action_reply query state command (action_of command)
 
 -- the reply to a leg, in the state that it reached
 abbrev pub run_reply : Query → State → Close → List ℕ

@@ -28,7 +28,7 @@ abbrev pub taken_of : Role → Position → List Arrival
 taken_of role p = take (length p.constants) (all_arrivals role p.taken)
 
 abbrev pub stand_of : Position → Stand
-stand_of p = if p.finished then stand.Finished else (if p.held then stand.Held else stand.Ready)
+stand_of p = if p.finished then stand.Finished else (if p.restraint.held then stand.Held else stand.Ready)
 
 unfoldable pub view_of : Role → Position → WorkerView
 view_of role p = record {
