@@ -1,5 +1,5 @@
 -- Words, stops and inspections as they are printed, on literals.
-use Rattle.std.proofs.Common.{◌≡◌, pos, List, [], ◌∷◌, ◌++◌, codes, None, Some, refl}
+use Rattle.std.proofs.Common.{◌≡◌, pos, [], ◌∷◌, codes, None, Some, refl}
 use Rattle.amber_rows.specs.declared.value.Value.TheVariants as value
 use Rattle.amber_rows.specs.declared.cond.Cmp.TheVariants as cmp
 use Rattle.amber_log.specs.declared.command.Command.TheVariants as command

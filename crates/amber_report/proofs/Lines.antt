@@ -20,6 +20,11 @@ line_of word (next ∷ more) =
 pub whole_line : (old word : List ℕ) (more : List (List ℕ)) → ((old ++ word) ++ flat_map after_blank more) ++ 10 ∷ [] ≡ old ++ words_line (word ∷ more)
 whole_line old word more = rw (line_of word more) (simp append_assoc)
 
+-- words, and more behind them
+pub effect_words : (old : List ℕ) (words : List (List ℕ)) (id : List ℕ) (more : List (List ℕ))
+    → ((old ++ flat_map after_blank words) ++ after_blank id) ++ flat_map after_blank more ≡ old ++ flat_map after_blank (words ++ id ∷ more)
+effect_words old words id more = rw (flat_map-append after_blank words (id ∷ more)) (simp append_assoc)
+
 -- a line whose last words say why a record is no row
 pub record_line : (old id number : List ℕ) (why : List (List ℕ))
     → (((((old ++ codes "refused record") ++ after_blank id) ++ after_blank number) ++ flat_map after_blank why) ++ 10 ∷ [])

@@ -1,93 +1,78 @@
 //! The replies to commands that were done at once.
-ghost use Rattle.std.specs.Prelude.{◌≡◌, [], ◌∷◌, ◌++◌, decimal, IfOk, OnOk};
+ghost use Rattle.std.specs.Prelude.{◌≡◌, [], ◌∷◌, ◌++◌, codes, decimal, map, option_copied, IfOk, OnOk};
 ghost use Rattle.std.specs.List.{flat_map};
-ghost use Rattle.std.specs.Option.{option_copied};
-ghost use Rattle.amber_meaning.specs.Texts.{after_blank, reply_words, drop_text, id_at};
-ghost use Rattle.amber_report.specs.Replies.{done_text};
+ghost use Rattle.amber_log.specs.declared.effect.Action.TheVariants as action;
+ghost use Rattle.amber_meaning.specs.Texts.{script_words, after_blank, argument_reply, drop_text, id_at, ok_text};
+ghost use Rattle.amber_report.specs.Replies.{done_text, reply_text};
 
 use crate::conditions::push_cond;
 use crate::words::{end_line, id_of, push_number, push_value, push_word};
-use amber_log::Command;
-use amber_rows::{Bytes, Cond, Flow, Row, Value, row_text};
+use amber_log::{Action, Argument, Command, Effect, Reply};
+use amber_rows::{Bytes, Flow, Row, row_text};
 use std::alloc::{AllocError, Global};
 
-// A command's word and its operator.
-fn push_op(text: &mut Vec<u8>, word: &[u8], flow: &Flow, op: u32) -> Result<(), AllocError>
-    ensures { OnOk result
-        (text.new.items ≡ text.old.items
-        ++ flat_map after_blank (word.now ∷ id_at flow.now op ∷ [])) }
+// A blank before each word.
+fn push_words(text: &mut Vec<u8>, words: &[&[u8]]) -> Result<(), AllocError>
+    ensures { OnOk result (text.new.items
+        ≡ text.old.items ++ flat_map after_blank (map (λ w. w.now) words.now)) }
 {
-    push_word(text, word)?;
-    push_word(text, id_of(flow, op))
+    for word in words {
+        push_word(text, word)?;
+    }
+    Ok(())
 }
 
-// A command's word, its operator and a number.
-fn push_numbered(
+// What a command says beside its operator.
+fn push_argument(
     text: &mut Vec<u8>,
-    word: &[u8],
     flow: &Flow,
     op: u32,
-    number: u64,
+    argument: &Argument<'_>,
 ) -> Result<(), AllocError>
     ensures { OnOk result (text.new.items
-        ≡ text.old.items ++ flat_map after_blank
-        (word.now ∷ id_at flow.now op ∷ decimal number ∷ [])) }
+        ≡ text.old.items ++ flat_map after_blank (argument_reply flow.now op argument.now)) }
 {
-    push_op(text, word, flow, op)?;
-    push_number(text, number)
+    match argument {
+        Argument::Nothing => Ok(()),
+        Argument::Rows(n) => push_number(text, *n),
+        Argument::Worker(worker) => push_number(text, u64::from(*worker)),
+        Argument::Constant(value) => push_value(text, value.get()),
+        Argument::Condition(cond) => push_cond(text, flow, op, cond.get()),
+    }
 }
 
-// The command that stops at rows for which a condition holds.
-fn push_when(text: &mut Vec<u8>, flow: &Flow, op: u32, cond: &Cond) -> Result<(), AllocError>
+// The words of what is done at rest.
+#[tactic(auto, using(crate::proofs::Lines::effect_words))]
+fn push_effect(text: &mut Vec<u8>, flow: &Flow, effect: &Effect<'_>) -> Result<(), AllocError>
     ensures { OnOk result (text.new.items
-        ≡ text.old.items ++ flat_map after_blank
-        (reply_words flow.now (Command.When op cond.now))) }
+        ≡ text.old.items ++ flat_map after_blank (script_words flow.now (action.AtRest effect.now))) }
 {
-    push_word(text, b"break")?;
-    push_op(text, b"when", flow, op)?;
-    push_cond(text, flow, op, cond)
-}
-
-// The command that stops after so many rows.
-fn push_count(text: &mut Vec<u8>, flow: &Flow, op: u32, n: u64) -> Result<(), AllocError>
-    ensures { OnOk result (text.new.items
-        ≡ text.old.items ++ flat_map after_blank (reply_words flow.now (Command.Count op n))) }
-{
-    push_word(text, b"break")?;
-    push_numbered(text, b"count", flow, op, n)
-}
-
-// The command that changes a filter's constant.
-fn push_set(text: &mut Vec<u8>, flow: &Flow, op: u32, value: &Value) -> Result<(), AllocError>
-    ensures { OnOk result (text.new.items
-        ≡ text.old.items ++ flat_map after_blank
-        (reply_words flow.now (Command.Set op value.now))) }
-{
-    push_op(text, b"set", flow, op)?;
-    push_value(text, value)
+    push_words(text, effect.words.get())?;
+    push_word(text, id_of(flow, effect.op))?;
+    push_argument(text, flow, effect.op, &effect.argument)
 }
 
 // The words of a command, as it stands in a script.
-fn push_command(text: &mut Vec<u8>, flow: &Flow, command: &Command) -> Result<(), AllocError>
+fn push_action(text: &mut Vec<u8>, flow: &Flow, action: &Action<'_>) -> Result<(), AllocError>
     ensures { OnOk result (text.new.items
-        ≡ text.old.items ++ flat_map after_blank (reply_words flow.now command.now)) }
+        ≡ text.old.items ++ flat_map after_blank (script_words flow.now action.now)) }
 {
-    match command {
-        Command::Run => push_word(text, b"run"),
-        Command::End => push_word(text, b"end"),
-        Command::Pause { op, n } => push_numbered(text, b"pause", flow, *op, *n),
-        Command::Count { op, n } => push_count(text, flow, *op, *n),
-        Command::When { op, cond } => push_when(text, flow, *op, cond),
-        Command::Clear { op } => push_op(text, b"clear", flow, *op),
-        Command::Set { op, value } => push_set(text, flow, *op, value),
-        Command::Drop { op, worker } => {
-            push_numbered(text, b"drop", flow, *op, u64::from(*worker))
-        }
-        Command::Inspect { op } => push_op(text, b"inspect", flow, *op),
-        Command::Lose { op, worker } => {
-            push_numbered(text, b"lose", flow, *op, u64::from(*worker))
-        }
+    match action {
+        Action::Leg { to_end: false } => push_word(text, b"run"),
+        Action::Leg { to_end: true } => push_word(text, b"end"),
+        Action::AtRest(effect) => push_effect(text, flow, effect),
     }
+}
+
+// A drop, its operator and its worker.
+fn push_drop(text: &mut Vec<u8>, flow: &Flow, op: u32, worker: u32) -> Result<(), AllocError>
+    ensures { OnOk result (text.new.items
+        ≡ text.old.items ++ flat_map after_blank
+        (codes "drop" ∷ id_at flow.now op ∷ decimal worker ∷ [])) }
+{
+    push_word(text, b"drop")?;
+    push_word(text, id_of(flow, op))?;
+    push_number(text, u64::from(worker))
 }
 
 // That a row was dropped, and which, or that there was none.
@@ -105,17 +90,47 @@ fn push_dropped(
 {
     let Some(row) = dropped else {
         text.extend_from_slice(b"none")?;
-        push_numbered(text, b"drop", flow, op, u64::from(worker))?;
+        push_drop(text, flow, op, worker)?;
         return end_line(text);
     };
     text.extend_from_slice(b"ok")?;
-    push_numbered(text, b"drop", flow, op, u64::from(worker))?;
+    push_drop(text, flow, op, worker)?;
     push_word(text, row_text(alloc, row)?.as_slice())
+}
+
+// That a command was done.
+#[tactic(auto, using(crate::proofs::Lines::whole_line), unfolding(amber_meaning::specs::Texts::ok_text))]
+fn push_done(text: &mut Vec<u8>, flow: &Flow, command: &Command) -> Result<(), AllocError>
+    ensures { OnOk result (text.new.items ≡ text.old.items ++ ok_text flow.now command.now) }
+{
+    text.extend_from_slice(b"ok")?;
+    push_action(text, flow, &command.action())?;
+    end_line(text)
+}
+
+// The reply to a command with this effect.
+fn push_reply(
+    alloc: Global,
+    text: &mut Vec<u8>,
+    flow: &Flow,
+    command: &Command,
+    effect: &Effect<'_>,
+    dropped: Option<&Row>,
+) -> Result<(), AllocError>
+    ensures { OnOk result (text.new.items ≡ text.old.items
+        ++ reply_text flow.now command.now (option_copied dropped.entry) effect.now) }
+{
+    match effect.reply {
+        Reply::Done | Reply::Shown => push_done(text, flow, command),
+        Reply::Dropped => match effect.drops {
+            None => Ok(()),
+            Some(worker) => push_dropped(alloc, text, flow, effect.op, worker, dropped),
+        },
+    }
 }
 
 /// The reply to a command that was done at once: `ok` and the command as a script has it. To a drop it is `ok` and the row
 /// that was dropped, or `none` where nobody was held.
-#[tactic(auto, using(crate::proofs::Lines::whole_line), unfolding(amber_meaning::specs::Texts::ok_text))]
 pub fn ok_line(
     alloc: Global,
     flow: &Flow,
@@ -126,12 +141,11 @@ pub fn ok_line(
         (λ text. text ≡ done_text flow.now command.now (option_copied dropped.entry)) }
 {
     let mut text = Vec::new(alloc);
-    if let Command::Drop { op, worker } = command {
-        push_dropped(alloc, &mut text, flow, *op, *worker, dropped)?;
-        return Ok(Bytes::new(text));
+    match command.action() {
+        Action::Leg { to_end: _ } => push_done(&mut text, flow, command)?,
+        Action::AtRest(effect) => {
+            push_reply(alloc, &mut text, flow, command, &effect, dropped)?;
+        }
     }
-    text.extend_from_slice(b"ok")?;
-    push_command(&mut text, flow, command)?;
-    end_line(&mut text)?;
     Ok(Bytes::new(text))
 }

@@ -1,5 +1,5 @@
 -- From each worker to the next.
-use Rattle.std.proofs.Common.{◌≡◌, ◌++◌, ◌<◌, ◌≤◌, get_or, length, rules, sym, ap, ◌∙◌}
+use Rattle.std.proofs.Common.{◌≡◌, ◌++◌, ◌<◌, ◌≤◌, get_or, length, sym, ap, ◌∙◌}
 use Rattle.amber_meaning.specs.Texts.{next_text, view_words, words_line}
 use Rattle.amber_report.proofs.Lines.{views_end, views_step}
 use Rattle.amber_report.proofs.inspect.push_views.Goals as goal
