@@ -8,7 +8,7 @@ use Rattle.amber_rows.specs.declared.value.Value.{Value}
 use Rattle.amber_rows.specs.declared.batch.Batch.{Batch}
 use Rattle.amber_log.specs.declared.entry.Entry.{Entry}
 use Rattle.amber_log.specs.declared.entry.Entry.TheVariants as entry
-use Rattle.amber_meaning.specs.Position.{one_if}
+use Rattle.amber_meaning.specs.Position.{one_if, no_restraint}
 use Rattle.amber_meaning.specs.Task.{Arrival, row_in}
 use Rattle.amber_meaning.specs.Refused.{refusal_in}
 use Rattle.amber_scan.specs.declared.share.Scanned.{Scanned}
@@ -17,10 +17,11 @@ use Rattle.amber_link.specs.declared.senders.Sender.{Sender}
 use Rattle.amber_link.specs.declared.receivers.Receiver.{Receiver}
 use Rattle.amber_link.specs.Sides.{AreEnded, AreLooked}
 use Rattle.amber_worker.specs.Links.{EmitsFirst}
-use Rattle.amber_worker.specs.Fields.{AreFew, WorkerFields, row_from, rows_moved}
+use Rattle.amber_worker.specs.Fields.{AreFew, WorkerFields, restraint_of, row_from, rows_moved}
 use Rattle.amber_worker.specs.WorkerState.{WorkerState, has_ready}
 use Rattle.amber_worker.specs.Steps.{Becomes, Closes, EmitsRow, Finishes, TakesBatch, TakesRow, columns_at_hand, gives_if, gone_on, keeps_if, turned_to, with_go}
 use Rattle.amber_worker.proofs.States.{closes-batch, in_order-batch, in_order-row, in_order-settled}
+use Rattle.amber_worker.specs.declared.flags.Flags.{Flags}
 use Rattle.amber_worker.specs.declared.operator_state.OperatorState.{OperatorState}
 use Rattle.amber_worker.specs.declared.operator_state.OperatorState.TheVariants as operator_state
 
@@ -82,6 +83,7 @@ few-row f now found later becomes few less same = record {
   in_order = in_order-row f.operator_state now f.building found f.taken f.ins becomes few.in_order;
   scans = scans-so f.operator_state now later (scans-more f.operator_state now f.building found becomes) (same-some (f.operator_state ≡ operator_state.Scan) f.share later same few.scans);
   shares = same-some (f.ins ≡ []) f.share later same few.shares;
+  lowered = few.lowered;
   steps = omega arith;
   received = few.received;
   sent = few.sent;
@@ -117,6 +119,7 @@ few-emitted f after unfinished few less made over = record {
   in_order = few.in_order;
   scans = few.scans;
   shares = few.shares;
+  lowered = few.lowered;
   steps = omega arith;
   received = few.received;
   sent = λ e. made f.emitted (few.sent e);
@@ -133,6 +136,7 @@ few-done f after few less over = record {
   in_order = few.in_order;
   scans = few.scans;
   shares = few.shares;
+  lowered = few.lowered;
   steps = omega arith;
   received = few.received;
   sent = λ e. absurd (false≢true (sym e));
@@ -159,6 +163,7 @@ few-batch f found later place from number builds batch so built same few less th
   in_order = rw (← so.3) (in_order-batch f.operator_state f.building f.taken found later so.0 batch so.4 (in_order-settled f.operator_state f.building f.taken f.ins found built few.in_order));
   scans = scans-so f.operator_state (turned_to builds f.operator_state) f.share (turned-scan f.operator_state builds) few.scans;
   shares = none f.share few.shares;
+  lowered = few.lowered;
   steps = omega arith;
   received = received;
   sent = few.sent;
@@ -204,6 +209,7 @@ few-settled f later few same received built = record {
   in_order = in_order-settled f.operator_state f.building f.taken f.ins later built few.in_order;
   scans = few.scans;
   shares = none f.share few.shares;
+  lowered = few.lowered;
   steps = few.steps;
   received = received;
   sent = few.sent;
@@ -223,6 +229,7 @@ few-sent f later few made over = record {
   in_order = few.in_order;
   scans = few.scans;
   shares = few.shares;
+  lowered = few.lowered;
   steps = few.steps;
   received = few.received;
   sent = made;
@@ -231,17 +238,33 @@ few-sent f later few made over = record {
   moved = few.moved;
 }
 
+-- a leg begins
+pub few-begun : (f : WorkerFields) (flags : Flags) (journal : List Entry) → AreFew f → restraint_of 0 flags ≡ no_restraint → journal ≡ []
+    → AreFew (record f { flags = flags; journal = journal })
+few-begun f flags journal few lowered none = record {
+  in_order = few.in_order;
+  scans = few.scans;
+  shares = few.shares;
+  lowered = lowered;
+  steps = few.steps;
+  received = few.received;
+  sent = few.sent;
+  over = few.over;
+  routed = few.routed;
+  moved = rw none (none-within (f.taken + f.emitted));
+}
+
 -- ---- rows that are emitted
 
 pub emits-row : (w : WorkerState) (later : List (List Value)) (outs after : List Receiver) (journal : List Entry) → EmitsFirst w.route (record { pending = w.pending; outs = w.outs }) (record { pending = later; outs = after }) → outs ≡ after
-    → journal ≡ with_go w.journal 0 1 → w.waved ≡ false → EmitsRow false w (record w { pending = later; emitted = w.emitted + 1; outs = outs; journal = journal })
-emits-row w later outs after journal emits outs_is journal_is waved = record {
+    → journal ≡ with_go w.journal 0 1 → w.restraint ≡ no_restraint → EmitsRow false w (record w { pending = later; emitted = w.emitted + 1; outs = outs; journal = journal })
+emits-row w later outs after journal emits outs_is journal_is restraint = record {
   row = emits.row;
   later = later;
   outs = after;
   first = emits.first;
   handed = emits.handed;
-  after = rw (waved, outs_is, journal_is) refl;
+  after = rw (restraint, outs_is, journal_is) refl;
 }
 
 -- ---- all streams are ended

@@ -1,15 +1,14 @@
 -- What commands leave of where a worker stands.
-use Rattle.std.proofs.Common.{◌≡◌, ◌||◌, Option, List, [], ◌∷◌, Bool, true, false, refl, sym, ap, ◌∙◌, subst}
+use Rattle.std.proofs.Common.{◌≡◌, Option, List, [], ◌∷◌, Bool, refl, ap, ◌∙◌}
 use Rattle.amber_rows.specs.declared.value.Value.{Value}
 use Rattle.amber_rows.specs.declared.cond.Cond.{Cond}
 use Rattle.amber_rows.specs.declared.flow.What.{What}
 use Rattle.amber_rows.specs.declared.flow.What.TheVariants as what
 use Rattle.amber_log.specs.Grammar.{AreEntries}
-use Rattle.amber_log.specs.declared.entry.Entry.{Entry}
 use Rattle.amber_meaning.specs.Kinds.Filter.{with_constant}
 use Rattle.amber_meaning.specs.Position.{Position}
 use Rattle.amber_meaning.specs.Rules.{Leads}
-use Rattle.amber_meaning.specs.State.{let_go}
+use Rattle.amber_meaning.specs.State.{let_go, restraint_released}
 use Rattle.amber_meaning.specs.Task.{Arrival, Role, Task}
 use Rattle.amber_worker.specs.AtPosition.{Context, DoesKind, IsAtPosition, KeepsRows, Shows}
 use Rattle.amber_worker.specs.Changes.{ShowsSet, StandsAtLeg, at_leg_start, with_value}
@@ -64,10 +63,7 @@ shows-set value w context p shows = record {
   produced = shows.produced;
   refused = shows.refused;
   kept = shows.kept;
-  hand = shows.hand;
-  held = shows.held;
-  waved = shows.waved;
-  paused = shows.paused;
+  restraint = shows.restraint;
   finished = shows.finished;
   ins = shows.ins;
   outs = shows.outs;
@@ -76,10 +72,8 @@ shows-set value w context p shows = record {
 
 -- ---- a leg begins
 
--- the same position but for what holds it, with these flags
-shows-flags : (context : Context) (w : WorkerState) (p : Position) (waved : Bool) (journal : List Entry) → Shows context w p
-    → Shows context (record w { paused = false; held = false; waved = waved; journal = journal }) (record p { paused = false; held = false; waved = waved })
-shows-flags context w p waved journal shows = record {
+shows-at_leg : (context : Context) (w : WorkerState) (p : Position) → Shows context w p → Shows context (at_leg_start w) (let_go p)
+shows-at_leg context w p shows = record {
   op = shows.op;
   number = shows.number;
   operator_state = shows.operator_state;
@@ -99,35 +93,16 @@ shows-flags context w p waved journal shows = record {
   produced = shows.produced;
   refused = shows.refused;
   kept = shows.kept;
-  hand = shows.hand;
-  held = refl;
-  waved = refl;
-  paused = refl;
+  restraint = ap restraint_released shows.restraint;
   finished = shows.finished;
   ins = shows.ins;
   outs = shows.outs;
   route = shows.route;
 }
 
--- what holds a position where a leg begins
-let_go-is : (p : Position) (held waved : Bool) → held ≡ p.held → waved ≡ p.waved → record p { paused = false; held = false; waved = held || waved } ≡ let_go p
-let_go-is p held waved held_is waved_is = by held held_is
-  where
-    by : (b : Bool) → b ≡ p.held → record p { paused = false; held = false; waved = b || waved } ≡ let_go p
-    by true e = rw (← e) refl
-    by false e = rw (← e, waved_is) refl
-
-stands-at_leg : (w : WorkerState) → StandsAtLeg w (at_leg_start w)
+pub stands-at_leg : (w : WorkerState) → StandsAtLeg w (at_leg_start w)
 unfolding StandsAtLeg Leads AreEntries
-stands-at_leg w context p shows = record {
-  leads = refl;
-  text = tt;
-  shows = subst (λ q. Shows context (at_leg_start w) q) (let_go-is p w.held w.waved shows.held shows.waved)
-      (shows-flags context w p (w.held || w.waved) [] shows);
-}
-
-pub stands-begun : (w : WorkerState) (journal : List Entry) → journal ≡ [] → StandsAtLeg w (record (at_leg_start w) { journal = journal })
-stands-begun w journal none = subst (λ l. StandsAtLeg w (record (at_leg_start w) { journal = l })) (sym none) (stands-at_leg w)
+stands-at_leg w context p shows = record { leads = refl; text = tt; shows = shows-at_leg context w p shows }
 
 -- ---- a condition is put in force, or a count is armed
 
@@ -157,10 +132,7 @@ shows-watched context w p watch counted shows = record {
   produced = shows.produced;
   refused = shows.refused;
   kept = shows.kept;
-  hand = shows.hand;
-  held = shows.held;
-  waved = shows.waved;
-  paused = shows.paused;
+  restraint = shows.restraint;
   finished = shows.finished;
   ins = shows.ins;
   outs = shows.outs;

@@ -1,11 +1,11 @@
 -- A worker that emitted a row, or finished, stands where it leads.
-use Rattle.std.proofs.Common.{◌≡◌, ◌+◌, ◌-◌, ◌&&◌, ◌||◌, not, cond, List, [], ◌∷◌, ◌++◌, length, take, drop, Bool, true, false, if◌then◌else◌, refl, sym, ap, ◌∙◌, arith, length-append, subst}
+use Rattle.std.proofs.Common.{◌≡◌, ◌+◌, List, [], ◌∷◌, ◌++◌, length, take, drop, Bool, true, false, if◌then◌else◌, refl, sym, ap, ◌∙◌, arith, length-append, subst}
 use Rattle.std.proofs.lemmas.List.{append-nil}
 use Rattle.std.proofs.lemmas.List.Sums.{sum_by_push}
 use Rattle.amber_rows.specs.declared.value.Value.{Value}
 use Rattle.amber_log.specs.declared.entry.Entry.TheVariants as entry
 use Rattle.amber_meaning.specs.Position.{Position, emitted_rows, is_emitted, product}
-use Rattle.amber_meaning.specs.Rules.{MayFinish, MayGo, assigned, is_watched, pass_by, product_with, produced_with, with_rows}
+use Rattle.amber_meaning.specs.Rules.{MayFinish, MayGo, assigned, pass_by, product_with, produced_with, with_rows}
 use Rattle.amber_link.specs.Sides.{AreEnded, have_all_ended}
 use Rattle.amber_worker.specs.Links.{IsHandedOn, number_to}
 use Rattle.amber_link.specs.declared.receivers.Receiver.{Receiver}
@@ -16,7 +16,7 @@ use Rattle.amber_meaning.proofs.Led.{Leads-push, no_batch}
 use Rattle.amber_worker.proofs.Journals.{AreEntries-push, AreEntries-with_go, Leads-go, first-passes}
 use Rattle.amber_worker.proofs.Sent.{send_all-end, send_all-row, unended}
 use Rattle.amber_worker.proofs.Produced.{kept-next, left-next, left-within}
-use Rattle.amber_worker.proofs.Moves.{HasUnit, IsWorking, all-ended, free-shown, lets_by}
+use Rattle.amber_worker.proofs.Moves.{HasUnit, IsWorking, all-ended, free-shown, hand-shown, lets_by}
 
 -- ---- a row is emitted
 
@@ -40,19 +40,15 @@ may-emit_row context w p row later shows pending works unit by_it =
       within = omega arith;
       produced = omega arith;
       drained = λ none. absurd (omega arith);
-      in_hand = λ counted. let has = unit counted in omega (arith, has, shows.hand);
+      in_hand = λ counted. let has = unit counted in omega (arith, has, hand-shown context w p shows);
       before_taking = λ counted none. absurd (omega arith);
       no_stop =
           let first : drop (length p.outcomes) (product_with context.placement.role context.orders p 0) ≡ row ∷ later =
           ap (λ constants. drop (length p.outcomes) (product context.placement.role p.taken constants)) (append-nil p.constants) ∙ sym shows.pending ∙ pending in
-          let passed : pass_by context.orders.watch p.waved (row ∷ []) ≡ true =
-          first-passes context.orders.watch p.waved row (ap (λ waved. waved || not (is_watched context.orders.watch row)) (sym shows.waved) ∙ ap (λ watch. w.waved || not (is_watched watch row)) (sym shows.watch) ∙ by_it) in
-          subst (λ l. pass_by context.orders.watch p.waved (take 1 l) ≡ true) (sym first) passed;
+          let passed : pass_by context.orders.watch p.restraint.waved (row ∷ []) ≡ true =
+          first-passes context.orders.watch p.restraint.waved row (rw (shows.restraint, shows.watch) at by_it) in
+          subst (λ l. pass_by context.orders.watch p.restraint.waved (take 1 l) ≡ true) (sym first) passed;
     }
-
-both_false : (b : Bool) → (b && false) ≡ false
-both_false true = refl
-both_false false = refl
 
 shows-row_emitted : (counted : Bool) (context : Context) (w : WorkerState) (p : Position) (row : List Value) (later : List (List Value)) (outs : List Receiver)
     → context.orders.counted ≡ counted → Shows context w p → w.pending ≡ row ∷ later → IsHandedOn (number_to w.route row) row w.outs outs → IsWorking w
@@ -84,10 +80,7 @@ shows-row_emitted counted context w p row later outs armed shows pending handed 
       produced = rw (no_row, more) produced;
       refused = rw no_row shows.refused;
       kept = rw no_row shows.kept;
-      hand = ap (λ hand. cond counted (hand - 1) hand) shows.hand ∙ ap (λ b. cond b (p.hand - 1) p.hand) (sym armed);
-      held = shows.held;
-      waved = sym (both_false p.waved);
-      paused = shows.paused;
+      restraint = rw (shows.restraint, armed) refl;
       finished = shows.finished;
       ins = shows.ins;
       outs = rw (no_row, open_still, kept-next (product context.placement.role p.taken p.constants) p.outcomes row later left)
@@ -147,10 +140,7 @@ Keeps-all_done counted w outs rest pending ended ends works context start p arme
           produced = shows.produced;
           refused = shows.refused;
           kept = shows.kept;
-          hand = shows.hand;
-          held = shows.held;
-          waved = shows.waved;
-          paused = shows.paused;
+          restraint = shows.restraint;
           finished = refl;
           ins = shows.ins;
           outs = send_all-end context.placement context.placement.receivers (emitted_rows context.placement.role p) context.base.gave w.outs outs (open-outs context w p shows works) ends;

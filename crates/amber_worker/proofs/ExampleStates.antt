@@ -12,7 +12,7 @@ use Rattle.amber_rows.specs.declared.cond.Cond.{Cond}
 use Rattle.amber_rows.specs.declared.flow.What.TheVariants as what
 use Rattle.amber_log.specs.declared.entry.Entry.{Entry}
 use Rattle.amber_log.specs.declared.entry.Entry.TheVariants as entry
-use Rattle.amber_meaning.specs.Position.{Position, all_arrivals, have_ended, kept, origin, product, taken_from}
+use Rattle.amber_meaning.specs.Position.{Position, Restraint, all_arrivals, have_ended, kept, origin, product, taken_from, no_restraint}
 use Rattle.amber_meaning.specs.Produce.{closing, produce, yields}
 use Rattle.amber_meaning.specs.Task.{Arrival, Role, is_builder}
 use Rattle.amber_link.specs.Links.{come, waiting}
@@ -52,7 +52,7 @@ context = record {
 
 -- of the rows 3, 1, 2, 5 and 0 it has taken three, of which two have passed, and has emitted one; it stands before the 2, with four units
 abbrev place : Position
-place = record origin { taken = record { from = 0; batch = batch_of_five } ∷ []; constants = replicate 3 (cell 2); outcomes = true ∷ []; hand = 4; held = true }
+place = record origin { taken = record { from = 0; batch = batch_of_five } ∷ []; constants = replicate 3 (cell 2); outcomes = true ∷ []; restraint = record no_restraint { hand = 4; held = true } }
 
 -- the ends of its links: the one batch was taken, and the row that was emitted is kept for the next batch
 pub record Ends : Type 0 where
@@ -85,7 +85,7 @@ free e = record empty_worker_state {
 }
 
 abbrev held : Ends → WorkerState
-held e = record (free e) { watch = Some (record two_or_more { op = cmp.Eq }); hand = 4; held = true }
+held e = record (free e) { watch = Some (record two_or_more { op = cmp.Eq }); restraint = record no_restraint { hand = 4; held = true } }
 
 -- ---- what it shows
 
@@ -128,10 +128,7 @@ module _ (e : Ends) where
     produced = omega arith;
     refused = refl;
     kept = refl;
-    hand = refl;
-    held = refl;
-    waved = refl;
-    paused = refl;
+    restraint = refl;
     finished = refl;
     ins = (record { from = refl; taken = refl; ended = refl; come = record { all = e.come_is ∙ ap (λ l. batch_of_five ∷ l) (sym e.waiting_is) } }, refl, tt);
     outs = (
@@ -153,11 +150,11 @@ module _ (e : Ends) where
   a_row_counted_twice : Shows context (record (held e) { emitted = 2 }) place → ⊥
   a_row_counted_twice shows = let wrong = shows.emitted in absurd (omega arith)
 
-  a_unit_that_is_lost : Shows context (record (held e) { hand = 3 }) place → ⊥
-  a_unit_that_is_lost shows = let wrong = shows.hand in absurd (omega arith)
+  a_unit_that_is_lost : Shows context (record (held e) { restraint = record no_restraint { hand = 3; held = true } }) place → ⊥
+  a_unit_that_is_lost shows = let wrong = ap (λ (r : Restraint). r.hand) shows.restraint in absurd (omega arith)
 
-  a_hold_that_is_over : Shows context (record (held e) { held = false }) place → ⊥
-  a_hold_that_is_over shows = false≢true shows.held
+  a_hold_that_is_over : Shows context (record (held e) { restraint = record no_restraint { hand = 4 } }) place → ⊥
+  a_hold_that_is_over shows = false≢true (ap (λ (r : Restraint). r.held) shows.restraint)
 
   another_condition : Shows context (record (held e) { watch = None }) place → ⊥
   another_condition shows = let wrong = shows.watch in cc

@@ -147,10 +147,7 @@ shows-first flow records size worker share w some shared has fresh =
       produced = omega arith;
       refused = fresh.refused;
       kept = fresh.kept ∙ sym (kept-first kind task);
-      hand = fresh.hand;
-      held = fresh.held;
-      waved = fresh.waved;
-      paused = fresh.paused;
+      restraint = fresh.restraint;
       finished = fresh.finished;
       ins = subst (λ senders. ReceiveAll senders (λ _. []) [] w.ins) fresh.senders
           (received-first flow kind w.ins (ap are_different fresh.senders ∙ different-senders flow worker) fresh.ins fresh.in_ends);
@@ -179,6 +176,7 @@ few-fresh kind flow size share task ends building is shared scans fresh out_ends
   in_order = rw building (order-first task.operator_state kind ends.ins.items is);
   scans = scan share shared;
   shares = alone share shared;
+  lowered = refl;
   steps = omega arith;
   received = λ k e less. let same = (fresh k e less).0 in omega arith;
   sent = λ _ k e less. let same = ap (λ (o : Outgoing). o.made) (out_ends k e less).1 in omega arith;
@@ -236,10 +234,7 @@ made-fresh flow worker size share task ends is numbered outs ins = record {
   refused = refl;
   kept = refl;
   watch = refl;
-  hand = refl;
-  held = refl;
-  waved = refl;
-  paused = refl;
+  restraint = refl;
   finished = refl;
   senders = numbered.senders;
   ins = numbered.fresh;

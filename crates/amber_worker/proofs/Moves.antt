@@ -10,8 +10,8 @@ use Rattle.amber_rows.specs.declared.batch.Batch.{Batch}
 use Rattle.amber_rows.specs.declared.column.Column.{Column}
 use Rattle.amber_rows.specs.declared.flow.What.{What}
 use Rattle.amber_rows.specs.declared.flow.What.TheVariants as what
-use Rattle.amber_meaning.specs.Position.{Position, Taken, all_arrivals, have_ended, is_complete, product}
-use Rattle.amber_meaning.specs.Rules.{IsFree, MayGo, Orders, assigned, is_watched, produced_with, with_rows}
+use Rattle.amber_meaning.specs.Position.{Position, Restraint, Taken, all_arrivals, have_ended, is_complete, product}
+use Rattle.amber_meaning.specs.Rules.{IsFree, MayGo, Orders, assigned, is_watched, produced_with, restraint_used, with_rows}
 use Rattle.amber_meaning.specs.Task.{Arrival, Role, Task, columns_from, is_builder, row_in, suiting, rows_in}
 use Rattle.amber_meaning.specs.Produce.{closing, produce, yields, yields_if}
 use Rattle.amber_meaning.specs.Kinds.{closing_rows, yields_row, kept_rows}
@@ -32,24 +32,27 @@ use Rattle.amber_worker.proofs.States.{closing-is, does-more, has-more, rows-mor
 -- a worker that has not finished; it is neither paused nor held
 pub record IsWorking (w : WorkerState) : Type 0 where
   pub unfinished : w.finished ≡ false
-  pub running : w.paused ≡ false
-  pub loose : w.held ≡ false
+  pub running : w.restraint.paused ≡ false
+  pub loose : w.restraint.held ≡ false
   pub few : All (λ one. rows_moved one < 2 ^ 63) w.journal
 
 -- under a count it has a unit
 abbrev pub HasUnit : Bool → WorkerState → Type 0
-HasUnit counted w = counted ≡ true → 0 < w.hand
+HasUnit counted w = counted ≡ true → 0 < w.restraint.hand
 
 -- a row does not meet the condition, or it was waved on
 abbrev pub lets_by : WorkerState → List Value → Bool
-lets_by w row = w.waved || not (is_watched w.watch row)
+lets_by w row = w.restraint.waved || not (is_watched w.watch row)
 
 pub free-shown : (context : Context) (w : WorkerState) (p : Position) → Shows context w p → IsWorking w → IsFree p
 free-shown context w p shows works = record {
-  running = sym shows.paused ∙ works.running;
-  loose = sym shows.held ∙ works.loose;
+  running = ap (λ (r : Restraint). r.paused) (sym shows.restraint) ∙ works.running;
+  loose = ap (λ (r : Restraint). r.held) (sym shows.restraint) ∙ works.loose;
   unfinished = sym shows.finished ∙ works.unfinished;
 }
+
+pub hand-shown : (context : Context) (w : WorkerState) (p : Position) → Shows context w p → w.restraint.hand ≡ p.restraint.hand
+hand-shown context w p shows = ap (λ (r : Restraint). r.hand) shows.restraint
 
 -- ---- what a row yields
 
@@ -232,7 +235,7 @@ may-take_row context w p one later now_does last takes works unit =
       produced = omega arith;
       drained = λ some. omega arith;
       in_hand = λ counted. omega arith;
-      before_taking = λ counted some. let has = unit counted in omega (arith, has, shows.hand);
+      before_taking = λ counted some. let has = unit counted in omega (arith, has, hand-shown context w p shows);
       no_stop = refl;
     }
 
@@ -240,9 +243,12 @@ both_true : (b : Bool) → (b && true) ≡ b
 both_true true = refl
 both_true false = refl
 
-same-hand : (b : Bool) (hand : ℕ) → hand ≡ cond b (hand - 0) hand
+same-hand : (b : Bool) (hand : ℕ) → cond b (hand - 0) hand ≡ hand
 same-hand true hand = omega arith
 same-hand false hand = refl
+
+used-none : (counted : Bool) (r : Restraint) → restraint_used counted 0 r ≡ r
+used-none counted r = λ i. record r { hand = same-hand counted r.hand i; waved = both_true r.waved i }
 
 shows-row_taken : (context : Context) (w : WorkerState) (p : Position) (one : Arrival) (later : List Arrival) (now : OperatorState) (last : List (List Value))
     → TakesOne context w p one later now last → Shows context (row_taken one later now last w) (with_one context.orders p)
@@ -281,10 +287,7 @@ shows-row_taken context w p one later now last takes =
       produced = rw (no_fate, grown) (omega arith);
       refused = rw (shows.refused, shows.op, now_taken) (sym (refused-more context.placement.op (taken_of context.placement.role p) one));
       kept = rw (shows.kept, found, now_taken) (sym (kept-more w.operator_state task task.kind context.orders.constants context.placement.role (taken_of context.placement.role p) one shows.operator_state));
-      hand = shows.hand ∙ same-hand context.orders.counted p.hand;
-      held = shows.held;
-      waved = shows.waved ∙ sym (both_true p.waved);
-      paused = shows.paused;
+      restraint = shows.restraint ∙ sym (used-none context.orders.counted p.restraint);
       finished = shows.finished;
       ins = shows.ins;
       outs = rw (no_fate, grown, kept-longer) shows.outs;

@@ -1,5 +1,5 @@
 -- What a worker shows is what is said of its position.
-use Rattle.std.proofs.Common.{◌≡◌, ℕ, List, [], ◌∷◌, length, Result, Ok, Err, Bool, true, false, if◌then◌else◌, refl, sym, ap, ◌∙◌, arith, length-append}
+use Rattle.std.proofs.Common.{◌≡◌, ℕ, List, [], ◌∷◌, length, Result, Ok, Err, refl, ap, ◌∙◌, arith, length-append}
 use Rattle.amber_rows.specs.declared.value.Value.{Value}
 use Rattle.amber_rows.specs.declared.record.RowFault.{RowFault}
 use Rattle.amber_rows.specs.declared.flow.What.{What}
@@ -12,7 +12,6 @@ use Rattle.amber_rows.specs.Lists.{first_of}
 use Rattle.amber_meaning.specs.declared.answer.Refusal.{Refusal}
 use Rattle.amber_meaning.specs.declared.view.Extra.{Extra}
 use Rattle.amber_meaning.specs.declared.view.Extra.TheVariants as extra
-use Rattle.amber_meaning.specs.declared.view.Stand.TheVariants as stand
 use Rattle.amber_meaning.specs.declared.view.WorkerView.{WorkerView}
 use Rattle.amber_worker.specs.AtPosition.{DoesKind, IsViewOf, KeepsRows}
 use Rattle.amber_worker.specs.WorkerState.{WorkerState}
@@ -46,21 +45,16 @@ extra-is (operator_state.Group state) (what.Group input keys aggs) constants rol
 extra-is operator_state.Sink (what.Sink input) constants role task op arrivals refused keep shown does has refused_is kept_is is = is ∙ ap extra.Sink (ap length kept_is)
 extra-is d kind constants role task op arrivals refused keep shown does has refused_is kept_is is = absurd does
 
-stands-so : (finished held : Bool) → held ≡ false
-    → (if finished then stand.Finished else stand.Ready) ≡ (if finished then stand.Finished else (if held then stand.Held else stand.Ready))
-stands-so true held loose = refl
-stands-so false held loose = rw loose refl
-
 same-view : (a b : WorkerView) → a.taken ≡ b.taken → a.rest ≡ b.rest → a.out ≡ b.out → a.pending ≡ b.pending → a.stand ≡ b.stand → a.next ≡ b.next → a.extra ≡ b.extra → a ≡ b
 same-view a b taken rest out pending stand next extra =
     λ i. record { taken = taken i; rest = rest i; out = out i; pending = pending i; stand = stand i; next = next i; extra = extra i }
 
 -- what a worker keeps shows what is said of each position that it shows
-pub view-is : (w : WorkerState) (view : WorkerView) → IsShown w view → w.held ≡ false → IsViewOf w view
+pub view-is : (w : WorkerState) (view : WorkerView) → IsShown w view → IsViewOf w view
 unfolding IsViewOf view_of
-view-is w view is loose context p shows =
+view-is w view is context p shows =
     same-view view (view_of context.placement.role p) (is.taken ∙ shows.taken) (is.rest ∙ ap length shows.rest) (is.out ∙ shows.emitted) (is.pending ∙ ap length shows.pending)
-    (is.stand ∙ ap (λ (b : Bool). if b then stand.Finished else stand.Ready) shows.finished ∙ stands-so p.finished p.held (sym shows.held ∙ loose))
+    (is.stand ∙ rw (shows.finished, shows.restraint) refl)
     (is.next ∙ ap first_of shows.pending)
     (extra-is w.operator_state context.placement.role.task.kind context.orders.constants context.placement.role context.placement.role.task context.placement.op (taken_of context.placement.role p) w.refused w.kept view.extra shows.operator_state shows.state
     shows.refused shows.kept is.extra)

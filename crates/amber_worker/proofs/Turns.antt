@@ -4,10 +4,12 @@ use Rattle.std.specs.List.{list_any}
 use Rattle.std.specs.Option.{MatchOption}
 use Rattle.std.proofs.lemmas.Bool.{false≢true}
 use Rattle.amber_rows.specs.declared.value.Value.{Value}
+use Rattle.amber_meaning.specs.Position.{Restraint, no_restraint}
 use Rattle.amber_meaning.specs.Rules.{is_watched}
 use Rattle.amber_link.specs.Links.{has_some}
 use Rattle.amber_link.specs.Sides.{AreEnded, AreSameReceivers, HandsOn, IsLooked, Pairwise, have_all_ended}
 use Rattle.amber_link.specs.declared.receivers.Receiver.{Receiver}
+use Rattle.amber_link.specs.declared.senders.Sender.{Sender}
 use Rattle.amber_link.proofs.SameEnds.{ended-ends, handed-ends, looked-ends, receivers-same, receivers-then, senders-same, senders-then, taken-ends}
 use Rattle.amber_link.proofs.Sides.{get_or-any, looked-same, map-set-same, pairwise-refl}
 use Rattle.amber_worker.specs.AtPosition.{HasSameEnds, IsLookedAt, Keeps}
@@ -24,17 +26,23 @@ use Rattle.amber_worker.proofs.Moves.{HasUnit, IsWorking, Keeps-row_taken, lets_
 use Rattle.amber_worker.proofs.KeptPosition.{Keeps-refl, Keeps-then}
 use Rattle.amber_worker.proofs.Takes.{Keeps-batch_taken, Keeps-looked}
 
--- neither paused nor held nor waved on, no condition is watched, no unit is at hand, and no entry speaks of very many rows
+-- no condition is watched, nothing holds it back or lets it on, and no entry speaks of very many rows
 pub record IsCalm (w : WorkerState) : Type 0 where
   pub unwatched : w.watch ≡ None
-  pub running : w.paused ≡ false
-  pub loose : w.held ≡ false
-  pub unwaved : w.waved ≡ false
-  pub empty_hand : w.hand ≡ 0
+  pub restraint : w.restraint ≡ no_restraint
   pub few : All (λ one. rows_moved one < 2 ^ 63) w.journal
 
 working : (w : WorkerState) → IsCalm w → w.finished ≡ false → IsWorking w
-working w calm unfinished = record { unfinished = unfinished; running = calm.running; loose = calm.loose; few = calm.few }
+working w calm unfinished = record {
+  unfinished = unfinished;
+  running = ap (λ (r : Restraint). r.paused) calm.restraint;
+  loose = ap (λ (r : Restraint). r.held) calm.restraint;
+  few = calm.few;
+}
+
+-- whatever has come
+working-looked : (w : WorkerState) (found : List Sender) → IsWorking w → IsWorking (record w { ins = found })
+working-looked w found works = record { unfinished = works.unfinished; running = works.running; loose = works.loose; few = works.few }
 
 nothing : {A : Type 0} (xs : List A) → has_some xs ≡ false → xs ≡ []
 nothing [] h = refl
@@ -45,7 +53,7 @@ no-unit w e = absurd (false≢true e)
 
 -- where no condition is watched each row is let by
 unwatched-by : (w : WorkerState) (row : List Value) → w.watch ≡ None → lets_by w row ≡ true
-unwatched-by w row e = ap (λ watch. w.waved || not (is_watched watch row)) e ∙ by w.waved
+unwatched-by w row e = ap (λ watch. w.restraint.waved || not (is_watched watch row)) e ∙ by w.restraint.waved
   where
     by : (b : Bool) → (b || true) ≡ true
     by true = refl
@@ -110,7 +118,7 @@ taken_batch old new calm unfinished none nothing_left takes =
     subst (λ w. Keeps old w) (sym takes.after)
     (Keeps-then false old seen (batch_taken takes.one takes.batch takes.ins takes.last old) (Keeps-looked false old takes.found takes.looked)
     (Keeps-batch_taken seen takes.one takes.batch takes.ins takes.last (nothing old.rest nothing_left) (nothing old.pending none) takes.taken takes.from_small
-    takes.number_small takes.closes (record { unfinished = unfinished; running = calm.running; loose = calm.loose; few = calm.few }) false))
+    takes.number_small takes.closes (working-looked old takes.found (working old calm unfinished)) false))
 
 pub keeps-taken_batch : (old new : WorkerState) (taken : Bool) → IsCalm old → old.finished ≡ false → has_some old.pending ≡ false → has_some old.rest ≡ false
     → taken ≡ true → MatchBool taken (TakesBatch old new) (IsLookedAt old new) → Keeps old new
@@ -147,7 +155,7 @@ keeps-done old between new true calm unfinished none nothing_left looked all so 
     (same-after old between looked (λ w. w.rest ≡ []) (nothing old.rest nothing_left))
     (same-after old between looked (λ w. w.pending ≡ []) (nothing old.pending none))
     (sym all) done.ends
-    (same-after old between looked IsWorking (record { unfinished = unfinished; running = calm.running; loose = calm.loose; few = calm.few }))))
+    (same-after old between looked IsWorking (working-looked old between.ins (working old calm unfinished)))))
 keeps-done old between new false calm unfinished none nothing_left looked all so done = absurd (false≢true so)
 
 pub keeps-idle : (old between new : WorkerState) (ended : Bool) → IsLookedAt old between → ended ≡ false → MatchBool ended (Finishes between new) (new ≡ between) → IsLookedAt old new
@@ -292,7 +300,7 @@ unwanted-by false false false false h e1 e2 e3 e4 = false≢true (sym h)
 
 -- where nothing is pending and nothing is left a look is made
 pub unwanted : (w : WorkerState) (P : Type 0) → IsCalm w → w.finished ≡ false → has_some w.pending ≡ false → has_some w.rest ≡ false → wants_batch w ≡ false → P
-unwanted w P calm unfinished none nothing_left h = absurd (unwanted-by w.finished w.paused (has_some w.pending) (has_some w.rest) h unfinished calm.running none nothing_left)
+unwanted w P calm unfinished none nothing_left h = absurd (unwanted-by w.finished w.restraint.paused (has_some w.pending) (has_some w.rest) h unfinished (working w calm unfinished).running none nothing_left)
 
 -- ---- the step that was made
 

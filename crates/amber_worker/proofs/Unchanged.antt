@@ -52,6 +52,7 @@ few-same f now later e same few =
       in_order = few.in_order;
       scans = same-some (f.operator_state ≡ operator_state.Scan) f.share later same few.scans;
       shares = same-some (f.ins ≡ _) f.share later same few.shares;
+      lowered = few.lowered;
       steps = few.steps;
       received = few.received;
       sent = few.sent;

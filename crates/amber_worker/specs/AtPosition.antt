@@ -176,10 +176,7 @@ pub record Shows (context : Context) (w : WorkerState) (p : Position) : Type 0 w
   pub produced : length p.outcomes ≤ length (produced_rows context.placement.role p)
   pub refused : w.refused ≡ refused_in context.placement.op (taken_of context.placement.role p)
   pub kept : w.kept ≡ kept_rows context.placement.role.task.kind context.placement.role.task (taken_of context.placement.role p)
-  pub hand : w.hand ≡ p.hand
-  pub held : w.held ≡ p.held
-  pub waved : w.waved ≡ p.waved
-  pub paused : w.paused ≡ p.paused
+  pub restraint : w.restraint ≡ p.restraint
   pub finished : w.finished ≡ p.finished
   pub ins : ReceiveAll context.placement.role.senders context.base.had p.taken w.ins
   pub outs : SendAll context.placement context.placement.receivers (output_at context p) w.outs

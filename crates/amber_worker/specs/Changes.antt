@@ -1,10 +1,10 @@
 -- What commands change of a worker between legs.
-use Rattle.std.specs.Prelude.{◌||◌, not, List, [], ◌∷◌, Result, Bool, false}
+use Rattle.std.specs.Prelude.{◌||◌, not, List, [], ◌∷◌, Result, Bool}
 use Rattle.amber_rows.specs.declared.value.Value.{Value}
 use Rattle.amber_rows.specs.declared.record.RowFault.{RowFault}
 use Rattle.amber_meaning.specs.Plan.{role_of}
 use Rattle.amber_meaning.specs.Position.{Position, origin}
-use Rattle.amber_meaning.specs.State.{let_go}
+use Rattle.amber_meaning.specs.State.{let_go, restraint_released}
 use Rattle.amber_link.specs.Links.{has_some}
 use Rattle.amber_worker.specs.AtPosition.{Context, HasShare, IsAtPosition, Shows, first_context}
 use Rattle.amber_worker.specs.Made.{NewWorker}
@@ -20,7 +20,7 @@ StandsNew new made = (records : List (List (Result (List Value) RowFault))) → 
 -- a turn begins with a look for a batch: the worker goes on, and has neither a row that is pending nor one that was handed and not
 -- taken
 abbrev pub wants_batch : WorkerState → Bool
-wants_batch w = not ((w.finished || w.paused) || (has_some w.pending || has_some w.rest))
+wants_batch w = not ((w.finished || w.restraint.paused) || (has_some w.pending || has_some w.rest))
 
 -- a filter with another constant
 abbrev pub with_value : Value → OperatorState → OperatorState
@@ -38,7 +38,7 @@ ShowsSet value old new = (context : Context) (p : Position)
 
 -- a leg begins: pauses end, a held row may go, and nothing was done since
 abbrev pub at_leg_start : WorkerState → WorkerState
-at_leg_start w = record w { paused = false; held = false; waved = w.held || w.waved; journal = [] }
+at_leg_start w = record w { restraint = restraint_released w.restraint; journal = [] }
 
 -- wherever it stood, it stands where the leg begins
 unfoldable pub StandsAtLeg : WorkerState → WorkerState → Type 0

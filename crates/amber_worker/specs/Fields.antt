@@ -3,7 +3,7 @@ use Rattle.std.specs.Prelude.{◌≡◌, ℕ, not, false, true, ◌+◌, ◌^◌
 use Rattle.amber_rows.specs.declared.value.Value.{Value}
 use Rattle.amber_log.specs.declared.entry.Entry.{Entry}
 use Rattle.amber_log.specs.declared.entry.Entry.TheVariants as entry
-use Rattle.amber_meaning.specs.Position.{one_if}
+use Rattle.amber_meaning.specs.Position.{Restraint, one_if, no_restraint}
 use Rattle.amber_meaning.specs.Task.{Arrival}
 use Rattle.amber_scan.specs.declared.share.Scanned.{Scanned}
 use Rattle.amber_link.specs.Sides.{have_builders_ended}
@@ -12,6 +12,7 @@ use Rattle.amber_link.specs.declared.receivers.Receiver.{Receiver}
 use Rattle.amber_worker.specs.declared.operator_state.OperatorState.{OperatorState}
 use Rattle.amber_worker.specs.declared.operator_state.OperatorState.TheVariants as operator_state
 use Rattle.amber_worker.specs.Links.{IsSoundRoute}
+use Rattle.amber_worker.specs.declared.flags.Flags.{Flags}
 use Rattle.amber_worker.specs.declared.route.Route.{Route}
 use Rattle.amber_worker.specs.declared.taking.Rest.{Rest}
 
@@ -49,6 +50,14 @@ IsInOrder (operator_state.Join state) building taken ins = (state.sealed ≡ not
 IsInOrder (operator_state.Group state) building taken ins = state.fed ≤ taken
 IsInOrder operator_state.Sink building taken ins = Unit {0}
 
+-- no flag is raised
+abbrev pub no_flags : Flags
+no_flags = record { held = false; waved = false; paused = false }
+
+-- what holds a worker back that has so many units in hand and these flags
+abbrev pub restraint_of : ℕ → Flags → Restraint
+restraint_of hand flags = record { hand = hand; held = flags.held; waved = flags.waved; paused = flags.paused }
+
 -- the fields of a worker that are within bounds
 pub record WorkerFields : Type 0 where
   pub operator_state : OperatorState
@@ -57,17 +66,20 @@ pub record WorkerFields : Type 0 where
   pub taken : ℕ
   pub emitted : ℕ
   pub batches : ℕ
+  pub flags : Flags
   pub finished : Bool
   pub ins : List Sender
   pub outs : List Receiver
   pub route : Route
   pub journal : List Entry
 
--- what a worker counts is within its steps, and these are few; one that has a share is a scan's and has no senders
+-- what a worker counts is within its steps, and these are few; one that has a share is a scan's and has no senders; no flag
+-- is raised, since nothing raises one yet
 pub record AreFew (f : WorkerFields) : Type 0 where
   pub in_order : IsInOrder f.operator_state f.building f.taken f.ins
   pub scans : IfSome f.share (λ _. f.operator_state ≡ operator_state.Scan)
   pub shares : IfSome f.share (λ _. f.ins ≡ [])
+  pub lowered : restraint_of 0 f.flags ≡ no_restraint
   pub steps : f.taken + f.emitted + f.batches + one_if f.finished ≤ 2 ^ 40
   pub received : All (λ one. one.taken ≤ f.batches) f.ins
   pub sent : f.finished ≡ false → All (λ one. one.link.kept.made ≤ f.emitted) f.outs

@@ -8,6 +8,7 @@ use Rattle.amber_rows.specs.declared.flow.What.{What}
 use Rattle.amber_rows.specs.declared.flow.What.TheVariants as what
 use Rattle.amber_group.specs.Group.{IsFedWith}
 use Rattle.amber_meaning.specs.Plan.{built_columns}
+use Rattle.amber_meaning.specs.Position.{no_restraint}
 use Rattle.amber_scan.specs.declared.share.Scanned.{Scanned}
 use Rattle.rtrb.specs.Ring.{received, sent}
 use Rattle.amber_link.specs.Links.{waiting}
@@ -17,7 +18,7 @@ use Rattle.amber_link.specs.declared.senders.Sender.{Sender}
 use Rattle.amber_link.specs.declared.receivers.Receiver.{Receiver}
 use Rattle.amber_link.specs.Sides.{without_room}
 use Rattle.amber_worker.specs.Links.{IsSoundRoute, number_to}
-use Rattle.amber_worker.specs.Fields.{WorkerFields, rest_in}
+use Rattle.amber_worker.specs.Fields.{WorkerFields, no_flags, rest_in}
 use Rattle.amber_worker.specs.WorkerState.{WorkerState, empty_worker_state}
 use Rattle.amber_worker.specs.declared.making.WorkerEnds.{WorkerEnds}
 use Rattle.amber_worker.specs.declared.making.WorkerTask.{WorkerTask}
@@ -119,10 +120,7 @@ pub record IsFresh (new : NewWorker) (w : WorkerState) : Type 0 where
   pub refused : w.refused ≡ []
   pub kept : w.kept ≡ []
   pub watch : w.watch ≡ None
-  pub hand : w.hand ≡ 0
-  pub held : w.held ≡ false
-  pub waved : w.waved ≡ false
-  pub paused : w.paused ≡ false
+  pub restraint : w.restraint ≡ no_restraint
   pub finished : w.finished ≡ false
   pub senders : map from_of w.ins ≡ senders_of new.flow new.number
   pub ins : AreFreshSenders new.flow (what_at new.flow (op_of new.flow new.number)) w.ins
@@ -157,6 +155,7 @@ fresh_fields share task ends = record {
   taken = 0;
   emitted = 0;
   batches = 0;
+  flags = no_flags;
   finished = false;
   ins = ends.ins.items;
   outs = ends.outs.items;

@@ -1,5 +1,5 @@
 -- What each single step of a worker changes.
-use Rattle.std.specs.Prelude.{◌≡◌, ℕ, ◌+◌, ◌^◌, ◌<◌, ◌≤◌, ◌-◌, ◌==◌, ◌&&◌, option_to_list, not, Bool, List, [], ◌∷◌, ◌++◌, length, map, Option, Some, None, true, false, if◌then◌else◌}
+use Rattle.std.specs.Prelude.{◌≡◌, ℕ, ◌+◌, ◌^◌, ◌<◌, ◌≤◌, ◌==◌, ◌&&◌, option_to_list, not, Bool, List, [], ◌∷◌, ◌++◌, length, map, Option, Some, None, true, false, if◌then◌else◌}
 use Rattle.amber_rows.specs.Cond.{holds_of}
 use Rattle.amber_rows.specs.Order.{sort_rows}
 use Rattle.amber_rows.specs.Operators.{first_keys, group_result, matches_of, pick_cells, refused_keys}
@@ -10,6 +10,7 @@ use Rattle.amber_group.specs.Group.{Group, IsFedWith}
 use Rattle.amber_join.specs.Join.{Join}
 use Rattle.amber_log.specs.declared.entry.Entry.{Entry}
 use Rattle.amber_log.specs.declared.entry.Entry.TheVariants as entry
+use Rattle.amber_meaning.specs.Rules.{restraint_used}
 use Rattle.amber_meaning.specs.Task.{Arrival, row_in}
 use Rattle.amber_meaning.specs.Refused.{refusal_in}
 use Rattle.amber_rows.specs.Lists.{first_of}
@@ -187,8 +188,7 @@ abbrev pub row_emitted : Bool → List (List Value) → List Receiver → Worker
 row_emitted counted later outs w = record w {
   pending = later;
   emitted = w.emitted + 1;
-  hand = if counted then w.hand - 1 else w.hand;
-  waved = false;
+  restraint = restraint_used counted 1 w.restraint;
   outs = outs;
   journal = with_go w.journal 0 1;
 }
@@ -258,7 +258,7 @@ pub record IsShown (w : WorkerState) (view : WorkerView) : Type 0 where
   pub rest : view.rest ≡ length w.rest
   pub out : view.out ≡ w.emitted
   pub pending : view.pending ≡ length w.pending
-  pub stand : view.stand ≡ (if w.finished then stand.Finished else stand.Ready)
+  pub stand : view.stand ≡ (if w.finished then stand.Finished else (if w.restraint.held then stand.Held else stand.Ready))
   pub next : view.next ≡ first_of w.pending
   pub extra : IsExtra w.operator_state (length w.refused) (length w.kept) view.extra
 

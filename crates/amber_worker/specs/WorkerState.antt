@@ -4,7 +4,7 @@ use Rattle.std.specs.List.{list_any}
 use Rattle.amber_rows.specs.declared.value.Value.{Value}
 use Rattle.amber_rows.specs.declared.column.Column.{Column}
 use Rattle.amber_log.specs.declared.entry.Entry.{Entry}
-use Rattle.amber_meaning.specs.Position.{one_if}
+use Rattle.amber_meaning.specs.Position.{Restraint, one_if, no_restraint}
 use Rattle.amber_meaning.specs.Task.{Arrival}
 use Rattle.amber_meaning.specs.declared.answer.Refusal.{Refusal}
 use Rattle.amber_rows.specs.declared.cond.Cond.{Cond}
@@ -41,10 +41,8 @@ pub record WorkerState : Type 0 where
   pub kept : List (List Value)
   -- the condition that is watched
   pub watch : Option Cond
-  pub hand : ℕ
-  pub held : Bool
-  pub waved : Bool
-  pub paused : Bool
+  -- what holds it back, or lets it on
+  pub restraint : Restraint
   pub finished : Bool
   -- its senders, its receivers, and to which of them a row goes
   pub ins : List Sender
@@ -70,10 +68,7 @@ empty_worker_state = record {
   refused = [];
   kept = [];
   watch = None;
-  hand = 0;
-  held = false;
-  waved = false;
-  paused = false;
+  restraint = no_restraint;
   finished = false;
   ins = [];
   outs = [];

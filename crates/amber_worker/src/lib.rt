@@ -14,6 +14,7 @@
 //! it is for a worker to stand at a position.
 #![tactic(auto)]
 
+mod flags;
 pub mod given;
 mod grouping;
 mod joining;

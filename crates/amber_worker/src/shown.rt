@@ -4,6 +4,7 @@ ghost use Rattle.std.specs.Prelude.{◌≡◌, IfOk, if◌then◌else◌, length
 ghost use Rattle.amber_rows.specs.Lists.{first_of};
 ghost use Rattle.amber_worker.specs.Steps.{IsExtra};
 
+use crate::flags::Flags;
 use crate::operator_state::OperatorState;
 use crate::taking::Gains;
 use amber_meaning::{Extra, Stand};
@@ -22,11 +23,14 @@ pub(crate) fn first_copy(rows: &VecDeque<Row>) -> Result<Option<Row>, AllocError
 }
 
 // How a worker stands.
-pub(crate) fn stand_of(finished: bool) -> Stand
-    ensures { result ≡ (if finished then Stand.Finished else Stand.Ready) }
+pub(crate) fn stand_of(finished: bool, flags: Flags) -> Stand
+    ensures { result ≡ (if finished then Stand.Finished else (if flags.held then Stand.Held
+        else Stand.Ready)) }
 {
     if finished {
         Stand::Finished
+    } else if flags.held {
+        Stand::Held
     } else {
         Stand::Ready
     }

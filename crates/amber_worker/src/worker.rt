@@ -16,6 +16,7 @@ mod giving;
 mod linking;
 mod stepping;
 
+use crate::flags::Flags;
 use crate::making::{ends_of, task_of};
 use crate::operator_state::OperatorState;
 use crate::route::Route;
@@ -47,6 +48,8 @@ pub struct Worker {
     emitted: u64,
     batches: u64,
     gains: Gains,
+    // Nothing raises one yet, as the invariant says.
+    flags: Flags,
     finished: bool,
     ins: Vec<Sender>,
     outs: Vec<Receiver>,
@@ -69,6 +72,7 @@ impl Drop for Worker {
             emitted: _,
             batches: _,
             gains: _,
+            flags: _,
             finished: _,
             ins: _,
             outs: _,
@@ -79,13 +83,13 @@ impl Drop for Worker {
 }
 
 impl Model for Worker {
-    ghost use Rattle.std.specs.Prelude.{None, false, map};
+    ghost use Rattle.std.specs.Prelude.{None, map};
     ghost use Rattle.amber_link.specs.Sides.{without_room};
     ghost use Rattle.amber_worker.specs.WorkerState.{WorkerState};
 
     ghost Value = { WorkerState };
 
-    ghost use Rattle.amber_worker.specs.Fields.{AreFew, arrivals_in};
+    ghost use Rattle.amber_worker.specs.Fields.{AreFew, arrivals_in, restraint_of};
 
     ghost view = { λ a. record {
       op = a.op;
@@ -102,10 +106,7 @@ impl Model for Worker {
       refused = a.gains.refused.items;
       kept = a.gains.kept.items;
       watch = None;
-      hand = 0;
-      held = false;
-      waved = false;
-      paused = false;
+      restraint = restraint_of 0 a.flags;
       finished = a.finished;
       ins = a.ins.items;
       outs = map without_room a.outs.items;
@@ -120,6 +121,7 @@ impl Model for Worker {
       taken = a.taken;
       emitted = a.emitted;
       batches = a.batches;
+      flags = a.flags;
       finished = a.finished;
       ins = a.ins.items;
       outs = a.outs.items;
@@ -201,7 +203,7 @@ impl Worker {
     pub fn wants_batch(&self) -> bool
         ensures { result ≡ wants_batch self.now }
     {
-        !(self.finished || self.has_pending() || self.has_rest())
+        !(self.finished || self.flags.paused || self.has_pending() || self.has_rest())
     }
 
     /// Whether the worker may make another turn: its steps are not yet 2^40.
@@ -284,6 +286,7 @@ impl Worker {
         ensures only { self.new ≡ at_leg_start self.old }
         ensures stands { StandsAtLeg self.old self.new }
     {
+        self.flags.release();
         self.journal.clear();
     }
 }

@@ -5,6 +5,7 @@ ghost use Rattle.amber_worker.specs.Fields.{AreFew};
 ghost use Rattle.amber_worker.specs.Made.{fresh_fields, fresh_worker};
 
 use super::Worker;
+use crate::flags::Flags;
 use crate::making::{WorkerEnds, WorkerTask};
 use crate::taking::{Gains, Rest};
 use amber_scan::Share;
@@ -46,6 +47,7 @@ impl Worker {
             emitted: 0,
             batches: 0,
             gains,
+            flags: Flags::lowered(),
             finished: false,
             ins: ends.ins,
             outs: ends.outs,

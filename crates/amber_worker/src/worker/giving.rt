@@ -23,7 +23,7 @@ impl Worker {
             rest: self.rest.left(),
             out: self.emitted,
             pending: self.gains.pending.len() as u64,
-            stand: stand_of(self.finished),
+            stand: stand_of(self.finished, self.flags),
             next: first_copy(&self.gains.pending)?,
             extra: extra_of(&self.operator_state, &self.gains),
         })
@@ -57,6 +57,7 @@ impl Worker {
             emitted: _,
             batches: _,
             gains,
+            flags: _,
             finished,
             ins: _,
             outs: _,

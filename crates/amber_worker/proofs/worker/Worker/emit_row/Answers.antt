@@ -38,7 +38,7 @@ returns-clause-ok c =
     let stays : length c.emit_first.new.outs ≡ length c.self.inside.outs.items = omega (arith, lent, c.emit_first.auto.outs) in
     let emits = rw c.as_mut_slice.ensures.value at c.in_ok-emit_first.ensures.ok in
     rw (← c.self.view_is)
-    (emits-row _ _ _ _ _ emits (ap (map without_room) (written-back _ _ _ len stays)) (c.note_go.ensures ∙ ap (λ l. with_go l 0 1) c.reserve.ensures.items) refl)
+    (emits-row _ _ _ _ _ emits (ap (map without_room) (written-back _ _ _ len stays)) (c.note_go.ensures ∙ ap (λ l. with_go l 0 1) c.reserve.ensures.items) c.self.invariant.lowered)
 
 pub returns-in_err-reserve-clause-err : goal.returns-in_err-reserve-clause-err
 returns-in_err-reserve-clause-err c = err_so c.from_residual.result _ (same-journal _ _ _ c.reserve.ensures.items c.self.view_is)

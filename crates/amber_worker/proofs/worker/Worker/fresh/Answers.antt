@@ -1,9 +1,9 @@
--- Each list is empty.
+-- Each list is empty, and no flag is raised.
 use Rattle.std.proofs.Common.{refl}
 use Rattle.amber_worker.proofs.worker.Worker.fresh.Goals as goal
 
 pub invariant_of-result : goal.invariant_of-result
-invariant_of-result c = rw c.new-5.ensures.items c.requires.few
+invariant_of-result c = rw (c.lowered.ensures, c.new-5.ensures.items) c.requires.few
 
 pub returns : goal.returns
-returns c = rw (c.new.ensures.items, c.new-2.ensures.items, c.new-3.ensures.items, c.new-4.ensures.items, c.new-5.ensures.items) refl
+returns c = rw (c.lowered.ensures, c.new.ensures.items, c.new-2.ensures.items, c.new-3.ensures.items, c.new-4.ensures.items, c.new-5.ensures.items) refl

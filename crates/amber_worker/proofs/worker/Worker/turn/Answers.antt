@@ -10,7 +10,7 @@ use Rattle.amber_worker.proofs.worker.Worker.turn.Goals as goal
 
 -- a worker is calm, as its fields are seen
 calm : (a : Inside) (w : WorkerState) → the_view a ≡ w → the_invariant a → IsCalm w
-calm a w is bounds = subst IsCalm is (record { unwatched = refl; running = refl; loose = refl; unwaved = refl; empty_hand = refl; few = λ k d less. let moved = bounds.moved k d less in let steps = bounds.steps in omega arith })
+calm a w is bounds = subst IsCalm is (record { unwatched = refl; restraint = bounds.lowered; few = λ k d less. let moved = bounds.moved k d less in let steps = bounds.steps in omega arith })
 
 unfinished : (a : Inside) (w : WorkerState) → the_view a ≡ w → a.finished ≡ false → w.finished ≡ false
 unfinished a w is not-yet = ap (λ (v : WorkerState). v.finished) (sym is) ∙ not-yet
