@@ -1,0 +1,15 @@
+-- The workers are at work where a run starts.
+use Rattle.std.proofs.Common.{refl}
+use Rattle.amber_dataflow.specs.Dataflow.{journal_of}
+use Rattle.amber_dataflow.proofs.Kept.{kept-new}
+use Rattle.amber_dataflow.proofs.dataflow.Dataflow.new.Goals as goal
+
+pub invariant_of-result : goal.invariant_of-result
+invariant_of-result c = kept-new c.args.flow c.args.files.now c.args.batch c.in_ok-workers.workers.items c.in_ok-workers.ensures.start
+
+pub returns-clause-start : goal.returns-clause-start
+returns-clause-start c most = record { flow = refl; work = c.in_ok-workers.ensures.start most }
+
+pub returns-clause-journals : goal.returns-clause-journals
+unfolding journal_of
+returns-clause-journals c = c.in_ok-workers.ensures.journals

@@ -1,0 +1,123 @@
+-- Where workers stand, one by one, and who sends to whom.
+use Rattle.std.specs.Prelude.{◌≡◌, ◌≢◌, ℕ, ◌<◌, ◌==◌, List, [], map, slice_index_or, length, sum_by, None, true}
+use Rattle.std.specs.List.{list_any}
+use Rattle.rtrb.specs.Ring.{known_items, received, sent}
+use Rattle.amber_rows.specs.Crew.{crew_of, senders_of}
+use Rattle.amber_rows.specs.Lists.{numbers_below}
+use Rattle.amber_rows.specs.FlowRules.{IsFlow}
+use Rattle.amber_rows.specs.declared.flow.Operator.{Operator}
+use Rattle.amber_link.specs.declared.receivers.Receiver.{Receiver}
+use Rattle.amber_link.specs.declared.senders.Sender.{Sender}
+use Rattle.amber_lines.specs.Moving.{orders_in}
+use Rattle.amber_meaning.specs.Legal.{Query}
+use Rattle.amber_meaning.specs.Position.{Position}
+use Rattle.amber_meaning.specs.State.{Arms, State, arms_at, position_at}
+use Rattle.amber_worker.specs.AtPosition.{Context, IsAtPosition, Placement, no_base, placement_of}
+use Rattle.amber_worker.specs.Pairs.{AreJoined, AreSettledAt, IsLinkAt}
+use Rattle.amber_worker.specs.WorkerState.{WorkerState, empty_worker_state, steps_made}
+
+-- ---- one of the workers
+
+-- a worker that is not there
+abbrev pub no_worker_state : WorkerState
+no_worker_state = empty_worker_state
+
+-- the worker with this number
+abbrev pub worker_state_at : List WorkerState → ℕ → WorkerState
+worker_state_at crew worker = slice_index_or crew worker no_worker_state
+
+-- the place of a query's worker
+abbrev pub placement_at : Query → ℕ → Placement
+placement_at query worker = placement_of query.flow query.records query.size worker
+
+-- its place under the orders that are in force in a state, where nothing went through earlier links
+abbrev pub context_in : Query → State → ℕ → Context
+context_in query state worker = record { placement = placement_at query worker; orders = orders_in query state worker; base = no_base }
+
+-- ---- their links
+
+-- a worker sends to another
+abbrev pub SendsTo : List Operator → ℕ → ℕ → Type 0
+SendsTo flow from to = (to < crew_of flow) × (list_any (λ one. one == from) (senders_of flow to) ≡ true)
+
+-- all that the one has sent to the other has come there, though more may wait to be sent
+pub record AllHasCome (from to : WorkerState) : Type 0 where
+  pub j : ℕ
+  pub k : ℕ
+  pub places : IsLinkAt from to j k
+  pub out : Receiver
+  pub into : Sender
+  pub out_is : (one : Receiver) → slice_index_or from.outs j one ≡ out
+  pub into_is : (one : Sender) → slice_index_or to.ins k one ≡ into
+  pub come : received into.link.ring ≡ sent out.link.ring
+  pub known : known_items into.link.ring ≡ []
+
+-- ---- all of them
+
+-- at an operator nothing is watched and nothing is counted
+pub record IsQuiet (arms : Arms) : Type 0 where
+  pub unwatched : arms.watch ≡ None
+  pub uncounted : arms.count ≡ None
+
+-- each worker stands at its position, with a journal that leads there from where it stood in the state in which the leg began
+pub record AreAtPositions (query : Query) (start : State) (crew : List WorkerState) (positions : ℕ → Position) : Type 0 where
+  pub all : length crew ≡ crew_of query.flow
+  pub each : (worker : ℕ) → worker < crew_of query.flow
+      → IsAtPosition (context_in query start worker) (worker_state_at crew worker) (position_at start.positions worker) (positions worker)
+
+-- the workers of a workflow stand somewhere, and who sends to whom hold the two ends of a link
+pub record AreJoinedAt (query : Query) (start : State) (crew : List WorkerState) (positions : ℕ → Position) : Type 0 where
+  pub flow : IsFlow query.flow
+  pub quiet : (op : ℕ) → IsQuiet (arms_at start op)
+  pub at_positions : AreAtPositions query start crew positions
+  pub joined : (from to : ℕ) → from < crew_of query.flow → to < crew_of query.flow → AreJoined (worker_state_at crew from) (worker_state_at crew to)
+
+-- and all that they made is in the inboxes
+pub record AreAtWork (query : Query) (start : State) (crew : List WorkerState) (positions : ℕ → Position) : Type 0 where
+  pub at : AreJoinedAt query start crew positions
+  pub settled : (from to : ℕ) → SendsTo query.flow from to → AreSettledAt (worker_state_at crew from) (worker_state_at crew to)
+
+-- the workers of some workflow stand somewhere
+abbrev pub IsJoinedCrew : List WorkerState → Type 0
+IsJoinedCrew crew = (query : Query) × (start : State) × (positions : ℕ → Position) × AreJoinedAt query start crew positions
+
+-- the workers of some workflow are at work
+abbrev pub IsCrew : List WorkerState → Type 0
+IsCrew crew = (query : Query) × (start : State) × (positions : ℕ → Position) × AreAtWork query start crew positions
+
+-- ---- what they do
+
+-- of whatever workflow they are the workers, they still are, and stand where they stood
+unfoldable pub StayPut : List WorkerState → List WorkerState → Type 0
+StayPut old new = (query : Query) (start : State) (positions : ℕ → Position) → AreJoinedAt query start old positions → AreJoinedAt query start new positions
+
+-- one of them has moved on, and the others stand where they stood
+unfoldable pub GoesOn : List WorkerState → List WorkerState → ℕ → Type 0
+GoesOn old new worker = (query : Query) (start : State) (positions : ℕ → Position) → AreAtWork query start old positions
+    → (later : ℕ → Position) × AreAtWork query start new later × ((other : ℕ) → other ≢ worker → later other ≡ positions other)
+
+-- a worker has perhaps other batches at the ends of its links, and is as it was but for that
+abbrev pub IsSameBesides : WorkerState → WorkerState → Type 0
+IsSameBesides old new = new ≡ record old { ins = new.ins; outs = new.outs }
+
+-- none but this worker has done anything
+abbrev pub MovesOnly : List WorkerState → List WorkerState → ℕ → Type 0
+MovesOnly old new worker = (other : ℕ) → other ≢ worker → IsSameBesides (worker_state_at old other) (worker_state_at new other)
+
+-- the rows that these of them have emitted
+abbrev pub emitted_at : List WorkerState → List ℕ → ℕ
+emitted_at crew workers = sum_by (λ worker. (worker_state_at crew worker).emitted) workers
+
+-- the steps that they have made together
+unfoldable pub steps_by : List WorkerState → ℕ
+steps_by crew = sum_by steps_made crew
+
+-- the first workers have finished
+abbrev pub HaveFinished : ℕ → List WorkerState → Type 0
+HaveFinished workers crew = (worker : ℕ) → worker < workers → (worker_state_at crew worker).finished ≡ true
+
+-- ---- the state
+
+-- the state of workers at these positions, with what was in force in another
+abbrev pub state_reached : Query → State → (ℕ → Position) → State
+state_reached query start positions = record start { positions = map positions (numbers_below (crew_of query.flow)) }

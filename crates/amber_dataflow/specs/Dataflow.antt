@@ -1,0 +1,141 @@
+-- The workers of a run with the workflow that they carry out: what is read of them, where they stand, and what a step does.
+use Rattle.std.specs.Prelude.{◌≡◌, ◌≢◌, ℕ, ◌+◌, ◌==◌, ◌^◌, ◌<◌, ◌≤◌, List, [], length, map, Bool, true, false, if◌then◌else◌}
+use Rattle.std.specs.List.{list_all}
+use Rattle.amber_rows.specs.Crew.{crew_of, op_of, workers_of}
+use Rattle.amber_rows.specs.FlowRules.{IsFlow}
+use Rattle.amber_rows.specs.declared.flow.Operator.{Operator}
+use Rattle.amber_rows.specs.declared.value.Value.{Value}
+use Rattle.amber_log.specs.declared.entry.Entry.{Entry}
+use Rattle.amber_log.specs.declared.leg.Part.{Part}
+use Rattle.amber_meaning.specs.Legal.{Query}
+use Rattle.amber_meaning.specs.Position.{Position}
+use Rattle.amber_meaning.specs.State.{State}
+use Rattle.amber_meaning.specs.Views.{answer_in, inspected_of}
+use Rattle.amber_meaning.specs.declared.answer.Answer.{Answer}
+use Rattle.amber_meaning.specs.declared.view.WorkerView.{WorkerView}
+use Rattle.amber_worker.specs.Changes.{at_leg_start, with_value}
+use Rattle.amber_worker.specs.Turning.{WritesStep}
+use Rattle.amber_worker.specs.WorkerState.{WorkerState}
+use Rattle.amber_dataflow.specs.AtWork.{AreAtWork, emitted_at, state_reached, steps_by, worker_state_at}
+use Rattle.amber_dataflow.specs.Parts.{parts_from, without_journal}
+
+pub record DataflowState : Type 0 where
+  pub flow : List Operator
+  -- by their numbers; none where memory ran out among them, or once they gave their answer away
+  pub workers : List WorkerState
+
+-- ---- what is read of them
+
+-- each worker of the workflow
+abbrev pub AreAllThere : DataflowState → Type 0
+AreAllThere d = length d.workers ≡ crew_of d.flow
+
+-- the steps that they have made together
+unfoldable pub step_count : DataflowState → ℕ
+step_count d = steps_by d.workers
+
+-- the rows that an operator has emitted
+unfoldable pub rows_emitted : DataflowState → ℕ → ℕ
+rows_emitted d op = emitted_at d.workers (workers_of d.flow op)
+
+unfoldable pub has_finished : DataflowState → ℕ → Bool
+has_finished d worker = (worker_state_at d.workers worker).finished
+
+unfoldable pub have_all_finished : DataflowState → Bool
+have_all_finished d = list_all (λ w. w.finished) d.workers
+
+-- what a worker has done since its journal was handed out
+unfoldable pub journal_of : DataflowState → ℕ → List Entry
+journal_of d worker = (worker_state_at d.workers worker).journal
+
+-- what all have done, as the parts of a leg
+unfoldable pub leg_parts : DataflowState → List Part
+leg_parts d = parts_from 0 d.workers
+
+-- so many have finished, the first ones
+abbrev pub FirstHaveFinished : ℕ → DataflowState → Type 0
+FirstHaveFinished count d = (worker : ℕ) → worker < count → has_finished d worker ≡ true
+
+-- nobody has done anything since the journals were handed out
+abbrev pub HaveDoneNothing : DataflowState → Type 0
+HaveDoneNothing d = (worker : ℕ) → journal_of d worker ≡ []
+
+-- ---- what calls change
+
+-- a leg begins: pauses end, a held row may go, and nothing was done since
+abbrev pub leg_begun : DataflowState → DataflowState
+leg_begun d = record d { workers = map at_leg_start d.workers }
+
+-- the journals were handed out
+abbrev pub handed_out : DataflowState → DataflowState
+handed_out d = record d { workers = map without_journal d.workers }
+
+-- a worker, with another constant where it is one of this operator
+abbrev pub worker_set : ℕ → Value → WorkerState → WorkerState
+worker_set op value w = if w.op == op then record w { operator_state = with_value value w.operator_state } else w
+
+-- another constant at an operator
+abbrev pub constant_put : ℕ → Value → DataflowState → DataflowState
+constant_put op value d = record d { workers = map (worker_set op value) d.workers }
+
+-- nobody is left
+abbrev pub without_workers : DataflowState → DataflowState
+without_workers d = record d { workers = [] }
+
+-- ---- where they stand
+
+-- the workers of a query stand at these positions, in a leg that began in this state: each one's journal leads there from where it
+-- stood then, and all that they made is in the inboxes
+pub record StandAt (query : Query) (start : State) (d : DataflowState) (positions : ℕ → Position) : Type 0 where
+  pub flow : d.flow ≡ query.flow
+  pub work : AreAtWork query start d.workers positions
+
+-- so they do of some query, where they are there, and have made few steps
+pub record IsDataflow (d : DataflowState) : Type 0 where
+  pub flow : IsFlow d.flow
+  pub few : step_count d ≤ 2 ^ 40
+  pub stand : AreAllThere d → (query : Query) × (start : State) × (positions : ℕ → Position) × StandAt query start d positions
+
+-- ---- a step
+
+-- a worker has not finished, and all before it have
+pub record IsFirst (d : DataflowState) (worker : ℕ) : Type 0 where
+  pub there : worker < crew_of d.flow
+  pub first : FirstHaveFinished worker d
+  pub unfinished : has_finished d worker ≡ false
+
+-- a worker has done nothing
+pub record IsUnmoved (old new : DataflowState) (worker : ℕ) : Type 0 where
+  pub finished : has_finished new worker ≡ has_finished old worker
+  pub journal : journal_of new worker ≡ journal_of old worker
+
+-- a worker has made a step, which its journal has, and the others have done nothing
+pub record StepsAt (old new : DataflowState) (worker : ℕ) : Type 0 where
+  pub flow : new.flow ≡ old.flow
+  pub there : AreAllThere new
+  pub on : (query : Query) (start : State) (positions : ℕ → Position) → StandAt query start old positions
+      → (later : ℕ → Position) × StandAt query start new later × ((other : ℕ) → other ≢ worker → later other ≡ positions other)
+  pub one : step_count new ≡ step_count old + 1
+  pub writes : WritesStep (journal_of old worker) (journal_of new worker)
+  pub others : (other : ℕ) → other ≢ worker → IsUnmoved old new other
+  -- of the rows that operators have emitted at most one more at its own
+  pub rows : rows_emitted new (op_of old.flow worker) ≤ rows_emitted old (op_of old.flow worker) + 1
+  pub emitted : (op : ℕ) → op ≢ op_of old.flow worker → rows_emitted new op ≡ rows_emitted old op
+
+-- the first that has not finished has made a step
+pub record FirstSteps (old new : DataflowState) : Type 0 where
+  pub worker : ℕ
+  pub is : IsFirst old worker
+  pub steps : StepsAt old new worker
+
+-- ---- what they give
+
+-- wherever they stand, once all have finished, this is the answer
+unfoldable pub IsAnswerOf : DataflowState → Answer → Type 0
+IsAnswerOf d answer = (query : Query) (start : State) (positions : ℕ → Position) → StandAt query start d positions → have_all_finished d ≡ true
+    → answer ≡ answer_in query (state_reached query start positions)
+
+-- wherever they stand, this is what each of an operator's workers shows
+unfoldable pub ShowAt : DataflowState → ℕ → List WorkerView → Type 0
+ShowAt d op views = (query : Query) (start : State) (positions : ℕ → Position) → StandAt query start d positions
+    → views ≡ (inspected_of query (state_reached query start positions) op).workers

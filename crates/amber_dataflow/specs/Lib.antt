@@ -1,0 +1,6 @@
+pub mod Answers
+pub mod AtWork
+pub mod Dataflow
+pub mod Parts
+pub mod Passing
+pub mod Start

@@ -1,0 +1,209 @@
+//! The workers of a run and their workflow: how they begin, what a step does, and what is read of them.
+
+ghost use Rattle.std.specs.Prelude.{◌≡◌, ◌^◌, ◌<◌, ◌≤◌, ℕ, IfOk, OnErr, OnOk, false, length, replicate, true};
+ghost use Rattle.amber_rows.specs.Crew.{crew_of};
+ghost use Rattle.amber_meaning.specs.Legal.{query_over};
+ghost use Rattle.amber_meaning.specs.Position.{origin};
+ghost use Rattle.amber_meaning.specs.State.{start_of};
+ghost use Rattle.amber_dataflow.specs.Dataflow as dataflow;
+ghost use Rattle.amber_dataflow.specs.Dataflow.{AreAllThere, FirstSteps, HaveDoneNothing, IsAnswerOf, IsFirst, ShowAt, StandAt, StepsAt};
+ghost use Rattle.amber_dataflow.specs.Dataflow.{leg_begun, handed_out, leg_parts, step_count, constant_put, without_workers};
+ghost use Rattle.amber_dataflow.specs.Start.{BeginsOrNames};
+
+use crate::error::HomeErr;
+use crate::gathering::{gather, gather_all};
+use crate::handing::take_parts;
+use crate::making::start_crew;
+use crate::reading::{emitted_by, have_finished, steps_of};
+use crate::setting::{begin_all, copies_of, set_workers};
+use crate::showing::views_of;
+use crate::stepping::{first_unfinished, step};
+use amber_log::Parts;
+use amber_meaning::{Answer, Views};
+use amber_rows::{Files, Flow, Value};
+use amber_worker::Worker;
+use std::alloc::{AllocError, Global};
+use std::marker::Model;
+use std::mem;
+
+/// All workers of a run, with the workflow that they carry out, seen as a `DataflowState`. Operators are numbered from 1, workers
+/// from 0 over all operators.
+#[derive(Drop)]
+pub struct Dataflow {
+    flow: Flow,
+    // By their numbers. None are left once memory ran out among them, or once they gave their answer away.
+    workers: Vec<Worker>,
+}
+
+impl Model for Dataflow {
+    ghost use Rattle.amber_dataflow.specs.Dataflow.{DataflowState, IsDataflow};
+
+    ghost Value = { DataflowState };
+
+    ghost view = { λ a. record { flow = a.flow; workers = a.workers.items } };
+
+    ghost invariant = { λ a. IsDataflow (record { flow = a.flow; workers = a.workers.items }) };
+}
+
+impl Dataflow {
+    /// The workers of a workflow over the files of its scans, at the start of a run, with so many rows in a batch, 1 to 65,536.
+    ///
+    /// # Errors
+    ///
+    /// `Header` with the first scan whose file does not begin with the names of its columns.
+    pub fn new(alloc: Global, flow: Flow, files: &Files, batch: u32) -> Result<Dataflow, HomeErr>
+        requires some { 0 < batch }
+        requires few { batch ≤ 65536 }
+        ensures flow { IfOk result (λ made. made.flow ≡ flow) }
+        ensures start { IfOk result (λ made. (most : ℕ) → StandAt
+            (query_over flow files.now batch most) (start_of flow) made (λ _. origin)) }
+        ensures journals { IfOk result HaveDoneNothing }
+        ensures header { BeginsOrNames result flow files.now }
+    {
+        let workers = start_crew(alloc, &flow, files, batch)?;
+        Ok(Dataflow { flow, workers })
+    }
+
+    /// The workflow.
+    pub fn flow(&self) -> &Flow
+        ensures { result.now ≡ self.now.flow }
+    {
+        &self.flow
+    }
+
+    // ---- a leg
+
+    /// Each worker begins a leg: pauses end, and nothing was done since.
+    pub fn begin(&mut self)
+        ensures { self.new ≡ leg_begun self.old }
+    {
+        begin_all(self.workers.as_mut_slice());
+    }
+
+    /// One step of a worker, where all before it have finished. What it has made goes on to its receivers. After want of memory no
+    /// worker is left.
+    pub fn step(&mut self, worker: u32) -> Result<(), AllocError>
+        requires workers { AreAllThere self.old }
+        requires first { IsFirst self.old worker }
+        requires few { step_count self.old < 2 ^ 40 }
+        ensures steps { OnOk result (StepsAt self.old self.new worker) }
+        ensures err { OnErr result (self.new ≡ without_workers self.old) }
+    {
+        match step(self.workers.as_mut_slice(), worker as usize) {
+            Ok(()) => Ok(()),
+            Err(error) => {
+                self.workers.clear();
+                Err(error)
+            }
+        }
+    }
+
+    /// One step of the first worker that has not finished. After want of memory no worker is left.
+    pub fn step_first(&mut self) -> Result<(), AllocError>
+        requires workers { AreAllThere self.old }
+        requires unfinished { dataflow.have_all_finished self.old ≡ false }
+        requires few { step_count self.old < 2 ^ 40 }
+        ensures steps { OnOk result (FirstSteps self.old self.new) }
+        ensures err { OnErr result (self.new ≡ without_workers self.old) }
+    {
+        let worker = first_unfinished(self.workers.as_slice());
+        self.step(worker as u32)
+    }
+
+    /// Hands out what the workers have done, as the parts of a leg. After want of memory no worker is left.
+    pub fn take_parts(&mut self, alloc: Global) -> Result<Parts, AllocError>
+        requires { AreAllThere self.old }
+        ensures parts { IfOk result (λ parts. parts ≡ leg_parts self.old) }
+        ensures ok { OnOk result (self.new ≡ handed_out self.old) }
+        ensures err { OnErr result (self.new ≡ without_workers self.old) }
+    {
+        match take_parts(alloc, self.workers.as_mut_slice()) {
+            Ok(parts) => Ok(parts),
+            Err(error) => {
+                self.workers.clear();
+                Err(error)
+            }
+        }
+    }
+
+    // ---- another constant
+
+    /// A copy of a value for each worker.
+    pub fn copies_of(&self, alloc: Global, value: &Value) -> Result<Vec<Value>, AllocError>
+        ensures { IfOk result
+            (λ copies. copies.items ≡ replicate (length self.now.workers) value.now) }
+    {
+        copies_of(alloc, value, self.workers.len())
+    }
+
+    /// Puts a value in place of the constant of an operator's workers, for rows that are taken from here on. It takes no memory: the
+    /// copies are those of `copies_of`.
+    pub fn set(&mut self, op: u32, value: &Value, copies: Vec<Value>)
+        requires copies { copies.items ≡ replicate (length self.old.workers) value.now }
+        requires rest { HaveDoneNothing self.old }
+        ensures { self.new ≡ constant_put op value.now self.old }
+    {
+        set_workers(op, value, copies, self.workers.as_mut_slice());
+    }
+
+    // ---- what is read of them
+
+    /// How many steps the workers have made together.
+    pub fn steps(&self) -> u64
+        ensures { result ≡ step_count self.now }
+    {
+        steps_of(self.workers.as_slice())
+    }
+
+    /// How many rows an operator has emitted.
+    pub fn rows_emitted(&self, op: u32) -> u64
+        requires workers { AreAllThere self.now }
+        requires some { 0 < op }
+        requires within { op ≤ length self.now.flow }
+        ensures { result ≡ dataflow.rows_emitted self.now op }
+    {
+        emitted_by(&self.flow, self.workers.as_slice(), op)
+    }
+
+    /// Whether a worker has finished.
+    pub fn has_finished(&self, worker: u32) -> bool
+        requires workers { AreAllThere self.now }
+        requires there { worker < crew_of self.now.flow }
+        ensures { result ≡ dataflow.has_finished self.now worker }
+    {
+        self.workers[worker as usize].is_finished()
+    }
+
+    /// Whether all workers have finished.
+    pub fn have_all_finished(&self) -> bool
+        ensures { result ≡ dataflow.have_all_finished self.now }
+    {
+        have_finished(self.workers.as_slice())
+    }
+
+    /// What each worker of an operator shows.
+    pub fn views(&self, alloc: Global, op: u32) -> Result<Views, AllocError>
+        requires workers { AreAllThere self.now }
+        requires some { 0 < op }
+        requires within { op ≤ length self.now.flow }
+        ensures { IfOk result (ShowAt self.now op) }
+    {
+        views_of(alloc, &self.flow, self.workers.as_slice(), op)
+    }
+
+    /// The answer, where all have finished.
+    pub fn answer(&self, alloc: Global) -> Result<Answer, AllocError>
+        ensures { IfOk result (IsAnswerOf self.now) }
+    {
+        gather(alloc, &self.flow, self.workers.as_slice())
+    }
+
+    /// The same answer, which the workers give away: none is left then, whatever the call answers.
+    pub fn take_answer(&mut self, alloc: Global) -> Result<Answer, AllocError>
+        ensures answer { IfOk result (IsAnswerOf self.old) }
+        ensures over { self.new ≡ without_workers self.old }
+    {
+        let workers = mem::replace(&mut self.workers, Vec::new(alloc));
+        gather_all(alloc, &self.flow, workers)
+    }
+}

@@ -1,0 +1,28 @@
+//! All workers of a run, with the workflow that they carry out.
+//!
+//! A `Dataflow` makes the workers of a workflow, links them and deals the records of the files to those that scan. From then on they
+//! stand where the definitions say, whatever calls follow: each one's journal leads to its position, and all that a worker has made
+//! is with those to whom it sends. It makes steps, one worker at a time; who makes one and when to stop is for its caller.
+//!
+//! For instance, of a scan of five records, a filter that passes three of them and a sink, with one worker each, all of the scan's
+//! steps come first, one `step(0)` after the other, until `is_finished(0)`; then those of the filter; then `rows_emitted(2)` is 3.
+//!
+//! Where memory runs out within a step the workers are let go, and none is left.
+#![tactic(auto)]
+
+pub mod dataflow;
+pub mod error;
+mod gathering;
+mod handing;
+mod linking;
+mod making;
+mod reading;
+mod setting;
+mod settling;
+mod shares;
+mod showing;
+mod stepping;
+
+pub use dataflow::Dataflow;
+pub use error::HomeErr;
+pub use std::alloc::AllocError as NoMemory;
