@@ -4,13 +4,12 @@ use Rattle.std.specs.List.{slice_get}
 use Rattle.std.proofs.lemmas.Bool.{eq-eqb, ne_eqb}
 use Rattle.std.proofs.lemmas.List.{length-map}
 use Rattle.amber_rows.specs.Lists.{changed_at, changed_from, nth}
-use Rattle.amber_rows.specs.Crew.{workers_of}
 use Rattle.amber_meaning.specs.State.{Arms, no_arms}
 use Rattle.amber_meaning.specs.Stops.{op_numbers}
 use Rattle.amber_meaning.proofs.Lists.{nth-next}
-use Rattle.amber_worker.specs.WorkerState.{WorkerState}
-use Rattle.amber_home.specs.Leg.{Run, cut_arms, cut_at, emitted_at, is_paused, stands_after}
-use Rattle.amber_home.proofs.Closed.{length-ops, nth-numbers}
+use Rattle.amber_dataflow.specs.Dataflow.{DataflowState, rows_emitted}
+use Rattle.amber_dataflow.proofs.Numbered.{length-ops, nth-numbers}
+use Rattle.amber_home.specs.Leg.{armed_at, cut_arms, cut_at, is_paused, stands_after}
 
 module _ {A : Type 0} (change : A → A) where
   length-changed : (number place : ℕ) (xs : List A) → length (changed_from change number place xs) ≡ length xs
@@ -73,33 +72,33 @@ nth-some arms (suc i) some within =
 abbrev no_pause : Arms → Arms
 no_pause arms = record arms { pause = None }
 
-module _ (run : Run) (crew : List WorkerState) (arms after : List Arms) (op : ℕ) (some : 0 < op) (within : op ≤ length run.arms)
-    (after-is : after ≡ (if is_paused (record run { arms = arms }) crew op then changed_at no_pause op arms else arms)) where
+module _ (first : List Arms) (d : DataflowState) (arms after : List Arms) (op : ℕ) (some : 0 < op) (within : op ≤ length first)
+    (after-is : after ≡ (if is_paused arms d op then changed_at no_pause op arms else arms)) where
   pub ended-long : length after ≡ length arms
-  ended-long = ap length after-is ∙ by (is_paused (record run { arms = arms }) crew op)
+  ended-long = ap length after-is ∙ by (is_paused arms d op)
     where
       by : (b : Bool) → length (if b then changed_at no_pause op arms else arms) ≡ length arms
       by true = length-changed_at no_pause op arms
       by false = refl
 
   pub ended-other : (k : ℕ) → k ≢ op → nth after k ≡ nth arms k
-  ended-other k ne = ap (λ xs. nth xs k) after-is ∙ by (is_paused (record run { arms = arms }) crew op)
+  ended-other k ne = ap (λ xs. nth xs k) after-is ∙ by (is_paused arms d op)
     where
       by : (b : Bool) → nth (if b then changed_at no_pause op arms else arms) k ≡ nth arms k
       by true = nth-other no_pause op arms k ne
       by false = refl
 
-  pub ended-here : nth arms op ≡ nth run.arms op → nth after op ≡ Some (cut_at run crew op)
+  pub ended-here : nth arms op ≡ nth first op → nth after op ≡ Some (cut_at first d op)
   ended-here same =
       ap (λ xs. nth xs op) after-is
-      ∙ by (is_paused (record run { arms = arms }) crew op) (is_paused run crew op)
-      (ap (λ found. stands_after (unwrap_or found no_arms).pause (emitted_at crew (workers_of run.flow op))) same)
+      ∙ by (is_paused arms d op) (is_paused first d op)
+      (ap (λ found. stands_after (unwrap_or found no_arms).pause (rows_emitted d op)) same)
     where
-      here : nth arms op ≡ Some (unwrap_or (nth run.arms op) no_arms)
-      here = same ∙ nth-some run.arms op some within
+      here : nth arms op ≡ Some (armed_at first op)
+      here = same ∙ nth-some first op some within
 
       by : (b c : Bool) → b ≡ c → nth (if b then changed_at no_pause op arms else arms) op
-          ≡ Some (record (unwrap_or (nth run.arms op) no_arms) { pause = if c then None else (unwrap_or (nth run.arms op) no_arms).pause })
+          ≡ Some (record (armed_at first op) { pause = if c then None else (armed_at first op).pause })
       by true true e = nth-here no_pause op arms some ∙ ap (option_map no_pause) here
       by false false e = here
       by true false e = cc
@@ -107,8 +106,8 @@ module _ (run : Run) (crew : List WorkerState) (arms after : List Arms) (op : �
 
 -- ---- all of them
 
-pub ended-all : (run : Run) (crew : List WorkerState) (arms : List Arms) (count : ℕ) → length run.arms ≡ length run.flow → length arms ≡ length run.arms → length run.flow ≤ count
-    → ((op : ℕ) → 0 < op → op ≤ count → nth arms op ≡ Some (cut_at run crew op)) → arms ≡ cut_arms run crew
-ended-all run crew arms count long same all done =
-    nth-same arms (cut_arms run crew) (same ∙ long ∙ sym (length-map (op_numbers run.flow) (cut_at run crew) ∙ length-ops run.flow))
-    (λ op some within. done op some (omega arith) ∙ sym (nth-numbers (cut_at run crew) run.flow op some (omega arith)))
+pub ended-all : (first : List Arms) (d : DataflowState) (arms : List Arms) (count : ℕ) → length first ≡ length d.flow → length arms ≡ length first → length d.flow ≤ count
+    → ((op : ℕ) → 0 < op → op ≤ count → nth arms op ≡ Some (cut_at first d op)) → arms ≡ cut_arms first d
+ended-all first d arms count long same all done =
+    nth-same arms (cut_arms first d) (same ∙ long ∙ sym (length-map (op_numbers d.flow) (cut_at first d) ∙ length-ops d.flow))
+    (λ op some within. done op some (omega arith) ∙ sym (nth-numbers (cut_at first d) d.flow op some (omega arith)))

@@ -10,6 +10,7 @@ use Rattle.amber_rows.specs.Lists.{nth}
 use Rattle.amber_rows.specs.Number.{read_int_of}
 use Rattle.amber_rows.specs.Record.{cells_of, file_records, row_of, typed_records}
 use Rattle.amber_rows.specs.declared.value.Value.TheVariants as value
+use Rattle.amber_rows.specs.declared.flow.Operator.{Operator}
 use Rattle.amber_log.specs.Grammar.{AreItems}
 use Rattle.amber_log.specs.declared.command.Command.TheVariants as command
 use Rattle.amber_log.specs.declared.entry.Entry.{Entry}
@@ -30,10 +31,11 @@ use Rattle.amber_meaning.proofs.ExampleCases.{texts_on_literals}
 use Rattle.amber_meaning.proofs.Lists.{nth-next}
 use Rattle.amber_worker.specs.Steps.{with_go}
 use Rattle.amber_worker.specs.Turning.{WritesStep}
-use Rattle.amber_worker.specs.WorkerState.{WorkerState}
 use Rattle.amber_worker.proofs.ExampleFlow.{from_two}
 use Rattle.amber_home.specs.HomeState.{ClosesLeg, HomeState, IsLeftAlone, StepsOn, first_unfinished, leg_state, query_of, rest_state, state_of}
-use Rattle.amber_home.specs.Kept.{IsHome}
+use Rattle.amber_dataflow.specs.Dataflow.{DataflowState}
+use Rattle.amber_dataflow.proofs.Standing.{stand-there}
+use Rattle.amber_home.specs.Kept.{IsHome, LiveState}
 use Rattle.amber_home.specs.declared.phase.Phase.{Phase}
 use Rattle.amber_home.specs.declared.phase.Phase.TheVariants as phase
 
@@ -170,7 +172,7 @@ nobody_has_units = record {
   counts = λ op counting is. absurd (none_some counting (sym (nothing_counted 1 op) ∙ is));
 }
   where
-    by : (worker : ℕ) → worker < 3 → (position_at (leg_state (asked 1) false one_row).positions worker).hand ≡ 0
+    by : (worker : ℕ) → worker < 3 → (position_at (leg_state (asked 1) false one_row).positions worker).restraint.hand ≡ 0
     by zero inside = refl
     by (suc zero) inside = refl
     by (suc (suc zero)) inside = refl
@@ -237,20 +239,24 @@ nothing_done_is_legal : IsLegal (query_of (home [] phase.Spent [])) (home [] pha
 unfolding AreItems Reaches
 nothing_done_is_legal = record { text = record { batch = (omega arith, omega arith); items = tt }; batch = refl; after = start_of from_two; reached = refl }
 
-nothing_is_said_of_workers : IsHome (home [] phase.Spent []) [] [] []
+-- with no workers, nothing in force and no stops
+abbrev nobody : List Operator → LiveState
+nobody flow = record { dataflow = record { flow = flow; workers = [] }; arms = []; stops = [] }
+
+nothing_is_said_of_workers : IsHome (home [] phase.Spent []) (nobody [])
 nothing_is_said_of_workers = record { few = omega arith; legal = nothing_done_is_legal; stands = tt }
 
-too_many_steps : IsHome (record (home [] phase.Spent []) { most = 2 ^ 40 + 1 }) [] [] [] → ⊥
+too_many_steps : IsHome (record (home [] phase.Spent []) { most = 2 ^ 40 + 1 }) (nobody []) → ⊥
 too_many_steps keeps = let wrong = keeps.few in absurd (omega arith)
 
-nobody_is_there : IsHome (home [] phase.Resting []) [] (armed 1) [] → ⊥
+nobody_is_there : IsHome (home [] phase.Resting []) (record (nobody from_two) { arms = armed 1 }) → ⊥
 unfolding homes_on_literals
-nobody_is_there keeps = let wrong = keeps.stands.at.at.at_positions.all in absurd (omega arith)
+nobody_is_there keeps = let wrong = stand-there _ _ _ _ keeps.stands.at in absurd (omega arith)
 
-what_nobody_asked_for : (crew : List WorkerState) → IsHome (home [] phase.Resting []) crew (armed 1) [] → ⊥
+what_nobody_asked_for : (d : DataflowState) → IsHome (home [] phase.Resting []) (record { dataflow = d; arms = armed 1; stops = [] }) → ⊥
 unfolding state_after after_items start_of
-what_nobody_asked_for crew keeps = none_some 1 (sym (ap (λ arms. (unwrap_or (nth arms 2) no_arms).pause) keeps.stands.arms_are))
+what_nobody_asked_for d keeps = none_some 1 (sym (ap (λ arms. (unwrap_or (nth arms 2) no_arms).pause) keeps.stands.arms_are))
 
-a_stop_before_any_leg : (crew : List WorkerState) (arms : List Arms) → IsHome (home [] phase.Resting []) crew arms (stop.End ∷ []) → ⊥
+a_stop_before_any_leg : (d : DataflowState) (arms : List Arms) → IsHome (home [] phase.Resting []) (record { dataflow = d; arms = arms; stops = stop.End ∷ [] }) → ⊥
 unfolding kept_stops stops_along
-a_stop_before_any_leg crew arms keeps = let wrong = keeps.stands.stops_are in cc
+a_stop_before_any_leg d arms keeps = let wrong = keeps.stands.stops_are in cc

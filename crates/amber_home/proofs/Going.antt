@@ -1,69 +1,66 @@
 -- Workers that go on.
-use Rattle.std.proofs.Common.{◌≡◌, refl, sym, ap, ◌∙◌, ℕ, ◌+◌, ◌<◌, List, length, get_or, true, inl, inr, Result, Ok, Err, OnOk, arith, ◌≤◌}
+use Rattle.std.proofs.Common.{◌≡◌, refl, ap, ◌∙◌, ℕ, ◌+◌, ◌≤◌, true, inl, inr, Result, Ok, Err, OnOk, arith}
 use Rattle.std.proofs.lemmas.Bool.Decides.{eqb_tells}
-use Rattle.amber_worker.specs.WorkerState.{WorkerState}
-use Rattle.amber_home.specs.AtWork.{FirstGoesOn, GoesOn, GoOn, HaveFinished, IsCrew, MovesOnly, worker_state_at}
-use Rattle.amber_home.proofs.Split.{read-at}
+use Rattle.amber_rows.specs.Crew.{op_of}
+use Rattle.amber_dataflow.specs.Dataflow.{DataflowState, FirstHaveFinished, StepsAt, has_finished, have_all_finished}
+use Rattle.amber_home.specs.Going.{GoOn, MovesAlone}
 
--- ---- where a call is done, so is what follows from what it promises then
-
+-- where a call is done, so is what follows from what it promises then
 pub on_ok_both : {T E P Q R : Type 0} (result : Result T E) → (P → Q → R) → OnOk result P → OnOk result Q → OnOk result R
 on_ok_both (Ok done) both p q = both p q
 on_ok_both (Err error) both p q = tt
 
-pub on_ok_all : {T E P Q R S : Type 0} (result : Result T E) → (P → Q → R → S) → OnOk result P → OnOk result Q → OnOk result R → OnOk result S
-on_ok_all (Ok done) all p q r = all p q r
-on_ok_all (Err error) all p q r = tt
+-- ---- all of them
 
--- ---- workers that go on
-
-pub on-refl : (crew : List WorkerState) → GoOn crew crew
-unfolding GoOn
-on-refl crew query start positions work = (positions, work)
+pub on-refl : (d : DataflowState) → GoOn d d
+on-refl d = record { flow = refl; there = λ all. all; on = λ query start positions stand. (positions, stand) }
 
 -- where one goes on, all do
-pub one-on : (old new : List WorkerState) (worker : ℕ) → GoesOn old new worker → GoOn old new
-unfolding GoesOn GoOn
-one-on old new worker on query start positions work = let next = on query start positions work in (next.0, next.1)
+pub one-on : (old new : DataflowState) (worker : ℕ) → StepsAt old new worker → GoOn old new
+one-on old new worker steps = record {
+  flow = steps.flow;
+  there = λ all. steps.there;
+  on = λ query start positions stand. let next = steps.on query start positions stand in (next.0, next.1);
+}
 
-pub first-on : (old new : List WorkerState) → FirstGoesOn old new → GoOn old new
-first-on old new first = one-on old new first.worker first.on
+pub on-then : (a b c : DataflowState) → GoOn a b → GoOn b c → GoOn a c
+on-then a b c first second = record {
+  flow = second.flow ∙ first.flow;
+  there = λ all. second.there (first.there all);
+  on = λ query start positions stand. let next = first.on query start positions stand in second.on query start next.0 next.1;
+}
 
-pub on-then : (a b c : List WorkerState) → GoOn a b → GoOn b c → GoOn a c
-unfolding GoOn
-on-then a b c first second query start positions work = let next = first query start positions work in second query start next.0 next.1
+-- ---- none but one
 
-pub crew-on : (old new : List WorkerState) → IsCrew old → GoOn old new → IsCrew new
-unfolding GoOn
-crew-on old new work on = let next = on work.0 work.1 work.2 work.3 in (work.0, work.1, next.0, next.1)
+pub only-refl : (d : DataflowState) (worker : ℕ) → MovesAlone d d worker
+only-refl d worker = record { finished = λ other apart. refl; emitted = λ op apart. refl }
 
-pub only-refl : (crew : List WorkerState) (worker : ℕ) → MovesOnly crew crew worker
-only-refl crew worker other not-this = refl
+pub one-only : (old new : DataflowState) (worker : ℕ) → StepsAt old new worker → MovesAlone old new worker
+one-only old new worker steps = record { finished = λ other apart. (steps.others other apart).finished; emitted = steps.emitted }
 
-pub only-then : (a b c : List WorkerState) (worker : ℕ) → MovesOnly a b worker → MovesOnly b c worker → MovesOnly a c worker
-only-then a b c worker first second other not-this =
-    second other not-this
-    ∙ ap (λ (w : WorkerState). record w { ins = (worker_state_at c other).ins; outs = (worker_state_at c other).outs }) (first other not-this)
+pub only-then : (a b c : DataflowState) (worker : ℕ) → b.flow ≡ a.flow → MovesAlone a b worker → MovesAlone b c worker → MovesAlone a c worker
+only-then a b c worker flow first second = record {
+  finished = λ other apart. second.finished other apart ∙ first.finished other apart;
+  emitted = λ op apart. second.emitted op (λ same. apart (same ∙ ap (λ f. op_of f worker) flow)) ∙ first.emitted op apart;
+}
 
 -- the first ones have still finished
-pub finished-on : (old new : List WorkerState) (worker : ℕ) → MovesOnly old new worker → HaveFinished worker old → HaveFinished worker new
-finished-on old new worker only first k below =
-    ap (λ (w : WorkerState). w.finished) (only k (λ same. absurd (omega arith))) ∙ first k below
+pub finished-on : (old new : DataflowState) (worker : ℕ) → MovesAlone old new worker → FirstHaveFinished worker old → FirstHaveFinished worker new
+finished-on old new worker only first k below = only.finished k (λ same. absurd (omega arith)) ∙ first k below
 
-pub finished-more : (crew : List WorkerState) (worker : ℕ) (d : WorkerState) → worker < length crew → (get_or crew worker d).finished ≡ true
-    → HaveFinished worker crew → HaveFinished (worker + 1) crew
-finished-more crew worker d inside done first k below =
+pub finished-more : (d : DataflowState) (worker : ℕ) → has_finished d worker ≡ true → FirstHaveFinished worker d → FirstHaveFinished (worker + 1) d
+finished-more d worker done first k below =
     elim (eqb_tells k worker) [
-      | inl same ↦ ap (λ n. (worker_state_at crew n).finished) same.1 ∙ ap (λ (w : WorkerState). w.finished) (sym (read-at crew worker d inside)) ∙ done
+      | inl same ↦ ap (has_finished d) same.1 ∙ done
       | inr other ↦ first k (let ne = other.1 in omega arith)
     ]
 
 -- where all have finished and nobody has moved, one of them does not move either
-pub still-driven : (first old new : List WorkerState) (worker : ℕ) → worker < length first → length old ≡ length first → HaveFinished (length first) first
-    → (HaveFinished (length first) first → old ≡ first) → ((worker_state_at old worker).finished ≡ true → new ≡ old) → new ≡ first
-still-driven first old new worker inside long finished before here =
+pub still-driven : (first old new : DataflowState) (worker : ℕ) → (have_all_finished first ≡ true → has_finished first worker ≡ true)
+    → (have_all_finished first ≡ true → old ≡ first) → (has_finished old worker ≡ true → new ≡ old) → have_all_finished first ≡ true → new ≡ first
+still-driven first old new worker one before here finished =
     let same = before finished in
-    here (ap (λ crew. (worker_state_at crew worker).finished) same ∙ finished worker inside) ∙ same
+    here (ap (λ d. has_finished d worker) same ∙ one finished) ∙ same
 
 -- ---- steps
 
@@ -73,8 +70,3 @@ part-of made left all e = omega arith
 
 pub part-within : (made left all most : ℕ) → made + left ≡ all → all ≤ most → made ≤ most
 part-within made left all most e few = omega arith
-
--- ---- numbers of workers
-
-pub below-end : (worker count all reached : ℕ) → worker < count → count ≡ all → all ≤ reached → worker < reached
-below-end worker count all reached below e past = omega arith

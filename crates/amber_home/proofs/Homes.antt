@@ -1,113 +1,108 @@
 -- What a home keeps from call to call.
-use Rattle.std.proofs.Common.{◌≡◌, refl, sym, ap, subst, ◌∙◌, ℕ, ◌+◌, ◌-◌, ◌≤◌, List, [], ◌∷◌, ◌++◌, length, map, take, drop, append-nil, Bool, true, false, if◌then◌else◌, arith}
-use Rattle.std.proofs.lemmas.List.{drop_all, take_all}
-use Rattle.amber_log.specs.Grammar.{ends_over}
-use Rattle.amber_meaning.specs.declared.view.Stop.{Stop}
-use Rattle.amber_meaning.specs.State.{Arms, without_arms}
-use Rattle.amber_worker.specs.Changes.{at_leg_start}
-use Rattle.amber_worker.specs.WorkerState.{WorkerState}
+use Rattle.std.proofs.Common.{◌≡◌, refl, sym, ap, subst, ◌∙◌, ◌+◌, ◌-◌, ◌≤◌, List, [], length, map, Bool, true, false, if◌then◌else◌, arith}
 use Rattle.std.proofs.lemmas.Bool.{false≢true}
+use Rattle.amber_rows.specs.declared.flow.Operator.{Operator}
+use Rattle.amber_log.specs.Grammar.{ends_over}
 use Rattle.amber_log.specs.declared.leg.Close.{Close}
-use Rattle.amber_home.specs.AtWork.{GoOn, steps_by}
+use Rattle.amber_meaning.specs.State.{Arms, without_arms}
+use Rattle.amber_dataflow.specs.Dataflow.{AreAllThere, DataflowState, leg_begun, leg_parts, step_count}
+use Rattle.amber_dataflow.proofs.Standing.{begun-parts, stand-there}
+use Rattle.amber_home.specs.Going.{GoOn}
 use Rattle.amber_home.specs.Leg.{IsLegDone}
-use Rattle.amber_home.specs.HomeState.{ClosesIn, HomeState, is_open, query_of, runs_to_end, state_of}
-use Rattle.amber_home.specs.Kept.{IsAtRest, IsHome, StandsIn}
-use Rattle.amber_home.specs.Parts.{open_parts, parts_from}
+use Rattle.amber_home.specs.HomeState.{ClosesIn, HomeState, has_crew, is_open, query_of, runs_to_end, state_of}
+use Rattle.amber_home.specs.Kept.{IsAtRest, IsHome, LiveState, StandsIn}
+use Rattle.amber_home.specs.Parts.{open_parts}
 use Rattle.amber_home.specs.declared.phase.Phase.{Phase}
 use Rattle.amber_home.specs.declared.phase.Phase.TheVariants as phase
 use Rattle.amber_home.proofs.Legs.{arms-long, closes-here, within-on}
 use Rattle.amber_home.proofs.Opened.{opened}
 
-pub at-rest : (e : HomeState) (crew : List WorkerState) (arms : List Arms) (stops : List Stop) → IsHome e crew arms stops → e.phase ≡ phase.Resting → IsAtRest e crew arms stops
-at-rest e crew arms stops home resting = subst (λ now. StandsIn now e (record { crew = crew; arms = arms; stops = stops })) resting home.stands
+pub at-rest : (e : HomeState) (live : LiveState) → IsHome e live → e.phase ≡ phase.Resting → IsAtRest e live
+at-rest e live home resting = subst (λ now. StandsIn now e live) resting home.stands
 
--- nothing was done in a leg that begins
-parts-none : (number : ℕ) (crew : List WorkerState) → parts_from number (map at_leg_start crew) ≡ []
-unfolding parts_from
-parts-none number [] = refl
-parts-none number (w ∷ crew) = parts-none (number + 1) crew
+-- a phase in which a leg is open is one in which the workers are there
+pub open-there : (now : Phase) → is_open now ≡ true → has_crew now ≡ true
+open-there phase.Resting within = refl
+open-there (phase.Open to_end) within = refl
+open-there phase.Over within = within
+open-there phase.Spent within = within
 
--- a leg is opened
-module _ (e later : HomeState) (crew after : List WorkerState) (arms now : List Arms) (stops : List Stop) (to_end : Bool)
-    (home : IsHome e crew arms stops) (resting : e.phase ≡ phase.Resting) (more : ends_over false e.log.items ≡ false)
-    (begun : after ≡ map at_leg_start crew) (now-is : now ≡ (if to_end then map without_arms arms else arms))
-    (later-is : later ≡ record e { phase = phase.Open to_end; parts = open_parts (phase.Open to_end) after }) where
-  pub home-opened : IsHome later after now stops
+-- ---- a leg is opened
+
+module _ (e : HomeState) (live : LiveState) (to_end : Bool) (home : IsHome e live) (resting : e.phase ≡ phase.Resting) (more : ends_over false e.log.items ≡ false)
+    (after : DataflowState) (after-is : after ≡ leg_begun live.dataflow) (now : List Arms) (now-is : now ≡ (if to_end then map without_arms live.arms else live.arms))
+    (same : live.dataflow.flow ≡ e.flow) where
+  pub home-opened : IsHome (record e { flow = after.flow; phase = phase.Open to_end; parts = open_parts (phase.Open to_end) after }) (record { dataflow = after; arms = now; stops = live.stops })
   home-opened =
-      subst (λ (h : HomeState). IsHome h after now stops) (sym later-is)
-      (subst (λ crew. IsHome (record e { phase = phase.Open to_end; parts = open_parts (phase.Open to_end) crew }) crew now stops) (sym begun) (record {
+      subst (λ (d : DataflowState). IsHome (record e { flow = d.flow; phase = phase.Open to_end; parts = open_parts (phase.Open to_end) d }) (record { dataflow = d; arms = now; stops = live.stops }))
+      (sym after-is)
+      (subst (λ (flow : List Operator). IsHome (record e { flow = flow; phase = phase.Open to_end; parts = leg_parts (leg_begun live.dataflow) }) (record { dataflow = leg_begun live.dataflow; arms = now; stops = live.stops }))
+      (sym same)
+      (record {
         few = home.few;
         legal = home.legal;
-        stands = opened e crew arms stops (at-rest e crew arms stops home resting) home.legal to_end more _ refl now now-is;
+        stands = opened e live (at-rest e live home resting) home.legal to_end more now now-is (leg_parts (leg_begun live.dataflow));
       }))
 
-  pub state-opened : later ≡ record e { phase = phase.Open to_end; parts = [] }
-  state-opened = later-is ∙ ap (λ parts. record e { phase = phase.Open to_end; parts = parts }) (ap (parts_from 0) begun ∙ parts-none 0 crew)
+  pub state-opened : record e { flow = after.flow; phase = phase.Open to_end; parts = open_parts (phase.Open to_end) after } ≡ record e { phase = phase.Open to_end; parts = [] }
+  state-opened =
+      ap (λ (d : DataflowState). record e { flow = d.flow; phase = phase.Open to_end; parts = open_parts (phase.Open to_end) d }) after-is
+      ∙ (λ i. record e { flow = same i; phase = phase.Open to_end; parts = begun-parts live.dataflow i })
 
--- a slice of a `Vec` that comes back as long as it was
-pub written-back : (old new : List WorkerState) (n : ℕ) → length new ≡ length old → n ≡ length old → take n (new ++ drop (length new) old) ≡ new
-written-back old new n same is =
-    let none : drop (length new) old ≡ [] = drop_all (length new) old (omega arith) in
-    ap (λ xs. take n (new ++ xs)) none ∙ ap (take n) (append-nil new) ∙ take_all n new (omega arith)
+-- ---- where the workers are there
 
--- ---- within a leg
+module _ (e : HomeState) (live : LiveState) where
+  pub home-there : (now : Phase) → IsHome (record e { phase = now }) live → has_crew now ≡ true → AreAllThere live.dataflow
+  home-there phase.Over home there = absurd (false≢true there)
+  home-there phase.Spent home there = absurd (false≢true there)
+  home-there phase.Resting home there = stand-there _ _ live.dataflow _ home.stands.at
+  home-there (phase.Open to_end) home there = stand-there _ _ live.dataflow _ home.stands.at
 
-module _ (e : HomeState) (crew after : List WorkerState) (arms : List Arms) (stops : List Stop) where
-  -- the workers go on
-  pub home-run : (now : Phase) → IsHome (record e { phase = now }) crew arms stops → is_open now ≡ true → GoOn crew after → steps_by after ≤ steps_by crew + (e.most - steps_by crew)
-      → IsHome (record e { phase = now; parts = open_parts now after }) after arms stops
-  home-run phase.Resting home within on few = absurd (false≢true within)
-  home-run phase.Over home within on few = absurd (false≢true within)
-  home-run phase.Spent home within on few = absurd (false≢true within)
-  home-run (phase.Open to_end) home within on few =
-      let leg = home.stands in
-      let most = leg.few in
-      let w = within-on to_end (record e { phase = phase.Open to_end }) crew after arms leg on (omega arith) in
-      record {
-        few = home.few;
-        legal = home.legal;
-        stands = record { more = w.more; positions = w.positions; at = w.at; arms_are = w.arms_are; few = w.few };
-      }
-
-  -- and as they are done, so may the leg be closed
-  pub closes-run : (now : Phase) → IsHome (record e { phase = now }) crew arms stops → is_open now ≡ true → GoOn crew after → steps_by after ≤ steps_by crew + (e.most - steps_by crew)
-      → (closed : Close) → IsLegDone closed (record { flow = e.flow; arms = arms }) (steps_by crew + (e.most - steps_by crew)) after
-      → ClosesIn (runs_to_end now) (query_of e) (state_of (record e { phase = now; parts = open_parts now after })) closed
-  unfolding state_of
-  closes-run phase.Resting home within on few closed done = absurd (false≢true within)
-  closes-run phase.Over home within on few closed done = absurd (false≢true within)
-  closes-run phase.Spent home within on few closed done = absurd (false≢true within)
-  closes-run (phase.Open to_end) home within on few closed done =
-      let leg = home.stands in
-      let most = leg.few in
-      let whole : steps_by crew + (e.most - steps_by crew) ≡ e.most = omega arith in
-      let here : HomeState = record e { phase = phase.Open to_end } in
-      closes-here to_end here after arms (within-on to_end here crew after arms leg on (omega arith)) home.legal closed
-      (subst (λ n. IsLegDone closed (record { flow = e.flow; arms = arms }) n after) whole done)
-
-  pub long-open : (now : Phase) → IsHome (record e { phase = now }) crew arms stops → is_open now ≡ true → length arms ≡ length e.flow
+  pub long-open : (now : Phase) → IsHome (record e { phase = now }) live → is_open now ≡ true → length live.arms ≡ length e.flow
   long-open phase.Resting home within = absurd (false≢true within)
   long-open phase.Over home within = absurd (false≢true within)
   long-open phase.Spent home within = absurd (false≢true within)
-  long-open (phase.Open to_end) home within = arms-long to_end (record e { phase = phase.Open to_end }) crew arms home.stands home.legal
+  long-open (phase.Open to_end) home within = arms-long to_end (record e { phase = phase.Open to_end }) live.dataflow live.arms home.stands home.legal
 
--- as the code has it: the workers stand in a slice of a `Vec`, and the steps that are left were counted
-module _ (e : HomeState) (crew lent after back : List WorkerState) (arms : List Arms) (stops : List Stop) (now : Phase) (n steps : ℕ)
-    (home : IsHome (record e { phase = now }) crew arms stops) (within : is_open now ≡ true) (lent-is : lent ≡ crew) (steps-are : steps ≡ steps_by crew)
-    (long : length after ≡ length lent) (size : n ≡ length crew) (back-is : back ≡ take n (after ++ drop (length after) crew)) where
-  back-same : back ≡ after
-  back-same = back-is ∙ written-back crew after n (long ∙ ap length lent-is) size
+-- ---- within a leg the workers go on
 
-  budget : steps_by lent + (e.most - steps) ≡ steps_by crew + (e.most - steps_by crew)
-  budget = ap (λ xs. steps_by xs + (e.most - steps)) lent-is ∙ ap (λ m. steps_by crew + (e.most - m)) steps-are
+module _ (e : HomeState) (live : LiveState) (now : Phase) (home : IsHome (record e { phase = now }) live) (within : is_open now ≡ true)
+    (after : DataflowState) (on : GoOn live.dataflow after) (same : live.dataflow.flow ≡ e.flow)
+    (few : step_count after ≤ step_count live.dataflow + (e.most - step_count live.dataflow)) where
+  pub home-ran : IsHome (record e { flow = after.flow; phase = now; parts = open_parts now after }) (record live { dataflow = after })
+  home-ran = subst (λ (flow : List Operator). IsHome (record e { flow = flow; phase = now; parts = open_parts now after }) (record live { dataflow = after })) (sym (on.flow ∙ same)) (by now home within)
+    where
+      by : (now : Phase) → IsHome (record e { phase = now }) live → is_open now ≡ true → IsHome (record e { phase = now; parts = open_parts now after }) (record live { dataflow = after })
+      by phase.Resting home within = absurd (false≢true within)
+      by phase.Over home within = absurd (false≢true within)
+      by phase.Spent home within = absurd (false≢true within)
+      by (phase.Open to_end) home within =
+          let leg = home.stands in
+          let most = leg.few in
+          let w = within-on to_end (record e { phase = phase.Open to_end }) live.dataflow after live.arms leg on (omega arith) in
+          record {
+            few = home.few;
+            legal = home.legal;
+            stands = record { more = w.more; positions = w.positions; at = w.at; arms_are = w.arms_are; few = w.few };
+          }
 
-  pub home-ran : GoOn lent after → steps_by after ≤ steps_by lent + (e.most - steps) → IsHome (record e { phase = now; parts = open_parts now back }) back arms stops
-  home-ran on few = subst (λ xs. IsHome (record e { phase = now; parts = open_parts now xs }) xs arms stops) (sym back-same)
-      (home-run e crew after arms stops now home within (subst (λ xs. GoOn xs after) lent-is on) (subst (λ m. steps_by after ≤ m) budget few))
-
-  pub closes-ran : GoOn lent after → steps_by after ≤ steps_by lent + (e.most - steps) → (closed : Close)
-      → IsLegDone closed (record { flow = e.flow; arms = arms }) (steps_by lent + (e.most - steps)) after
-      → ClosesIn (runs_to_end now) (query_of e) (state_of (record e { phase = now; parts = open_parts now back })) closed
-  closes-ran on few closed done = subst (λ xs. ClosesIn (runs_to_end now) (query_of e) (state_of (record e { phase = now; parts = open_parts now xs })) closed) (sym back-same)
-      (closes-run e crew after arms stops now home within (subst (λ xs. GoOn xs after) lent-is on) (subst (λ m. steps_by after ≤ m) budget few) closed
-      (subst (λ m. IsLegDone closed (record { flow = e.flow; arms = arms }) m after) budget done))
+  -- and as they are done, so may the leg be closed
+  pub closes-ran : (closed : Close) → IsLegDone closed live.arms (step_count live.dataflow + (e.most - step_count live.dataflow)) after
+      → ClosesIn (runs_to_end now) (query_of e) (state_of (record e { flow = after.flow; phase = now; parts = open_parts now after })) closed
+  unfolding state_of
+  closes-ran closed done =
+      subst (λ (flow : List Operator). ClosesIn (runs_to_end now) (query_of e) (state_of (record e { flow = flow; phase = now; parts = open_parts now after })) closed)
+      (sym (on.flow ∙ same)) (by now home within)
+    where
+      by : (now : Phase) → IsHome (record e { phase = now }) live → is_open now ≡ true
+          → ClosesIn (runs_to_end now) (query_of e) (state_of (record e { phase = now; parts = open_parts now after })) closed
+      by phase.Resting home within = absurd (false≢true within)
+      by phase.Over home within = absurd (false≢true within)
+      by phase.Spent home within = absurd (false≢true within)
+      by (phase.Open to_end) home within =
+          let leg = home.stands in
+          let most = leg.few in
+          let whole : step_count live.dataflow + (e.most - step_count live.dataflow) ≡ e.most = omega arith in
+          let here : HomeState = record e { phase = phase.Open to_end } in
+          closes-here to_end here after live.arms (within-on to_end here live.dataflow after live.arms leg on (omega arith)) home.legal closed
+          (subst (λ n. IsLegDone closed live.arms n after) whole done)

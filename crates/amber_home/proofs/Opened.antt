@@ -1,47 +1,23 @@
 -- A leg is opened: the workers stand where it begins.
-use Rattle.std.proofs.Common.{◌≡◌, refl, sym, ap, subst, ◌∙◌, ℕ, zero, suc, ◌-◌, ◌<◌, ◌≤◌, List, [], ◌∷◌, ◌++◌, length, map, take, nat_eq, Bool, true, false, None, is_some, unwrap_or, if◌then◌else◌, add-one, arith}
+use Rattle.std.proofs.Common.{◌≡◌, refl, sym, ap, subst, ◌∙◌, ℕ, zero, suc, ◌-◌, ◌≤◌, List, [], ◌∷◌, length, map, nat_eq, Bool, true, false, None, is_some, unwrap_or, if◌then◌else◌, arith}
 use Rattle.std.specs.List.{slice_get}
-use Rattle.std.proofs.lemmas.List.{map-append, take_all, length-map}
-use Rattle.std.proofs.lemmas.Grind.{take_at_read}
 use Rattle.std.proofs.Math.ListN.{get_or-map}
-use Rattle.amber_rows.specs.Crew.{crew_of, op_of}
-use Rattle.amber_rows.specs.Lists.{numbers_below}
+use Rattle.amber_rows.specs.Crew.{op_of}
 use Rattle.amber_log.specs.Grammar.{ends_over}
 use Rattle.amber_lines.specs.Moving.{orders_in}
-use Rattle.amber_meaning.specs.declared.view.Stop.{Stop}
 use Rattle.amber_meaning.specs.Legal.{IsLegal, Query, leg_start}
 use Rattle.amber_meaning.specs.Position.{Position, origin}
 use Rattle.amber_meaning.specs.State.{Arms, State, arms_at, begin_last_leg, begin_leg, let_go, no_arms, orders_of, position_at, steps_in, without_arms}
 use Rattle.amber_meaning.proofs.OneState.{legal_logs_have_one_state, position-get_or}
 use Rattle.amber_meaning.proofs.Rest.{legal_logs_rest}
 use Rattle.amber_meaning.proofs.Senders.{flows_send_forward}
-use Rattle.amber_worker.specs.Changes.{StandsAtLeg, at_leg_start}
-use Rattle.amber_worker.specs.WorkerState.{WorkerState}
-use Rattle.amber_worker.proofs.Commands.{stands-begun}
-use Rattle.amber_home.specs.AtWork.{IsQuiet, context_in, steps_by, worker_state_at}
+use Rattle.amber_log.specs.declared.leg.Part.{Part}
+use Rattle.amber_dataflow.specs.AtWork.{IsQuiet, state_reached}
+use Rattle.amber_dataflow.specs.Dataflow.{leg_begun, step_count}
+use Rattle.amber_dataflow.proofs.Standing.{begun-steps, listed-whole, stand-begun, stand-flow, stand-quiet, stand-steps}
 use Rattle.amber_home.specs.HomeState.{HomeState, query_of, rest_state}
-use Rattle.amber_home.specs.Kept.{IsAtRest, IsWithinLeg}
-use Rattle.amber_home.specs.Parts.{state_reached}
+use Rattle.amber_home.specs.Kept.{IsAtRest, IsWithinLeg, LiveState}
 use Rattle.amber_home.specs.declared.phase.Phase.TheVariants as phase
-use Rattle.amber_home.proofs.Renewed.{HasItsEnds, renewed}
-use Rattle.amber_home.proofs.Steps.{steps-cons}
-use Rattle.amber_home.proofs.Within.{steps-reached}
-
--- ---- a state is what its positions list
-
-listed-front : (ps : List Position) (n : ℕ) → n ≤ length ps → map (position_at ps) (numbers_below n) ≡ take n ps
-unfolding numbers_below
-listed-front ps zero h = refl
-listed-front ps (suc n) h =
-    map-append (position_at ps) (numbers_below n) (n ∷ [])
-    ∙ ap (λ xs. xs ++ position_at ps n ∷ []) (listed-front ps n (omega arith))
-    ∙ ap (λ p. take n ps ++ p ∷ []) (position-get_or ps n)
-    ∙ sym ((take_at_read ps n origin (omega (arith, h))).1) ∙ ap (λ m. take m ps) (add-one n)
-
-pub listed-whole : (query : Query) (state : State) → length state.positions ≡ crew_of query.flow → state_reached query state (position_at state.positions) ≡ state
-listed-whole query state long =
-    ap (λ ps. record state { positions = ps })
-    (listed-front state.positions (crew_of query.flow) (omega arith) ∙ take_all (crew_of query.flow) state.positions (omega arith))
 
 -- ---- what is in force
 
@@ -79,59 +55,49 @@ unfolding begin_leg begin_last_leg
 position-start true rest worker = position-get_or (map let_go rest.positions) worker ∙ get_or-map let_go rest.positions worker origin ∙ ap let_go (sym (position-get_or rest.positions worker))
 position-start false rest worker = position-get_or (map let_go rest.positions) worker ∙ get_or-map let_go rest.positions worker origin ∙ ap let_go (sym (position-get_or rest.positions worker))
 
--- ---- the workers begin a leg
-
-begun-at : (crew : List WorkerState) (k : ℕ) → k < length crew → worker_state_at (map at_leg_start crew) k ≡ at_leg_start (worker_state_at crew k)
-begun-at [] k less = absurd (omega arith)
-begun-at (w ∷ crew) zero less = refl
-begun-at (w ∷ crew) (suc k) less = begun-at crew k (omega arith)
-
-ends-begun : (crew : List WorkerState) (k : ℕ) → HasItsEnds (worker_state_at crew k) (worker_state_at (map at_leg_start crew) k)
-ends-begun [] k = record { number = refl; ins = refl; outs = refl; watch = refl; route = refl }
-ends-begun (w ∷ crew) zero = record { number = refl; ins = refl; outs = refl; watch = refl; route = refl }
-ends-begun (w ∷ crew) (suc k) = ends-begun crew k
-
-steps-begun : (crew : List WorkerState) → steps_by (map at_leg_start crew) ≡ steps_by crew
-steps-begun [] = refl
-steps-begun (w ∷ crew) = rw (steps-cons w crew, steps-cons (at_leg_start w) (map at_leg_start crew), steps-begun crew) refl
-
 -- the steps at rest are no more than they may be
-pub rest-few : (e : HomeState) (crew : List WorkerState) (arms : List Arms) (stops : List Stop) → IsAtRest e crew arms stops → IsLegal (query_of e) e.log → steps_by crew ≤ e.most
-rest-few e crew arms stops rest legal =
-    let query = query_of e in
-    let state = rest_state e in
-    let same : state ≡ legal.after = legal_logs_have_one_state query e.log (flows_send_forward query.flow rest.at.at.flow) legal in
-    let resting = legal_logs_rest query e.log legal in
-    let long : length state.positions ≡ crew_of query.flow = ap (λ (s : State). length s.positions) same ∙ resting.crew in
-    let steps : steps_by crew ≡ steps_in legal.after =
-    sym (steps-reached query state crew (position_at state.positions) rest.at) ∙ ap steps_in (listed-whole query state long) ∙ ap steps_in same in
-    let few = resting.few in
-    omega arith
+module _ (e : HomeState) (live : LiveState) (rest : IsAtRest e live) (legal : IsLegal (query_of e) e.log) where
+  abbrev query : Query
+  query = query_of e
+
+  abbrev state : State
+  state = rest_state e
+
+  pub first-rest : state ≡ legal.after
+  first-rest = legal_logs_have_one_state query e.log (flows_send_forward query.flow (stand-flow query state live.dataflow (position_at state.positions) rest.at)) legal
+
+  pub listed-rest : state_reached query state (position_at state.positions) ≡ state
+  listed-rest = listed-whole query state (ap (λ (s : State). length s.positions) first-rest ∙ (legal_logs_rest query e.log legal).crew)
+
+  pub steps-rest : steps_in state ≡ step_count live.dataflow
+  steps-rest = ap steps_in (sym listed-rest) ∙ stand-steps query state live.dataflow (position_at state.positions) rest.at
+
+  pub rest-few : step_count live.dataflow ≤ e.most
+  rest-few =
+      let few = (legal_logs_rest query e.log legal).few in
+      let steps = steps-rest in
+      let same = ap steps_in first-rest in
+      omega arith
 
 arms-start : (to_end : Bool) (arms : List Arms) (state : State) → arms ≡ state.arms → (if to_end then map without_arms arms else arms) ≡ (leg_start to_end state).arms
 unfolding begin_leg begin_last_leg
 arms-start true arms state is = ap (map without_arms) is
 arms-start false arms state is = is
 
-module _ (e : HomeState) (crew : List WorkerState) (arms : List Arms) (stops : List Stop) (rest : IsAtRest e crew arms stops) (legal : IsLegal (query_of e) e.log) (to_end : Bool) where
-  -- they stand where the leg begins
-  pub opened : ends_over false e.log.items ≡ false → (later : HomeState) → later ≡ record e { phase = phase.Open to_end; parts = later.parts }
-      → (now : List Arms) → now ≡ (if to_end then map without_arms arms else arms) → IsWithinLeg to_end later (map at_leg_start crew) now
-  unfolding StandsAtLeg
-  opened more later later-is now now-is =
-      let query = query_of e in
-      let state = rest_state e in
-      subst (λ (h : HomeState). IsWithinLeg to_end h (map at_leg_start crew) now) (sym later-is) (record {
-        more = more;
-        positions = λ worker. let_go (position_at state.positions worker);
-        at = renewed query state (leg_start to_end state) crew (map at_leg_start crew) (position_at state.positions) (λ worker. let_go (position_at state.positions worker)) rest.at
-            (length-map crew at_leg_start) (ends-begun crew) (quiet-start query state rest.at.at.quiet to_end)
-            (λ worker inside.
-            let here : worker < length crew = rw rest.at.at.at_positions.all inside in
-            let w = worker_state_at crew worker in
-            let p = position_at state.positions worker in
-            let begun = stands-begun w [] refl (context_in query state worker) p (rest.at.at.at_positions.each worker inside).shows in
-            rw (begun-at crew worker here, orders-start query state rest.at.at.quiet to_end worker, position-start to_end state worker) begun);
-        arms_are = now-is ∙ arms-start to_end arms state rest.arms_are;
-        few = rw (steps-begun crew) (rest-few e crew arms stops rest legal);
-      })
+-- the workers begin a leg
+pub opened : (e : HomeState) (live : LiveState) → IsAtRest e live → IsLegal (query_of e) e.log → (to_end : Bool) → ends_over false e.log.items ≡ false
+    → (now : List Arms) → now ≡ (if to_end then map without_arms live.arms else live.arms) → (parts : List Part)
+    → IsWithinLeg to_end (record e { phase = phase.Open to_end; parts = parts }) (leg_begun live.dataflow) now
+opened e live rest legal to_end more now now-is parts =
+    let query = query_of e in
+    let state = rest_state e in
+    let positions = position_at state.positions in
+    let quiet = stand-quiet query state live.dataflow positions rest.at in
+    record {
+      more = more;
+      positions = λ worker. let_go (positions worker);
+      at = stand-begun query state live.dataflow positions rest.at (leg_start to_end state) (quiet-start query state quiet to_end)
+          (λ worker inside. orders-start query state quiet to_end worker) (λ worker inside. position-start to_end state worker);
+      arms_are = now-is ∙ arms-start to_end live.arms state rest.arms_are;
+      few = rw (begun-steps live.dataflow) (rest-few e live rest legal);
+    }

@@ -1,9 +1,8 @@
 -- The stops of the state that workers reached are those that they show.
-use Rattle.std.proofs.Common.{◌≡◌, ◌≢◌, refl, sym, ap, ◌∙◌, ℕ, zero, suc, ◌+◌, ◌-◌, ◌<◌, ◌≤◌, List, [], ◌∷◌, ◌++◌, length, map, sum_by, nat_le, Bool, true, false, Option, None, Some, unwrap_or, if◌then◌else◌, ◌&&◌, ◌⊎◌, inl, inr, add-one, arith}
-use Rattle.std.specs.List.{flat_map, list_all, slice_get}
-use Rattle.std.proofs.lemmas.Bool.{and_parts, cases_lt, false≢true}
-use Rattle.std.proofs.lemmas.List.Sums.{sum_by-cons}
-use Rattle.amber_rows.specs.Crew.{crew_of, first_worker_of, op_of, workers_of}
+use Rattle.std.proofs.Common.{◌≡◌, ◌≢◌, refl, sym, ap, ◌∙◌, ℕ, zero, suc, ◌-◌, ◌<◌, ◌≤◌, List, [], ◌∷◌, ◌++◌, length, nat_le, Bool, true, false, Option, None, Some, unwrap_or, if◌then◌else◌, ◌⊎◌, inl, inr, add-one, arith}
+use Rattle.std.specs.List.{flat_map, slice_get}
+use Rattle.std.proofs.lemmas.Bool.{cases_lt, false≢true}
+use Rattle.amber_rows.specs.Crew.{crew_of, first_worker_of, op_of}
 use Rattle.amber_rows.specs.Lists.{nth, numbers_below}
 use Rattle.amber_rows.specs.declared.flow.Operator.{Operator}
 use Rattle.amber_rows.specs.declared.value.Value.{Value}
@@ -13,42 +12,41 @@ use Rattle.amber_log.specs.declared.leg.Close.{Close}
 use Rattle.amber_log.specs.declared.leg.Close.TheVariants as close
 use Rattle.amber_meaning.specs.declared.view.Stop.{Stop}
 use Rattle.amber_meaning.specs.declared.view.Stop.TheVariants as stop
-use Rattle.amber_meaning.specs.Legal.{IsSettled, Query, role_in, stops_in}
-use Rattle.amber_meaning.specs.Position.{Position, emitted_count, pending_rows}
+use Rattle.amber_meaning.specs.Legal.{IsSettled, Query, entries_of, role_in, stops_in}
+use Rattle.amber_meaning.specs.Position.{Position, pending_rows}
 use Rattle.amber_meaning.specs.Rules.{Leads, Moves, Orders, assigned, first_is_watched}
-use Rattle.amber_meaning.specs.State.{Arms, State, arms_at, crew_at, emitted_by, have_finished, no_arms, position_at, steps_in}
+use Rattle.amber_meaning.specs.State.{Arms, State, arms_at, have_finished, no_arms, position_at, steps_in}
 use Rattle.amber_meaning.specs.Stops.{count_stop, count_stops, end_stop, held_stop, held_stops, op_numbers, pause_stop, pause_stops, stops_of}
 use Rattle.amber_meaning.specs.Task.{Role}
-use Rattle.amber_meaning.proofs.Crews.{worker-known}
 use Rattle.amber_meaning.proofs.Lists.{nth-next}
 use Rattle.amber_meaning.proofs.Numbers.{among, among-first, among-more, among_step, below-in, in-row}
 use Rattle.amber_lines.specs.Moving.{orders_in}
-use Rattle.amber_worker.specs.WorkerState.{WorkerState}
-use Rattle.amber_home.specs.AtWork.{AreAtWork, HaveFinished, steps_by, worker_state_at}
+use Rattle.amber_dataflow.specs.AtWork.{state_reached}
+use Rattle.amber_dataflow.specs.Dataflow.{DataflowState, StandAt, have_all_finished, leg_parts, rows_emitted, step_count}
+use Rattle.amber_dataflow.proofs.Standing.{stand-emitted, stand-finished, stand-position, stand-quiet, stand-steps}
 use Rattle.amber_home.specs.HomeState.{ClosesIn}
-use Rattle.amber_home.specs.Leg.{IsLegDone, NonePaused, Run, emitted_at, stop_at_end, is_paused, pause_at, paused_stop, pauses_of, stands_after, stops_by}
-use Rattle.amber_home.specs.Parts.{state_reached}
-use Rattle.amber_home.proofs.Within.{finished-reached, leads-at, position-here, settled-reached, steps-reached, unfinished-reached}
+use Rattle.amber_home.specs.Leg.{IsLegDone, NonePaused, is_paused, pause_at, paused_stop, pauses_of, stands_after, stop_at_end, stops_by}
+use Rattle.amber_home.proofs.Reached.{leads-at, settled-reached}
 
 -- ---- nobody is held
 
-held-moves : (role : Role) (orders : Orders) (p q : Position) (one : Entry) → orders.watch ≡ None → p.held ≡ false → Moves (assigned role orders) p one q → q.held ≡ false
-held-moves role orders p q (entry.Take from number) unwatched none moves = ap (λ m. m.held) moves.2 ∙ none
-held-moves role orders p q (entry.Go rows outs) unwatched none moves = ap (λ m. m.held) moves.2 ∙ none
-held-moves role orders p q (entry.Grant n) unwatched none moves = ap (λ m. m.held) moves.2 ∙ none
-held-moves role orders p q (entry.Back n) unwatched none moves = ap (λ m. m.held) moves.2 ∙ none
-held-moves role orders p q entry.Pause unwatched none moves = ap (λ m. m.held) moves.2 ∙ none
-held-moves role orders p q entry.Resume unwatched none moves = ap (λ m. m.held) moves.2 ∙ none
+held-moves : (role : Role) (orders : Orders) (p q : Position) (one : Entry) → orders.watch ≡ None → p.restraint.held ≡ false → Moves (assigned role orders) p one q → q.restraint.held ≡ false
+held-moves role orders p q (entry.Take from number) unwatched none moves = ap (λ m. m.restraint.held) moves.2 ∙ none
+held-moves role orders p q (entry.Go rows outs) unwatched none moves = ap (λ m. m.restraint.held) moves.2 ∙ none
+held-moves role orders p q (entry.Grant n) unwatched none moves = ap (λ m. m.restraint.held) moves.2 ∙ none
+held-moves role orders p q (entry.Back n) unwatched none moves = ap (λ m. m.restraint.held) moves.2 ∙ none
+held-moves role orders p q entry.Pause unwatched none moves = ap (λ m. m.restraint.held) moves.2 ∙ none
+held-moves role orders p q entry.Resume unwatched none moves = ap (λ m. m.restraint.held) moves.2 ∙ none
 held-moves role orders p q entry.Hold unwatched none moves = absurd (false≢true (sym (unwatched-first (pending_rows role p)) ∙ ap (λ watch. first_is_watched watch (pending_rows role p)) (sym unwatched) ∙ moves.1.watched))
   where
     unwatched-first : (rows : List (List Value)) → first_is_watched None rows ≡ false
     unwatched-first [] = refl
     unwatched-first (row ∷ rows) = refl
-held-moves role orders p q entry.Finish unwatched none moves = ap (λ m. m.held) moves.2 ∙ none
+held-moves role orders p q entry.Finish unwatched none moves = ap (λ m. m.restraint.held) moves.2 ∙ none
 
-held-stays : (role : Role) (orders : Orders) (p q : Position) (entries : List Entry) → orders.watch ≡ None → p.held ≡ false → Leads (assigned role orders) p entries q → q.held ≡ false
+held-stays : (role : Role) (orders : Orders) (p q : Position) (entries : List Entry) → orders.watch ≡ None → p.restraint.held ≡ false → Leads (assigned role orders) p entries q → q.restraint.held ≡ false
 unfolding Leads
-held-stays role orders p q [] unwatched none leads = ap (λ m. m.held) (sym leads) ∙ none
+held-stays role orders p q [] unwatched none leads = ap (λ m. m.restraint.held) (sym leads) ∙ none
 held-stays role orders p q (one ∷ more) unwatched none leads =
     held-stays role orders leads.0 q more unwatched (held-moves role orders p leads.0 one unwatched none leads.1) leads.2
 
@@ -66,114 +64,56 @@ same-stops : (f g : ℕ → List Stop) (xs : List ℕ) → ((x : ℕ) → f x �
 same-stops f g [] same = refl
 same-stops f g (x ∷ xs) same = rw (same x, same-stops f g xs same) refl
 
--- ---- whether all have finished
+-- ---- all stops
 
-pub all-have : (crew : List WorkerState) → list_all (λ (w : WorkerState). w.finished) crew ≡ true → HaveFinished (length crew) crew
-all-have [] e k less = absurd (omega arith)
-all-have (w ∷ crew) e zero less = (and_parts w.finished _ e).0
-all-have (w ∷ crew) e (suc k) less = all-have crew (and_parts w.finished _ e).1 k (omega arith)
-
-pub some-has-not : (crew : List WorkerState) → list_all (λ (w : WorkerState). w.finished) crew ≡ false
-    → (worker : ℕ) × (worker < length crew) × ((worker_state_at crew worker).finished ≡ false)
-some-has-not [] e = absurd (false≢true (sym e))
-some-has-not (w ∷ crew) e = by w.finished refl e (some-has-not crew)
-  where
-    by : (b : Bool) → w.finished ≡ b → (b && list_all (λ (w : WorkerState). w.finished) crew) ≡ false
-        → (list_all (λ (w : WorkerState). w.finished) crew ≡ false → (worker : ℕ) × (worker < length crew) × ((worker_state_at crew worker).finished ≡ false))
-        → (worker : ℕ) × (worker < length (w ∷ crew)) × ((worker_state_at (w ∷ crew) worker).finished ≡ false)
-    by false is e rest = (0, omega arith, is)
-    by true is e rest = let one = rest e in let less = one.1 in (suc one.0, omega arith, one.2)
-
-pub have-all : (crew : List WorkerState) → HaveFinished (length crew) crew → list_all (λ (w : WorkerState). w.finished) crew ≡ true
-have-all [] done = refl
-have-all (w ∷ crew) done = rw (done 0 (omega arith)) (have-all crew (λ k less. done (suc k) (omega arith)))
-
-pub has-not : (crew : List WorkerState) (worker : ℕ) → worker < length crew → (worker_state_at crew worker).finished ≡ false → list_all (λ (w : WorkerState). w.finished) crew ≡ false
-has-not [] worker less e = absurd (omega arith)
-has-not (w ∷ crew) zero less e = rw e refl
-has-not (w ∷ crew) (suc k) less e = by w.finished (has-not crew k (omega arith) e)
-  where
-    by : (b : Bool) → list_all (λ (w : WorkerState). w.finished) crew ≡ false → (b && list_all (λ (w : WorkerState). w.finished) crew) ≡ false
-    by true rest = rest
-    by false rest = refl
-
--- ---- the rows that an operator has emitted
-
-module _ (query : Query) (start : State) (crew : List WorkerState) (positions : ℕ → Position) (work : AreAtWork query start crew positions) where
+module _ (query : Query) (start : State) (d : DataflowState) (positions : ℕ → Position) (stand : StandAt query start d positions) where
   abbrev reached : State
   reached = state_reached query start positions
 
-  emitted-here : (worker : ℕ) → worker < crew_of query.flow → emitted_count (position_at reached.positions worker).outcomes ≡ (worker_state_at crew worker).emitted
-  emitted-here worker inside =
-      ap (λ (p : Position). emitted_count p.outcomes) (position-here query start crew positions work worker inside)
-      ∙ sym (work.at.at_positions.each worker inside).shows.emitted
-
-  sum-emitted : (workers : List ℕ) → ((worker : ℕ) → among worker workers ≡ true → worker < crew_of query.flow)
-      → sum_by (λ (p : Position). emitted_count p.outcomes) (map (position_at reached.positions) workers) ≡ emitted_at crew workers
-  sum-emitted [] known = refl
-  sum-emitted (worker ∷ more) known =
-      sum_by-cons (λ (p : Position). emitted_count p.outcomes) (position_at reached.positions worker) (map (position_at reached.positions) more)
-      ∙ ap (λ n. n + sum_by (λ (p : Position). emitted_count p.outcomes) (map (position_at reached.positions) more)) (emitted-here worker (known worker (among-first worker more)))
-      ∙ ap (λ n. (worker_state_at crew worker).emitted + n) (sum-emitted more (λ w among-it. known w (among-more w worker more among-it)))
-      ∙ sym (sum_by-cons (λ w. (worker_state_at crew w).emitted) worker more)
-
-  pub emitted-is : (op : ℕ) → emitted_by query.flow reached op ≡ emitted_at crew (workers_of query.flow op)
-  unfolding emitted_by crew_at
-  emitted-is op = sum-emitted (workers_of query.flow op) (λ worker known. worker-known query.flow op worker known)
-
-  -- ---- all stops
-
-  pauses-are : (run : Run) → run.flow ≡ query.flow → run.arms ≡ start.arms → pause_stops query.flow reached ≡ pauses_of run crew
+  pauses-are : (arms : List Arms) → arms ≡ start.arms → pause_stops query.flow reached ≡ pauses_of arms d
   unfolding pause_stops
-  pauses-are run flow arms =
-      same-stops (λ op. pause_stop query.flow reached op (arms_at reached op).pause) (λ op. paused_stop op (pause_at start.arms op) (emitted_at crew (workers_of query.flow op)))
+  pauses-are arms arms-are =
+      same-stops (λ op. pause_stop query.flow reached op (arms_at reached op).pause) (λ op. paused_stop op (pause_at start.arms op) (rows_emitted d op))
       (op_numbers query.flow) (λ op. one op (arms_at reached op).pause)
-      ∙ ap (λ (f : List Operator). flat_map (λ op. paused_stop op (pause_at start.arms op) (emitted_at crew (workers_of f op))) (op_numbers f)) (sym flow)
-      ∙ ap (λ (a : List Arms). flat_map (λ op. paused_stop op (pause_at a op) (emitted_at crew (workers_of run.flow op))) (op_numbers run.flow)) (sym arms)
+      ∙ ap (λ (f : List Operator). flat_map (λ op. paused_stop op (pause_at start.arms op) (rows_emitted d op)) (op_numbers f)) (sym stand.flow)
+      ∙ ap (λ (a : List Arms). flat_map (λ op. paused_stop op (pause_at a op) (rows_emitted d op)) (op_numbers d.flow)) (sym arms-are)
     where
-      one : (op : ℕ) (pause : Option ℕ) → pause_stop query.flow reached op pause ≡ paused_stop op pause (emitted_at crew (workers_of query.flow op))
+      one : (op : ℕ) (pause : Option ℕ) → pause_stop query.flow reached op pause ≡ paused_stop op pause (rows_emitted d op)
       one op None = refl
-      one op (Some n) = ap (λ rows. if nat_le n rows then stop.Pause op n rows ∷ [] else []) (emitted-is op)
+      one op (Some n) = ap (λ rows. if nat_le n rows then stop.Pause op n rows ∷ [] else []) (stand-emitted query start d positions stand op)
 
   none-counted : count_stops query.flow reached ≡ []
   unfolding count_stops
   none-counted = no-stops (λ op. count_stop query.flow reached op (arms_at reached op).count) (op_numbers query.flow)
-      (λ op. ap (count_stop query.flow reached op) (work.at.quiet op).uncounted)
+      (λ op. ap (count_stop query.flow reached op) (stand-quiet query start d positions stand op).uncounted)
 
-  none-held : ((worker : ℕ) → worker < crew_of query.flow → (position_at start.positions worker).held ≡ false) → held_stops query.flow (role_in query) reached ≡ []
+  none-held : ((worker : ℕ) → worker < crew_of query.flow → (position_at start.positions worker).restraint.held ≡ false) → held_stops query.flow (role_in query) reached ≡ []
   unfolding held_stops
   none-held loose =
       no-stops-among (λ worker. held_stop (op_of query.flow worker) (worker - first_worker_of query.flow (op_of query.flow worker))
-      (position_at reached.positions worker).held (pending_rows (role_in query worker) (position_at reached.positions worker))) (numbers_below (crew_of query.flow))
+      (position_at reached.positions worker).restraint.held (pending_rows (role_in query worker) (position_at reached.positions worker))) (numbers_below (crew_of query.flow))
       (λ worker known.
       let inside = below-in (crew_of query.flow) worker known in
-      let held : (position_at reached.positions worker).held ≡ false =
-      ap (λ (p : Position). p.held) (position-here query start crew positions work worker inside)
-      ∙ held-stays (role_in query worker) (orders_in query start worker) (position_at start.positions worker) (positions worker) (worker_state_at crew worker).journal
-      (work.at.quiet (op_of query.flow worker)).unwatched (loose worker inside) (leads-at query start crew positions work worker inside) in
+      let held : (position_at reached.positions worker).restraint.held ≡ false =
+      ap (λ (p : Position). p.restraint.held) (stand-position query start d positions stand worker inside)
+      ∙ held-stays (role_in query worker) (orders_in query start worker) (position_at start.positions worker) (positions worker) (entries_of (leg_parts d) worker)
+      (stand-quiet query start d positions stand (op_of query.flow worker)).unwatched (loose worker inside) (leads-at query start d positions stand worker inside) in
       ap (λ b. held_stop (op_of query.flow worker) (worker - first_worker_of query.flow (op_of query.flow worker)) b
       (pending_rows (role_in query worker) (position_at reached.positions worker))) held)
 
-  pub finished-are : have_finished reached ≡ list_all (λ (w : WorkerState). w.finished) crew
-  finished-are = by (list_all (λ (w : WorkerState). w.finished) crew) refl
-    where
-      by : (b : Bool) → list_all (λ (w : WorkerState). w.finished) crew ≡ b → have_finished reached ≡ b
-      by true e = finished-reached query start crew positions work (all-have crew e)
-      by false e = let one = some-has-not crew e in unfinished-reached query start crew positions work one.0 one.1 one.2
+  ends-are : end_stop reached ≡ stop_at_end d
+  ends-are = ap (λ b. if b then stop.End ∷ [] else []) (stand-finished query start d positions stand)
 
-  ends-are : end_stop reached ≡ stop_at_end crew
-  ends-are = ap (λ b. if b then stop.End ∷ [] else []) finished-are
-
-  pub stops-are : (run : Run) → run.flow ≡ query.flow → run.arms ≡ start.arms → ((worker : ℕ) → worker < crew_of query.flow → (position_at start.positions worker).held ≡ false)
-      → stops_in query reached ≡ stops_by run crew
+  pub stops-are : (arms : List Arms) → arms ≡ start.arms → ((worker : ℕ) → worker < crew_of query.flow → (position_at start.positions worker).restraint.held ≡ false)
+      → stops_in query reached ≡ stops_by arms d
   unfolding stops_of
-  stops-are run flow arms loose = rw (none-held loose, none-counted, pauses-are run flow arms, ends-are) refl
+  stops-are arms arms-are loose = rw (none-held loose, none-counted, pauses-are arms arms-are, ends-are) refl
 
 -- ---- how the leg may be closed
 
-pauses-none : (run : Run) (crew : List WorkerState) → NonePaused run crew → pauses_of run crew ≡ []
-pauses-none run crew none = no-stops (λ op. paused_stop op (pause_at run.arms op) (emitted_at crew (workers_of run.flow op))) (op_numbers run.flow)
-    (λ op. one op (pause_at run.arms op) (emitted_at crew (workers_of run.flow op)) (none op))
+pauses-none : (arms : List Arms) (d : DataflowState) → NonePaused arms d → pauses_of arms d ≡ []
+pauses-none arms d none = no-stops (λ op. paused_stop op (pause_at arms op) (rows_emitted d op)) (op_numbers d.flow)
+    (λ op. one op (pause_at arms op) (rows_emitted d op) (none op))
   where
     one : (op : ℕ) (pause : Option ℕ) (rows : ℕ) → stands_after pause rows ≡ false → paused_stop op pause rows ≡ []
     one op None rows e = refl
@@ -215,57 +155,55 @@ stop-stands op (Some n) rows e none = cons-nil (sym (ap (λ b. if b then stop.Pa
     cons-nil : stop.Pause op n rows ∷ [] ≡ [] → ⊥
     cons-nil e = cc
 
-pub pauses-some : (run : Run) (crew : List WorkerState) (op : ℕ) → length run.arms ≡ length run.flow → is_paused run crew op ≡ true → pauses_of run crew ≢ []
-pauses-some run crew op long paused =
-    let within = paused-within run.arms op (emitted_at crew (workers_of run.flow op)) paused in
-    some-stop (λ op. paused_stop op (pause_at run.arms op) (emitted_at crew (workers_of run.flow op))) (op_numbers run.flow) op
-    (among-ops run.flow op within.0 (let most = within.1 in omega arith)) (stop-stands op (pause_at run.arms op) (emitted_at crew (workers_of run.flow op)) paused)
+pub pauses-some : (arms : List Arms) (d : DataflowState) (op : ℕ) → length arms ≡ length d.flow → is_paused arms d op ≡ true → pauses_of arms d ≢ []
+pauses-some arms d op long paused =
+    let within = paused-within arms op (rows_emitted d op) paused in
+    some-stop (λ op. paused_stop op (pause_at arms op) (rows_emitted d op)) (op_numbers d.flow) op
+    (among-ops d.flow op within.0 (let most = within.1 in omega arith)) (stop-stands op (pause_at arms op) (rows_emitted d op) paused)
 
-pub stops-none : (run : Run) (crew : List WorkerState) → NonePaused run crew → list_all (λ (w : WorkerState). w.finished) crew ≡ false → stops_by run crew ≡ []
-stops-none run crew none unfinished = rw (pauses-none run crew none, unfinished) refl
+pub stops-none : (arms : List Arms) (d : DataflowState) → NonePaused arms d → have_all_finished d ≡ false → stops_by arms d ≡ []
+stops-none arms d none unfinished = rw (pauses-none arms d none, unfinished) refl
 
-stops-some : (run : Run) (crew : List WorkerState) → length run.arms ≡ length run.flow
-    → ((op : ℕ) × (is_paused run crew op ≡ true)) ⊎ (list_all (λ (w : WorkerState). w.finished) crew ≡ true) → stops_by run crew ≢ []
-stops-some run crew long (inl paused) none = pauses-some run crew paused.0 long paused.1 (both-none (pauses_of run crew) (stop_at_end crew) none).0
-stops-some run crew long (inr finished) none = end-nil (sym (ap (λ b. if b then stop.End ∷ [] else []) finished) ∙ (both-none (pauses_of run crew) (stop_at_end crew) none).1)
+stops-some : (arms : List Arms) (d : DataflowState) → length arms ≡ length d.flow
+    → ((op : ℕ) × (is_paused arms d op ≡ true)) ⊎ (have_all_finished d ≡ true) → stops_by arms d ≢ []
+stops-some arms d long (inl paused) none = pauses-some arms d paused.0 long paused.1 (both-none (pauses_of arms d) (stop_at_end d) none).0
+stops-some arms d long (inr finished) none = end-nil (sym (ap (λ b. if b then stop.End ∷ [] else []) finished) ∙ (both-none (pauses_of arms d) (stop_at_end d) none).1)
   where
     end-nil : stop.End ∷ [] ≡ [] → ⊥
     end-nil e = cc
 
 -- nothing is paused where nothing is armed
-unarmed : (run : Run) (crew : List WorkerState) (op : ℕ) → ((op : ℕ) → pause_at run.arms op ≡ None) → is_paused run crew op ≡ true → ⊥
-unarmed run crew op none paused = false≢true (sym (ap (λ pause. stands_after pause (emitted_at crew (workers_of run.flow op))) (none op)) ∙ paused)
+unarmed : (arms : List Arms) (d : DataflowState) (op : ℕ) → ((op : ℕ) → pause_at arms op ≡ None) → is_paused arms d op ≡ true → ⊥
+unarmed arms d op none paused = false≢true (sym (ap (λ pause. stands_after pause (rows_emitted d op)) (none op)) ∙ paused)
 
-module _ (query : Query) (start : State) (crew : List WorkerState) (positions : ℕ → Position) (work : AreAtWork query start crew positions) (run : Run)
-    (flow : run.flow ≡ query.flow) (arms : run.arms ≡ start.arms) (long : length run.arms ≡ length run.flow)
-    (loose : (worker : ℕ) → worker < crew_of query.flow → (position_at start.positions worker).held ≡ false)
-    (hands : (worker : ℕ) → worker < crew_of query.flow → (position_at start.positions worker).hand ≡ 0) where
+module _ (query : Query) (start : State) (d : DataflowState) (positions : ℕ → Position) (stand : StandAt query start d positions) (arms : List Arms)
+    (arms-are : arms ≡ start.arms) (long : length arms ≡ length query.flow)
+    (loose : (worker : ℕ) → worker < crew_of query.flow → (position_at start.positions worker).restraint.held ≡ false)
+    (hands : (worker : ℕ) → worker < crew_of query.flow → (position_at start.positions worker).restraint.hand ≡ 0) where
   abbrev now : State
   now = state_reached query start positions
 
-  stops-now : stops_in query now ≡ stops_by run crew
-  stops-now = stops-are query start crew positions work run flow arms loose
+  stops-now : stops_in query now ≡ stops_by arms d
+  stops-now = stops-are query start d positions stand arms arms-are loose
 
   settled-now : IsSettled query now
-  settled-now = settled-reached query start crew positions work hands
+  settled-now = settled-reached query start d positions stand hands
 
-  steps-now : steps_in now ≡ steps_by crew
-  steps-now = steps-reached query start crew positions work
+  steps-now : steps_in now ≡ step_count d
+  steps-now = stand-steps query start d positions stand
+
+  finished-now : have_finished now ≡ have_all_finished d
+  finished-now = stand-finished query start d positions stand
 
   -- so may it be closed
-  pub may-close : (to_end : Bool) (closed : Close) → (to_end ≡ true → (op : ℕ) → pause_at run.arms op ≡ None) → steps_by crew ≤ query.most → IsLegDone closed run query.most crew
+  pub may-close : (to_end : Bool) (closed : Close) → (to_end ≡ true → (op : ℕ) → pause_at arms op ≡ None) → step_count d ≤ query.most → IsLegDone closed arms query.most d
       → ClosesIn to_end query now closed
-  may-close false close.Cut none few done = (settled-now, rw steps-now few, λ e. stops-some run crew long (by done) (sym stops-now ∙ e))
-    where
-      by : ((op : ℕ) × (is_paused run crew op ≡ true)) ⊎ HaveFinished (length crew) crew → ((op : ℕ) × (is_paused run crew op ≡ true)) ⊎ (list_all (λ (w : WorkerState). w.finished) crew ≡ true)
-      by (inl paused) = inl paused
-      by (inr finished) = inr (have-all crew finished)
-  may-close false close.Long none few done =
-      (settled-now, steps-now ∙ done.1, stops-now ∙ stops-none run crew done.0 (has-not crew done.2.0 done.2.1 done.2.2))
+  may-close false close.Cut none few done =
+      (settled-now, rw steps-now few, λ e. stops-some arms d (long ∙ ap length (sym stand.flow)) done (sym stops-now ∙ e))
+  may-close false close.Long none few done = (settled-now, steps-now ∙ done.1, stops-now ∙ stops-none arms d done.0 done.2)
   may-close true close.Cut none few done = (settled-now, rw steps-now few, by done)
     where
-      by : ((op : ℕ) × (is_paused run crew op ≡ true)) ⊎ HaveFinished (length crew) crew → have_finished now ≡ true
-      by (inl paused) = absurd (unarmed run crew paused.0 (none refl) paused.1)
-      by (inr finished) = finished-reached query start crew positions work finished
-  may-close true close.Long none few done =
-      (settled-now, steps-now ∙ done.1, unfinished-reached query start crew positions work done.2.0 done.2.1 done.2.2)
+      by : ((op : ℕ) × (is_paused arms d op ≡ true)) ⊎ (have_all_finished d ≡ true) → have_finished now ≡ true
+      by (inl paused) = absurd (unarmed arms d paused.0 (none refl) paused.1)
+      by (inr finished) = finished-now ∙ finished
+  may-close true close.Long none few done = (settled-now, steps-now ∙ done.1, finished-now ∙ done.2)

@@ -1,85 +1,29 @@
--- What the workers of an operator show, and the operator.
-use Rattle.std.proofs.Common.{◌≡◌, refl, sym, ap, subst, ◌∙◌, ℕ, ◌+◌, ◌-◌, ◌<◌, ◌≤◌, List, [], ◌∷◌, ◌++◌, length, get_or, map, None, Option, option_map, true, unwrap_or, add-one, arith}
-use Rattle.std.proofs.lemmas.List.{map-append}
-use Rattle.amber_rows.specs.Crew.{first_worker_of, worker_count, workers_of}
-use Rattle.amber_rows.specs.Lists.{first_of, nth, numbers_below}
-use Rattle.amber_rows.specs.declared.flow.Operator.{Operator}
+-- What an operator shows.
+use Rattle.std.proofs.Common.{◌≡◌, sym, ap, ◌∙◌, ℕ, List, Option, None}
+use Rattle.std.specs.Prelude.{option_map}
+use Rattle.amber_rows.specs.Lists.{first_of}
 use Rattle.amber_rows.specs.declared.value.Value.{Value}
-use Rattle.amber_meaning.specs.Legal.{role_in}
-use Rattle.amber_meaning.specs.State.{Arms, no_arms, position_at}
-use Rattle.amber_meaning.specs.Views.{counted_view, inspected_of, view_of}
+use Rattle.amber_meaning.specs.State.{Arms}
+use Rattle.amber_meaning.specs.Views.{counted_view, inspected_of}
 use Rattle.amber_meaning.specs.declared.view.WorkerView.{WorkerView}
-use Rattle.amber_rows.proofs.CrewFacts.{count-there}
-use Rattle.amber_meaning.proofs.Crews.{worker-known}
-use Rattle.amber_meaning.proofs.Numbers.{among, among-first, among-more}
-use Rattle.amber_worker.specs.AtPosition.{Context, IsViewOf, Shows, placement_of}
-use Rattle.amber_worker.specs.WorkerState.{WorkerState}
-use Rattle.amber_home.specs.Answers.{IsShownAt, ShowWorkers}
-use Rattle.amber_home.specs.AtWork.{placement_at, worker_state_at}
-use Rattle.amber_home.specs.Parts.{state_reached}
-use Rattle.amber_home.proofs.Answered.{at-work-show}
-use Rattle.amber_home.proofs.Split.{read-at}
-use Rattle.amber_home.proofs.Within.{position-here}
+use Rattle.amber_dataflow.specs.AtWork.{state_reached}
+use Rattle.amber_dataflow.specs.Dataflow.{DataflowState, ShowAt}
+use Rattle.amber_dataflow.proofs.Standing.{stand-quiet}
+use Rattle.amber_home.specs.Leg.{ShowsAt, armed_at}
 
-pub shown-none : (crew : List WorkerState) (views : List WorkerView) → views ≡ [] → ShowWorkers crew [] views
-unfolding ShowWorkers
-shown-none crew views none query positions shows = none
-
--- one worker more shows its view
-pub shown-more : (crew : List WorkerState) (first place : ℕ) (w : WorkerState) (view : WorkerView) (views longer : List WorkerView) → first + place < length crew
-    → w ≡ get_or crew (first + place) w → ShowWorkers crew (map (λ place. first + place) (numbers_below place)) views → IsViewOf w view → longer ≡ views ++ view ∷ []
-    → ShowWorkers crew (map (λ place. first + place) (numbers_below (place + 1))) longer
-unfolding ShowWorkers IsViewOf numbers_below
-shown-more crew first place w view views longer inside is before gives longer-is query positions shows =
-    let worker = first + place in
-    let one = shows worker inside in
-    let same : worker_state_at crew worker ≡ w = sym (is ∙ read-at crew worker w inside) in
-    let context : Context = record { placement = placement_at query worker; orders = one.0; base = one.1 } in
-    let here = gives context (positions worker) (subst (λ v. Shows context v (positions worker)) same one.2) in
-    let f : ℕ → WorkerView = λ worker. view_of (placement_at query worker).role (positions worker) in
-    let workers = map (λ place. first + place) (numbers_below place) in
-    longer-is ∙ ap (λ l. l ++ view ∷ []) (before query positions shows)
-    ∙ ap (λ v. map f workers ++ v ∷ []) here
-    ∙ sym (map-append f workers (worker ∷ []))
-    ∙ ap (map f) (sym (map-append (λ place. first + place) (numbers_below place) (place ∷ [])))
-    ∙ ap (λ n. map f (map (λ place. first + place) (numbers_below n))) (sym (add-one place))
-
--- all of the operator do
-pub shown-all : (flow operators : List Operator) (crew : List WorkerState) (op place first : ℕ) (o : Operator) (views found : List WorkerView) → operators ≡ flow → 0 < op → op ≤ length flow
-    → o ≡ get_or operators (op - 1) o → first ≡ first_worker_of flow op → o.workers ≤ place → place ≤ o.workers
-    → ShowWorkers crew (map (λ place. first + place) (numbers_below place)) views → found ≡ views → ShowWorkers crew (workers_of flow op) found
-unfolding workers_of
-shown-all flow operators crew op place first o views found same some within is first-is least most before found-is =
-    let count : o.workers ≡ worker_count flow op = ap (λ (x : Operator). x.workers) (is ∙ ap (λ xs. get_or xs (op - 1) o) same) ∙ count-there flow op o some within in
-    let whole : place ≡ worker_count flow op = omega arith in
-    let workers : map (λ place. first + place) (numbers_below place) ≡ map (λ place. first_worker_of flow op + place) (numbers_below (worker_count flow op)) =
-    ap (λ n. map (λ place. first + place) (numbers_below n)) whole ∙ ap (λ n. map (λ place. n + place) (numbers_below (worker_count flow op))) first-is in
-    subst (λ l. ShowWorkers crew l found) workers (subst (λ l. ShowWorkers crew (map (λ place. first + place) (numbers_below place)) l) (sym found-is) before)
-
--- ---- the operator
-
-views-among : (f g : ℕ → WorkerView) (xs : List ℕ) → ((x : ℕ) → among x xs ≡ true → f x ≡ g x) → map f xs ≡ map g xs
-views-among f g [] same = refl
-views-among f g (x ∷ xs) same =
-    ap (λ v. v ∷ map f xs) (same x (among-first x xs)) ∙ ap (λ l. g x ∷ l) (views-among f g xs (λ y known. same y (among-more y x xs known)))
-
-pub inspected : (flow : List Operator) (arms : List Arms) (crew : List WorkerState) (op : ℕ) (constant : Option Value) (pause : Option ℕ) (views : List WorkerView)
-    → constant ≡ first_of (unwrap_or (nth arms op) no_arms).constants → pause ≡ (unwrap_or (nth arms op) no_arms).pause → ShowWorkers crew (workers_of flow op) views
-    → IsShownAt flow arms crew (record { op = op; constant = constant; pause = pause; count = None; when = None; workers = views })
-unfolding IsShownAt ShowWorkers inspected_of placement_of
-inspected flow arms crew op constant pause views constant-is pause-is shown query start positions same arms-are work =
+pub inspected : (arms : List Arms) (d : DataflowState) (op : ℕ) (constant : Option Value) (pause : Option ℕ) (views : List WorkerView)
+    → constant ≡ first_of (armed_at arms op).constants → pause ≡ (armed_at arms op).pause → ShowAt d op views
+    → ShowsAt arms d op (record { op = op; constant = constant; pause = pause; count = None; when = None; workers = views })
+unfolding ShowsAt ShowAt inspected_of
+inspected arms d op constant pause views constant-is pause-is shown query start positions stand arms-are =
     let state = state_reached query start positions in
-    let quiet = work.at.quiet op in
-    let f : ℕ → WorkerView = λ worker. view_of (role_in query worker) (positions worker) in
-    let g : ℕ → WorkerView = λ worker. view_of (role_in query worker) (position_at state.positions worker) in
+    let quiet = stand-quiet query start d positions stand op in
+    let seen = shown query start positions stand in
     λ i. record {
       op = op;
-      constant = (constant-is ∙ ap (λ a. first_of (unwrap_or (nth a op) no_arms).constants) arms-are) i;
-      pause = (pause-is ∙ ap (λ a. (unwrap_or (nth a op) no_arms).pause) arms-are) i;
+      constant = (constant-is ∙ ap (λ a. first_of (armed_at a op).constants) arms-are) i;
+      pause = (pause-is ∙ ap (λ a. (armed_at a op).pause) arms-are) i;
       count = sym (ap (option_map (counted_view query state op)) quiet.uncounted) i;
       when = sym quiet.unwatched i;
-      workers = (shown query positions (at-work-show query start crew positions work)
-          ∙ ap (λ fl. map f (workers_of fl op)) (sym same)
-          ∙ views-among f g (workers_of query.flow op) (λ worker known.
-          ap (view_of (role_in query worker)) (sym (position-here query start crew positions work worker (worker-known query.flow op worker known))))) i;
+      workers = seen i;
     }

@@ -1,26 +1,20 @@
 -- A whole leg, and what a home says of its steps.
-use Rattle.std.proofs.Common.{◌≡◌, sym, ap, subst, ◌∙◌, suc, ◌-◌, ◌<◌, ◌≤◌, ◌^◌, List, [], ◌∷◌, length, get_or, Bool, true, arith}
+use Rattle.std.proofs.Common.{◌≡◌, sym, ap, subst, ◌∙◌, suc, ◌-◌, ◌<◌, List, [], ◌∷◌, length, get_or, Bool, true, arith}
 use Rattle.std.proofs.lemmas.Bool.{false≢true}
-use Rattle.amber_rows.specs.Crew.{crew_of}
 use Rattle.amber_log.specs.Grammar.{ends_over, is_last}
 use Rattle.amber_log.specs.declared.leg.Close.{Close}
 use Rattle.amber_log.specs.declared.log.Item.{Item}
-use Rattle.amber_meaning.specs.declared.view.Stop.{Stop}
 use Rattle.amber_meaning.specs.InTime.{IsInTime}
-use Rattle.amber_meaning.specs.State.{Arms, State, position_at, steps_in}
-use Rattle.amber_meaning.proofs.OneState.{legal_logs_have_one_state}
-use Rattle.amber_meaning.proofs.Rest.{legal_logs_rest}
-use Rattle.amber_meaning.proofs.Senders.{flows_send_forward}
-use Rattle.amber_worker.specs.WorkerState.{WorkerState}
-use Rattle.amber_home.specs.AtWork.{steps_by}
+use Rattle.amber_meaning.specs.State.{steps_in}
+use Rattle.amber_dataflow.specs.Dataflow.{step_count}
+use Rattle.amber_dataflow.proofs.Standing.{stand-steps}
 use Rattle.amber_home.specs.HomeState.{ClosesIn, ClosesLeg, HomeState, has_crew, item_of_leg, query_of, rest_state, runs_to_end, state_of, with_closed_leg}
-use Rattle.amber_home.specs.Kept.{IsHome}
+use Rattle.amber_home.specs.Kept.{IsHome, LiveState}
 use Rattle.amber_home.specs.Parts.{open_parts}
 use Rattle.amber_home.specs.declared.phase.Phase.{Phase}
 use Rattle.amber_home.specs.declared.phase.Phase.TheVariants as phase
 use Rattle.amber_home.proofs.Legs.{start, state-here}
-use Rattle.amber_home.proofs.Opened.{listed-whole, rest-few}
-use Rattle.amber_home.proofs.Within.{steps-reached}
+use Rattle.amber_home.proofs.Opened.{steps-rest}
 
 -- opened, gone through and closed
 pub leg-closes : (to_end : Bool) (old begun ran now : HomeState) (closed : Close) → begun ≡ record old { phase = phase.Open to_end; parts = [] } → ran ≡ record begun { parts = ran.parts }
@@ -41,32 +35,18 @@ leg-closes to_end old begun ran now closed begun-is ran-is closes in_time now-is
 
 -- ---- steps
 
-rest-steps : (e : HomeState) (crew : List WorkerState) (arms : List Arms) (stops : List Stop) → IsHome (record e { phase = phase.Resting }) crew arms stops → steps_in (rest_state e) ≡ steps_by crew
-rest-steps e crew arms stops home =
-    let rest = home.stands in
-    let query = query_of e in
-    let state = rest_state e in
-    let same : state ≡ home.legal.after = legal_logs_have_one_state query e.log (flows_send_forward query.flow rest.at.at.flow) home.legal in
-    let long : length state.positions ≡ crew_of query.flow = ap (λ (s : State). length s.positions) same ∙ (legal_logs_rest query e.log home.legal).crew in
-    ap steps_in (sym (listed-whole query state long)) ∙ steps-reached query state crew (position_at state.positions) rest.at
-
-module _ (e : HomeState) (crew : List WorkerState) (arms : List Arms) (stops : List Stop) where
-  pub steps-small : (now : Phase) → IsHome (record e { phase = now }) crew arms stops → has_crew now ≡ true → steps_by crew ≤ 2 ^ 40
-  steps-small phase.Over home there = absurd (false≢true there)
-  steps-small phase.Spent home there = absurd (false≢true there)
-  steps-small phase.Resting home there = let few = rest-few (record e { phase = phase.Resting }) crew arms stops home.stands home.legal in let most = home.few in omega arith
-  steps-small (phase.Open to_end) home there = let few = home.stands.few in let most = home.few in omega arith
-
-  pub steps-are : (now : Phase) → IsHome (record e { phase = now }) crew arms stops → has_crew now ≡ true
-      → steps_by crew ≡ steps_in (state_of (record e { phase = now; parts = open_parts now crew }))
+module _ (e : HomeState) (live : LiveState) where
+  pub steps-are : (now : Phase) → IsHome (record e { phase = now }) live → has_crew now ≡ true
+      → step_count live.dataflow ≡ steps_in (state_of (record e { phase = now; parts = open_parts now live.dataflow }))
   unfolding state_of
   steps-are phase.Over home there = absurd (false≢true there)
   steps-are phase.Spent home there = absurd (false≢true there)
-  steps-are phase.Resting home there = sym (rest-steps e crew arms stops home)
+  steps-are phase.Resting home there = sym (steps-rest (record e { phase = phase.Resting }) live home.stands home.legal)
   steps-are (phase.Open to_end) home there =
       let here : HomeState = record e { phase = phase.Open to_end } in
       let leg = home.stands in
-      sym (ap steps_in (state-here to_end here crew arms leg home.legal) ∙ steps-reached (query_of e) (start to_end here crew arms leg home.legal) crew leg.positions leg.at)
+      sym (ap steps_in (state-here to_end here live.dataflow live.arms leg home.legal)
+      ∙ stand-steps (query_of e) (start to_end here live.dataflow live.arms leg home.legal) live.dataflow leg.positions leg.at)
 
 -- ---- the last item
 

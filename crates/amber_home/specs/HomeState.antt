@@ -1,9 +1,12 @@
 -- What a home keeps, and what its calls change.
-use Rattle.std.specs.Prelude.{◌≡◌, ◌≢◌, ℕ, suc, ◌+◌, List, [], ◌∷◌, ◌++◌, None, Some, Result, Ok, Err, ⊤, Bool, true, false, if◌then◌else◌}
+use Rattle.std.specs.Prelude.{◌≡◌, ◌≢◌, ℕ, suc, ◌+◌, List, [], ◌∷◌, ◌++◌, Result, Ok, Err, Bool, true, false, if◌then◌else◌}
 use Rattle.amber_rows.specs.declared.flow.Operator.{Operator}
 use Rattle.amber_lines.specs.KeptStops.{kept_stops}
 use Rattle.amber_log.specs.declared.command.Command.{Command}
-use Rattle.amber_log.specs.declared.command.Command.TheVariants as command
+use Rattle.amber_log.specs.Commands.{action_of}
+use Rattle.amber_log.specs.Effect.{is_built}
+use Rattle.amber_log.specs.declared.effect.Action.{Action}
+use Rattle.amber_log.specs.declared.effect.Action.TheVariants.{Leg, AtRest}
 use Rattle.amber_log.specs.declared.leg.Close.{Close}
 use Rattle.amber_log.specs.declared.leg.Close.TheVariants as close
 use Rattle.amber_log.specs.declared.leg.Part.{Part}
@@ -13,13 +16,10 @@ use Rattle.amber_log.specs.declared.log.Log.{Log}
 use Rattle.amber_meaning.specs.declared.view.Stop.{Stop}
 use Rattle.amber_meaning.specs.InTime.{IsInTime}
 use Rattle.amber_meaning.specs.Legal.{ClosesEnd, ClosesRun, Query, entries_of, leg_start, query_over, stops_in}
-use Rattle.amber_meaning.specs.Plain.{wrong_header}
 use Rattle.amber_meaning.specs.Position.{Position}
 use Rattle.amber_meaning.specs.Replay.{after_leg, state_after}
 use Rattle.amber_meaning.specs.State.{State, have_finished, position_at, steps_in}
 use Rattle.amber_worker.specs.Turning.{WritesStep}
-use Rattle.amber_home.specs.declared.error.HomeErr.{HomeErr}
-use Rattle.amber_home.specs.declared.error.HomeErr.TheVariants as home_err
 use Rattle.amber_home.specs.declared.error.LegErr.{LegErr}
 use Rattle.amber_home.specs.declared.error.LegErr.TheVariants as leg_err
 use Rattle.amber_home.specs.declared.phase.Phase.{Phase}
@@ -99,36 +99,20 @@ stops_at phase.Spent e = kept_stops (query_of e) e.log.items
 unfoldable pub stops_of_home : HomeState → List Stop
 stops_of_home e = stops_at e.phase e
 
--- ---- how a run begins
-
--- the first scan is named whose file does not begin with the names of its columns
-abbrev pub NamesScan : HomeErr → List Operator → List (List ℕ) → Type 0
-NamesScan (home_err.Header op) flow files = wrong_header 1 files flow ≡ Some op
-NamesScan home_err.NoMemory flow files = ⊤
-
--- a run begins only where each scan's file begins with the names of its columns; else the first that does not is named
-abbrev pub BeginsOrNames : {A : Type 0} → Result A HomeErr → List Operator → List (List ℕ) → Type 0
-BeginsOrNames (Ok made) flow files = wrong_header 1 files flow ≡ None
-BeginsOrNames (Err error) flow files = NamesScan error flow files
-
 -- ---- what the log grows by
 
 -- the log with an item more
 abbrev pub with_item : Log → Item → Log
 with_item log one = record log { items = log.items ++ one ∷ [] }
 
+-- what a home does at rest
+abbrev pub is_at_rest : Action → Bool
+is_at_rest (Leg to_end) = false
+is_at_rest (AtRest effect) = is_built effect
+
 -- a command that a home does at rest
 abbrev pub is_done_at_rest : Command → Bool
-is_done_at_rest command.Run = false
-is_done_at_rest command.End = false
-is_done_at_rest (command.Pause op n) = true
-is_done_at_rest (command.Count op n) = false
-is_done_at_rest (command.When op cond) = false
-is_done_at_rest (command.Clear op) = true
-is_done_at_rest (command.Set op value) = true
-is_done_at_rest (command.Drop op worker) = false
-is_done_at_rest (command.Inspect op) = true
-is_done_at_rest (command.Lose op worker) = false
+is_done_at_rest command = is_at_rest (action_of command)
 
 -- a leg as an item, up to a stop or to the end
 abbrev pub item_of_leg : Bool → List Part → Close → Item

@@ -1,9 +1,6 @@
-pub mod Answers
 pub mod Applied
-pub mod AtWork
+pub mod Going
 pub mod HomeState
 pub mod Kept
 pub mod Leg
 pub mod Parts
-pub mod Passing
-pub mod Start

@@ -1,4 +1,7 @@
+//! The home of a run: what it keeps, and its calls.
+
 ghost use Rattle.std.specs.Prelude.{◌≡◌, ◌+◌, ◌^◌, ◌<◌, ◌≤◌, ◌≢◌, [], IfOk, OnErr, OnOk, false, true, length};
+ghost use Rattle.amber_dataflow.specs.Start.{BeginsOrNames};
 ghost use Rattle.amber_log.specs.Fits.{fits_of};
 ghost use Rattle.amber_log.specs.Grammar.{ends_over};
 ghost use Rattle.amber_log.specs.declared.log.Item.TheVariants as item;
@@ -7,56 +10,37 @@ ghost use Rattle.amber_meaning.specs.Legal.{IsLegal};
 ghost use Rattle.amber_meaning.specs.Plain.{scan_count};
 ghost use Rattle.amber_meaning.specs.State.{have_finished, steps_in};
 ghost use Rattle.amber_meaning.specs.Views.{answer_in, inspected_of};
-ghost use Rattle.amber_home.specs.HomeState.{BeginsOrNames, ClosesIn, Ends, MayClose, StepsOn, has_crew};
+ghost use Rattle.amber_home.specs.HomeState.{ClosesIn, Ends, MayClose, StepsOn, has_crew};
 ghost use Rattle.amber_home.specs.HomeState.{is_done_at_rest, is_open, item_of_leg, query_of, rest_state, runs_to_end, state_of};
 ghost use Rattle.amber_home.specs.HomeState.{stops_of_home, with_item, with_closed_leg};
 
-use crate::answer::{gather, gather_all};
 use crate::applying::{copies_for, push_command, put_in_force};
-use crate::crew::start_crew;
-use crate::error::{HomeErr, LegErr};
-use crate::leg::{step_first, steps_of};
-use crate::opening::{begin_all, clear_for};
+use crate::error::LegErr;
+use crate::in_force::InForce;
+use crate::opening::clear_for;
 use crate::parts::{is_last, push_leg};
 use crate::phase::Phase;
 use crate::shown::inspect;
-use crate::stopping::{close_arms, have_finished, run_leg, stops_of};
-use amber_arms::InForce;
-use amber_log::{Close, Command, Item, Items, Leg, Log, commands_have_text};
+use crate::stopping::{close_arms, run_leg, stops_of};
+use amber_dataflow::{Dataflow, HomeErr};
+use amber_log::{Action, Close, Command, Item, Items, Leg, Log, commands_have_text};
 use amber_meaning::{Answer, Inspected, Stops};
 use amber_rows::{Files, Flow};
-use amber_worker::Worker;
 use std::alloc::{AllocError, Global};
 use std::marker::Model;
-use std::mem;
 
 /// The home of a run, seen as a `HomeState`.
+#[derive(Drop)]
 pub struct Home {
-    flow: Flow,
+    dataflow: Dataflow,
     files: Files,
     most: u64,
     log: Log,
+    // Within a call that may want memory in a leg it is `Spent`, and so it stays if the call breaks off.
     phase: Phase,
-    // The workers; none once they were asked to give their answer away.
-    crew: Vec<Worker>,
     arms: InForce,
     // The stops of the last leg, as they stood before its end took any away.
     stops: Stops,
-}
-
-impl Drop for Home {
-    fn drop(self) {
-        let Home {
-            flow: _,
-            files: _,
-            most: _,
-            log: _,
-            phase: _,
-            crew: _,
-            arms: _,
-            stops: _,
-        } = self;
-    }
 }
 
 impl Model for Home {
@@ -66,24 +50,24 @@ impl Model for Home {
     ghost Value = { HomeState };
 
     ghost view = { λ a. record {
-      flow = a.flow;
+      flow = a.dataflow.flow;
       files = a.files;
       most = a.most;
       log = a.log;
       phase = a.phase;
-      parts = open_parts a.phase a.crew.items;
+      parts = open_parts a.phase a.dataflow;
     } };
 
     ghost use Rattle.amber_home.specs.Kept.{IsHome};
 
     ghost invariant = { λ a. IsHome (record {
-      flow = a.flow;
+      flow = a.dataflow.flow;
       files = a.files;
       most = a.most;
       log = a.log;
       phase = a.phase;
-      parts = open_parts a.phase a.crew.items;
-    }) a.crew.items a.arms a.stops };
+      parts = open_parts a.phase a.dataflow;
+    }) (record { dataflow = a.dataflow; arms = a.arms; stops = a.stops }) };
 }
 
 impl Home {
@@ -114,10 +98,10 @@ impl Home {
         }) }
         ensures header { BeginsOrNames result flow files }
     {
-        let crew = start_crew(alloc, &flow, &files, batch)?;
-        let arms = InForce::new(alloc, &flow)?;
+        let dataflow = Dataflow::new(alloc, flow, &files, batch)?;
+        let arms = InForce::new(alloc, dataflow.flow())?;
         Ok(Home {
-            flow,
+            dataflow,
             files,
             most,
             log: Log {
@@ -125,7 +109,6 @@ impl Home {
                 items: Items::new(Vec::new(alloc)),
             },
             phase: Phase::Resting,
-            crew,
             arms,
             stops: Stops::new(Vec::new(alloc)),
         })
@@ -143,10 +126,13 @@ impl Home {
         }) }
         ensures err { OnErr result (self.new ≡ self.old) }
     {
+        let Action::AtRest(effect) = command.action() else {
+            unreachable!()
+        };
         commands_have_text(command);
-        let copies = copies_for(alloc, command, self.crew.len() + 1)?;
+        let copies = copies_for(alloc, &effect.arming.constant, &self.dataflow)?;
         push_command(command, &mut self.log.items)?;
-        put_in_force(command, copies, &mut self.arms, self.crew.as_mut_slice());
+        put_in_force(&effect, copies, &mut self.arms, &mut self.dataflow);
         Ok(())
     }
 
@@ -156,7 +142,7 @@ impl Home {
         requires open { ends_over false self.old.log.items ≡ false }
         ensures { self.new ≡ record self.old { phase = Phase.Open to_end; parts = [] } }
     {
-        begin_all(self.crew.as_mut_slice());
+        self.dataflow.begin();
         clear_for(to_end, &mut self.arms);
         self.phase = Phase::Open { to_end };
     }
@@ -173,7 +159,7 @@ impl Home {
     {
         let phase = self.phase;
         self.phase = Phase::Spent;
-        step_first(self.crew.as_mut_slice())?;
+        self.dataflow.step_first()?;
         self.phase = phase;
         Ok(())
     }
@@ -192,8 +178,8 @@ impl Home {
     {
         let phase = self.phase;
         self.phase = Phase::Spent;
-        let budget = self.most - steps_of(self.crew.as_slice());
-        let close = run_leg(&self.flow, &self.arms, self.crew.as_mut_slice(), budget)?;
+        let budget = self.most - self.dataflow.steps();
+        let close = run_leg(&self.arms, &mut self.dataflow, budget)?;
         self.phase = phase;
         Ok(close)
     }
@@ -209,20 +195,14 @@ impl Home {
     {
         let to_end = self.phase.runs_to_end();
         self.phase = Phase::Spent;
-        self.stops = stops_of(alloc, &self.flow, &self.arms, self.crew.as_slice())?;
-        close_arms(
-            to_end,
-            close,
-            &self.flow,
-            &mut self.arms,
-            self.crew.as_slice(),
-        );
+        self.stops = stops_of(alloc, &self.arms, &self.dataflow)?;
+        close_arms(to_end, close, &mut self.arms, &self.dataflow);
         push_leg(
             alloc,
             to_end,
             close,
             &mut self.log.items,
-            self.crew.as_mut_slice(),
+            &mut self.dataflow,
         )?;
         self.phase = Phase::Resting;
         Ok(())
@@ -257,7 +237,7 @@ impl Home {
         ensures { IfOk result (λ stops. stops ≡ stops_of_home self.now) }
     {
         if self.phase.is_open() {
-            stops_of(alloc, &self.flow, &self.arms, self.crew.as_slice())
+            stops_of(alloc, &self.arms, &self.dataflow)
         } else {
             self.stops.clone()
         }
@@ -271,7 +251,7 @@ impl Home {
         ensures { IfOk result
             (λ shown. shown ≡ inspected_of (query_of self.now) (state_of self.now) op) }
     {
-        inspect(alloc, &self.flow, &self.arms, self.crew.as_slice(), op)
+        inspect(alloc, &self.arms, &self.dataflow, op)
     }
 
     /// The answer, once all have finished.
@@ -281,7 +261,7 @@ impl Home {
         ensures { IfOk result
             (λ answer. answer ≡ answer_in (query_of self.now) (state_of self.now)) }
     {
-        gather(alloc, &self.flow, self.crew.as_slice())
+        self.dataflow.answer(alloc)
     }
 
     /// The same answer, which the workers give away: they are no longer there then.
@@ -300,8 +280,7 @@ impl Home {
         ensures over { self.new ≡ record self.old { phase = Phase.Over } }
     {
         self.phase = Phase::Over;
-        let crew = mem::replace(&mut self.crew, Vec::new(alloc));
-        gather_all(alloc, &self.flow, crew)
+        self.dataflow.take_answer(alloc)
     }
 
     /// How many steps the workers have made.
@@ -309,7 +288,7 @@ impl Home {
         requires there { has_crew self.now.phase ≡ true }
         ensures { result ≡ steps_in (state_of self.now) }
     {
-        steps_of(self.crew.as_slice())
+        self.dataflow.steps()
     }
 
     /// Whether all workers have finished.
@@ -317,7 +296,7 @@ impl Home {
         requires there { has_crew self.now.phase ≡ true }
         ensures { result ≡ have_finished (state_of self.now) }
     {
-        have_finished(self.crew.as_slice())
+        self.dataflow.have_all_finished()
     }
 
     /// The log of the run so far.
@@ -342,7 +321,7 @@ impl Home {
     pub fn flow(&self) -> &Flow
         ensures { result.now ≡ self.now.flow }
     {
-        &self.flow
+        self.dataflow.flow()
     }
 
     /// The files of the scans, in the order of the operators.

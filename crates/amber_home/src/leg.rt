@@ -1,186 +1,112 @@
 //! A leg: the workers make their steps, one worker after the other.
 
-ghost use Rattle.std.specs.Prelude.{◌≡◌, ◌+◌, ◌^◌, ◌<◌, ◌≤◌, ◌||◌, ℕ, IfOk, OnOk, false, true, length};
-ghost use Rattle.std.specs.List.{list_all};
-ghost use Rattle.amber_rows.specs.Crew.{crew_of, op_of, workers_of};
-ghost use Rattle.amber_rows.specs.FlowRules.{IsFlow};
-ghost use Rattle.amber_worker.specs.Turning.{WritesStep};
-ghost use Rattle.amber_worker.specs.WorkerState.{steps_made};
-ghost use Rattle.amber_home.specs.AtWork.{FirstGoesOn, GoesOn, GoOn, HaveFinished, IsCrew, MovesOnly};
-ghost use Rattle.amber_home.specs.AtWork.{steps_by, worker_state_at};
-ghost use Rattle.amber_home.specs.Leg.{IsLegDone, NoneIsLate, NonePaused, emitted_at, is_paused};
+ghost use Rattle.std.specs.Prelude.{◌≡◌, ◌+◌, ◌^◌, ◌<◌, ◌≤◌, ◌||◌, IfOk, OnErr, OnOk, false, length, true};
+ghost use Rattle.amber_dataflow.specs.Dataflow.{AreAllThere, FirstHaveFinished, has_finished, have_all_finished, step_count, without_workers};
+ghost use Rattle.amber_rows.specs.Crew.{crew_of, op_of};
+ghost use Rattle.amber_home.specs.Going.{GoOn, MovesAlone};
+ghost use Rattle.amber_home.specs.Leg.{IsLegDone, NoneIsLate, NonePaused, is_paused};
 
-use crate::settling::{settle_inputs, settle_outputs};
-use amber_arms::InForce;
+use crate::in_force::InForce;
+use amber_dataflow::Dataflow;
 use amber_log::Close;
-use amber_rows::Flow;
-use amber_worker::Worker;
 use std::alloc::AllocError;
 
-/// One step of a worker whose senders have all finished. What it has made goes on to its receivers.
-pub(crate) fn step(crew: &mut [Worker], number: usize) -> Result<(), AllocError>
-    requires there { number < length crew.old }
-    requires crew { IsCrew crew.old }
-    requires first { HaveFinished number crew.old }
-    requires unfinished { (worker_state_at crew.old number).finished ≡ false }
-    requires few { steps_made (worker_state_at crew.old number) < 2 ^ 40 }
-    ensures on { OnOk result (GoesOn crew.old crew.new number) }
-    ensures one { OnOk result (steps_by crew.new ≡ steps_by crew.old + 1) }
-    ensures only { OnOk result (MovesOnly crew.old crew.new number) }
-    ensures rows { OnOk result ((worker_state_at crew.new number).emitted
-        ≤ (worker_state_at crew.old number).emitted + 1) }
-    ensures writes { OnOk result (WritesStep (worker_state_at crew.old number).journal
-        (worker_state_at crew.new number).journal) }
-{
-    let wanted = crew[number].wants_batch();
-    crew[number].turn()?;
-    settle_outputs(crew, number)?;
-    if !wanted {
-        return Ok(());
-    }
-    settle_inputs(crew, number)
-}
-
-/// One step of the unfinished worker with the smallest number.
-pub(crate) fn step_first(crew: &mut [Worker]) -> Result<(), AllocError>
-    requires crew { IsCrew crew.old }
-    requires unfinished { list_all (λ w. w.finished) crew.old ≡ false }
-    requires few { steps_by crew.old < 2 ^ 40 }
-    ensures on { OnOk result (FirstGoesOn crew.old crew.new) }
-    ensures one { OnOk result (steps_by crew.new ≡ steps_by crew.old + 1) }
-{
-    'workers: for number in 0..crew.len() {
-        if !crew[number].is_finished() {
-            return step(crew, number);
-        }
-    }
-    unreachable!()
-}
-
-// The rows that an operator's workers have emitted.
-pub(crate) fn emitted_by(flow: &Flow, crew: &[Worker], op: u32) -> u64
-    requires some { 0 < op }
-    requires within { op ≤ length flow.now }
-    requires all { length crew.now ≡ crew_of flow.now }
-    requires few { steps_by crew.now ≤ 2 ^ 40 }
-    requires flow { IsFlow flow.now }
-    ensures { result ≡ emitted_at crew.now (workers_of flow.now op) }
-{
-    let operator = &flow.get()[op as usize - 1];
-    let first = flow.first_worker(op);
-    let mut rows = 0;
-    for place in 0..operator.workers {
-        rows += crew[(first + place) as usize].emitted();
-    }
-    rows
-}
-
 // Whether a pause of an operator stands.
-pub(crate) fn is_paused(flow: &Flow, arms: &InForce, crew: &[Worker], op: u32) -> bool
+pub(crate) fn is_paused(arms: &InForce, dataflow: &Dataflow, op: u32) -> bool
+    requires workers { AreAllThere dataflow.now }
     requires some { 0 < op }
-    requires within { op ≤ length flow.now }
-    requires all { length crew.now ≡ crew_of flow.now }
-    requires few { steps_by crew.now ≤ 2 ^ 40 }
-    requires flow { IsFlow flow.now }
-    ensures { result ≡ is_paused (record { flow = flow.now; arms = arms.now }) crew.now op }
+    requires within { op ≤ length dataflow.now.flow }
+    ensures { result ≡ is_paused arms.now dataflow.now op }
 {
     match arms.pause_at(op) {
         None => false,
-        Some(rows) => rows <= emitted_by(flow, crew, op),
+        Some(rows) => rows <= dataflow.rows_emitted(op),
     }
 }
 
-// Whether a worker has nothing to do in a leg: it has finished, or a pause of its operator stands.
-fn is_done(flow: &Flow, arms: &InForce, crew: &[Worker], number: usize) -> bool
-    requires flow { IsFlow flow.now }
-    requires all { length crew.now ≡ crew_of flow.now }
-    requires few { steps_by crew.now ≤ 2 ^ 40 }
-    requires there { number < length crew.now }
-    ensures { result ≡ ((worker_state_at crew.now number).finished
-        || is_paused (record { flow = flow.now; arms = arms.now }) crew.now
-        (op_of flow.now number)) }
+// Whether the pause of a worker's operator stands.
+fn is_worker_paused(arms: &InForce, dataflow: &Dataflow, worker: u32) -> bool
+    requires workers { AreAllThere dataflow.now }
+    requires there { worker < crew_of dataflow.now.flow }
+    ensures { result ≡ is_paused arms.now dataflow.now (op_of dataflow.now.flow worker) }
 {
-    crew[number].is_finished() || is_paused(flow, arms, crew, flow.op_of(number as u32))
+    is_paused(arms, dataflow, dataflow.flow().op_of(worker))
+}
+
+// Whether a worker of an operator has nothing to do in a leg: it has finished, or the operator's pause stands.
+fn is_done(arms: &InForce, dataflow: &Dataflow, worker: u32, op: u32) -> bool
+    requires workers { AreAllThere dataflow.now }
+    requires there { worker < crew_of dataflow.now.flow }
+    requires some { 0 < op }
+    requires within { op ≤ length dataflow.now.flow }
+    ensures { result ≡ (has_finished dataflow.now worker || is_paused arms.now dataflow.now op) }
+{
+    dataflow.has_finished(worker) || is_paused(arms, dataflow, op)
 }
 
 // Steps of a worker whose senders have all finished, until it has nothing to do, or has made so many. The answer is how many
 // more it might have made. No operator emits more rows than its pause asks for, and a worker that has finished does nothing.
 fn drive(
-    flow: &Flow,
     arms: &InForce,
-    crew: &mut [Worker],
-    number: usize,
+    dataflow: &mut Dataflow,
+    worker: u32,
     budget: u64,
 ) -> Result<u64, AllocError>
-    requires flow { IsFlow flow.now }
-    requires all { length crew.old ≡ crew_of flow.now }
-    requires there { number < length crew.old }
-    requires crew { IsCrew crew.old }
-    requires first { HaveFinished number crew.old }
-    requires few { steps_by crew.old + budget ≤ 2 ^ 40 }
-    ensures on { OnOk result (GoOn crew.old crew.new) }
-    ensures left { IfOk result (λ left. steps_by crew.new + left ≡ steps_by crew.old + budget) }
-    ensures only { OnOk result (MovesOnly crew.old crew.new number) }
-    ensures stops { IfOk result (λ left. (worker_state_at crew.new number).finished ≡ false
-        → is_paused (record { flow = flow.now; arms = arms.now }) crew.new
-        (op_of flow.now number) ≡ false
+    requires workers { AreAllThere dataflow.old }
+    requires there { worker < crew_of dataflow.old.flow }
+    requires first { FirstHaveFinished worker dataflow.old }
+    requires few { step_count dataflow.old + budget ≤ 2 ^ 40 }
+    ensures on { OnOk result (GoOn dataflow.old dataflow.new) }
+    ensures left { IfOk result (λ left. step_count dataflow.new + left
+        ≡ step_count dataflow.old + budget) }
+    ensures only { OnOk result (MovesAlone dataflow.old dataflow.new worker) }
+    ensures stops { IfOk result (λ left. has_finished dataflow.new worker ≡ false
+        → is_paused arms.now dataflow.new (op_of dataflow.new.flow worker) ≡ false
         → left ≡ 0) }
-    ensures in_time { OnOk result (NoneIsLate (record { flow = flow.now; arms = arms.now }) crew.old
-        → NoneIsLate (record { flow = flow.now; arms = arms.now }) crew.new) }
-    ensures still { OnOk result ((worker_state_at crew.old number).finished ≡ true
-        → crew.new ≡ crew.old) }
+    ensures in_time { OnOk result (NoneIsLate arms.now dataflow.old
+        → NoneIsLate arms.now dataflow.new) }
+    ensures still { OnOk result (has_finished dataflow.old worker ≡ true
+        → dataflow.new ≡ dataflow.old) }
+    ensures err { OnErr result (dataflow.new ≡ without_workers dataflow.old) }
 {
+    let op = dataflow.flow().op_of(worker);
     'steps: for made in 0..budget {
-        if is_done(flow, arms, crew, number) {
+        if is_done(arms, dataflow, worker, op) {
             return Ok(budget - made);
         }
-        step(crew, number)?;
+        dataflow.step(worker)?;
     }
     Ok(0)
 }
 
 /// Steps of the workers until a pause stands, all have finished, or so many steps were made. The answer says how the leg may be
 /// closed. No operator emits more rows than its pause asks for, and where all have finished nobody does anything.
-pub(crate) fn run_crew(
-    flow: &Flow,
+pub(crate) fn run_workers(
     arms: &InForce,
-    crew: &mut [Worker],
+    dataflow: &mut Dataflow,
     budget: u64,
 ) -> Result<Close, AllocError>
-    requires flow { IsFlow flow.now }
-    requires all { length crew.old ≡ crew_of flow.now }
-    requires crew { IsCrew crew.old }
-    requires few { steps_by crew.old + budget ≤ 2 ^ 40 }
-    requires none { NonePaused (record { flow = flow.now; arms = arms.now }) crew.old }
-    ensures on { OnOk result (GoOn crew.old crew.new) }
-    ensures few { OnOk result (steps_by crew.new ≤ steps_by crew.old + budget) }
-    ensures done { IfOk result (λ close. IsLegDone close
-        (record { flow = flow.now; arms = arms.now }) (steps_by crew.old + budget) crew.new) }
-    ensures in_time { OnOk result
-        (NoneIsLate (record { flow = flow.now; arms = arms.now }) crew.new) }
-    ensures still { OnOk result (HaveFinished (length crew.old) crew.old → crew.new ≡ crew.old) }
+    requires workers { AreAllThere dataflow.old }
+    requires few { step_count dataflow.old + budget ≤ 2 ^ 40 }
+    requires none { NonePaused arms.now dataflow.old }
+    ensures on { OnOk result (GoOn dataflow.old dataflow.new) }
+    ensures few { OnOk result (step_count dataflow.new ≤ step_count dataflow.old + budget) }
+    ensures done { IfOk result (λ close. IsLegDone close arms.now
+        (step_count dataflow.old + budget) dataflow.new) }
+    ensures in_time { OnOk result (NoneIsLate arms.now dataflow.new) }
+    ensures still { OnOk result (have_all_finished dataflow.old ≡ true
+        → dataflow.new ≡ dataflow.old) }
+    ensures err { OnErr result (dataflow.new ≡ without_workers dataflow.old) }
 {
     let mut left = budget;
-    'workers: for number in 0..crew.len() {
-        left = drive(flow, arms, crew, number, left)?;
-        if is_paused(flow, arms, crew, flow.op_of(number as u32)) {
+    'workers: for worker in 0..dataflow.flow().workers() {
+        left = drive(arms, dataflow, worker, left)?;
+        if is_worker_paused(arms, dataflow, worker) {
             return Ok(Close::Cut);
         }
-        if !crew[number].is_finished() {
+        if !dataflow.has_finished(worker) {
             return Ok(Close::Long);
         }
     }
     Ok(Close::Cut)
-}
-
-/// The steps that the workers have made together.
-pub(crate) fn steps_of(crew: &[Worker]) -> u64
-    requires { steps_by crew.now ≤ 2 ^ 40 }
-    ensures { result ≡ steps_by crew.now }
-{
-    let mut steps = 0;
-    for worker in crew {
-        steps += worker.steps();
-    }
-    steps
 }

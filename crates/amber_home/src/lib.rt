@@ -8,22 +8,20 @@
 //! `stops` gives that pause with two rows, and the filter's pause is no longer armed.
 #![tactic(auto)]
 
-mod answer;
 mod applying;
-mod crew;
+mod armed;
 pub mod error;
 pub mod home;
+mod in_force;
 mod leg;
-mod linking;
 mod opening;
 mod parts;
 pub mod phase;
-mod settling;
-mod shares;
 mod shown;
 mod stopping;
 
-pub use error::{HomeErr, LegErr};
+pub use amber_dataflow::HomeErr;
+pub use error::LegErr;
 pub use home::Home;
 pub use phase::Phase;
 pub use std::alloc::AllocError as NoMemory;

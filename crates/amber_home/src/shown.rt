@@ -1,21 +1,19 @@
 //! What an operator shows.
 
-ghost use Rattle.std.specs.Prelude.{◌≡◌, ◌<◌, ◌≤◌, IfOk, length, unwrap_or};
-ghost use Rattle.amber_rows.specs.Crew.{crew_of, workers_of};
-ghost use Rattle.amber_rows.specs.Lists.{first_of, nth};
-ghost use Rattle.amber_meaning.specs.State.{no_arms};
-ghost use Rattle.amber_home.specs.Answers.{IsShownAt, ShowWorkers};
+ghost use Rattle.std.specs.Prelude.{◌≡◌, ◌<◌, ◌≤◌, IfOk, length, true};
+ghost use Rattle.amber_dataflow.specs.Dataflow.{AreAllThere};
+ghost use Rattle.amber_home.specs.Leg.{ShowsAt, armed_at};
+ghost use Rattle.amber_rows.specs.Lists.{first_of};
 
-use amber_arms::InForce;
-use amber_meaning::{Inspected, Views};
-use amber_rows::{Flow, Value};
-use amber_worker::Worker;
+use crate::in_force::InForce;
+use amber_dataflow::Dataflow;
+use amber_meaning::Inspected;
+use amber_rows::Value;
 use std::alloc::{AllocError, Global};
 
 // A copy of the constant that is in force at an operator, if there is one.
 fn constant_at(arms: &InForce, op: u32) -> Result<Option<Value>, AllocError>
-    ensures { IfOk result (λ constant. constant
-        ≡ first_of (unwrap_or (nth arms.now op) no_arms).constants) }
+    ensures { IfOk result (λ constant. constant ≡ first_of (armed_at arms.now op).constants) }
 {
     let Some(armed) = arms.at(op) else {
         return Ok(None);
@@ -26,35 +24,17 @@ fn constant_at(arms: &InForce, op: u32) -> Result<Option<Value>, AllocError>
     }
 }
 
-// What each worker of an operator shows.
-fn views_of(alloc: Global, flow: &Flow, crew: &[Worker], op: u32) -> Result<Views, AllocError>
-    requires some { 0 < op }
-    requires within { op ≤ length flow.now }
-    requires all { length crew.now ≡ crew_of flow.now }
-    ensures { IfOk result (ShowWorkers crew.now (workers_of flow.now op)) }
-{
-    let operator = &flow.get()[op as usize - 1];
-    let first = flow.first_worker(op);
-    let mut views = Vec::new(alloc);
-    for place in 0..operator.workers {
-        views.push(crew[(first + place) as usize].view()?)?;
-    }
-    Ok(Views::new(views))
-}
-
 /// What the workers of an operator show, and what is in force there.
 pub(crate) fn inspect(
     alloc: Global,
-    flow: &Flow,
     arms: &InForce,
-    crew: &[Worker],
+    dataflow: &Dataflow,
     op: u32,
 ) -> Result<Inspected, AllocError>
+    requires workers { AreAllThere dataflow.now }
     requires some { 0 < op }
-    requires within { op ≤ length flow.now }
-    requires all { length crew.now ≡ crew_of flow.now }
-    ensures op { IfOk result (λ shown. shown.op ≡ op) }
-    ensures shown { IfOk result (IsShownAt flow.now arms.now crew.now) }
+    requires within { op ≤ length dataflow.now.flow }
+    ensures { IfOk result (ShowsAt arms.now dataflow.now op) }
 {
     Ok(Inspected {
         op,
@@ -62,6 +42,6 @@ pub(crate) fn inspect(
         pause: arms.pause_at(op),
         count: None,
         when: None,
-        workers: views_of(alloc, flow, crew, op)?,
+        workers: dataflow.views(alloc, op)?,
     })
 }

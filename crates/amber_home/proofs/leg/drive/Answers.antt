@@ -1,32 +1,47 @@
--- Each turn is a step, and the workers stay at work.
-use Rattle.std.proofs.Common.{◌≡◌, ◌||◌, false, refl, sym, ap, ◌∙◌, add-zero, arith}
+-- Each turn is a step of the worker.
+use Rattle.std.proofs.Common.{◌≡◌, ◌<◌, ◌||◌, false, refl, sym, ap, subst, ◌∙◌, add-zero, arith}
 use Rattle.std.proofs.lemmas.Bool.{false≢true, or_parts}
-use Rattle.amber_rows.specs.Crew.{op_of}
-use Rattle.amber_home.specs.AtWork.{steps_by, worker_state_at}
-use Rattle.amber_home.specs.Leg.{Run, is_paused}
-use Rattle.amber_home.proofs.Going.{crew-on, finished-on, on-refl, on-then, one-on, only-refl, only-then}
+use Rattle.amber_rows.specs.Crew.{crew_of, op_of}
+use Rattle.amber_meaning.proofs.Crews.{op-within}
+use Rattle.amber_dataflow.specs.Dataflow.{has_finished, step_count}
+use Rattle.amber_home.specs.Leg.{is_paused}
+use Rattle.amber_home.proofs.Going.{finished-on, on-refl, on-then, one-on, one-only, only-refl, only-then}
 use Rattle.amber_home.proofs.Paused.{late-moved}
-use Rattle.amber_home.proofs.Steps.{sum-member}
 use Rattle.amber_home.proofs.leg.drive.Goals as goal
 
 pub steps-init : goal.steps-init
 steps-init c = record {
-  on = on-refl c.args.crew.now;
-  made = sym (add-zero (steps_by c.args.crew.now));
-  only = only-refl c.args.crew.now c.args.number;
+  on = on-refl c.args.dataflow.now;
+  made = sym (add-zero (step_count c.args.dataflow.now));
+  only = only-refl c.args.dataflow.now c.args.worker;
   in_time = λ late. late;
   still = λ finished. refl;
 }
 
-pub step-requires-clause-crew : goal.step-requires-clause-crew
-step-requires-clause-crew c = crew-on c.args.crew.now c.steps.crew c.requires.crew c.steps.invariant.on
+pub is_done-requires-clause-workers : goal.is_done-requires-clause-workers
+is_done-requires-clause-workers c = c.steps.invariant.on.there c.requires.workers
+
+pub is_done-requires-clause-some : goal.is_done-requires-clause-some
+is_done-requires-clause-some c = rw (c.op_of-op.ensures, c.flow.ensures) (op-within c.args.dataflow.now.flow c.args.worker c.requires.there).0
+
+pub is_done-requires-clause-within : goal.is_done-requires-clause-within
+is_done-requires-clause-within c = rw (c.steps.invariant.on.flow, c.op_of-op.ensures, c.flow.ensures) (op-within c.args.dataflow.now.flow c.args.worker c.requires.there).1
+
+pub step-requires-clause-workers : goal.step-requires-clause-workers
+step-requires-clause-workers c = c.steps.invariant.on.there c.requires.workers
 
 pub step-requires-clause-first : goal.step-requires-clause-first
-step-requires-clause-first c = finished-on c.args.crew.now c.steps.crew c.args.number c.steps.invariant.only c.requires.first
+step-requires-clause-first c =
+    let now = c.steps.dataflow in
+    let not_done : (has_finished now c.args.worker || is_paused c.args.arms.now now c.op_of-op.result) ≡ false = cc c.is_done.ensures in
+    record {
+      there = subst (λ flow. c.args.worker < crew_of flow) (sym c.steps.invariant.on.flow) c.requires.there;
+      first = finished-on c.args.dataflow.now now c.args.worker c.steps.invariant.only c.requires.first;
+      unfinished = (or_parts _ _ not_done).0;
+    }
 
 pub step-requires-clause-few : goal.step-requires-clause-few
 step-requires-clause-few c =
-    let within = sum-member c.steps.crew c.args.number in
     let made = c.steps.invariant.made in
     let few = c.requires.few in
     let more = c.steps-test.true in
@@ -34,14 +49,17 @@ step-requires-clause-few c =
 
 pub steps-preserved : goal.steps-preserved
 steps-preserved c =
-    let run : Run = record { flow = c.args.flow.now; arms = c.args.arms.now } in
-    let not_done : ((worker_state_at c.steps.crew c.args.number).finished || is_paused run c.steps.crew (op_of run.flow c.args.number)) ≡ false = cc c.is_done.ensures in
+    let old = c.steps.dataflow in
+    let new = c.step.new.self in
+    let worker = c.args.worker in
+    let steps = c.in_ok-step.ensures.steps in
+    let own : c.op_of-op.result ≡ op_of old.flow worker = c.op_of-op.ensures ∙ ap (λ f. op_of f worker) (c.flow.ensures ∙ sym c.steps.invariant.on.flow) in
+    let not_done : (has_finished old worker || is_paused c.args.arms.now old c.op_of-op.result) ≡ false = cc c.is_done.ensures in
     let going = or_parts _ _ not_done in
     record {
-      on = on-then c.args.crew.now c.steps.crew c.step.new.crew c.steps.invariant.on (one-on c.steps.crew c.step.new.crew c.args.number c.in_ok-step.ensures.on);
-      made = let one = c.in_ok-step.ensures.one in let made = c.steps.invariant.made in omega arith;
-      only = only-then c.args.crew.now c.steps.crew c.step.new.crew c.args.number c.steps.invariant.only c.in_ok-step.ensures.only;
-      in_time = λ late.
-          late-moved run c.steps.crew c.step.new.crew c.args.number c.in_ok-step.ensures.only c.in_ok-step.ensures.rows going.1 (c.steps.invariant.in_time late);
-      still = λ finished. absurd (false≢true (sym going.0 ∙ ap (λ crew. (worker_state_at crew c.args.number).finished) (c.steps.invariant.still finished) ∙ finished));
+      on = on-then c.args.dataflow.now old new c.steps.invariant.on (one-on old new worker steps);
+      made = let one = steps.one in let made = c.steps.invariant.made in omega arith;
+      only = only-then c.args.dataflow.now old new worker c.steps.invariant.on.flow c.steps.invariant.only (one-only old new worker steps);
+      in_time = λ late. late-moved c.args.arms.now old new worker steps (ap (is_paused c.args.arms.now old) (sym own) ∙ going.1) (c.steps.invariant.in_time late);
+      still = λ finished. absurd (false≢true (sym going.0 ∙ ap (λ d. has_finished d worker) (c.steps.invariant.still finished) ∙ finished));
     }

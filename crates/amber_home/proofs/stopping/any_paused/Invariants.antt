@@ -4,4 +4,4 @@ use Rattle.amber_home.specs.Leg.{is_paused}
 use Rattle.amber_home.proofs.stopping.any_paused.Given as goal
 
 abbrev pub invariant-loop-before : goal.invariant-loop-before
-invariant-loop-before l = (op : ℕ) → op ≤ l.before → is_paused (record { flow = l.flow; arms = l.arms }) l.crew op ≡ false
+invariant-loop-before l = (op : ℕ) → op ≤ l.before → is_paused l.arms l.dataflow op ≡ false

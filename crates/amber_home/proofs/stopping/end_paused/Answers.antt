@@ -2,40 +2,38 @@
 use Rattle.std.proofs.Common.{◌≡◌, ◌∙◌, ap, ◌+◌, ◌<◌, ◌≤◌, length, Some, sym, inl, inr, arith}
 use Rattle.std.proofs.lemmas.Bool.Decides.{eqb_tells}
 use Rattle.amber_rows.specs.Lists.{nth}
-use Rattle.amber_home.specs.Leg.{Run, cut_at}
+use Rattle.amber_home.specs.Leg.{cut_at}
 use Rattle.amber_home.proofs.Ended.{ended-all, ended-here, ended-long, ended-other}
 use Rattle.amber_home.proofs.stopping.end_paused.Goals as goal
 
 pub loop-before-preserved : goal.loop-before-preserved
 loop-before-preserved c =
-    let run : Run = record { flow = c.args.flow.now; arms = c.args.arms.now } in
     let before = c.loop-before.invariant in
     let op = c.loop-before.before + 1 in
     let some : 0 < op = omega arith in
-    let operators = c.get.ensures.operators in
+    let operators = (c.get.ensures.operators ∙ c.flow.ensures) in
     let less = c.loop-before-test.true in
-    let same : length c.get.result.now ≡ length c.args.flow.now = ap length operators in
+    let same : length c.get.result.now ≡ length c.args.dataflow.now.flow = ap length operators in
     let arms = c.requires.arms in
-    let within : op ≤ length run.arms = omega arith in
-    let here = ended-here run c.args.crew.now c.loop-before.arms c.end_if_paused.new.arms op some within c.end_if_paused.ensures (before.rest op (omega arith)) in
+    let within : op ≤ length c.args.arms.now = omega arith in
+    let here = ended-here c.args.arms.now c.args.dataflow.now c.loop-before.arms c.end_if_paused.new.arms op some within c.end_if_paused.ensures (before.rest op (omega arith)) in
     record {
-      long = ended-long run c.args.crew.now c.loop-before.arms c.end_if_paused.new.arms op some within c.end_if_paused.ensures ∙ before.long;
+      long = ended-long c.args.arms.now c.args.dataflow.now c.loop-before.arms c.end_if_paused.new.arms op some within c.end_if_paused.ensures ∙ before.long;
       done = λ k least most.
           elim (eqb_tells k op) [
-            | inl is ↦ ap (nth c.end_if_paused.new.arms) is.1 ∙ here ∙ ap (λ n. Some (cut_at run c.args.crew.now n)) (sym is.1)
+            | inl is ↦ ap (nth c.end_if_paused.new.arms) is.1 ∙ here ∙ ap (λ n. Some (cut_at c.args.arms.now c.args.dataflow.now n)) (sym is.1)
             | inr other ↦
                 let ne = other.1 in
-                ended-other run c.args.crew.now c.loop-before.arms c.end_if_paused.new.arms op some within c.end_if_paused.ensures k ne ∙ before.done k least (omega arith)
+                ended-other c.args.arms.now c.args.dataflow.now c.loop-before.arms c.end_if_paused.new.arms op some within c.end_if_paused.ensures k ne ∙ before.done k least (omega arith)
           ];
       rest = λ k above.
-          ended-other run c.args.crew.now c.loop-before.arms c.end_if_paused.new.arms op some within c.end_if_paused.ensures k (λ is. absurd (omega arith))
+          ended-other c.args.arms.now c.args.dataflow.now c.loop-before.arms c.end_if_paused.new.arms op some within c.end_if_paused.ensures k (λ is. absurd (omega arith))
           ∙ before.rest k (omega arith);
     }
 
 pub returns : goal.returns
 returns c =
-    let run : Run = record { flow = c.args.flow.now; arms = c.args.arms.now } in
-    let operators = c.get.ensures.operators in
-    let same : length c.get.result.now ≡ length c.args.flow.now = ap length operators in
+    let operators = (c.get.ensures.operators ∙ c.flow.ensures) in
+    let same : length c.get.result.now ≡ length c.args.dataflow.now.flow = ap length operators in
     let end = c.loop-before-test.false in
-    ended-all run c.args.crew.now c.loop-before.arms c.loop-before.before c.requires.arms c.loop-before.invariant.long (omega arith) c.loop-before.invariant.done
+    ended-all c.args.arms.now c.args.dataflow.now c.loop-before.arms c.loop-before.before c.requires.arms c.loop-before.invariant.long (omega arith) c.loop-before.invariant.done

@@ -7,6 +7,6 @@ use Rattle.amber_home.proofs.stopping.end_paused.Given as goal
 abbrev pub invariant-loop-before : goal.invariant-loop-before
 invariant-loop-before l = record {
   long : length l.arms ≡ length l.initial.arms;
-  done : (op : ℕ) → 0 < op → op ≤ l.before → nth l.arms op ≡ Some (cut_at (record { flow = l.flow; arms = l.initial.arms }) l.crew op);
+  done : (op : ℕ) → 0 < op → op ≤ l.before → nth l.arms op ≡ Some (cut_at l.initial.arms l.dataflow op);
   rest : (op : ℕ) → l.before < op → nth l.arms op ≡ nth l.initial.arms op;
 }

@@ -1,11 +1,10 @@
 -- The stops of the first operators are there.
 use Rattle.std.proofs.Common.{◌≡◌, map, suc}
 use Rattle.std.specs.List.{flat_map}
-use Rattle.amber_rows.specs.Crew.{workers_of}
 use Rattle.amber_rows.specs.Lists.{numbers_below}
-use Rattle.amber_home.specs.Leg.{emitted_at, pause_at, paused_stop}
+use Rattle.amber_dataflow.specs.Dataflow.{rows_emitted}
+use Rattle.amber_home.specs.Leg.{pause_at, paused_stop}
 use Rattle.amber_home.proofs.stopping.stops_of.Given as goal
 
 abbrev pub invariant-loop-before : goal.invariant-loop-before
-invariant-loop-before l =
-    l.stops.items ≡ flat_map (λ op. paused_stop op (pause_at l.arms op) (emitted_at l.crew (workers_of l.flow op))) (map suc (numbers_below l.before))
+invariant-loop-before l = l.stops.items ≡ flat_map (λ op. paused_stop op (pause_at l.arms op) (rows_emitted l.dataflow op)) (map suc (numbers_below l.before))

@@ -1,19 +1,17 @@
 -- A run that has not begun.
-use Rattle.std.proofs.Common.{◌∙◌, [], ap}
-use Rattle.amber_home.specs.HomeState.{HomeState}
+use Rattle.std.proofs.Common.{sym, subst, ◌∙◌, [], ap, List}
+use Rattle.amber_rows.specs.declared.flow.Operator.{Operator}
+use Rattle.amber_meaning.specs.State.{start_of}
+use Rattle.amber_home.specs.Kept.{IsHome}
 use Rattle.amber_home.specs.declared.phase.Phase.TheVariants as phase
 use Rattle.amber_home.proofs.Fresh.{home-new}
 use Rattle.amber_home.proofs.home.Home.new.Goals as goal
 
 pub invariant_of-result : goal.invariant_of-result
 invariant_of-result c =
-    home-new c.args.flow c.args.files c.args.most c.args.batch _ c.in_ok-crew.crew.items _ _ c.requires.steps c.requires.some c.requires.few (c.new-3.ensures ∙ c.new-2.ensures.items) c.in_ok-arms.ensures (c.new-5.ensures ∙ c.new-4.ensures.items)
-    (c.in_ok-crew.ensures.start c.args.most) c.in_ok-crew.ensures.journals
-
-pub returns-clause-begins : goal.returns-clause-begins
-returns-clause-begins c =
-    ap {B = HomeState} (λ items. record { flow = c.args.flow; files = c.args.files; most = c.args.most; log = record { batch = c.args.batch; items = items }; phase = phase.Resting; parts = [] })
-    (c.new-3.ensures ∙ c.new-2.ensures.items)
-
-pub returns-clause-header : goal.returns-clause-header
-returns-clause-header c = c.in_ok-crew.ensures.header
+    let made = c.in_ok-dataflow.ensures in
+    let d = c.in_ok-dataflow.dataflow in
+    subst (λ (flow : List Operator). IsHome (record { flow = flow; files = c.args.files; most = c.args.most; log = record { batch = c.args.batch; items = c.new-4.result }; phase = phase.Resting; parts = [] })
+    (record { dataflow = d; arms = c.in_ok-arms.arms; stops = c.new-6.result })) (sym made.flow)
+    (home-new c.args.flow c.args.files c.args.most c.args.batch c.new-4.result d c.in_ok-arms.arms c.new-6.result c.requires.steps c.requires.some c.requires.few (c.new-4.ensures ∙ c.new-3.ensures.items)
+    (c.in_ok-arms.ensures ∙ ap (λ f. (start_of f).arms) (c.flow.ensures ∙ made.flow)) (c.new-6.ensures ∙ c.new-5.ensures.items) (made.start c.args.most) made.journals)

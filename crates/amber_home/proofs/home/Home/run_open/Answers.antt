@@ -1,52 +1,46 @@
 -- The workers go on, and the home with them.
-use Rattle.std.proofs.Common.{Result, Ok, Err, [], refl, ap, ◌∙◌}
-use Rattle.std.specs.Result.{OnErr}
-use Rattle.amber_home.specs.AtWork.{steps_by}
-use Rattle.amber_home.specs.HomeState.{HomeState, is_open}
-use Rattle.amber_home.specs.Parts.{open_parts}
-use Rattle.amber_home.proofs.Homes.{closes-ran, home-ran, long-open}
+use Rattle.std.proofs.Common.{◌+◌, ◌-◌, ◌≤◌, refl, subst, ap, ◌∙◌}
+use Rattle.amber_dataflow.specs.Dataflow.{step_count}
+use Rattle.amber_home.specs.HomeState.{HomeState}
+use Rattle.amber_home.specs.Leg.{IsLegDone}
+use Rattle.amber_home.proofs.Homes.{closes-ran, home-ran}
 use Rattle.amber_home.proofs.InTime.{in-time-ran}
-use Rattle.amber_home.specs.declared.phase.Phase.TheVariants as phase
+use Rattle.amber_home.proofs.Inside.{kept, long-within, opens, seen, there-within}
 use Rattle.amber_home.proofs.home.Home.run_open.Goals as goal
 
-err-so : {T E : Type 0} (r : Result T E) (P : Type 0) → P → OnErr r P
-err-so (Ok x) P h = tt
-err-so (Err x) P h = h
+pub run_leg-requires-clause-workers : goal.run_leg-requires-clause-workers
+run_leg-requires-clause-workers c = there-within c.self.inside c.self.invariant c.args.self.now c.self.view_is c.requires.within
 
 pub run_leg-requires-clause-arms : goal.run_leg-requires-clause-arms
-run_leg-requires-clause-arms c =
-    let i = c.self.inside in
-    let e : HomeState = record { flow = i.flow; files = i.files; most = i.most; log = i.log; phase = i.phase; parts = open_parts i.phase i.crew.items } in
-    long-open e i.crew.items i.crew.items i.arms i.stops i.phase c.self.invariant (ap (λ (h : HomeState). is_open h.phase) c.self.view_is ∙ c.requires.within)
+run_leg-requires-clause-arms c = long-within c.self.inside c.self.invariant c.args.self.now c.self.view_is c.requires.within
 
 pub invariant_of-self-2 : goal.invariant_of-self-2
 invariant_of-self-2 c =
     let i = c.self.inside in
-    let e : HomeState = record { flow = i.flow; files = i.files; most = i.most; log = i.log; phase = i.phase; parts = open_parts i.phase i.crew.items } in
+    let e = seen i in
+    let live = kept i in
     let done = c.in_ok-close.ensures in
-    home-ran e i.crew.items c.as_mut_slice.result.now c.run_leg.new.crew _ i.arms i.stops i.phase i.crew.len c.steps_of.result c.self.invariant
-    (ap (λ (h : HomeState). is_open h.phase) c.self.view_is ∙ c.requires.within) c.as_mut_slice.ensures.value (c.steps_of.ensures ∙ ap steps_by c.as_slice.ensures.value)
-    c.run_leg.auto.crew i.crew.ok.0 refl done.on done.few
+    home-ran e live i.phase c.self.invariant (opens i c.self.invariant c.args.self.now c.self.view_is c.requires.within) c.run_leg.new.dataflow done.on refl
+    (subst (λ made. step_count c.run_leg.new.dataflow ≤ step_count i.dataflow + (i.most - made)) c.steps.ensures done.few)
 
 pub returns-clause-closes : goal.returns-clause-closes
 returns-clause-closes c =
     let i = c.self.inside in
-    let e : HomeState = record { flow = i.flow; files = i.files; most = i.most; log = i.log; phase = i.phase; parts = open_parts i.phase i.crew.items } in
+    let e = seen i in
+    let live = kept i in
     let done = c.in_ok-close.ensures in
     rw (← c.self.view_is)
-    (closes-ran e i.crew.items c.as_mut_slice.result.now c.run_leg.new.crew _ i.arms i.stops i.phase i.crew.len c.steps_of.result c.self.invariant
-    (ap (λ (h : HomeState). is_open h.phase) c.self.view_is ∙ c.requires.within) c.as_mut_slice.ensures.value (c.steps_of.ensures ∙ ap steps_by c.as_slice.ensures.value)
-    c.run_leg.auto.crew i.crew.ok.0 refl done.on done.few c.in_ok-close.close done.done)
+    (closes-ran e live i.phase c.self.invariant (opens i c.self.invariant c.args.self.now c.self.view_is c.requires.within) c.run_leg.new.dataflow done.on refl
+    (subst (λ made. step_count c.run_leg.new.dataflow ≤ step_count i.dataflow + (i.most - made)) c.steps.ensures done.few) c.in_ok-close.close
+    (subst (λ made. IsLegDone c.in_ok-close.close i.arms (step_count i.dataflow + (i.most - made)) c.run_leg.new.dataflow) c.steps.ensures done.done))
 
 pub returns-clause-in_time : goal.returns-clause-in_time
 returns-clause-in_time c none =
     let i = c.self.inside in
-    let e : HomeState = record { flow = i.flow; files = i.files; most = i.most; log = i.log; phase = i.phase; parts = open_parts i.phase i.crew.items } in
+    let e = seen i in
+    let live = kept i in
     let done = c.in_ok-close.ensures in
     rw (← c.self.view_is)
-    (in-time-ran e i.crew.items c.as_mut_slice.result.now c.run_leg.new.crew _ i.arms i.stops i.phase i.crew.len c.steps_of.result c.self.invariant
-    (ap (λ (h : HomeState). is_open h.phase) c.self.view_is ∙ c.requires.within) c.as_mut_slice.ensures.value (c.steps_of.ensures ∙ ap steps_by c.as_slice.ensures.value)
-    c.run_leg.auto.crew i.crew.ok.0 refl done.on done.few done.in_time c.in_ok-close.close (ap (λ (h : HomeState). h.parts) c.self.view_is ∙ none))
-
-pub returns-in_err-close-clause-err : goal.returns-in_err-close-clause-err
-returns-in_err-close-clause-err c = err-so c.from_residual.result _ (ap (λ (h : HomeState). record h { phase = phase.Spent; parts = [] }) c.self.view_is)
+    (in-time-ran e live c.run_leg.new.dataflow i.phase c.self.invariant (opens i c.self.invariant c.args.self.now c.self.view_is c.requires.within) done.on
+    (subst (λ made. step_count c.run_leg.new.dataflow ≤ step_count i.dataflow + (i.most - made)) c.steps.ensures done.few)
+    done.in_time c.in_ok-close.close (ap (λ (h : HomeState). h.parts) c.self.view_is ∙ none))

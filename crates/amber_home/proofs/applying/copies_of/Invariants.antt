@@ -1,6 +1,0 @@
--- So many copies were made.
-use Rattle.std.proofs.Common.{◌≡◌, replicate}
-use Rattle.amber_home.proofs.applying.copies_of.Given as goal
-
-abbrev pub invariant-copies : goal.invariant-copies
-invariant-copies l = record { made : l.copies.items ≡ replicate l.counter l.value }

@@ -1,6 +1,0 @@
--- So many were put behind the others.
-use Rattle.std.proofs.Common.{◌≡◌, ◌++◌, None, replicate}
-use Rattle.amber_home.proofs.shares.push_none.Given as goal
-
-abbrev pub invariant-workers : goal.invariant-workers
-invariant-workers l = record { more : l.shares.items ≡ l.initial.shares.items ++ replicate l.counter None }
