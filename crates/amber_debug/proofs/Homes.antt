@@ -1,16 +1,11 @@
 -- What commands leave at home.
-use Rattle.std.proofs.Common.{◌≡◌, ◌⊎◌, inl, inr, refl, sym, ap, subst, ◌∙◌, ℕ, zero, suc, ◌-◌, ◌<◌, ◌≤◌, ◌==◌, List, [], ◌∷◌, ◌++◌, length, get_or, Option, Bool, true, false, Ok, Err, arith}
-use Rattle.std.specs.Prelude.{slice_get}
-use Rattle.std.proofs.lemmas.Bool.{ne_eqb}
+use Rattle.std.proofs.Common.{◌≡◌, ◌⊎◌, inl, inr, refl, sym, ap, subst, ◌∙◌, ℕ, zero, suc, ◌-◌, ◌<◌, List, [], ◌∷◌, ◌++◌, length, get_or, Bool, true, false, Ok, Err, arith}
 use Rattle.std.proofs.lemmas.List.{get_or_push, length_push}
-use Rattle.amber_rows.specs.Lists.{nth}
 use Rattle.amber_rows.specs.declared.flow.Operator.{Operator}
-use Rattle.amber_rows.specs.declared.value.Value.{Value}
-use Rattle.amber_log.specs.Fits.{fits_of, is_there}
+use Rattle.amber_log.specs.Fits.{fits_of}
 use Rattle.amber_log.specs.Grammar.{AreItems, IsCommand, IsItem, IsLog, ends_over, is_last}
 use Rattle.amber_log.specs.LogText.{item_text}
 use Rattle.amber_log.specs.declared.command.Command.{Command}
-use Rattle.amber_log.specs.declared.command.Command.TheVariants as command
 use Rattle.amber_log.specs.declared.leg.Close.{Close}
 use Rattle.amber_log.specs.declared.leg.Close.TheVariants as close
 use Rattle.amber_log.specs.declared.log.Item.{Item}
@@ -18,17 +13,15 @@ use Rattle.amber_log.specs.declared.log.Item.TheVariants as item
 use Rattle.amber_log.specs.declared.log.Log.{Log}
 use Rattle.amber_meaning.specs.declared.answer.Answer.{Answer}
 use Rattle.amber_meaning.specs.declared.view.Stop.{Stop}
-use Rattle.amber_meaning.specs.declared.view.Inspected.{Inspected}
-use Rattle.amber_meaning.specs.Legal.{IsLegal, Query}
+use Rattle.amber_meaning.specs.Legal.{IsLegal}
 use Rattle.amber_meaning.specs.Replay.{after_item}
-use Rattle.amber_meaning.specs.State.{State, after_command, have_finished}
-use Rattle.amber_meaning.specs.Texts.{answer_text, inspected_text, stops_text}
+use Rattle.amber_meaning.specs.State.{after_command, have_finished}
+use Rattle.amber_meaning.specs.Texts.{answer_text, stops_text}
 use Rattle.amber_meaning.specs.Transcript.{reply_of}
-use Rattle.amber_meaning.specs.Views.{answer_in, inspected_of}
+use Rattle.amber_meaning.specs.Views.{answer_in}
 use Rattle.amber_meaning.proofs.Fronts.{legal_logs_grow, transcripts_grow}
 use Rattle.amber_lines.proofs.Kept.{kept_stops_were_replied}
-use Rattle.amber_report.specs.Replies.{done_text}
-use Rattle.amber_home.specs.HomeState.{ClosesLeg, HomeState, is_done_at_rest, item_of_leg, query_of, rest_state, state_of, stops_of_home, with_item}
+use Rattle.amber_home.specs.HomeState.{ClosesLeg, HomeState, item_of_leg, query_of, rest_state, state_of, stops_of_home, with_item}
 use Rattle.amber_home.specs.declared.phase.Phase.TheVariants as phase
 use Rattle.amber_debug.specs.declared.done.Done.{Done}
 use Rattle.amber_debug.specs.declared.done.EndErr.TheVariants as end_err
@@ -144,51 +137,6 @@ runs-end old mid new done flow answer (leg, text) e same is reply = (
 )
 
 -- ---- at rest
-
-got-at : (xs : List Operator) (place : ℕ) → is_there (slice_get xs place) ≡ true → place < length xs
-got-at [] place h = absurd (let never : false ≡ true = h in cc)
-got-at (x ∷ xs) zero h = omega arith
-got-at (x ∷ xs) (suc place) h = omega (arith, got-at xs place h)
-
-is-at : (flow : List Operator) (op : ℕ) → is_there (nth flow op) ≡ true → (0 < op) × (op ≤ length flow)
-is-at flow zero h = absurd (let never : false ≡ true = h in cc)
-is-at flow (suc place) h =
-    let no : (suc place == 0) ≡ false = ne_eqb (suc place) 0 (omega arith) in
-    let less : suc place - 1 ≡ place = omega arith in
-    let inside = got-at flow place (rw (no, less) at h) in
-    (omega arith, omega (arith, inside))
-
-pub inspected-there : (flow : List Operator) (done : Command) (op : ℕ) → done ≡ command.Inspect op → fits_of flow done ≡ true → (0 < op) × (op ≤ length flow)
-unfolding fits_of
-inspected-there flow done op is fits = is-at flow op (rw is at fits)
-
-state-rest : (home : HomeState) → home.phase ≡ phase.Resting → state_of home ≡ rest_state home
-unfolding state_of
-state-rest home e = rw e refl
-
-pub reply-inspect : (home : HomeState) (done : Command) (op : ℕ) (seen : Inspected) (flow : List Operator) (text : List ℕ) → home.phase ≡ phase.Resting → done ≡ command.Inspect op → flow ≡ home.flow
-    → seen ≡ inspected_of (query_of home) (state_of home) op → text ≡ inspected_text flow seen → text ≡ reply_of (query_of home) (rest_state home) (item.Do done)
-unfolding reply_of
-reply-inspect home done op seen flow text rests is same shown e =
-    e ∙ ap (λ f. inspected_text f seen) same ∙ ap (inspected_text home.flow) (shown ∙ ap (λ s. inspected_of (query_of home) s op) (state-rest home rests)) ∙ rw is refl
-
-done-replied : (query : Query) (state : State) (done : Command) (dropped : Option (List Value)) → is_done_at_rest done ≡ true → ((op : ℕ) → done ≡ command.Inspect op → ⊥)
-    → done_text query.flow done dropped ≡ reply_of query state (item.Do done)
-unfolding reply_of
-done-replied query state (command.Pause op n) dropped rest other = refl
-done-replied query state (command.Clear op) dropped rest other = refl
-done-replied query state (command.Set op value) dropped rest other = refl
-done-replied query state (command.Inspect op) dropped rest other = absurd (other op refl)
-done-replied query state command.Run dropped rest other = absurd (let never : false ≡ true = rest in cc)
-done-replied query state command.End dropped rest other = absurd (let never : false ≡ true = rest in cc)
-done-replied query state (command.Count op n) dropped rest other = absurd (let never : false ≡ true = rest in cc)
-done-replied query state (command.When op cond) dropped rest other = absurd (let never : false ≡ true = rest in cc)
-done-replied query state (command.Drop op worker) dropped rest other = absurd (let never : false ≡ true = rest in cc)
-done-replied query state (command.Lose op worker) dropped rest other = absurd (let never : false ≡ true = rest in cc)
-
-pub reply-done : (home : HomeState) (done : Command) (dropped : Option (List Value)) (flow : List Operator) (text : List ℕ) → is_done_at_rest done ≡ true → ((op : ℕ) → done ≡ command.Inspect op → ⊥)
-    → flow ≡ home.flow → text ≡ done_text flow done dropped → text ≡ reply_of (query_of home) (rest_state home) (item.Do done)
-reply-done home done dropped flow text rest other same e = e ∙ ap (λ f. done_text f done dropped) same ∙ done-replied (query_of home) (rest_state home) done dropped rest other
 
 -- the log stays legal
 pub legal-done : (old new : HomeState) (done : Command) → IsLegal (query_of old) old.log → ends_over false old.log.items ≡ false → IsCommand done → fits_of old.flow done ≡ true

@@ -1,10 +1,13 @@
 -- What a debugger shows, and what a command does to it.
 use Rattle.std.specs.Prelude.{◌≡◌, ℕ, ◌⊎◌, List, [], ◌∷◌, ◌++◌, Result, Ok, Err, Bool, true, false}
 use Rattle.amber_rows.specs.declared.flow.Operator.{Operator}
+use Rattle.amber_log.specs.Commands.{action_of}
 use Rattle.amber_log.specs.Grammar.{ends_over, is_long}
 use Rattle.amber_log.specs.LogText.{item_text}
 use Rattle.amber_log.specs.declared.command.Command.{Command}
 use Rattle.amber_log.specs.declared.command.Command.TheVariants as command
+use Rattle.amber_log.specs.declared.effect.Action.{Action}
+use Rattle.amber_log.specs.declared.effect.Action.TheVariants as action
 use Rattle.amber_log.specs.declared.log.Item.{Item}
 use Rattle.amber_log.specs.declared.log.Item.TheVariants as item
 use Rattle.amber_log.specs.declared.log.Log.{Log}
@@ -51,18 +54,14 @@ is_long_item (item.Do command) = false
 is_long_item (item.Run leg) = is_long leg.close
 is_long_item (item.End leg) = is_long leg.close
 
+-- a leg, and nothing that is done at rest
+abbrev pub is_leg_action : Action → Bool
+is_leg_action (action.Leg to_end) = true
+is_leg_action (action.AtRest effect) = false
+
 -- a command to run
 abbrev pub is_leg : Command → Bool
-is_leg command.Run = true
-is_leg command.End = true
-is_leg (command.Pause op n) = false
-is_leg (command.Count op n) = false
-is_leg (command.When op cond) = false
-is_leg (command.Clear op) = false
-is_leg (command.Set op value) = false
-is_leg (command.Drop op worker) = false
-is_leg (command.Inspect op) = false
-is_leg (command.Lose op worker) = false
+is_leg command = is_leg_action (action_of command)
 
 -- the most rows that a worker emits past its operator's pause
 abbrev pub most_late : ℕ

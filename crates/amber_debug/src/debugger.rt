@@ -1,12 +1,15 @@
 ghost use Rattle.std.specs.Prelude.{◌≡◌, ◌≢◌, ◌<◌, ◌≤◌, ◌⊎◌, ◌^◌, ◌↔◌, [], Err, IfOk, OnErr, false, true, length};
+ghost use Rattle.amber_log.specs.Commands.{action_of};
+ghost use Rattle.amber_dataflow.specs.Start.{BeginsOrNames};
 ghost use Rattle.amber_log.specs.Fits.{fits_of};
 ghost use Rattle.amber_log.specs.Grammar.{IsLog, ends_over};
+ghost use Rattle.amber_log.specs.declared.effect.Action.TheVariants as action;
 ghost use Rattle.amber_log.specs.declared.log.Item.TheVariants as item;
 ghost use Rattle.amber_meaning.specs.Legal.{IsLegal};
 ghost use Rattle.amber_meaning.specs.Plain.{scan_count};
 ghost use Rattle.amber_meaning.specs.Transcript.{reply_of};
 ghost use Rattle.amber_script.specs.Commands.{is_scripted};
-ghost use Rattle.amber_home.specs.HomeState.{BeginsOrNames, is_done_at_rest, query_of, rest_state};
+ghost use Rattle.amber_home.specs.HomeState.{is_done_at_rest, query_of, rest_state};
 ghost use Rattle.amber_home.specs.declared.phase.Phase.TheVariants as phase;
 ghost use Rattle.amber_debug.specs.AtHome.{DoesAtRest, IsLastText, RunsAs, TellsLeg};
 ghost use Rattle.amber_debug.specs.Session.{Does, query_in};
@@ -14,7 +17,7 @@ ghost use Rattle.amber_debug.specs.Session.{Does, query_in};
 use crate::done::{DebugErr, Done, EndErr};
 use amber_home::{Home, HomeErr, LegErr};
 use amber_journal::{write_command, write_item};
-use amber_log::{Command, Log, commands_have_text};
+use amber_log::{Action, Command, Effect, Log, Reply, commands_have_text};
 use amber_report::{answer_lines, inspect_lines, ok_line, stop_lines};
 use amber_rows::{Bytes, Files, Flow};
 use std::alloc::{AllocError, Global};
@@ -121,29 +124,43 @@ fn do_end(alloc: Global, home: &mut Home) -> Result<Done, EndErr>
     })
 }
 
-// The reply to a command that is no leg.
-fn reply_at_rest(alloc: Global, home: &Home, command: &Command) -> Result<Bytes, AllocError>
+// The reply to a command with this effect.
+fn reply_at_rest(
+    alloc: Global,
+    home: &Home,
+    command: &Command,
+    effect: &Effect<'_>,
+) -> Result<Bytes, AllocError>
     requires resting { home.now.phase ≡ phase.Resting }
     requires fits { fits_of home.now.flow command.now ≡ true }
     requires at_rest { is_done_at_rest command.now ≡ true }
+    requires effect { action_of command.now ≡ action.AtRest effect.now }
     ensures { IfOk result (λ reply. reply
         ≡ reply_of (query_of home.now) (rest_state home.now) (item.Do command.now)) }
 {
-    match command {
-        Command::Inspect { op } => {
-            let seen = home.inspect(alloc, *op)?;
+    match effect.reply {
+        Reply::Done => ok_line(alloc, home.flow(), command, None),
+        Reply::Shown => {
+            let seen = home.inspect(alloc, effect.op)?;
             inspect_lines(alloc, home.flow(), &seen)
         }
-        _ => ok_line(alloc, home.flow(), command, None),
+        // No run drops a row yet.
+        Reply::Dropped => unreachable!(),
     }
 }
 
-// Does a command that is no leg. Its text and the reply are there before it is done.
-fn do_at_rest(alloc: Global, home: &mut Home, command: &Command) -> Result<Done, AllocError>
+// Does a command with this effect. Its text and the reply are there before it is done.
+fn do_at_rest(
+    alloc: Global,
+    home: &mut Home,
+    command: &Command,
+    effect: &Effect<'_>,
+) -> Result<Done, AllocError>
     requires resting { home.old.phase ≡ phase.Resting }
     requires open { ends_over false home.old.log.items ≡ false }
     requires fits { fits_of home.old.flow command.now ≡ true }
     requires at_rest { is_done_at_rest command.now ≡ true }
+    requires effect { action_of command.now ≡ action.AtRest effect.now }
     requires legal { IsLegal (query_of home.old) home.old.log }
     ensures ok { IfOk result (λ done. DoesAtRest home.old home.new done command.now) }
     ensures err { OnErr result (home.new ≡ home.old) }
@@ -151,7 +168,7 @@ fn do_at_rest(alloc: Global, home: &mut Home, command: &Command) -> Result<Done,
 {
     commands_have_text(command);
     let item = Bytes::new(write_command(alloc, command)?);
-    let reply = reply_at_rest(alloc, home, command)?;
+    let reply = reply_at_rest(alloc, home, command, effect)?;
     home.apply(alloc, command)?;
     Ok(Done {
         item,
@@ -232,10 +249,10 @@ impl Debugger {
         if self.spent {
             return Err(DebugErr::Spent);
         }
-        match command {
-            Command::Run => self.run(alloc),
-            Command::End => self.end(alloc),
-            _ => self.change(alloc, command),
+        match command.action() {
+            Action::Leg { to_end: false } => self.run(alloc),
+            Action::Leg { to_end: true } => self.end(alloc),
+            Action::AtRest(effect) => self.change(alloc, command, &effect),
         }
     }
 
@@ -269,17 +286,23 @@ impl Debugger {
         }
     }
 
-    // Does a command that is no leg.
-    fn change(&mut self, alloc: Global, command: &Command) -> Result<Done, DebugErr>
+    // Does a command with this effect.
+    fn change(
+        &mut self,
+        alloc: Global,
+        command: &Command,
+        effect: &Effect<'_>,
+    ) -> Result<Done, DebugErr>
         requires unspent { self.old.spent ≡ false }
         requires open { ends_over false self.old.log.items ≡ false }
         requires fits { fits_of self.old.flow command.now ≡ true }
         requires at_rest { is_done_at_rest command.now ≡ true }
+        requires effect { action_of command.now ≡ action.AtRest effect.now }
         ensures does { Does result self.old self.new command.now }
         ensures unspent { result ≢ Err DebugErr.Spent }
         ensures legal { IsLegal (query_in self.new) self.new.log }
     {
-        Ok(do_at_rest(alloc, &mut self.home, command)?)
+        Ok(do_at_rest(alloc, &mut self.home, command, effect)?)
     }
 
     /// The log of the run so far.

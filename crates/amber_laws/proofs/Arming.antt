@@ -1,6 +1,6 @@
 -- What a count has counted are the rows that were emitted since it was armed.
 use Rattle.std.proofs.Common.{◌≡◌, ℕ, zero, suc, ◌+◌, ◌<◌, ◌≤◌, eqb, ◌⊎◌, inl, inr, List, [], ◌∷◌, ◌++◌, length, map, get_or, drop, Option, Some, None, Bool, true, false, refl, sym, ap, subst, ◌∙◌, add-one, append_assoc, arith}
-use Rattle.std.specs.Prelude.{unwrap_or, slice_get, if◌then◌else◌, ◌||◌}
+use Rattle.std.specs.Prelude.{unwrap_or, slice_get, if◌then◌else◌, ◌&&◌, ◌||◌}
 use Rattle.std.specs.List.{list_any, sum_by}
 use Rattle.std.proofs.Math.Seq.{drop-append_seam}
 use Rattle.std.proofs.lemmas.Bool.{cases_eq, cases_lt, eq-eqb, ne_eqb}
@@ -9,8 +9,13 @@ use Rattle.std.proofs.lemmas.List.Sums.{sum_by-append, sum_by-cons}
 use Rattle.amber_rows.specs.Lists.{IsPrefix, changed_at, changed_from, nth, numbers_below}
 use Rattle.amber_rows.specs.Crew.{crew_of, workers_of}
 use Rattle.amber_rows.specs.declared.flow.Operator.{Operator}
+use Rattle.amber_log.specs.Commands.{action_of}
 use Rattle.amber_log.specs.declared.command.Command.{Command}
-use Rattle.amber_log.specs.declared.command.Command.TheVariants as command
+use Rattle.amber_log.specs.declared.effect.Action.{Action}
+use Rattle.amber_log.specs.declared.effect.Action.TheVariants as action
+use Rattle.amber_log.specs.declared.effect.Change.{Change}
+use Rattle.amber_log.specs.declared.effect.Change.TheVariants as change
+use Rattle.amber_log.specs.declared.effect.Effect.{Effect}
 use Rattle.amber_log.specs.declared.leg.Close.{Close}
 use Rattle.amber_log.specs.declared.leg.Close.TheVariants as close
 use Rattle.amber_log.specs.declared.leg.Part.{Part}
@@ -20,18 +25,18 @@ use Rattle.amber_meaning.specs.Laws.{SendersFirst}
 use Rattle.amber_meaning.specs.Legal.{IsWorked, Makes, Query, Reaches, after_close}
 use Rattle.amber_meaning.specs.Position.{Position, emitted_count, is_emitted}
 use Rattle.amber_meaning.specs.Replay.{after_item, after_items, state_after}
-use Rattle.amber_meaning.specs.State.{Arms, Counting, State, after_command, arms_at, begin_leg, begin_last_leg, counted_at, counted_by, crew_at, emitted_by, no_arms, position_at, start_of, with_arms, without_arms}
+use Rattle.amber_meaning.specs.State.{Arms, Counting, State, after_action, after_command, arms_at, arms_changed, begin_leg, begin_last_leg, counted_at, counted_by, counting_from, crew_at, emitted_by, gone_at, no_arms, position_at, put, start_of, without_arms}
 use Rattle.amber_meaning.specs.Stops.{arms_left, count_left, op_numbers, without_stops}
 use Rattle.amber_meaning.proofs.Chunks.{numbers-length}
 use Rattle.amber_meaning.proofs.Crews.{worker-known}
 use Rattle.amber_meaning.proofs.Fronts.{transcripts_grow}
-use Rattle.amber_meaning.proofs.Lists.{IsPrefix-refl, nth-next, numbered_or}
+use Rattle.amber_meaning.proofs.Lists.{nth-next, numbered_or}
 use Rattle.amber_meaning.proofs.Numbers.{among, among-first, among-more}
 use Rattle.amber_meaning.proofs.OneState.{item-is}
 use Rattle.amber_meaning.proofs.Senders.{flows_send_forward}
-use Rattle.amber_laws.specs.CountLaws.{CountsCountSinceArmed, WasArmed, sets_count}
+use Rattle.amber_laws.specs.CountLaws.{CountsCountSinceArmed, WasArmed, action_sets_count, sets_count}
 use Rattle.amber_laws.proofs.CountStops.{run-closed}
-use Rattle.amber_laws.proofs.GoingOn.{GoOn, closed-on, dropped-state, go-on-refl, go-on-trans, leg-on}
+use Rattle.amber_laws.proofs.GoingOn.{GoOn, closed-on, go-on-refl, go-on-trans, leg-on, rest-on}
 
 -- ---- the count of an operator
 
@@ -61,12 +66,13 @@ changed-got change number place (a ∷ arms) (suc i) =
     let later : suc place + i ≡ place + suc i = omega arith in
     subst (λ n. IsChanged change (arms_from arms i) (arms_from (changed_from change number (suc place) arms) i) (number ≡ n)) later (changed-got change number (suc place) arms i)
 
-changed-arms : (change : Arms → Arms) (number op : ℕ) (state : State) → IsChanged change (arms_at state op) (arms_at (with_arms change number state) op) (number ≡ op)
+changed-arms : (change : Arms → Arms) (number op : ℕ) (arms : List Arms)
+    → IsChanged change (unwrap_or (nth arms op) no_arms) (unwrap_or (nth (changed_at change number arms) op) no_arms) (number ≡ op)
 unfolding arms_from
-changed-arms change number zero state = inr (inr refl)
-changed-arms change number (suc i) state =
+changed-arms change number zero arms = inr (inr refl)
+changed-arms change number (suc i) arms =
     let next : 1 + i ≡ suc i = omega arith in
-    rw (← add-one i, nth-next state.arms i, nth-next (changed_at change number state.arms) i) (subst (λ n. IsChanged change (arms_from state.arms i) (arms_from (changed_at change number state.arms) i) (number ≡ n)) (omega arith) (changed-got change number 1 state.arms i))
+    rw (← add-one i, nth-next arms i, nth-next (changed_at change number arms) i) (subst (λ n. IsChanged change (arms_from arms i) (arms_from (changed_at change number arms) i) (number ≡ n)) (omega arith) (changed-got change number 1 arms i))
 
 -- ---- a cut
 
@@ -135,7 +141,7 @@ ended-count state (suc i) counting P e = cleared-count state.arms i counting P (
 -- a count was armed by one of these items, and from the state before it the workers have gone on to this one
 record IsCounting (query : Query) (done : List Item) (state : State) (op : ℕ) (counting : Counting) : Type 0 where
   armed : WasArmed done op counting.target
-  base : counting.base ≡ map (λ p. length p.outcomes) (crew_at query.flow (state_after query armed.before) op)
+  base : counting.base ≡ gone_at query.flow (state_after query armed.before) op
   on : GoOn (crew_of query.flow) (state_after query armed.before) state
 
 abbrev AreCounting : Query → List Item → State → Type 0
@@ -156,8 +162,10 @@ none-more test (x ∷ items) one h e = by (test x) h (λ later. none-more test i
 abbrev armed-more : (done : List Item) (one : Item) (op target : ℕ) → (armed : WasArmed done op target) → sets_count op one ≡ false → WasArmed (done ++ one ∷ []) op target
 armed-more done one op target armed e = record {
   before = armed.before;
+  command = armed.command;
   behind = armed.behind ++ one ∷ [];
-  split = ap (λ items. items ++ one ∷ []) armed.split ∙ append_assoc armed.before (item.Do (command.Count op target) ∷ armed.behind) (one ∷ []);
+  split = ap (λ items. items ++ one ∷ []) armed.split ∙ append_assoc armed.before (item.Do armed.command ∷ armed.behind) (one ∷ []);
+  arms = armed.arms;
   last = none-more (sets_count op) armed.behind one armed.last e;
 }
 
@@ -176,88 +184,70 @@ kept-counting query done state next one on leaves h op counting e =
     let left = leaves op counting e in
     counting-on query done state next one op counting (h op counting left.0) left.1 on
 
--- a command that changes the arms of one operator, and not its count
-other-arms : (query : Query) (done : List Item) (state : State) (one : Item) (change : Arms → Arms) (number : ℕ) → ((a : Arms) → (change a).count ≡ a.count) → ((op : ℕ) → sets_count op one ≡ false)
-    → AreCounting query done state → AreCounting query (done ++ one ∷ []) (with_arms change number state)
-other-arms query done state one change number same never h =
-    kept-counting query done state (with_arms change number state) one (go-on-refl (crew_of query.flow) state)
-    (λ op counting e. elim (changed-arms change number op state) [
-      | inl was ↦ (sym (ap (λ (a : Arms). a.count) was.0) ∙ e, never op)
-      | inr rest ↦ elim rest [
-        | inl here ↦ (sym (same (arms_at state op)) ∙ sym (ap (λ (a : Arms). a.count) here.1) ∙ e, never op)
-        | inr none ↦ no-count (arms_at (with_arms change number state) op) counting _ none e
+-- ---- a command that is done at rest
+
+other-op : (effect : Effect) (op : ℕ) → (effect.op ≡ op → ⊥) → action_sets_count op (action.AtRest effect) ≡ false
+other-op effect op ne = rw (ne_eqb effect.op op ne)
+
+keeps-count : (effect : Effect) (op : ℕ) → effect.arming.count ≡ change.Keep → action_sets_count op (action.AtRest effect) ≡ false
+keeps-count effect op e = rw e (by (eqb effect.op op))
+  where
+    by : (b : Bool) → (b && false) ≡ false
+    by true = refl
+    by false = refl
+
+module _ (query : Query) (done : List Item) (state : State) (c : Command) (effect : Effect) (is : action_of c ≡ action.AtRest effect) (here : state_after query done ≡ state) where
+  abbrev next : State
+  next = after_action query.flow (action.AtRest effect) state
+
+  abbrev gone : List ℕ
+  gone = gone_at query.flow state effect.op
+
+  -- the operator's count was armed just now
+  armed-now : (n op : ℕ) (counting : Counting) → effect.arming.count ≡ change.Put n → effect.op ≡ op → counting ≡ record { target = n; base = gone }
+      → IsCounting query (done ++ item.Do c ∷ []) next op counting
+  armed-now n op counting puts same new = record {
+    armed = record {
+      before = done;
+      command = c;
+      behind = [];
+      split = refl;
+      arms = rw is (same, puts ∙ ap (λ (k : Counting). change.Put k.target) (sym new));
+      last = refl;
+    };
+    base = ap (λ (k : Counting). k.base) new ∙ ap (gone_at query.flow state) same ∙ ap (λ s. gone_at query.flow s op) (sym here);
+    on = rw here (rest-on query state effect);
+  }
+
+  -- what becomes of its operator's count
+  own-count : (op : ℕ) (counting : Counting) → AreCounting query done state → effect.op ≡ op → (change : Change ℕ) → effect.arming.count ≡ change
+      → put (counting_from gone change) (arms_at state op).count ≡ Some counting → IsCounting query (done ++ item.Do c ∷ []) next op counting
+  own-count op counting h same change.Keep keeps e =
+      counting-on query done state next (item.Do c) op counting (h op counting e) (ap (action_sets_count op) is ∙ keeps-count effect op keeps) (rest-on query state effect)
+  own-count op counting h same change.TakeBack takes e = no-some None counting _ refl e
+  own-count op counting h same (change.Put n) puts e = armed-now n op counting puts same (let new : counting ≡ record { target = n; base = gone } = cc in new)
+
+  rest-counting : AreCounting query done state → AreCounting query (done ++ item.Do c ∷ []) next
+  rest-counting h op counting e =
+      elim (changed-arms (arms_changed effect.arming gone) effect.op op state.arms) [
+        | inl was ↦
+            counting-on query done state next (item.Do c) op counting (h op counting (sym (ap (λ (a : Arms). a.count) was.0) ∙ e)) (ap (action_sets_count op) is ∙ other-op effect op was.1)
+            (rest-on query state effect)
+        | inr rest ↦ elim rest [
+          | inl now ↦ own-count op counting h now.0 effect.arming.count refl (sym (ap (λ (a : Arms). a.count) now.1) ∙ e)
+          | inr none ↦ no-count (arms_at next op) counting _ none e
+        ]
       ]
-    ]) h
-
--- the operator's count was armed just now
-armed-now : (query : Query) (done : List Item) (state : State) (number n op : ℕ) (counting : Counting) → state_after query done ≡ state → number ≡ op
-    → counting ≡ record { target = n; base = map (λ p. length p.outcomes) (crew_at query.flow state number) }
-    → IsCounting query (done ++ item.Do (command.Count number n) ∷ []) (after_command query.flow (command.Count number n) state) op counting
-unfolding after_command
-armed-now query done state number n op counting here same is = record {
-  armed = record {
-    before = done;
-    behind = [];
-    split = ap (λ one. done ++ one ∷ []) (ap (λ k. item.Do (command.Count k n)) same ∙ ap (λ m. item.Do (command.Count op m)) (sym (ap (λ (c : Counting). c.target) is)));
-    last = refl;
-  };
-  base = ap (λ (c : Counting). c.base) is ∙ ap (λ k. map (λ (p : Position). length p.outcomes) (crew_at query.flow state k)) same
-      ∙ ap (λ s. map (λ (p : Position). length p.outcomes) (crew_at query.flow s op)) (sym here);
-  on = λ worker less. rw here (IsPrefix-refl (position_at state.positions worker).outcomes);
-}
-
--- a count is armed
-counted-arms : (query : Query) (done : List Item) (state : State) (number n : ℕ) → state_after query done ≡ state → AreCounting query done state
-    → AreCounting query (done ++ item.Do (command.Count number n) ∷ []) (after_command query.flow (command.Count number n) state)
-unfolding after_command
-counted-arms query done state number n here h op counting e =
-    let new : Counting = record { target = n; base = map (λ p. length p.outcomes) (crew_at query.flow state number) } in
-    let change : Arms → Arms = λ arms. record arms { count = Some new } in
-    let next = with_arms change number state in
-    elim (changed-arms change number op state) [
-      | inl was ↦ counting-on query done state next (item.Do (command.Count number n)) op counting (h op counting (sym (ap (λ (a : Arms). a.count) was.0) ∙ e)) (ne_eqb number op was.1)
-          (go-on-refl (crew_of query.flow) state)
-      | inr rest ↦ elim rest [
-        | inl now ↦
-            let same : ◌≡◌ {A = Option Counting} (Some counting) (Some new) = sym e ∙ ap (λ (a : Arms). a.count) now.1 in
-            armed-now query done state number n op counting here now.0 (let inner : counting ≡ new = cc in inner)
-        | inr none ↦ no-count (arms_at next op) counting _ none e
-      ]
-    ]
-
--- counts are cleared
-cleared-arms : (query : Query) (done : List Item) (state : State) (number : ℕ) → AreCounting query done state
-    → AreCounting query (done ++ item.Do (command.Clear number) ∷ []) (after_command query.flow (command.Clear number) state)
-unfolding after_command
-cleared-arms query done state number h op counting e =
-    let next = with_arms without_arms number state in
-    elim (changed-arms without_arms number op state) [
-      | inl was ↦ counting-on query done state next (item.Do (command.Clear number)) op counting (h op counting (sym (ap (λ (a : Arms). a.count) was.0) ∙ e)) (ne_eqb number op was.1)
-          (go-on-refl (crew_of query.flow) state)
-      | inr rest ↦ elim rest [
-        | inl now ↦ no-some (arms_at next op).count counting _ (ap (λ (a : Arms). a.count) now.1) e
-        | inr none ↦ no-count (arms_at next op) counting _ none e
-      ]
-    ]
-
--- nothing changes
-same-state : (query : Query) (done : List Item) (state : State) (one : Item) → ((op : ℕ) → sets_count op one ≡ false) → AreCounting query done state → AreCounting query (done ++ one ∷ []) state
-same-state query done state one never h = kept-counting query done state state one (go-on-refl (crew_of query.flow) state) (λ op counting e. (e, never op)) h
 
 done-counting : (query : Query) (done : List Item) (state : State) (c : Command) → state_after query done ≡ state → AreCounting query done state
     → AreCounting query (done ++ item.Do c ∷ []) (after_command query.flow c state)
 unfolding after_command
-done-counting query done state command.Run here h = same-state query done state (item.Do command.Run) (λ op. refl) h
-done-counting query done state command.End here h = same-state query done state (item.Do command.End) (λ op. refl) h
-done-counting query done state (command.Pause number n) here h = other-arms query done state (item.Do (command.Pause number n)) _ number (λ a. refl) (λ op. refl) h
-done-counting query done state (command.Count number n) here h = counted-arms query done state number n here h
-done-counting query done state (command.When number cond) here h = other-arms query done state (item.Do (command.When number cond)) _ number (λ a. refl) (λ op. refl) h
-done-counting query done state (command.Clear number) here h = cleared-arms query done state number h
-done-counting query done state (command.Set number value) here h = other-arms query done state (item.Do (command.Set number value)) _ number (λ a. refl) (λ op. refl) h
-done-counting query done state (command.Drop number worker) here h =
-    kept-counting query done state _ (item.Do (command.Drop number worker)) (dropped-state query state number worker) (λ op counting e. (e, refl)) h
-done-counting query done state (command.Inspect number) here h = same-state query done state (item.Do (command.Inspect number)) (λ op. refl) h
-done-counting query done state (command.Lose number worker) here h = same-state query done state (item.Do (command.Lose number worker)) (λ op. refl) h
+done-counting query done state c here h = by (action_of c) refl
+  where
+    by : (action : Action) → action_of c ≡ action → AreCounting query (done ++ item.Do c ∷ []) (after_action query.flow action state)
+    by (action.Leg to_end) is =
+        kept-counting query done state state (item.Do c) (go-on-refl (crew_of query.flow) state) (λ op counting e. (e, ap (action_sets_count op) is)) h
+    by (action.AtRest effect) is = rest-counting query done state c effect is here h
 
 begun-arms : (state : State) → (begin_leg state).arms ≡ state.arms
 unfolding begin_leg

@@ -244,7 +244,7 @@ has_text : IsLog (record { batch = 2; items = items })
 unfolding AreItems
 has_text = record {
   batch = omega arith;
-  items = (refl, (omega arith, omega arith, refl), (refl, hold_has_text, (refl, omega arith, (refl, count_has_text, (refl, end_has_text, tt)))));
+  items = (refl, (omega arith, (omega arith, refl)), (refl, hold_has_text, (refl, (omega arith, omega arith), (refl, count_has_text, (refl, end_has_text, tt)))));
 }
 
 is_legal : IsLegal query (record { batch = 2; items = items })

@@ -1,9 +1,11 @@
 -- Of each worker the rows that are gone stay gone, in order, whatever items follow.
-use Rattle.std.proofs.Common.{ℕ, zero, suc, ◌+◌, ◌<◌, eqb, List, [], ◌∷◌, ◌++◌, get_or, replicate, Bool, true, false, refl, sym, ap}
+use Rattle.std.proofs.Common.{ℕ, zero, suc, ◌+◌, ◌<◌, eqb, List, [], ◌∷◌, ◌++◌, get_or, replicate, Option, Some, None, Bool, true, false, refl, sym, ap}
 use Rattle.std.specs.Prelude.{if◌then◌else◌}
 use Rattle.amber_rows.specs.Lists.{IsPrefix, changed_at, changed_from}
 use Rattle.amber_rows.specs.Crew.{crew_of, op_of}
-use Rattle.amber_log.specs.declared.command.Command.TheVariants as command
+use Rattle.amber_rows.specs.declared.flow.Operator.{Operator}
+use Rattle.amber_log.specs.declared.effect.Action.TheVariants as action
+use Rattle.amber_log.specs.declared.effect.Effect.{Effect}
 use Rattle.amber_log.specs.declared.entry.Entry.{Entry}
 use Rattle.amber_log.specs.declared.entry.Entry.TheVariants as entry
 use Rattle.amber_log.specs.declared.leg.Close.{Close}
@@ -12,7 +14,7 @@ use Rattle.amber_log.specs.declared.leg.Part.{Part}
 use Rattle.amber_meaning.specs.Legal.{IsWorked, Query, after_close, entries_of, role_in}
 use Rattle.amber_meaning.specs.Position.{Position, origin}
 use Rattle.amber_meaning.specs.Rules.{Leads, Moves, Orders, assigned}
-use Rattle.amber_meaning.specs.State.{State, after_command, arms_at, begin_leg, let_go, orders_of, position_at, without_held, worker_at}
+use Rattle.amber_meaning.specs.State.{State, after_action, arms_at, begin_leg, orders_of, position_at, without_held, without_row, worker_at}
 use Rattle.amber_meaning.specs.Stops.{without_stops}
 use Rattle.amber_meaning.specs.Task.{Role}
 use Rattle.amber_meaning.proofs.Lists.{IsPrefix-refl, IsPrefix-trans}
@@ -40,17 +42,10 @@ unfolding Leads
 led-on role orders p q [] h = rw h (IsPrefix-refl q.outcomes)
 led-on role orders p q (one ∷ more) h = IsPrefix-trans p.outcomes h.0.outcomes q.outcomes (moved-on role orders p h.0 one h.1) (led-on role orders h.0 q more h.2)
 
-let_go-on : (p : Position) → IsPrefix p.outcomes (let_go p).outcomes
-let_go-on p = by p.held
-  where
-    by : (b : Bool) → IsPrefix p.outcomes (if b then record p { paused = false; held = false; waved = true } else record p { paused = false }).outcomes
-    by true = IsPrefix-refl p.outcomes
-    by false = IsPrefix-refl p.outcomes
-
 without_held-on : (p : Position) → IsPrefix p.outcomes (without_held p).outcomes
-without_held-on p = by p.held
+without_held-on p = by p.restraint.held
   where
-    by : (b : Bool) → IsPrefix p.outcomes (if b then record p { outcomes = p.outcomes ++ false ∷ []; held = false } else p).outcomes
+    by : (b : Bool) → IsPrefix p.outcomes (if b then record p { outcomes = p.outcomes ++ false ∷ []; restraint = record p.restraint { held = false } } else p).outcomes
     by true = (false ∷ [], refl)
     by false = IsPrefix-refl p.outcomes
 
@@ -76,7 +71,7 @@ worked-on query start reached parts h worker less =
 
 begun-on : (query : Query) (state : State) → GoOn (crew_of query.flow) state (begin_leg state)
 unfolding begin_leg
-begun-on query state worker less = rw (let_go-at state.positions worker) (let_go-on (position_at state.positions worker))
+begun-on query state worker less = rw (let_go-at state.positions worker) (IsPrefix-refl (position_at state.positions worker).outcomes)
 
 pub leg-on : (query : Query) (state reached : State) (parts : List Part) → IsWorked query (begin_leg state) parts reached → GoOn (crew_of query.flow) state reached
 leg-on query state reached parts h = go-on-trans (crew_of query.flow) state (begin_leg state) reached (begun-on query state) (worked-on query (begin_leg state) reached parts h)
@@ -88,8 +83,11 @@ closed-on query state close.Cut worker less = IsPrefix-refl (position_at state.p
 closed-on query state close.Long worker less = IsPrefix-refl (position_at state.positions worker).outcomes
 
 -- a row that is dropped is gone too
-pub dropped-state : (query : Query) (state : State) (op worker : ℕ) → GoOn (crew_of query.flow) state (after_command query.flow (command.Drop op worker) state)
-unfolding after_command
-dropped-state query state op worker other less =
-    rw (position-get_or state.positions other, position-get_or (changed_at without_held (worker_at query.flow op worker + 1) state.positions) other)
-    (dropped-on (worker_at query.flow op worker + 1) 1 state.positions other)
+row-on : (flow : List Operator) (op : ℕ) (drops : Option ℕ) (ps : List Position) (worker : ℕ)
+    → IsPrefix (position_at ps worker).outcomes (position_at (without_row flow op drops ps) worker).outcomes
+row-on flow op None ps worker = IsPrefix-refl (position_at ps worker).outcomes
+row-on flow op (Some one) ps worker =
+    rw (position-get_or ps worker, position-get_or (changed_at without_held (worker_at flow op one + 1) ps) worker) (dropped-on (worker_at flow op one + 1) 1 ps worker)
+
+pub rest-on : (query : Query) (state : State) (effect : Effect) → GoOn (crew_of query.flow) state (after_action query.flow (action.AtRest effect) state)
+rest-on query state effect worker less = row-on query.flow effect.op effect.drops state.positions worker

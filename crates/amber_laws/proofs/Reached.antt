@@ -1,29 +1,37 @@
 -- The state that an unaltered legal log leads to: each position is sound, and what was taken is what was made.
-use Rattle.std.proofs.Common.{◌≡◌, ℕ, zero, suc, ◌<◌, ◌≤◌, eqb, List, [], ◌∷◌, length, map, take, get_or, Some, unwrap_or, Bool, true, false, not, if◌then◌else◌, refl, ap, ◌∙◌, arith, add-one}
+use Rattle.std.proofs.Common.{◌≡◌, ℕ, zero, suc, ◌<◌, ◌≤◌, eqb, List, [], ◌∷◌, length, map, take, get_or, Option, Some, None, unwrap_or, is_some, Bool, true, false, not, ◌&&◌, if◌then◌else◌, refl, ap, ◌∙◌, arith, add-one}
+use Rattle.std.specs.Prelude.{◌||◌}
 use Rattle.std.specs.List.{slice_get}
 use Rattle.std.proofs.lemmas.Bool.{and_parts, false≢true}
 use Rattle.std.proofs.lemmas.List.{map-append, take_all, take_more}
 use Rattle.amber_rows.specs.Lists.{numbers_below, changed_from}
 use Rattle.amber_rows.specs.Crew.{crew_of, kind_at, op_of, what_at}
 use Rattle.amber_rows.specs.declared.flow.Operator.{Operator}
+use Rattle.amber_rows.specs.declared.value.Value.{Value}
+use Rattle.amber_log.specs.Commands.{action_of}
+use Rattle.amber_log.specs.Effect.{is_nobody}
 use Rattle.amber_log.specs.declared.command.Command.{Command}
 use Rattle.amber_log.specs.declared.command.Command.TheVariants as command
+use Rattle.amber_log.specs.declared.effect.Action.{Action}
+use Rattle.amber_log.specs.declared.effect.Action.TheVariants as action
+use Rattle.amber_log.specs.declared.effect.Effect.{Effect}
 use Rattle.amber_log.specs.declared.leg.Close.{Close}
 use Rattle.amber_log.specs.declared.leg.Close.TheVariants as close
 use Rattle.amber_log.specs.declared.leg.Part.{Part}
 use Rattle.amber_log.specs.declared.log.Item.{Item}
 use Rattle.amber_log.specs.declared.log.Item.TheVariants as item
 use Rattle.amber_log.specs.declared.log.Log.{Log}
-use Rattle.amber_meaning.specs.Legal.{AreOffered, IsLegal, IsOpen, IsUnaltered, IsWorked, Makes, Query, Reaches, after_close, alters, entries_of, leg_start, role_in}
+use Rattle.amber_meaning.specs.Legal.{AreOffered, IsLegal, IsOpen, IsUnaltered, IsWorked, Makes, Query, Reaches, action_alters, after_close, alters, entries_of, leg_start, role_in}
 use Rattle.amber_meaning.specs.Plan.{role_of, task_of}
 use Rattle.amber_meaning.specs.Position.{Position, origin}
-use Rattle.amber_meaning.specs.State.{Arms, State, arms_at, begin_leg, begin_last_leg, after_command, without_arms, first_constants, let_go, no_arms, orders_of, position_at, start_of, with_arms}
+use Rattle.amber_meaning.specs.State.{Arms, State, after_action, after_command, arms_at, begin_leg, begin_last_leg, first_constants, let_go, no_arms, orders_of, position_at, put_constant, start_of, without_arms}
 use Rattle.amber_meaning.specs.Stops.{arms_left, op_numbers, without_stops}
+use Rattle.amber_meaning.proofs.AtRest.{nobody-none}
 use Rattle.amber_meaning.proofs.Lists.{nth-next}
 use Rattle.amber_meaning.proofs.OneState.{origin-at, position-get_or}
 use Rattle.amber_meaning.proofs.Rest.{legal_logs_rest}
 use Rattle.amber_meaning.proofs.Chunks.{offered-orderly}
-use Rattle.amber_laws.proofs.Sound.{IsSound, led-sound, let_go-sound, origin-sound}
+use Rattle.amber_laws.proofs.Sound.{IsSound, led-sound, origin-sound, restrained-sound}
 
 -- ---- the constants in force
 
@@ -122,29 +130,48 @@ begin_leg-fit : (query : Query) (to_end : Bool) (state : State) → IsFit query 
 unfolding begin_leg begin_last_leg
 begin_leg-fit query true state fit = record {
   own = without_arms-own state.arms ∙ fit.own;
-  sound = λ worker less. rw (let_go-at state.positions worker) (let_go-sound (role_in query worker) (position_at state.positions worker) (fit.sound worker less));
+  sound = λ worker less. rw (let_go-at state.positions worker) (restrained-sound (role_in query worker) (position_at state.positions worker) _ (fit.sound worker less));
 }
 begin_leg-fit query false state fit = record {
   own = fit.own;
-  sound = λ worker less. rw (let_go-at state.positions worker) (let_go-sound (role_in query worker) (position_at state.positions worker) (fit.sound worker less));
+  sound = λ worker less. rw (let_go-at state.positions worker) (restrained-sound (role_in query worker) (position_at state.positions worker) _ (fit.sound worker less));
 }
 
-rearmed-fit : (query : Query) (state : State) (change : Arms → Arms) (op : ℕ) → ((a : Arms) → (change a).constants ≡ a.constants)
-    → IsFit query state → IsFit query (with_arms change op state)
-rearmed-fit query state change op same fit = record { own = changed-own change op 1 state.arms same ∙ fit.own; sound = fit.sound }
+-- what does not alter what comes out puts no constant, and drops no row
+abbrev tells_alteration : Action → Bool
+tells_alteration (action.Leg to_end) = true
+tells_alteration (action.AtRest effect) = effect.alters || (not (is_some effect.arming.constant) && is_nobody effect.drops)
+
+-- each command is so
+alterations-told : (one : Command) → tells_alteration (action_of one) ≡ true
+alterations-told command.Run = refl
+alterations-told other = refl
+
+none-put : (constant : Option Value) → not (is_some constant) ≡ true → constant ≡ None
+none-put None e = refl
+none-put (Some value) e = cc
+
+unaltered-parts : (effect : Effect) → not effect.alters ≡ true → tells_alteration (action.AtRest effect) ≡ true → (effect.arming.constant ≡ None) × (effect.drops ≡ None)
+unaltered-parts effect e told = by effect.alters e told
+  where
+    by : (alters : Bool) → not alters ≡ true → (alters || (not (is_some effect.arming.constant) && is_nobody effect.drops)) ≡ true → (effect.arming.constant ≡ None) × (effect.drops ≡ None)
+    by true e told = absurd (false≢true e)
+    by false e told =
+        let parts = and_parts (not (is_some effect.arming.constant)) (is_nobody effect.drops) told in
+        (none-put effect.arming.constant parts.0, nobody-none effect.drops parts.1)
 
 after_command-fit : (query : Query) (state : State) (done : Command) → not (alters (item.Do done)) ≡ true → IsFit query state → IsFit query (after_command query.flow done state)
 unfolding after_command
-after_command-fit query state command.Run e fit = fit
-after_command-fit query state command.End e fit = fit
-after_command-fit query state (command.Pause op n) e fit = rearmed-fit query state _ op (λ a. refl) fit
-after_command-fit query state (command.Count op n) e fit = rearmed-fit query state _ op (λ a. refl) fit
-after_command-fit query state (command.When op cond) e fit = rearmed-fit query state _ op (λ a. refl) fit
-after_command-fit query state (command.Clear op) e fit = rearmed-fit query state _ op (λ a. refl) fit
-after_command-fit query state (command.Set op value) e fit = absurd (false≢true e)
-after_command-fit query state (command.Drop op worker) e fit = absurd (false≢true e)
-after_command-fit query state (command.Inspect op) e fit = fit
-after_command-fit query state (command.Lose op worker) e fit = fit
+after_command-fit query state done e fit = by (action_of done) e (alterations-told done)
+  where
+    by : (action : Action) → not (action_alters action) ≡ true → tells_alteration action ≡ true → IsFit query (after_action query.flow action state)
+    by (action.Leg to_end) e told = fit
+    by (action.AtRest effect) e told =
+        let parts = unaltered-parts effect e told in
+        record {
+          own = changed-own _ effect.op 1 state.arms (λ a. ap (λ constant. put_constant constant a.constants) parts.0) ∙ fit.own;
+          sound = λ worker less. rw parts.1 (fit.sound worker less);
+        }
 
 closed-fit : (query : Query) (state : State) (closed : Close) → IsFit query state → IsFit query (after_close query state closed)
 unfolding without_stops

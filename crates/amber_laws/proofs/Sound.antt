@@ -8,9 +8,9 @@ use Rattle.amber_rows.specs.declared.batch.Batch.{Batch}
 use Rattle.amber_log.specs.declared.entry.Entry.{Entry}
 use Rattle.amber_log.specs.declared.entry.Entry.TheVariants as entry
 use Rattle.amber_meaning.specs.Task.{Role, Task, is_builder}
-use Rattle.amber_meaning.specs.Position.{Position, Taken, all_arrivals, has_last, have_ended, origin, pending_rows, produced_rows, rest_of, taken_from}
+use Rattle.amber_meaning.specs.Position.{Position, Restraint, Taken, all_arrivals, has_last, have_ended, origin, pending_rows, produced_rows, rest_of, taken_from}
 use Rattle.amber_meaning.specs.Rules.{Leads, MayFinish, MayGo, MayTake, Moves, Orders, assigned, with_batch, with_rows}
-use Rattle.amber_meaning.specs.State.{first_constants, let_go}
+use Rattle.amber_meaning.specs.State.{first_constants}
 use Rattle.amber_meaning.proofs.Lists.{list_all-member}
 use Rattle.amber_meaning.proofs.OneState.{Leads-keeps}
 use Rattle.amber_meaning.proofs.Orderly.{IsOrderly, fed-more, have_ended-more, marked-front, not-ended, product-grows}
@@ -70,10 +70,10 @@ origin-sound role = record {
   ended = λ e. absurd (false≢true e);
 }
 
--- a position with other marks, and what they say where it has finished
-marked-sound : (role : Role) (p : Position) (hand : ℕ) (held waved paused finished : Bool) → IsSound role p → (finished ≡ true → HasEnded role p)
-    → IsSound role (record p { hand = hand; held = held; waved = waved; paused = paused; finished = finished })
-marked-sound role p hand held waved paused finished s h = record {
+-- a position under another restraint, and what it says where it has finished
+marked-sound : (role : Role) (p : Position) (r : Restraint) (finished : Bool) → IsSound role p → (finished ≡ true → HasEnded role p)
+    → IsSound role (record p { restraint = r; finished = finished })
+marked-sound role p r finished s h = record {
   within = s.within;
   produced = s.produced;
   steady = s.steady;
@@ -86,16 +86,8 @@ marked-sound role p hand held waved paused finished s h = record {
   ended = λ e. (h e).2;
 }
 
-flags-sound : (role : Role) (p : Position) (hand : ℕ) (held waved paused : Bool) → IsSound role p
-    → IsSound role (record p { hand = hand; held = held; waved = waved; paused = paused })
-flags-sound role p hand held waved paused s = marked-sound role p hand held waved paused p.finished s (λ e. (s.no_rest e, s.no_pending e, s.ended e))
-
-pub let_go-sound : (role : Role) (p : Position) → IsSound role p → IsSound role (let_go p)
-let_go-sound role p s = by p.held
-  where
-    by : (b : Bool) → IsSound role (if b then record p { paused = false; held = false; waved = true } else record p { paused = false })
-    by true = flags-sound role p p.hand false true false s
-    by false = flags-sound role p p.hand p.held p.waved false s
+pub restrained-sound : (role : Role) (p : Position) (r : Restraint) → IsSound role p → IsSound role (record p { restraint = r })
+restrained-sound role p r s = marked-sound role p r p.finished s (λ e. (s.no_rest e, s.no_pending e, s.ended e))
 
 more-steady : {A : Type 0} (xs : List A) (x : A) (n : ℕ) → xs ≡ replicate (length xs) x → xs ++ replicate n x ≡ replicate (length (xs ++ replicate n x)) x
 more-steady xs x n e =
@@ -174,17 +166,17 @@ with_rows-sound role orders p rows outs e s may =
     }
 
 finish-sound : (role : Role) (p : Position) → IsSound role p → MayFinish role p → IsSound role (record p { finished = true })
-finish-sound role p s may = marked-sound role p p.hand p.held p.waved p.paused true s (λ e. (may.no_rest, may.no_pending, may.ended))
+finish-sound role p s may = marked-sound role p p.restraint true s (λ e. (may.no_rest, may.no_pending, may.ended))
 
 moved-sound : (role : Role) (orders : Orders) (p q : Position) (one : Entry) → orders.constants ≡ first_constants role.task.kind → IsOrderly role q.taken
     → IsSound role p → Moves (assigned role orders) p one q → IsSound role q
 moved-sound role orders p q (entry.Take from number) e orderly s h = rw h.2 (with_batch-sound role p from number h.0 (rw h.2 at orderly) s h.1)
 moved-sound role orders p q (entry.Go rows outs) e orderly s h = rw h.2 (with_rows-sound role orders p rows outs e s h.1)
-moved-sound role orders p q (entry.Grant n) e orderly s h = rw h.2 (flags-sound role p (p.hand + n) p.held p.waved p.paused s)
-moved-sound role orders p q (entry.Back n) e orderly s h = rw h.2 (flags-sound role p 0 p.held p.waved p.paused s)
-moved-sound role orders p q entry.Pause e orderly s h = rw h.2 (flags-sound role p p.hand p.held p.waved true s)
-moved-sound role orders p q entry.Resume e orderly s h = rw h.2 (flags-sound role p p.hand p.held p.waved false s)
-moved-sound role orders p q entry.Hold e orderly s h = rw h.2 (flags-sound role p p.hand true p.waved p.paused s)
+moved-sound role orders p q (entry.Grant n) e orderly s h = rw h.2 (restrained-sound role p _ s)
+moved-sound role orders p q (entry.Back n) e orderly s h = rw h.2 (restrained-sound role p _ s)
+moved-sound role orders p q entry.Pause e orderly s h = rw h.2 (restrained-sound role p _ s)
+moved-sound role orders p q entry.Resume e orderly s h = rw h.2 (restrained-sound role p _ s)
+moved-sound role orders p q entry.Hold e orderly s h = rw h.2 (restrained-sound role p _ s)
 moved-sound role orders p q entry.Finish e orderly s h = rw h.2 (finish-sound role p s h.1)
 
 pub led-sound : (role : Role) (orders : Orders) (p q : Position) (entries : List Entry) → orders.constants ≡ first_constants role.task.kind → IsOrderly role q.taken

@@ -1,8 +1,13 @@
 -- A count stops a run exactly where it has counted as many rows as it asks for.
-use Rattle.std.specs.Prelude.{◌≡◌, ◌≢◌, ℕ, ◌+◌, ◌==◌, ◌≤◌, List, [], ◌∷◌, ◌++◌, filter, Option, Some, None, Bool, false}
+use Rattle.std.specs.Prelude.{◌≡◌, ◌≢◌, ℕ, ◌+◌, ◌==◌, ◌≤◌, ◌&&◌, List, [], ◌∷◌, ◌++◌, filter, Option, Some, None, Bool, true, false}
 use Rattle.std.specs.List.{list_any}
 use Rattle.amber_rows.specs.FlowRules.{IsFlow}
-use Rattle.amber_log.specs.declared.command.Command.TheVariants as command
+use Rattle.amber_log.specs.Commands.{action_of}
+use Rattle.amber_log.specs.declared.effect.Action.{Action}
+use Rattle.amber_log.specs.declared.effect.Action.TheVariants as action
+use Rattle.amber_log.specs.declared.effect.Change.{Change}
+use Rattle.amber_log.specs.declared.effect.Change.TheVariants as change
+use Rattle.amber_log.specs.declared.command.Command.{Command}
 use Rattle.amber_log.specs.declared.leg.Leg.{Leg}
 use Rattle.amber_log.specs.declared.log.Item.{Item}
 use Rattle.amber_log.specs.declared.log.Item.TheVariants as item
@@ -55,26 +60,35 @@ CountsStopAtTheirTarget = (query : Query) (batch : ℕ) (done later : List Item)
 
 -- ---- what a count counts
 
--- whether an item arms or clears an operator's count
+-- something else is in force then, or nothing
+abbrev pub changes : {A : Type 0} → Change A → Bool
+changes change.Keep = false
+changes change.TakeBack = true
+changes (change.Put one) = true
+
+-- whether it arms an operator's count, or takes it back
+abbrev pub action_sets_count : ℕ → Action → Bool
+action_sets_count op (action.Leg to_end) = false
+action_sets_count op (action.AtRest effect) = (effect.op == op) && changes effect.arming.count
+
+-- so does an item
 abbrev pub sets_count : ℕ → Item → Bool
-sets_count op (item.Do command.Run) = false
-sets_count op (item.Do command.End) = false
-sets_count op (item.Do (command.Pause other n)) = false
-sets_count op (item.Do (command.Count other n)) = other == op
-sets_count op (item.Do (command.When other cond)) = false
-sets_count op (item.Do (command.Clear other)) = other == op
-sets_count op (item.Do (command.Set other value)) = false
-sets_count op (item.Do (command.Drop other worker)) = false
-sets_count op (item.Do (command.Inspect other)) = false
-sets_count op (item.Do (command.Lose other worker)) = false
+sets_count op (item.Do command) = action_sets_count op (action_of command)
 sets_count op (item.Run leg) = false
 sets_count op (item.End leg) = false
 
--- the last of these items that arms or clears an operator's count arms it, for so many rows
+-- it arms an operator's count, for so many rows
+abbrev pub ArmsCount : ℕ → ℕ → Action → Type 0
+ArmsCount op target (action.Leg to_end) = ⊥
+ArmsCount op target (action.AtRest effect) = (effect.op ≡ op) × (effect.arming.count ≡ change.Put target)
+
+-- the last of these items that arms an operator's count or takes it back arms it, for so many rows
 pub record WasArmed (done : List Item) (op target : ℕ) : Type 0 where
   pub before : List Item
+  pub command : Command
   pub behind : List Item
-  pub split : done ≡ before ++ item.Do (command.Count op target) ∷ behind
+  pub split : done ≡ before ++ item.Do command ∷ behind
+  pub arms : ArmsCount op target (action_of command)
   pub last : list_any (sets_count op) behind ≡ false
 
 -- a count that is armed in this state, which comes behind these items, was armed by one of them, and has counted the rows that its

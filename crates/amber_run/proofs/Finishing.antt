@@ -60,16 +60,7 @@ last-end done last script e =
     (sym (map-append command_of done (last ∷ [])) ∙ sym (append-nil (map command_of (done ++ last ∷ []))) ∙ e)
 
 not-done : (one : Command) → IsCommand one → one ≡ command.End → ⊥
-not-done command.End h e = absurd h
-not-done command.Run h e = cc
-not-done (command.Pause op n) h e = cc
-not-done (command.Count op n) h e = cc
-not-done (command.When op cond) h e = cc
-not-done (command.Clear op) h e = cc
-not-done (command.Set op value) h e = cc
-not-done (command.Drop op worker) h e = cc
-not-done (command.Inspect op) h e = cc
-not-done (command.Lose op worker) h e = cc
+not-done one h e = subst IsCommand e h
 
 is-cut : (c : Close) → is_long c ≡ false → c ≡ close.Cut
 is-cut close.Cut h = refl
