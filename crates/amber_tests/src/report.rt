@@ -41,6 +41,11 @@ fn pause_reply(alloc: Global, flow: &Flow) -> Result<Bytes, AllocError> {
     ok_line(alloc, flow, &Command::Pause { op: 2, n: 2 }, None)
 }
 
+// The reply to a count.
+fn count_reply(alloc: Global, flow: &Flow) -> Result<Bytes, AllocError> {
+    ok_line(alloc, flow, &Command::Count { op: 2, n: 3 }, None)
+}
+
 // The reply to a drop of a row.
 fn drop_reply(alloc: Global, flow: &Flow) -> Result<Bytes, AllocError> {
     let dropped = row(alloc, "4")?;
@@ -79,6 +84,7 @@ fn replies_have_their_texts(rt: HostRuntime) -> Result<(), Fail> {
     let alloc = rt.alloc();
     let flow = read_flow(alloc, KEPT.as_bytes())?;
     expect(alloc, pause_reply(alloc, &flow), "ok pause f 2\n")?;
+    expect(alloc, count_reply(alloc, &flow), "ok break count f 3\n")?;
     expect(alloc, drop_reply(alloc, &flow), "ok drop f 0 4\n")?;
     expect(alloc, run_reply(alloc, &flow), "stop pause f 2 2\n")?;
     expect(
