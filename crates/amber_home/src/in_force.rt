@@ -39,13 +39,6 @@ impl InForce {
         Ok(InForce { arms })
     }
 
-    /// How many operators there are.
-    pub fn len(&self) -> usize
-        ensures { result ≡ length self.now }
-    {
-        self.arms.len()
-    }
-
     /// What is in force at an operator, if there is such a one.
     pub fn at(&self, op: u32) -> Option<&Armed>
         ensures { option_map (λ arms. arms.now) result ≡ nth self.now op }
