@@ -205,7 +205,7 @@ kept-set d op value keeps none = record {
       );
 }
 
--- ---- a run that has not leg_begun
+-- ---- a run that has not begun
 
 steps-origin : (n : ℕ) → sum_by steps_of (map (λ _. origin) (numbers_below n)) ≡ 0
 unfolding numbers_below

@@ -87,7 +87,7 @@ module _ (change : Arms → Arms) where
   arms-here op arms there =
       ap (λ found. unwrap_or found no_arms) (nth-here change op arms there.0 ∙ ap (option_map change) (nth-some arms op there.0 there.1))
 
--- where no count is arms_changed, it does not matter how many rows are gone
+-- where no count is armed, it does not matter how many rows are gone
 arms-same : (effect : Effect) (gone : List ℕ) (arms : List Arms) → IsBuilt effect → arms_after effect arms ≡ changed_at (arms_changed effect.arming gone) effect.op arms
 arms-same effect gone arms is = ap (λ change. changed_at change effect.op arms) (armed-alike effect [] gone is)
 

@@ -10,7 +10,7 @@ use Rattle.amber_rows.specs.declared.value.Value.{Value}
 abbrev pub HasOperator : ℕ → ℕ → Type 0
 HasOperator op count = (0 < op) × (op ≤ count)
 
--- what is in force, where no count is arms_changed
+-- what is in force, where no count is armed
 abbrev pub arms_after : Effect → List Arms → List Arms
 arms_after effect arms = changed_at (arms_changed effect.arming []) effect.op arms
 

@@ -13,7 +13,7 @@ pub use Rattle.amber_log.specs.declared.effect.Effect.{Effect}
 abbrev pub no_change : Arming
 no_change = record { pause = Keep; count = Keep; watch = Keep; constant = None }
 
--- at this operator, no_change is said, changed or lost, and it is replied that it was done: each command says in what it differs
+-- at this operator, nothing is said, changed or lost, and it is replied that it was done: each command says in what it differs
 abbrev pub done_at : ℕ → Effect
 done_at op = record {
   name = [];

@@ -122,7 +122,7 @@ fn no_change<'a>() -> Arming<'a>
     }
 }
 
-// At this operator, no_change is said, changed or lost, and it is replied that it was done.
+// At this operator, nothing is said, changed or lost, and it is replied that it was done.
 fn done_at<'a>(op: u32) -> Effect<'a>
     ensures { result ≡ done_at op }
 {

@@ -138,7 +138,7 @@ abbrev pub with_offered : ℕ → Option Batch → Position → Position
 with_offered from None p = p
 with_offered from (Some batch) p = with_batch from batch p
 
--- so many rows were emitted: under a count each has restraint_used a unit of the hand, and the row that was waved on is gone
+-- so many rows were emitted: under a count each has used a unit of the hand, and the row that was waved on is gone
 abbrev pub restraint_used : Bool → ℕ → Restraint → Restraint
 restraint_used counted outs r = record r { hand = if counted then r.hand - outs else r.hand; waved = r.waved && (outs == 0) }
 

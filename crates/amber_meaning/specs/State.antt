@@ -18,7 +18,7 @@ use Rattle.amber_log.specs.declared.effect.Change.TheVariants as change
 use Rattle.amber_meaning.specs.Position.{Position, Restraint, emitted_count, origin, steps_of}
 use Rattle.amber_meaning.specs.Rules.{Orders}
 
--- an arms_changed count: how many rows it asks for, and how many rows of each of its operator's workers were gone when it was arms_changed
+-- an armed count: how many rows it asks for, and how many rows of each of its operator's workers were gone when it was armed
 pub record Counting : Type 0 where
   pub target : ℕ
   pub base : List ℕ
@@ -92,7 +92,7 @@ constant_in (Some cond) = cond.constant ∷ []
 abbrev pub first_constants : What → List Value
 first_constants kind = constant_in (settable_cond kind)
 
--- nothing was done, nothing is arms_changed
+-- nothing was done, nothing is armed
 unfoldable pub start_of : List Operator → State
 start_of flow = record {
   arms = map (λ operator. record no_arms { constants = first_constants operator.what }) flow;
@@ -170,7 +170,7 @@ let_go p = record p { restraint = restraint_released p.restraint }
 unfoldable pub begin_leg : State → State
 begin_leg state = record state { positions = map let_go state.positions }
 
--- the last leg begins: the same, and nothing is arms_changed any more
+-- the last leg begins: the same, and nothing is armed any more
 unfoldable pub begin_last_leg : State → State
 begin_last_leg state = record {
   arms = map without_arms state.arms;

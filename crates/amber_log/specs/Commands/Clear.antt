@@ -1,4 +1,4 @@
--- Taking back: no_change stops a run at the operator any more.
+-- Taking back: nothing stops a run at the operator any more.
 use Rattle.std.specs.Prelude.{ℕ, [], ◌∷◌, codes}
 use Rattle.amber_log.specs.Effect.{Effect, done_at, no_change}
 use Rattle.amber_log.specs.Effect.{TakeBack}
