@@ -11,7 +11,7 @@ pub struct RunJob {
     pub commands: Commands,
     pub log: Text,
     pub threads: u32,
-    pub batch: u32,
+    pub batch_size: u32,
 }
 
 /// What a call is to do, once nothing is left that refuses it.

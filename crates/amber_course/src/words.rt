@@ -22,7 +22,7 @@ pub struct RunWords {
     pub script: Text,
     pub log: Text,
     pub threads: u32,
-    pub batch: u32,
+    pub batch_size: u32,
 }
 
 /// What the words of a call ask for.

@@ -4,7 +4,7 @@ use Rattle.std.specs.List.{flat_map}
 use Rattle.std.specs.Result.{IfOk}
 use Rattle.std.proofs.lemmas.Bool.{false≢true}
 use Rattle.amber_rows.specs.Columns.{columns_at}
-use Rattle.amber_rows.specs.Crew.{crew_of, first_worker_of, kind_at, op_of, what_at, worker_count, workers_in, workers_of}
+use Rattle.amber_rows.specs.Topology.{crew_of, first_worker_of, kind_at, op_of, what_at, worker_count, workers_in, workers_of}
 use Rattle.amber_rows.specs.FlowRules.{IsFlow}
 use Rattle.amber_rows.specs.Kinds.{is_sink}
 use Rattle.amber_rows.specs.Lists.{numbers_below}

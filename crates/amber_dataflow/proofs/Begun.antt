@@ -6,7 +6,7 @@ use Rattle.std.specs.List.{slice_get}
 use Rattle.std.proofs.lemmas.Bool.{cases_lt}
 use Rattle.std.proofs.Math.ListN.{get_or-eq_default}
 use Rattle.rtrb.specs.Ring.{known_items, received, sent}
-use Rattle.amber_rows.specs.Crew.{crew_of, kind_at, op_of, receivers_of, senders_of, what_at}
+use Rattle.amber_rows.specs.Topology.{crew_of, kind_at, op_of, receivers_of, senders_of, what_at}
 use Rattle.amber_rows.specs.FlowRules.{IsFlow}
 use Rattle.amber_rows.specs.Lists.{nth}
 use Rattle.amber_rows.specs.declared.batch.Batch.{Batch}
@@ -14,8 +14,8 @@ use Rattle.amber_rows.specs.declared.flow.Operator.{Operator}
 use Rattle.amber_link.specs.Links.{AreLinked, waiting}
 use Rattle.amber_link.specs.declared.ends.Out.{Out}
 use Rattle.amber_link.specs.declared.ends.In.{In}
-use Rattle.amber_link.specs.declared.receivers.Receiver.{Receiver}
-use Rattle.amber_link.specs.declared.senders.Sender.{Sender}
+use Rattle.amber_link.specs.declared.downstreams.Downstream.{Downstream}
+use Rattle.amber_link.specs.declared.upstreams.Upstream.{Upstream}
 use Rattle.amber_link.proofs.LinkEnds.{settled-by}
 use Rattle.amber_link.proofs.Sides.{get_or-any, map-at, map-length}
 use Rattle.amber_meaning.specs.Legal.{Query, query_over}
@@ -75,13 +75,13 @@ start-position flow worker = position-get_or (replicate (crew_of flow) origin) w
 
 start-quiet : (flow : List Operator) (op : ℕ) → IsQuiet (arms_at (start_of flow) op)
 start-quiet flow op = record {
-  unwatched = ap (λ arms. arms.watch) (start-arms flow op);
+  unwatched = ap (λ arms. arms.when) (start-arms flow op);
   uncounted = ap (λ arms. arms.count) (start-arms flow op);
 }
 
 -- ---- who stands at a place
 
-sent-at : (placement : Placement) (receivers : List ℕ) (output : Output) (outs : List Receiver) (j : ℕ) (d : Receiver) → j < length outs
+sent-at : (placement : Placement) (receivers : List ℕ) (output : Output) (outs : List Downstream) (j : ℕ) (d : Downstream) → j < length outs
     → SendAll placement receivers output outs → get_or receivers j 0 ≡ (get_or outs j d).to
 unfolding SendAll
 sent-at placement [] output [] j d less h = absurd (omega arith)
@@ -90,7 +90,7 @@ sent-at placement (receiver ∷ receivers) output [] j d less h = absurd h
 sent-at placement (receiver ∷ receivers) output (one ∷ outs) zero d less h = sym h.0.to
 sent-at placement (receiver ∷ receivers) output (one ∷ outs) (suc j) d less h = sent-at placement receivers output outs j d (omega arith) h.2
 
-come-at : (senders : List ℕ) (had : ℕ → List Batch) (batches : List Taken) (ins : List Sender) (k : ℕ) (d : Sender) → k < length ins
+come-at : (senders : List ℕ) (had : ℕ → List Batch) (batches : List Taken) (ins : List Upstream) (k : ℕ) (d : Upstream) → k < length ins
     → ReceiveAll senders had batches ins → get_or senders k 0 ≡ (get_or ins k d).from
 unfolding ReceiveAll
 come-at [] had batches [] k d less h = absurd (omega arith)
@@ -106,14 +106,14 @@ none-behind (x ∷ xs) ys e = absurd (let long = ap length e in omega arith)
 -- ---- all of them
 
 module _ (flow : List Operator) (files : List (List ℕ)) (parts : Parts) (crew : List WorkerState) (flow_is : parts.flow ≡ flow) (ok : IsFlow flow)
-    (dealt : AreSharesDealt flow (records_of files flow) parts.shares) (ends : AreEnds (web_of flow parts.size) parts.outs parts.ins) (new : AreNew parts crew) where
+    (dealt : AreSharesDealt flow (records_of files flow) parts.shares) (ends : AreEnds (web_of flow parts.batch_size) parts.outs parts.ins) (new : AreNew parts crew) where
   within : (worker : ℕ) → worker < crew_of flow → worker < crew_of parts.flow
   within worker below = subst (λ f. worker < crew_of f) (sym flow_is) below
 
   stands : (worker : ℕ) → worker < crew_of flow
-      → IsAtPosition (first_context flow (records_of files flow) parts.size worker) (worker_state_at crew worker) origin origin
+      → IsAtPosition (first_context flow (records_of files flow) parts.batch_size worker) (worker_state_at crew worker) origin origin
   unfolding StandsNew
-  stands worker below = subst (λ f. StandsNew (record { flow = f; number = worker; size = parts.size; share = share_of_worker parts.shares worker }) (worker_state_at crew worker)) flow_is (new.each worker (within worker below)).stands (records_of files flow) (dealt.dealt worker below)
+  stands worker below = subst (λ f. StandsNew (record { flow = f; number = worker; batch_size = parts.batch_size; share = share_of_worker parts.shares worker }) (worker_state_at crew worker)) flow_is (new.each worker (within worker below)).stands (records_of files flow) (dealt.dealt worker below)
 
   number-is : (worker : ℕ) → worker < crew_of flow → (worker_state_at crew worker).number ≡ worker
   unfolding placement_of
@@ -125,13 +125,13 @@ module _ (flow : List Operator) (files : List (List ℕ)) (parts : Parts) (crew 
   ins-long : (to : ℕ) → to < crew_of flow → length (worker_state_at crew to).ins ≡ length (ends_at parts.ins to)
   ins-long to below = sym (map-length end_of (worker_state_at crew to).ins) ∙ ap length (new.each to (within to below)).ins
 
-  to-at : (from j : ℕ) (d : Receiver) → from < crew_of flow → j < length (worker_state_at crew from).outs
-      → get_or (to_whom (web_of flow parts.size) from) j 0 ≡ (get_or (worker_state_at crew from).outs j d).to
+  to-at : (from j : ℕ) (d : Downstream) → from < crew_of flow → j < length (worker_state_at crew from).outs
+      → get_or (to_whom (web_of flow parts.batch_size) from) j 0 ≡ (get_or (worker_state_at crew from).outs j d).to
   unfolding placement_of receivers_of
   to-at from j d below less = sent-at _ (receivers_of flow from) _ (worker_state_at crew from).outs j d less (stands from below).shows.outs
 
-  from-at : (to k : ℕ) (d : Sender) → to < crew_of flow → k < length (worker_state_at crew to).ins
-      → get_or (from_whom (web_of flow parts.size) to) k 0 ≡ (get_or (worker_state_at crew to).ins k d).from
+  from-at : (to k : ℕ) (d : Upstream) → to < crew_of flow → k < length (worker_state_at crew to).ins
+      → get_or (from_whom (web_of flow parts.batch_size) to) k 0 ≡ (get_or (worker_state_at crew to).ins k d).from
   unfolding placement_of senders_of role_of
   from-at to k d below less = come-at (senders_of flow to) _ _ (worker_state_at crew to).ins k d less (stands to below).shows.ins
 
@@ -143,8 +143,8 @@ module _ (flow : List Operator) (files : List (List ℕ)) (parts : Parts) (crew 
       linked : (j k : ℕ) → IsLinkAt (worker_state_at crew from) (worker_state_at crew to) j k → (out : Out) (into : In)
           → AreLinked (get_or (ends_at parts.outs from) j out) (get_or (ends_at parts.ins to) k into)
       linked j k places out into =
-          let one : Receiver = record { to = 0; link = out } in
-          let other : Sender = record { from = 0; taken = 0; ended = false; builds = false; link = into } in
+          let one : Downstream = record { to = 0; link = out } in
+          let other : Upstream = record { from = 0; taken = 0; ended = false; builds = false; link = into } in
           ends.linked from to (record {
             j = j;
             k = k;
@@ -158,7 +158,7 @@ module _ (flow : List Operator) (files : List (List ℕ)) (parts : Parts) (crew 
 
   -- ---- what went through them
 
-  empty-out : (from j : ℕ) (one : Receiver) → from < crew_of flow → j < length (worker_state_at crew from).outs
+  empty-out : (from j : ℕ) (one : Downstream) → from < crew_of flow → j < length (worker_state_at crew from).outs
       → (sent (get_or (worker_state_at crew from).outs j one).link.ring ≡ []) × ((get_or (worker_state_at crew from).outs j one).link.kept.waiting ≡ [])
   empty-out from j one below less =
       let out = (get_or (worker_state_at crew from).outs j one).link in
@@ -170,7 +170,7 @@ module _ (flow : List Operator) (files : List (List ℕ)) (parts : Parts) (crew 
       let fresh = ends.fresh_outs from below j out less_given in
       (ap (λ (o : Out). sent o.ring) (sym same) ∙ fresh.0, ap (λ (o : Out). o.kept.waiting) (sym same) ∙ ap (λ kept. kept.waiting) fresh.1)
 
-  empty-in : (to k : ℕ) (one : Sender) → to < crew_of flow → k < length (worker_state_at crew to).ins
+  empty-in : (to k : ℕ) (one : Upstream) → to < crew_of flow → k < length (worker_state_at crew to).ins
       → (received (get_or (worker_state_at crew to).ins k one).link.ring ≡ []) × (known_items (get_or (worker_state_at crew to).ins k one).link.ring ≡ [])
   empty-in to k one below less =
       let into = (get_or (worker_state_at crew to).ins k one).link in
@@ -183,7 +183,7 @@ module _ (flow : List Operator) (files : List (List ℕ)) (parts : Parts) (crew 
 
   module _ (most : ℕ) where
     abbrev query : Query
-    query = query_over flow files parts.size most
+    query = query_over flow files parts.batch_size most
 
     at : AreJoinedAt query (start_of flow) crew (λ _. origin)
     at = record {

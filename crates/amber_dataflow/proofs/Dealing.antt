@@ -4,7 +4,7 @@ use Rattle.std.proofs.lemmas.Bool.{cases_lt}
 use Rattle.std.proofs.lemmas.Bool.Decides.{eqb_tells}
 use Rattle.std.proofs.lemmas.List.{get_or-append-add, get_or-replicate, get_or-set_same, get_or_append_left, get_or_push, length-append, length-replicate, length_push, take_more}
 use Rattle.std.proofs.lemmas.List.Sums.{sum_by-append}
-use Rattle.amber_rows.specs.Crew.{crew_of, first_worker_of, kind_at, op_of, what_at, worker_count, workers_in}
+use Rattle.amber_rows.specs.Topology.{crew_of, first_worker_of, kind_at, op_of, what_at, worker_count, workers_in}
 use Rattle.amber_rows.specs.FlowRules.{IsFlow}
 use Rattle.amber_rows.specs.Kinds.{is_scan}
 use Rattle.amber_rows.specs.Lists.{first_list, list_at}

@@ -3,8 +3,8 @@ use Rattle.std.proofs.Common.{◌≡◌, ◌≢◌, sym, ap, ◌∙◌, ℕ, zer
 use Rattle.rtrb.specs.Ring.{sent}
 use Rattle.amber_link.specs.Links.{has_some}
 use Rattle.amber_link.specs.Sides.{IsSameReceiver, IsSameSender, Pairwise}
-use Rattle.amber_link.specs.declared.receivers.Receiver.{Receiver}
-use Rattle.amber_link.specs.declared.senders.Sender.{Sender}
+use Rattle.amber_link.specs.declared.downstreams.Downstream.{Downstream}
+use Rattle.amber_link.specs.declared.upstreams.Upstream.{Upstream}
 use Rattle.amber_link.proofs.LinkEnds.{linked-still, none-first, settled-by}
 use Rattle.amber_link.proofs.Sides.{get_or-any, map-at, pairwise-length}
 use Rattle.amber_worker.specs.AtPosition.{HasSameEnds}
@@ -30,10 +30,10 @@ module _ (a b : WorkerState) (same : HasSameEnds a b) where
   ins-length : length b.ins ≡ length a.ins
   ins-length = pairwise-length IsSameSender a.ins b.ins same.ins
 
-  out-at : (j : ℕ) (d e : Receiver) → j < length a.outs → IsSameReceiver (get_or a.outs j d) (get_or b.outs j e)
+  out-at : (j : ℕ) (d e : Downstream) → j < length a.outs → IsSameReceiver (get_or a.outs j d) (get_or b.outs j e)
   out-at j d e less = pairwise-at IsSameReceiver a.outs b.outs j d e less same.outs
 
-  in-at : (k : ℕ) (d e : Sender) → k < length a.ins → IsSameSender (get_or a.ins k d) (get_or b.ins k e)
+  in-at : (k : ℕ) (d e : Upstream) → k < length a.ins → IsSameSender (get_or a.ins k d) (get_or b.ins k e)
   in-at k d e less = pairwise-at IsSameSender a.ins b.ins k d e less same.ins
 
 -- the places of a link are the same where the ends are
@@ -72,8 +72,8 @@ pub come-turned : (from to now : WorkerState) → HasSameEnds from now → HaveS
 come-turned from to now same unsent settled =
     let j_less = settled.places.j_within in
     let now_less : settled.j < length now.outs = rw (outs-length from now same) j_less in
-    let out : Receiver = get_or now.outs settled.j settled.out in
-    let ring-of : Receiver → _ = λ (one : Receiver). one.link.ring in
+    let out : Downstream = get_or now.outs settled.j settled.out in
+    let ring-of : Downstream → _ = λ (one : Downstream). one.link.ring in
     let ring : out.link.ring ≡ settled.out.link.ring =
     sym (map-at ring-of now.outs settled.j settled.out settled.out.link.ring now_less)
     ∙ ap (λ l. get_or l settled.j settled.out.link.ring) unsent
@@ -96,7 +96,7 @@ come-turned from to now same unsent settled =
     }
 
 -- where nothing waits, the link is settled
-pub settled-come : (from to : WorkerState) (h : AllHasCome from to) → ((d : Receiver) → has_some (get_or from.outs h.j d).link.kept.waiting ≡ false) → AreSettledAt from to
+pub settled-come : (from to : WorkerState) (h : AllHasCome from to) → ((d : Downstream) → has_some (get_or from.outs h.j d).link.kept.waiting ≡ false) → AreSettledAt from to
 settled-come from to h none = record {
   j = h.j;
   k = h.k;
@@ -106,7 +106,7 @@ settled-come from to h none = record {
   out_is = h.out_is;
   into_is = h.into_is;
   settled = settled-by h.out.link h.into.link
-      (none-first h.out.link.kept.waiting (ap (λ (one : Receiver). has_some one.link.kept.waiting) (sym (h.out_is h.out)) ∙ none h.out)) h.come h.known;
+      (none-first h.out.link.kept.waiting (ap (λ (one : Downstream). has_some one.link.kept.waiting) (sym (h.out_is h.out)) ∙ none h.out)) h.come h.known;
 }
 
 -- of a link that is settled all has come
@@ -128,7 +128,7 @@ come-settled from to h = record {
 module _ (from to from_now to_now other : WorkerState) (passes : PassesOn from to from_now to_now) where
   -- the other links of the one that passes them on
   module _ (apart : other.number ≢ to.number) where
-    out-stays : (j : ℕ) → j < length from.outs → ((d : Receiver) → (get_or from.outs j d).to ≡ other.number) → (d : Receiver) → get_or from_now.outs j d ≡ get_or from.outs j d
+    out-stays : (j : ℕ) → j < length from.outs → ((d : Downstream) → (get_or from.outs j d).to ≡ other.number) → (d : Downstream) → get_or from_now.outs j d ≡ get_or from.outs j d
     out-stays j less own d =
         ap (λ (w : WorkerState). get_or w.outs j d) passes.from_only
         ∙ get_or-set_other from.outs passes.j j (record (get_or from.outs passes.j passes.out) { link = passes.out.link }) d
@@ -144,7 +144,7 @@ module _ (from to from_now to_now other : WorkerState) (passes : PassesOn from t
     places-aside j k places = record {
       j_within = rw outs-long places.j_within;
       k_within = places.k_within;
-      to_is = λ d. ap (λ (one : Receiver). one.to) (out-stays j places.j_within places.to_is d) ∙ places.to_is d;
+      to_is = λ d. ap (λ (one : Downstream). one.to) (out-stays j places.j_within places.to_is d) ∙ places.to_is d;
       from_is = λ d. places.from_is d ∙ sym number-stays;
     }
 
@@ -175,7 +175,7 @@ module _ (from to from_now to_now other : WorkerState) (passes : PassesOn from t
 
   -- the other links of the one that gets them
   module _ (apart : other.number ≢ from.number) where
-    in-stays : (k : ℕ) → k < length to.ins → ((d : Sender) → (get_or to.ins k d).from ≡ other.number) → (d : Sender) → get_or to_now.ins k d ≡ get_or to.ins k d
+    in-stays : (k : ℕ) → k < length to.ins → ((d : Upstream) → (get_or to.ins k d).from ≡ other.number) → (d : Upstream) → get_or to_now.ins k d ≡ get_or to.ins k d
     in-stays k less own d =
         ap (λ (w : WorkerState). get_or w.ins k d) passes.to_only
         ∙ get_or-set_other to.ins passes.k k (record (get_or to.ins passes.k passes.into) { link = passes.into.link }) d
@@ -192,7 +192,7 @@ module _ (from to from_now to_now other : WorkerState) (passes : PassesOn from t
         j_within = settled.places.j_within;
         k_within = rw ins-long settled.places.k_within;
         to_is = λ d. settled.places.to_is d ∙ sym (ap (λ (w : WorkerState). w.number) passes.to_only);
-        from_is = λ d. ap (λ (one : Sender). one.from) (in-stays settled.k settled.places.k_within settled.places.from_is d) ∙ settled.places.from_is d;
+        from_is = λ d. ap (λ (one : Upstream). one.from) (in-stays settled.k settled.places.k_within settled.places.from_is d) ∙ settled.places.from_is d;
       };
       out = settled.out;
       into = settled.into;

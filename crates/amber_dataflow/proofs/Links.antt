@@ -5,7 +5,7 @@ use Rattle.std.specs.List.{list_any}
 use Rattle.std.proofs.lemmas.Bool.{eq-eqb, eqb-true, false≢true, or_cases, or_left, or_right}
 use Rattle.std.proofs.lemmas.Bool.Decides.{eqb_tells}
 use Rattle.amber_rows.specs.Lists.{numbers_below}
-use Rattle.amber_rows.specs.Crew.{crew_of, receivers_of, senders_of, sends_to}
+use Rattle.amber_rows.specs.Topology.{crew_of, receivers_of, senders_of, sends_to}
 use Rattle.amber_rows.specs.declared.flow.Operator.{Operator}
 
 abbrev pub is_in : List ℕ → ℕ → Bool

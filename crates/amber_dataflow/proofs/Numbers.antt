@@ -1,10 +1,10 @@
 -- Which workers a worker sends to, and which send to it, at which places, does not change.
 use Rattle.std.proofs.Common.{◌≡◌, refl, sym, ap, ◌∙◌, ℕ, ◌<◌, nat_eq, List, [], ◌∷◌, length, get_or, map}
 use Rattle.std.specs.List.{list_any}
-use Rattle.amber_rows.specs.Crew.{receivers_of, senders_of}
+use Rattle.amber_rows.specs.Topology.{receivers_of, senders_of}
 use Rattle.amber_rows.specs.declared.batch.Batch.{Batch}
-use Rattle.amber_link.specs.declared.receivers.Receiver.{Receiver}
-use Rattle.amber_link.specs.declared.senders.Sender.{Sender}
+use Rattle.amber_link.specs.declared.downstreams.Downstream.{Downstream}
+use Rattle.amber_link.specs.declared.upstreams.Upstream.{Upstream}
 use Rattle.amber_link.proofs.Sides.{map-at, map-length}
 use Rattle.amber_meaning.specs.Legal.{Query}
 use Rattle.amber_meaning.specs.Plan.{role_of}
@@ -15,7 +15,7 @@ use Rattle.amber_worker.specs.Made.{from_of, to_of}
 use Rattle.amber_worker.specs.WorkerState.{WorkerState}
 use Rattle.amber_dataflow.specs.AtWork.{AreJoinedAt, IsJoinedCrew, StayPut, worker_state_at}
 
-tos-are : (placement : Placement) (receivers : List ℕ) (output : Output) (outs : List Receiver)
+tos-are : (placement : Placement) (receivers : List ℕ) (output : Output) (outs : List Downstream)
     → SendAll placement receivers output outs → map to_of outs ≡ receivers
 unfolding SendAll
 tos-are placement [] output [] h = refl
@@ -23,7 +23,7 @@ tos-are placement [] output (one ∷ outs) h = absurd h
 tos-are placement (receiver ∷ receivers) output [] h = absurd h
 tos-are placement (receiver ∷ receivers) output (one ∷ outs) h = rw (h.0.to, tos-are placement receivers output outs h.2) refl
 
-froms-are : (senders : List ℕ) (had : ℕ → List Batch) (taken : List Taken) (ins : List Sender) → ReceiveAll senders had taken ins → map from_of ins ≡ senders
+froms-are : (senders : List ℕ) (had : ℕ → List Batch) (taken : List Taken) (ins : List Upstream) → ReceiveAll senders had taken ins → map from_of ins ≡ senders
 unfolding ReceiveAll
 froms-are [] had taken [] h = refl
 froms-are [] had taken (one ∷ ins) h = absurd h
@@ -61,21 +61,21 @@ module _ (old new : List WorkerState) (joined : IsJoinedCrew old) (put : StayPut
     pub ins-long : length (worker_state_at new number).ins ≡ length (worker_state_at old number).ins
     ins-long = sym (map-length from_of (worker_state_at new number).ins) ∙ ap length ins-same ∙ map-length from_of (worker_state_at old number).ins
 
-    pub to-same : (place : ℕ) → place < length (worker_state_at old number).outs → (d : Receiver)
+    pub to-same : (place : ℕ) → place < length (worker_state_at old number).outs → (d : Downstream)
         → (get_or (worker_state_at new number).outs place d).to ≡ (get_or (worker_state_at old number).outs place d).to
     to-same place within d =
         sym (map-at to_of (worker_state_at new number).outs place d d.to (rw outs-long within))
         ∙ ap (λ xs. get_or xs place d.to) outs-same ∙ map-at to_of (worker_state_at old number).outs place d d.to within
 
-    pub from-same : (place : ℕ) → place < length (worker_state_at old number).ins → (d : Sender)
+    pub from-same : (place : ℕ) → place < length (worker_state_at old number).ins → (d : Upstream)
         → (get_or (worker_state_at new number).ins place d).from ≡ (get_or (worker_state_at old number).ins place d).from
     from-same place within d =
         sym (map-at from_of (worker_state_at new number).ins place d d.from (rw ins-long within))
         ∙ ap (λ xs. get_or xs place d.from) ins-same ∙ map-at from_of (worker_state_at old number).ins place d d.from within
 
-    any-map : (n : ℕ) (outs : List Receiver) → list_any (λ (one : Receiver). nat_eq one.to n) outs ≡ list_any (λ x. nat_eq x n) (map to_of outs)
+    any-map : (n : ℕ) (outs : List Downstream) → list_any (λ (one : Downstream). nat_eq one.to n) outs ≡ list_any (λ x. nat_eq x n) (map to_of outs)
     any-map n [] = refl
     any-map n (one ∷ outs) = rw (any-map n outs) refl
 
-    pub any-same : (n : ℕ) → list_any (λ (one : Receiver). nat_eq one.to n) (worker_state_at new number).outs ≡ list_any (λ (one : Receiver). nat_eq one.to n) (worker_state_at old number).outs
+    pub any-same : (n : ℕ) → list_any (λ (one : Downstream). nat_eq one.to n) (worker_state_at new number).outs ≡ list_any (λ (one : Downstream). nat_eq one.to n) (worker_state_at old number).outs
     any-same n = any-map n (worker_state_at new number).outs ∙ ap (list_any (λ x. nat_eq x n)) outs-same ∙ sym (any-map n (worker_state_at old number).outs)

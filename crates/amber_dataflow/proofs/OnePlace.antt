@@ -3,8 +3,8 @@ use Rattle.std.proofs.Common.{◌≡◌, refl, sym, ap, ◌∙◌, ℕ, zero, su
 use Rattle.std.specs.List.{list_any}
 use Rattle.std.proofs.lemmas.Bool.{eq-eqb, false≢true, or_cases, or_left, or_right, eqb-true}
 use Rattle.amber_link.specs.Links.{has_some}
-use Rattle.amber_link.specs.declared.receivers.Receiver.{Receiver}
-use Rattle.amber_link.specs.declared.senders.Sender.{Sender}
+use Rattle.amber_link.specs.declared.downstreams.Downstream.{Downstream}
+use Rattle.amber_link.specs.declared.upstreams.Upstream.{Upstream}
 use Rattle.amber_worker.specs.AtPosition.{Output, Placement, SendAll, placement_of}
 use Rattle.amber_worker.specs.WorkerState.{WorkerState}
 use Rattle.amber_dataflow.specs.AtWork.{IsJoinedCrew, worker_state_at}
@@ -13,7 +13,7 @@ use Rattle.amber_dataflow.proofs.Linked.{settled-come}
 use Rattle.amber_dataflow.proofs.Sending.{IsSending, sending-in, sending-out}
 use Rattle.amber_dataflow.proofs.Split.{read-at}
 
-is-receiver : (placement : Placement) (receivers : List ℕ) (output : Output) (outs : List Receiver) (j n : ℕ) (d : Receiver) → j < length outs
+is-receiver : (placement : Placement) (receivers : List ℕ) (output : Output) (outs : List Downstream) (j n : ℕ) (d : Downstream) → j < length outs
     → (get_or outs j d).to ≡ n → SendAll placement receivers output outs → list_any (λ other. eqb other n) receivers ≡ true
 unfolding SendAll
 is-receiver placement [] output [] j n d less own h = absurd (omega arith)
@@ -23,7 +23,7 @@ is-receiver placement (receiver ∷ receivers) output (one ∷ outs) zero n d le
 is-receiver placement (receiver ∷ receivers) output (one ∷ outs) (suc j) n d less own h =
     or_right _ _ (is-receiver placement receivers output outs j n d (omega arith) own h.2)
 
-one-place : (placement : Placement) (receivers : List ℕ) (output : Output) (outs : List Receiver) (j i n : ℕ) (d e : Receiver)
+one-place : (placement : Placement) (receivers : List ℕ) (output : Output) (outs : List Downstream) (j i n : ℕ) (d e : Downstream)
     → j < length outs → i < length outs → (get_or outs j d).to ≡ n → (get_or outs i e).to ≡ n → SendAll placement receivers output outs → j ≡ i
 unfolding SendAll
 one-place placement [] output [] j i n d e less below own same h = absurd (omega arith)
@@ -39,26 +39,26 @@ one-place placement (receiver ∷ receivers) output (one ∷ outs) (suc j) zero 
 one-place placement (receiver ∷ receivers) output (one ∷ outs) (suc j) (suc i) n d e less below own same h =
     ap suc (one-place placement receivers output outs j i n d e (omega arith) (omega arith) own same h.2)
 
-pub any-out : (outs : List Receiver) (k n : ℕ) → k < length outs → ((d : Receiver) → (get_or outs k d).to ≡ n) → list_any (λ (one : Receiver). nat_eq one.to n) outs ≡ true
+pub any-out : (outs : List Downstream) (k n : ℕ) → k < length outs → ((d : Downstream) → (get_or outs k d).to ≡ n) → list_any (λ (one : Downstream). nat_eq one.to n) outs ≡ true
 any-out [] k n less own = absurd (omega arith)
 any-out (one ∷ outs) zero n less own = or_left _ _ (eq-eqb one.to n (own one))
 any-out (one ∷ outs) (suc k) n less own = or_right _ _ (any-out outs k n (omega arith) own)
 
 -- and the other way round: it stands at some place
-pub out-place : (outs : List Receiver) (n : ℕ) → list_any (λ (one : Receiver). nat_eq one.to n) outs ≡ true → (k : ℕ) × (k < length outs) × ((d : Receiver) → (get_or outs k d).to ≡ n)
+pub out-place : (outs : List Downstream) (n : ℕ) → list_any (λ (one : Downstream). nat_eq one.to n) outs ≡ true → (k : ℕ) × (k < length outs) × ((d : Downstream) → (get_or outs k d).to ≡ n)
 out-place [] n e = absurd (false≢true e)
 out-place (one ∷ outs) n e = by (or_cases (nat_eq one.to n) _ e) (out-place outs n)
   where
-    by : (nat_eq one.to n ≡ true) ⊎ (list_any (λ (one : Receiver). nat_eq one.to n) outs ≡ true)
-        → (list_any (λ (one : Receiver). nat_eq one.to n) outs ≡ true → (k : ℕ) × (k < length outs) × ((d : Receiver) → (get_or outs k d).to ≡ n))
-        → (k : ℕ) × (k < length (one ∷ outs)) × ((d : Receiver) → (get_or (one ∷ outs) k d).to ≡ n)
+    by : (nat_eq one.to n ≡ true) ⊎ (list_any (λ (one : Downstream). nat_eq one.to n) outs ≡ true)
+        → (list_any (λ (one : Downstream). nat_eq one.to n) outs ≡ true → (k : ℕ) × (k < length outs) × ((d : Downstream) → (get_or outs k d).to ≡ n))
+        → (k : ℕ) × (k < length (one ∷ outs)) × ((d : Downstream) → (get_or (one ∷ outs) k d).to ≡ n)
     by (inl here) rest = (0, omega arith, λ d. eqb-true one.to n here)
     by (inr there) rest = let found = rest there in let below = found.1 in (suc found.0, omega arith, found.2)
 
 -- where nothing waits for the receiver at a place, and all that was sent has come, the link is settled
 pub settled-waiting : (crew : List WorkerState) (number place to : ℕ) → IsJoinedCrew crew → number < length crew → place < length (worker_state_at crew number).outs
-    → ((d : Receiver) → (get_or (worker_state_at crew number).outs place d).to ≡ to)
-    → ((d : Receiver) → has_some (get_or (worker_state_at crew number).outs place d).link.kept.waiting ≡ false) → Come crew number to → Settled crew number to
+    → ((d : Downstream) → (get_or (worker_state_at crew number).outs place d).to ≡ to)
+    → ((d : Downstream) → has_some (get_or (worker_state_at crew number).outs place d).link.kept.waiting ≡ false) → Come crew number to → Settled crew number to
 unfolding placement_of
 settled-waiting crew number place to joined inside within own none come =
     let at = joined.3 in
@@ -69,41 +69,41 @@ settled-waiting crew number place to joined inside within own none come =
     settled-come (worker_state_at crew number) (worker_state_at crew to) come (λ d. ap (λ k. has_some (get_or (worker_state_at crew number).outs k d).link.kept.waiting) same ∙ none d)
 
 -- one that is there
-pub no_receiver : (crew : List WorkerState) (number place : ℕ) → place < length (worker_state_at crew number).outs → Receiver
+pub no_receiver : (crew : List WorkerState) (number place : ℕ) → place < length (worker_state_at crew number).outs → Downstream
 no_receiver crew number place within = first (worker_state_at crew number).outs within
   where
-    first : (outs : List Receiver) → place < length outs → Receiver
+    first : (outs : List Downstream) → place < length outs → Downstream
     first [] less = absurd (omega arith)
     first (one ∷ outs) less = one
 
 -- ---- senders
 
-pub any-in : (ins : List Sender) (k n : ℕ) → k < length ins → ((d : Sender) → (get_or ins k d).from ≡ n) → list_any (λ (one : Sender). nat_eq one.from n) ins ≡ true
+pub any-in : (ins : List Upstream) (k n : ℕ) → k < length ins → ((d : Upstream) → (get_or ins k d).from ≡ n) → list_any (λ (one : Upstream). nat_eq one.from n) ins ≡ true
 any-in [] k n less own = absurd (omega arith)
 any-in (one ∷ ins) zero n less own = or_left _ _ (eq-eqb one.from n (own one))
 any-in (one ∷ ins) (suc k) n less own = or_right _ _ (any-in ins k n (omega arith) own)
 
-pub in-place : (ins : List Sender) (n : ℕ) → list_any (λ (one : Sender). nat_eq one.from n) ins ≡ true → (k : ℕ) × (k < length ins) × ((d : Sender) → (get_or ins k d).from ≡ n)
+pub in-place : (ins : List Upstream) (n : ℕ) → list_any (λ (one : Upstream). nat_eq one.from n) ins ≡ true → (k : ℕ) × (k < length ins) × ((d : Upstream) → (get_or ins k d).from ≡ n)
 in-place [] n e = absurd (false≢true e)
 in-place (one ∷ ins) n e = by (or_cases (nat_eq one.from n) _ e) (in-place ins n)
   where
-    by : (nat_eq one.from n ≡ true) ⊎ (list_any (λ (one : Sender). nat_eq one.from n) ins ≡ true)
-        → (list_any (λ (one : Sender). nat_eq one.from n) ins ≡ true → (k : ℕ) × (k < length ins) × ((d : Sender) → (get_or ins k d).from ≡ n))
-        → (k : ℕ) × (k < length (one ∷ ins)) × ((d : Sender) → (get_or (one ∷ ins) k d).from ≡ n)
+    by : (nat_eq one.from n ≡ true) ⊎ (list_any (λ (one : Upstream). nat_eq one.from n) ins ≡ true)
+        → (list_any (λ (one : Upstream). nat_eq one.from n) ins ≡ true → (k : ℕ) × (k < length ins) × ((d : Upstream) → (get_or ins k d).from ≡ n))
+        → (k : ℕ) × (k < length (one ∷ ins)) × ((d : Upstream) → (get_or (one ∷ ins) k d).from ≡ n)
     by (inl here) rest = (0, omega arith, λ d. eqb-true one.from n here)
     by (inr there) rest = let found = rest there in let below = found.1 in (suc found.0, omega arith, found.2)
 
 -- one that is there
-pub no_sender : (crew : List WorkerState) (number place : ℕ) → place < length (worker_state_at crew number).ins → Sender
+pub no_sender : (crew : List WorkerState) (number place : ℕ) → place < length (worker_state_at crew number).ins → Upstream
 no_sender crew number place within = first (worker_state_at crew number).ins within
   where
-    first : (ins : List Sender) → place < length ins → Sender
+    first : (ins : List Upstream) → place < length ins → Upstream
     first [] less = absurd (omega arith)
     first (one ∷ ins) less = one
 
 -- who stands at a place sends
 pub comes-from : (crew : List WorkerState) (number place from : ℕ) (d : WorkerState) (joined : IsJoinedCrew crew) → number < length crew → place < length (get_or crew number d).ins
-    → ((e : Sender) → from ≡ (get_or (get_or crew number d).ins place e).from) → IsSending joined.0 crew from number
+    → ((e : Upstream) → from ≡ (get_or (get_or crew number d).ins place e).from) → IsSending joined.0 crew from number
 comes-from crew number place from d joined inside within own =
     let here = read-at crew number d inside in
     sending-in joined.0 joined.1 crew joined.2 joined.3 from number inside
@@ -111,6 +111,6 @@ comes-from crew number place from d joined inside within own =
     (λ e. sym (own e ∙ ap (λ (w : WorkerState). (get_or w.ins place e).from) here)))
 
 pub sender-before : (crew : List WorkerState) (number place from : ℕ) (joined : IsJoinedCrew crew) → number < length crew → place < length (worker_state_at crew number).ins
-    → ((e : Sender) → (get_or (worker_state_at crew number).ins place e).from ≡ from) → from < number
+    → ((e : Upstream) → (get_or (worker_state_at crew number).ins place e).from ≡ from) → from < number
 sender-before crew number place from joined inside within own =
     (sending-in joined.0 joined.1 crew joined.2 joined.3 from number inside (any-in (worker_state_at crew number).ins place from within own)).before

@@ -2,7 +2,7 @@
 use Rattle.std.proofs.Common.{◌≡◌, refl, sym, ap, ◌∙◌, ℕ, zero, suc, ◌+◌, ◌<◌, ◌≤◌, ◌-◌, List, [], ◌∷◌, ◌++◌, length, map, take, slice_get, add-one, add-zero, append-nil, append_assoc, arith}
 use Rattle.std.specs.List.{flat_map}
 use Rattle.std.proofs.lemmas.List.{map-append, take_all}
-use Rattle.amber_rows.specs.Crew.{crew_of, first_worker_of, worker_count, workers_in, workers_of}
+use Rattle.amber_rows.specs.Topology.{crew_of, first_worker_of, worker_count, workers_in, workers_of}
 use Rattle.amber_rows.specs.Lists.{numbers_below}
 use Rattle.amber_rows.specs.declared.flow.Operator.{Operator}
 use Rattle.amber_rows.proofs.CrewFacts.{crew-more}

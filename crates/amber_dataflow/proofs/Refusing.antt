@@ -4,7 +4,7 @@ use Rattle.std.specs.List.{flat_map}
 use Rattle.std.proofs.lemmas.Bool.{false≢true}
 use Rattle.std.proofs.lemmas.Grind.{flat_map-append}
 use Rattle.std.proofs.lemmas.List.{map-append}
-use Rattle.amber_rows.specs.Crew.{crew_of, what_at, workers_of}
+use Rattle.amber_rows.specs.Topology.{crew_of, what_at, workers_of}
 use Rattle.amber_rows.specs.Kinds.{is_scan}
 use Rattle.amber_rows.specs.Lists.{numbers_below}
 use Rattle.amber_rows.specs.Order.{sort_rows}

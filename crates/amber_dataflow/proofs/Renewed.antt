@@ -1,6 +1,6 @@
 -- Workers with the same ends of their links that stand somewhere under what another state has in force.
 use Rattle.std.proofs.Common.{◌≡◌, sym, subst, ◌∙◌, ℕ, ◌<◌, List, length}
-use Rattle.amber_rows.specs.Crew.{crew_of}
+use Rattle.amber_rows.specs.Topology.{crew_of}
 use Rattle.amber_link.specs.Sides.{AreSameReceivers, AreSameSenders}
 use Rattle.amber_link.proofs.SameEnds.{receivers-same, senders-same}
 use Rattle.amber_meaning.specs.Legal.{Query}
@@ -17,7 +17,7 @@ pub record HasItsEnds (old new : WorkerState) : Type 0 where
   pub number : new.number ≡ old.number
   pub ins : new.ins ≡ old.ins
   pub outs : new.outs ≡ old.outs
-  pub watch : new.watch ≡ old.watch
+  pub when : new.when ≡ old.when
   pub route : new.route ≡ old.route
 
 own-ends : (old new : WorkerState) → HasItsEnds old new → HasSameEnds old new
@@ -25,7 +25,7 @@ own-ends old new same = record {
   ins = subst (λ ins. AreSameSenders old.ins ins) (sym same.ins) (senders-same old.ins);
   outs = subst (λ outs. AreSameReceivers old.outs outs) (sym same.outs) (receivers-same old.outs);
   number = same.number;
-  watch = same.watch;
+  when = same.when;
   route = same.route;
 }
 

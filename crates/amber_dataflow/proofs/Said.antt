@@ -3,7 +3,7 @@ use Rattle.std.proofs.Common.{◌≡◌, refl, sym, ap, ◌∙◌, ℕ, zero, su
 use Rattle.std.specs.List.{list_all}
 use Rattle.std.proofs.lemmas.Bool.{and_parts, false≢true}
 use Rattle.std.proofs.lemmas.List.Sums.{sum_by-cons}
-use Rattle.amber_rows.specs.Crew.{crew_of, workers_of}
+use Rattle.amber_rows.specs.Topology.{crew_of, workers_of}
 use Rattle.amber_meaning.specs.Legal.{Query}
 use Rattle.amber_meaning.specs.Position.{Position, emitted_count}
 use Rattle.amber_meaning.specs.State.{State, crew_at, emitted_by, have_finished, position_at}

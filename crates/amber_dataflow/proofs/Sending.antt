@@ -1,7 +1,7 @@
 -- What is known of a worker and one to which it sends.
 use Rattle.std.proofs.Common.{◌≡◌, sym, ◌∙◌, ℕ, ◌<◌, List, length, nat_eq, true}
 use Rattle.std.specs.List.{list_any}
-use Rattle.amber_rows.specs.Crew.{receivers_of, senders_of}
+use Rattle.amber_rows.specs.Topology.{receivers_of, senders_of}
 use Rattle.amber_meaning.specs.Legal.{Query}
 use Rattle.amber_meaning.specs.Plan.{role_of}
 use Rattle.amber_meaning.specs.Position.{Position}

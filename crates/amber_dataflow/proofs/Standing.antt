@@ -4,7 +4,7 @@ use Rattle.std.proofs.lemmas.Bool.{eq-eqb, ne_eqb}
 use Rattle.std.proofs.lemmas.Bool.Decides.{eqb_tells}
 use Rattle.std.proofs.lemmas.List.{map-append, take_all, length-map}
 use Rattle.std.proofs.lemmas.Grind.{take_at_read}
-use Rattle.amber_rows.specs.Crew.{crew_of, op_of, workers_of}
+use Rattle.amber_rows.specs.Topology.{crew_of, op_of, workers_of}
 use Rattle.amber_rows.specs.FlowRules.{IsFlow}
 use Rattle.amber_rows.specs.Lists.{numbers_below}
 use Rattle.amber_rows.specs.declared.value.Value.{Value}
@@ -54,8 +54,8 @@ begun-at (w ∷ crew) zero less = refl
 begun-at (w ∷ crew) (suc k) less = begun-at crew k (omega arith)
 
 ends-begun : (crew : List WorkerState) (k : ℕ) → HasItsEnds (worker_state_at crew k) (worker_state_at (map at_leg_start crew) k)
-ends-begun [] k = record { number = refl; ins = refl; outs = refl; watch = refl; route = refl }
-ends-begun (w ∷ crew) zero = record { number = refl; ins = refl; outs = refl; watch = refl; route = refl }
+ends-begun [] k = record { number = refl; ins = refl; outs = refl; when = refl; route = refl }
+ends-begun (w ∷ crew) zero = record { number = refl; ins = refl; outs = refl; when = refl; route = refl }
 ends-begun (w ∷ crew) (suc k) = ends-begun crew k
 
 -- a change that leaves each one's steps
@@ -71,7 +71,7 @@ handed-at (w ∷ crew) zero = refl
 handed-at (w ∷ crew) (suc k) = handed-at crew k
 
 ends-handed : (crew : List WorkerState) (k : ℕ) → HasItsEnds (worker_state_at crew k) (worker_state_at (map without_journal crew) k)
-ends-handed crew k = rw (handed-at crew k) (record { number = refl; ins = refl; outs = refl; watch = refl; route = refl })
+ends-handed crew k = rw (handed-at crew k) (record { number = refl; ins = refl; outs = refl; when = refl; route = refl })
 
 -- ---- another constant
 
@@ -82,12 +82,12 @@ module _ (op : ℕ) (value : Value) where
   set-at (w ∷ crew) (suc k) less = set-at crew k (omega arith)
 
   ends-set : (crew : List WorkerState) (k : ℕ) → HasItsEnds (worker_state_at crew k) (worker_state_at (map (worker_set op value) crew) k)
-  ends-set [] k = record { number = refl; ins = refl; outs = refl; watch = refl; route = refl }
+  ends-set [] k = record { number = refl; ins = refl; outs = refl; when = refl; route = refl }
   ends-set (w ∷ crew) zero = by (eqb w.op op)
     where
       by : (b : Bool) → HasItsEnds w (if b then record w { operator_state = with_value value w.operator_state } else w)
-      by true = record { number = refl; ins = refl; outs = refl; watch = refl; route = refl }
-      by false = record { number = refl; ins = refl; outs = refl; watch = refl; route = refl }
+      by true = record { number = refl; ins = refl; outs = refl; when = refl; route = refl }
+      by false = record { number = refl; ins = refl; outs = refl; when = refl; route = refl }
   ends-set (w ∷ crew) (suc k) = ends-set crew k
 
   journal-set : (crew : List WorkerState) (k : ℕ) → (worker_state_at (map (worker_set op value) crew) k).journal ≡ (worker_state_at crew k).journal
@@ -260,7 +260,7 @@ module _ (query : Query) (start : State) (d : DataflowState) (positions : ℕ �
     unfolding journal_of Leads AreEntries
     stand-kept none orders at = record {
       flow = stand.flow;
-      work = renewed query start now d.workers d.workers positions positions work refl (λ k. record { number = refl; ins = refl; outs = refl; watch = refl; route = refl }) quiet
+      work = renewed query start now d.workers d.workers positions positions work refl (λ k. record { number = refl; ins = refl; outs = refl; when = refl; route = refl }) quiet
           (λ worker inside.
           rw (orders worker inside, at worker inside)
           (record { leads = rw (none worker) refl; text = rw (none worker) tt; shows = (work.at.at_positions.each worker inside).shows }));

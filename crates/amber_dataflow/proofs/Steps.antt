@@ -5,11 +5,11 @@ use Rattle.std.proofs.lemmas.Grind.{take_at_read}
 use Rattle.std.proofs.lemmas.List.{take-append-drop}
 use Rattle.std.proofs.lemmas.List.Sums.{sum_by-append, sum_by-cons}
 use Rattle.std.specs.List.{list_any}
-use Rattle.amber_rows.specs.Crew.{crew_of}
+use Rattle.amber_rows.specs.Topology.{crew_of}
 use Rattle.amber_link.specs.Links.{has_some, waiting}
 use Rattle.amber_link.specs.Sides.{AreLooked, IsLooked, have_all_ended}
 use Rattle.amber_link.proofs.Sides.{pairwise-length}
-use Rattle.amber_link.specs.declared.senders.Sender.{Sender}
+use Rattle.amber_link.specs.declared.upstreams.Upstream.{Upstream}
 use Rattle.amber_rows.specs.Chunks.{chunks_of}
 use Rattle.amber_rows.specs.declared.batch.Batch.{Batch}
 use Rattle.amber_meaning.specs.Legal.{Query, role_in}
@@ -36,7 +36,7 @@ marked-more [] [] zs e = absurd (false≢true e)
 marked-more [] (y ∷ ys) zs e = elim (or_cases y.last _ e) [ inl here ↦ or_left _ _ here | inr there ↦ or_right _ _ (marked-more [] ys zs there) ]
 marked-more (x ∷ xs) ys zs e = elim (or_cases x.last _ e) [ inl here ↦ or_left _ _ here | inr there ↦ or_right _ _ (marked-more xs ys zs there) ]
 
-any-at : (ins : List Sender) (k n : ℕ) → k < length ins → ((d : Sender) → (get_or ins k d).from ≡ n) → list_any (λ (one : Sender). nat_eq one.from n) ins ≡ true
+any-at : (ins : List Upstream) (k n : ℕ) → k < length ins → ((d : Upstream) → (get_or ins k d).from ≡ n) → list_any (λ (one : Upstream). nat_eq one.from n) ins ≡ true
 any-at [] k n less own = absurd (omega arith)
 any-at (one ∷ ins) zero n less own = or_left _ _ (eq-eqb one.from n (own one))
 any-at (one ∷ ins) (suc k) n less own = or_right _ _ (any-at ins k n (omega arith) own)
@@ -47,7 +47,7 @@ module _ (query : Query) (start : State) (crew : List WorkerState) (positions : 
   me = worker_state_at crew worker
 
   -- of each sender the last batch was taken or waits
-  marked : (sender k : ℕ) → k < length me.ins → ((d : Sender) → (get_or me.ins k d).from ≡ sender) → (d : Sender)
+  marked : (sender k : ℕ) → k < length me.ins → ((d : Upstream) → (get_or me.ins k d).from ≡ sender) → (d : Upstream)
       → has_marked (taken_from (positions worker).taken sender ++ waiting (get_or me.ins k d).link) ≡ true
   unfolding OffersAll placement_of
   marked sender k less own d =
@@ -61,11 +61,11 @@ module _ (query : Query) (start : State) (crew : List WorkerState) (positions : 
       (record { context = context_in query start sender; position = positions sender }) (record { context = context_in query start worker; position = positions worker })
       (record { shows = sends.shows; other_shows = takes.shows; earlier = refl })
       k d less (own d) in
-      rw all (ap (λ b. has_marked (chunks_of query.size (stream_to (placement_at query sender) worker (emitted_rows (role_in query sender) (positions sender))) b)) done
-      ∙ has_marked-chunks_of query.size _)
+      rw all (ap (λ b. has_marked (chunks_of query.batch_size (stream_to (placement_at query sender) worker (emitted_rows (role_in query sender) (positions sender))) b)) done
+      ∙ has_marked-chunks_of query.batch_size _)
 
   -- the worker finds something to do, whatever it finds in a ring
-  busy : (found : List Sender) → AreLooked me.ins found → next_turn (record me { ins = found }) ≡ turn.Idle → ⊥
+  busy : (found : List Upstream) → AreLooked me.ins found → next_turn (record me { ins = found }) ≡ turn.Idle → ⊥
   unfolding placement_of
   busy found looked idle =
       let here : worker < crew_of query.flow = rw (← work.at.at_positions.all) inside in
@@ -78,8 +78,8 @@ module _ (query : Query) (start : State) (crew : List WorkerState) (positions : 
       never_idle context (record me { ins = found }) (positions worker) shows
       (λ sender k less own d.
       let k_less : k < length me.ins = rw (← long) less in
-      let seen : (e : Sender) → IsLooked (get_or me.ins k e) (get_or found k d) = λ e. pairwise-at IsLooked me.ins found k e d k_less looked in
-      let same : (e : Sender) → (get_or me.ins k e).from ≡ sender = λ e. sym (ap (λ (s : Sender). s.from) (seen e).only) ∙ own d in
+      let seen : (e : Upstream) → IsLooked (get_or me.ins k e) (get_or found k d) = λ e. pairwise-at IsLooked me.ins found k e d k_less looked in
+      let same : (e : Upstream) → (get_or me.ins k e).from ≡ sender = λ e. sym (ap (λ (s : Upstream). s.from) (seen e).only) ∙ own d in
       subst (λ batches. has_marked (taken_from (positions worker).taken sender ++ batches) ≡ true) ((seen d).gives.waiting_more)
       (marked-more (taken_from (positions worker).taken sender) (waiting (get_or me.ins k d).link) (seen d).gives.more (marked sender k k_less same d)))
       idle

@@ -1,7 +1,7 @@
 -- What the workers of an operator show, and the operator.
 use Rattle.std.proofs.Common.{◌≡◌, sym, ap, subst, ◌∙◌, ℕ, ◌+◌, ◌-◌, ◌<◌, ◌≤◌, List, [], ◌∷◌, ◌++◌, length, get_or, map, add-one, arith}
 use Rattle.std.proofs.lemmas.List.{map-append}
-use Rattle.amber_rows.specs.Crew.{first_worker_of, worker_count, workers_of}
+use Rattle.amber_rows.specs.Topology.{first_worker_of, worker_count, workers_of}
 use Rattle.amber_rows.specs.Lists.{numbers_below}
 use Rattle.amber_rows.specs.declared.flow.Operator.{Operator}
 use Rattle.amber_meaning.specs.Views.{view_of}

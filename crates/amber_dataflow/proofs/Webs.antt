@@ -60,15 +60,15 @@ passing-less test (suc n) k below =
 
 -- ---- the links of one sender
 
-pub fresh-out : (out : Out) (size : ℕ) → sent out.ring ≡ [] → out.kept ≡ record { size = size; made = 0; ended = false; waiting = []; partial = []; room = 0 } → IsFreshOut size out
-fresh-out out size none is =
-    (none, is ∙ ap (λ (kept : Outgoing). record { size = size; made = 0; ended = false; waiting = []; partial = []; room = kept.room }) (sym is))
+pub fresh-out : (out : Out) (batch_size : ℕ) → sent out.ring ≡ [] → out.kept ≡ record { batch_size = batch_size; made = 0; ended = false; waiting = []; partial = []; room = 0 } → IsFreshOut batch_size out
+fresh-out out batch_size none is =
+    (none, is ∙ ap (λ (kept : Outgoing). record { batch_size = batch_size; made = 0; ended = false; waiting = []; partial = []; room = kept.room }) (sym is))
 
-pub gives-none : (sends : ℕ → Bool) (size : ℕ) (before : List (List In)) → GivesEnds (record { sends = sends; size = size; count = 0; before = before }) [] before
-gives-none sends size before = record {
+pub gives-none : (sends : ℕ → Bool) (batch_size : ℕ) (before : List (List In)) → GivesEnds (record { sends = sends; batch_size = batch_size; count = 0; before = before }) [] before
+gives-none sends batch_size before = record {
   all = refl;
   each = sym (ap length (below-none sends));
-  fresh = All-nil (IsFreshOut size);
+  fresh = All-nil (IsFreshOut batch_size);
   beyond = λ receiver h. refl;
   without = λ receiver fails. refl;
   given = λ receiver less passes. absurd (omega arith);
@@ -145,11 +145,11 @@ module _ (s : Sending) (outs : List Out) (after : List (List In)) (gives : Gives
         linked = earlier-linked;
       }
 
-    pub gives-more : IsFreshOut s.size out → IsFreshIn into → GivesEnds next_sending more_outs more_ins
+    pub gives-more : IsFreshOut s.batch_size out → IsFreshIn into → GivesEnds next_sending more_outs more_ins
     gives-more fresh_out fresh_in = record {
       all = length-set after s.count (ends_at after s.count ++ into ∷ []) ∙ gives.all;
       each = length_push outs out ∙ ap (λ n. n + 1) gives.each ∙ sym (length_push (passing s.sends s.count) s.count) ∙ sym (ap length named);
-      fresh = all-pushed (IsFreshOut s.size) outs out gives.fresh fresh_out;
+      fresh = all-pushed (IsFreshOut s.batch_size) outs out gives.fresh fresh_out;
       beyond = λ receiver h. others receiver (λ same. omega arith) ∙ gives.beyond receiver (omega arith);
       without = λ receiver fails. others receiver (λ same. false≢true (sym fails ∙ ap s.sends same ∙ passes)) ∙ gives.without receiver fails;
       given = given;
@@ -177,8 +177,8 @@ replicate-at zero k = refl
 replicate-at (suc n) zero = refl
 replicate-at (suc n) (suc k) = replicate-at n k
 
-pub ends-none : (sends : ℕ → ℕ → Bool) (size receivers : ℕ) → AreEnds (record { sends = sends; size = size; senders = 0; receivers = receivers }) [] (replicate receivers [])
-ends-none sends size receivers = record {
+pub ends-none : (sends : ℕ → ℕ → Bool) (batch_size receivers : ℕ) → AreEnds (record { sends = sends; batch_size = batch_size; senders = 0; receivers = receivers }) [] (replicate receivers [])
+ends-none sends batch_size receivers = record {
   all_outs = refl;
   all_ins = length-replicate receivers [];
   outs = λ sender less. absurd (omega arith);
@@ -189,7 +189,7 @@ ends-none sends size receivers = record {
 }
 
 module _ (web : Web) (outs : List (List Out)) (ins : List (List In)) (ends : AreEnds web outs ins) (own : List Out) (after : List (List In))
-    (gives : GivesEnds (record { sends = web.sends web.senders; size = web.size; count = web.receivers; before = ins }) own after) where
+    (gives : GivesEnds (record { sends = web.sends web.senders; batch_size = web.batch_size; count = web.receivers; before = ins }) own after) where
   abbrev pub next_web : Web
   next_web = record web { senders = web.senders + 1 }
 
@@ -284,9 +284,9 @@ module _ (web : Web) (outs : List (List Out)) (ins : List (List In)) (ends : Are
     ];
     ins = λ receiver less. counted receiver less (web.sends web.senders receiver) refl;
     fresh_outs = λ sender less. elim (eqb_tells sender web.senders) [
-      | inl here ↦ subst (λ n. All (IsFreshOut web.size) (ends_at (outs ++ own ∷ []) n)) (sym here.1) (subst (All (IsFreshOut web.size)) (sym own-at) gives.fresh)
+      | inl here ↦ subst (λ n. All (IsFreshOut web.batch_size) (ends_at (outs ++ own ∷ []) n)) (sym here.1) (subst (All (IsFreshOut web.batch_size)) (sym own-at) gives.fresh)
       | inr other ↦ (let ne = other.1 in let before : sender < web.senders = omega arith in
-          subst (All (IsFreshOut web.size)) (sym (outs-before sender before)) (ends.fresh_outs sender before))
+          subst (All (IsFreshOut web.batch_size)) (sym (outs-before sender before)) (ends.fresh_outs sender before))
     ];
     fresh_ins = λ receiver less. fresh receiver less (web.sends web.senders receiver) refl;
     linked = linked;

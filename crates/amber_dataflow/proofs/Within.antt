@@ -1,9 +1,9 @@
 -- The state that workers reach within a leg, and that the leg is open there.
 use Rattle.std.proofs.Common.{◌≡◌, refl, sym, ap, ◌∙◌, ℕ, ◌<◌, ◌≤◌, ◌^◌, List, [], ◌∷◌, length, true, false, get_or, None, Some, zero-add, arith}
 use Rattle.std.proofs.lemmas.List.{take_all}
-use Rattle.amber_rows.specs.Crew.{crew_of}
+use Rattle.amber_rows.specs.Topology.{crew_of}
 use Rattle.amber_link.specs.Links.{waiting}
-use Rattle.amber_link.specs.declared.senders.Sender.{Sender}
+use Rattle.amber_link.specs.declared.upstreams.Upstream.{Upstream}
 use Rattle.amber_log.specs.Grammar.{AreParts}
 use Rattle.amber_meaning.specs.Legal.{AreOffered, IsWorked, Query, assignment_in, batches_for, entries_of, stream_of}
 use Rattle.amber_meaning.specs.Plan.{role_of}
@@ -26,7 +26,7 @@ use Rattle.amber_dataflow.proofs.Reached.{all-finished, length-listed, listed-at
 use Rattle.amber_dataflow.proofs.Sending.{sending}
 
 -- one that is there
-first-of-senders : (ins : List Sender) (place : ℕ) → place < length ins → Sender
+first-of-senders : (ins : List Upstream) (place : ℕ) → place < length ins → Upstream
 first-of-senders [] place less = absurd (omega arith)
 first-of-senders (one ∷ ins) place less = one
 
@@ -54,7 +54,7 @@ module _ (query : Query) (start : State) (crew : List WorkerState) (positions : 
       let takes = work.at.at_positions.each receiver inside in
       let at = in-place (worker_state_at crew receiver).ins sender one.receives in
       let place = at.0 in
-      let d : Sender = first-of-senders (worker_state_at crew receiver).ins place at.1 in
+      let d : Upstream = first-of-senders (worker_state_at crew receiver).ins place at.1 in
       let all = offers-all (worker_state_at crew sender) (worker_state_at crew receiver) (work.settled sender receiver one.does)
       (record { context = context_in query start sender; position = positions sender }) (record { context = context_in query start receiver; position = positions receiver })
       (record { shows = sends.shows; other_shows = takes.shows; earlier = refl })

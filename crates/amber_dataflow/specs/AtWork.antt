@@ -2,12 +2,12 @@
 use Rattle.std.specs.Prelude.{◌≡◌, ◌≢◌, ℕ, ◌<◌, ◌==◌, List, [], map, slice_index_or, length, sum_by, None, true}
 use Rattle.std.specs.List.{list_any}
 use Rattle.rtrb.specs.Ring.{known_items, received, sent}
-use Rattle.amber_rows.specs.Crew.{crew_of, senders_of}
+use Rattle.amber_rows.specs.Topology.{crew_of, senders_of}
 use Rattle.amber_rows.specs.Lists.{numbers_below}
 use Rattle.amber_rows.specs.FlowRules.{IsFlow}
 use Rattle.amber_rows.specs.declared.flow.Operator.{Operator}
-use Rattle.amber_link.specs.declared.receivers.Receiver.{Receiver}
-use Rattle.amber_link.specs.declared.senders.Sender.{Sender}
+use Rattle.amber_link.specs.declared.downstreams.Downstream.{Downstream}
+use Rattle.amber_link.specs.declared.upstreams.Upstream.{Upstream}
 use Rattle.amber_lines.specs.Moving.{orders_in}
 use Rattle.amber_meaning.specs.Legal.{Query}
 use Rattle.amber_meaning.specs.Position.{Position}
@@ -28,7 +28,7 @@ worker_state_at crew worker = slice_index_or crew worker no_worker_state
 
 -- the place of a query's worker
 abbrev pub placement_at : Query → ℕ → Placement
-placement_at query worker = placement_of query.flow query.records query.size worker
+placement_at query worker = placement_of query.flow query.records query.batch_size worker
 
 -- its place under the orders that are in force in a state, where nothing went through earlier links
 abbrev pub context_in : Query → State → ℕ → Context
@@ -45,10 +45,10 @@ pub record AllHasCome (from to : WorkerState) : Type 0 where
   pub j : ℕ
   pub k : ℕ
   pub places : IsLinkAt from to j k
-  pub out : Receiver
-  pub into : Sender
-  pub out_is : (one : Receiver) → slice_index_or from.outs j one ≡ out
-  pub into_is : (one : Sender) → slice_index_or to.ins k one ≡ into
+  pub out : Downstream
+  pub into : Upstream
+  pub out_is : (one : Downstream) → slice_index_or from.outs j one ≡ out
+  pub into_is : (one : Upstream) → slice_index_or to.ins k one ≡ into
   pub come : received into.link.ring ≡ sent out.link.ring
   pub known : known_items into.link.ring ≡ []
 
@@ -56,7 +56,7 @@ pub record AllHasCome (from to : WorkerState) : Type 0 where
 
 -- at an operator nothing is watched and nothing is counted
 pub record IsQuiet (arms : Arms) : Type 0 where
-  pub unwatched : arms.watch ≡ None
+  pub unwatched : arms.when ≡ None
   pub uncounted : arms.count ≡ None
 
 -- each worker stands at its position, with a journal that leads there from where it stood in the state in which the leg began

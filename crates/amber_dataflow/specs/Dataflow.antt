@@ -1,7 +1,7 @@
 -- The workers of a run with the workflow that they carry out: what is read of them, where they stand, and what a step does.
 use Rattle.std.specs.Prelude.{◌≡◌, ◌≢◌, ℕ, ◌+◌, ◌==◌, ◌^◌, ◌<◌, ◌≤◌, List, [], length, map, Bool, true, false, if◌then◌else◌}
 use Rattle.std.specs.List.{list_all}
-use Rattle.amber_rows.specs.Crew.{crew_of, op_of, workers_of}
+use Rattle.amber_rows.specs.Topology.{crew_of, op_of, workers_of}
 use Rattle.amber_rows.specs.FlowRules.{IsFlow}
 use Rattle.amber_rows.specs.declared.flow.Operator.{Operator}
 use Rattle.amber_rows.specs.declared.value.Value.{Value}

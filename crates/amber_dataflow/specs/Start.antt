@@ -1,6 +1,6 @@
 -- The workers of a run that has not begun, and the links between them.
 use Rattle.std.specs.Prelude.{◌≡◌, ℕ, ◌<◌, ◌≤◌, List, [], ◌∷◌, ◌++◌, All, filter, map, length, slice_index_or, is_some, Option, None, Some, Result, Ok, Err, ⊤, if◌then◌else◌, Bool, true, false}
-use Rattle.amber_rows.specs.Crew.{crew_of, op_of, sends_to, what_at}
+use Rattle.amber_rows.specs.Topology.{crew_of, op_of, sends_to, what_at}
 use Rattle.amber_rows.specs.Kinds.{is_scan}
 use Rattle.amber_rows.specs.Lists.{numbers_below}
 use Rattle.amber_rows.specs.declared.flow.Operator.{Operator}
@@ -36,7 +36,7 @@ passing test count = filter test (numbers_below count)
 -- to whom it sends, the rows of a batch, how many may receive, and the ends that these held before
 pub record Sending : Type 0 where
   pub sends : ℕ → Bool
-  pub size : ℕ
+  pub batch_size : ℕ
   pub count : ℕ
   pub before : List (List In)
 
@@ -52,7 +52,7 @@ pub record GivesEnd (sending : Sending) (outs : List Out) (after : List (List In
 pub record GivesEnds (sending : Sending) (outs : List Out) (after : List (List In)) : Type 0 where
   pub all : length after ≡ length sending.before
   pub each : length outs ≡ length (passing sending.sends sending.count)
-  pub fresh : All (IsFreshOut sending.size) outs
+  pub fresh : All (IsFreshOut sending.batch_size) outs
   pub beyond : (receiver : ℕ) → sending.count ≤ receiver → ends_at after receiver ≡ ends_at sending.before receiver
   pub without : (receiver : ℕ) → sending.sends receiver ≡ false → ends_at after receiver ≡ ends_at sending.before receiver
   pub given : (receiver : ℕ) → receiver < sending.count → sending.sends receiver ≡ true → GivesEnd sending outs after receiver
@@ -62,7 +62,7 @@ pub record GivesEnds (sending : Sending) (outs : List Out) (after : List (List I
 -- who sends to whom, the rows of a batch, and how many send and how many receive
 pub record Web : Type 0 where
   pub sends : ℕ → ℕ → Bool
-  pub size : ℕ
+  pub batch_size : ℕ
   pub senders : ℕ
   pub receivers : ℕ
 
@@ -90,14 +90,14 @@ pub record AreEnds (web : Web) (out_ends : List (List Out)) (in_ends : List (Lis
   pub all_ins : length in_ends ≡ web.receivers
   pub outs : (sender : ℕ) → sender < web.senders → length (ends_at out_ends sender) ≡ length (to_whom web sender)
   pub ins : (receiver : ℕ) → receiver < web.receivers → length (ends_at in_ends receiver) ≡ length (from_whom web receiver)
-  pub fresh_outs : (sender : ℕ) → sender < web.senders → All (IsFreshOut web.size) (ends_at out_ends sender)
+  pub fresh_outs : (sender : ℕ) → sender < web.senders → All (IsFreshOut web.batch_size) (ends_at out_ends sender)
   pub fresh_ins : (receiver : ℕ) → receiver < web.receivers → All IsFreshIn (ends_at in_ends receiver)
   pub linked : (sender receiver : ℕ) (places : Places web sender receiver) (out : Out) (into : In)
       → AreLinked (slice_index_or (ends_at out_ends sender) places.j out) (slice_index_or (ends_at in_ends receiver) places.k into)
 
 -- a workflow's
 abbrev pub web_of : List Operator → ℕ → Web
-web_of flow size = record { sends = sends_to flow; size = size; senders = crew_of flow; receivers = crew_of flow }
+web_of flow batch_size = record { sends = sends_to flow; batch_size = batch_size; senders = crew_of flow; receivers = crew_of flow }
 
 -- ---- the shares
 
@@ -131,14 +131,14 @@ pub record AreSharesDealt (flow : List Operator) (records : List (List (Result (
 -- what the workers of a workflow are made of
 pub record Parts : Type 0 where
   pub flow : List Operator
-  pub size : ℕ
+  pub batch_size : ℕ
   pub shares : List (Option (List Scanned))
   pub outs : List (List Out)
   pub ins : List (List In)
 
 -- a worker that was made of its parts, and has done nothing
 pub record IsNew (parts : Parts) (worker : ℕ) (made : WorkerState) : Type 0 where
-  pub stands : StandsNew (record { flow = parts.flow; number = worker; size = parts.size; share = share_of_worker parts.shares worker }) made
+  pub stands : StandsNew (record { flow = parts.flow; number = worker; batch_size = parts.batch_size; share = share_of_worker parts.shares worker }) made
   pub outs : map link_of made.outs ≡ map roomless (ends_at parts.outs worker)
   pub ins : map end_of made.ins ≡ ends_at parts.ins worker
   pub journal : made.journal ≡ []

@@ -1,7 +1,7 @@
 //! The workers of a run and their workflow: how they begin, what a step does, and what is read of them.
 
 ghost use Rattle.std.specs.Prelude.{◌≡◌, ◌^◌, ◌<◌, ◌≤◌, ℕ, IfOk, OnErr, OnOk, false, length, replicate, true};
-ghost use Rattle.amber_rows.specs.Crew.{crew_of};
+ghost use Rattle.amber_rows.specs.Topology.{crew_of};
 ghost use Rattle.amber_meaning.specs.Legal.{query_over};
 ghost use Rattle.amber_meaning.specs.Position.{origin};
 ghost use Rattle.amber_meaning.specs.State.{start_of};
@@ -10,14 +10,14 @@ ghost use Rattle.amber_dataflow.specs.Dataflow.{AreAllThere, FirstSteps, HaveDon
 ghost use Rattle.amber_dataflow.specs.Dataflow.{leg_begun, handed_out, leg_parts, step_count, constant_put, without_workers};
 ghost use Rattle.amber_dataflow.specs.Start.{BeginsOrNames};
 
+use crate::counts::{emitted_by, have_finished, steps_of};
 use crate::error::HomeErr;
 use crate::gathering::{gather, gather_all};
-use crate::handing::take_parts;
-use crate::making::start_crew;
-use crate::reading::{emitted_by, have_finished, steps_of};
+use crate::journals::take_parts;
+use crate::new_workers::start_crew;
 use crate::setting::{begin_all, copies_of, set_workers};
-use crate::showing::views_of;
 use crate::stepping::{first_unfinished, step};
+use crate::views::views_of;
 use amber_log::Parts;
 use amber_meaning::{Answer, Views};
 use amber_rows::{Files, Flow, Value};
@@ -51,16 +51,21 @@ impl Dataflow {
     /// # Errors
     ///
     /// `Header` with the first scan whose file does not begin with the names of its columns.
-    pub fn new(alloc: Global, flow: Flow, files: &Files, batch: u32) -> Result<Dataflow, HomeErr>
-        requires some { 0 < batch }
-        requires few { batch ≤ 65536 }
+    pub fn new(
+        alloc: Global,
+        flow: Flow,
+        files: &Files,
+        batch_size: u32,
+    ) -> Result<Dataflow, HomeErr>
+        requires some { 0 < batch_size }
+        requires few { batch_size ≤ 65536 }
         ensures flow { IfOk result (λ made. made.flow ≡ flow) }
         ensures start { IfOk result (λ made. (most : ℕ) → StandAt
-            (query_over flow files.now batch most) (start_of flow) made (λ _. origin)) }
+            (query_over flow files.now batch_size most) (start_of flow) made (λ _. origin)) }
         ensures journals { IfOk result HaveDoneNothing }
         ensures header { BeginsOrNames result flow files.now }
     {
-        let workers = start_crew(alloc, &flow, files, batch)?;
+        let workers = start_crew(alloc, &flow, files, batch_size)?;
         Ok(Dataflow { flow, workers })
     }
 

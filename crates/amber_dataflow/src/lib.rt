@@ -10,18 +10,18 @@
 //! Where memory runs out within a step the workers are let go, and none is left.
 #![tactic(auto)]
 
+mod counts;
 pub mod dataflow;
 pub mod error;
 mod gathering;
-mod handing;
+mod journals;
 mod linking;
-mod making;
-mod reading;
+mod new_workers;
 mod setting;
 mod settling;
 mod shares;
-mod showing;
 mod stepping;
+mod views;
 
 pub use dataflow::Dataflow;
 pub use error::HomeErr;

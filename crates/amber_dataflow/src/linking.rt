@@ -1,6 +1,6 @@
 //! The links between the workers of a workflow, before anything went through them.
 ghost use Rattle.std.specs.Prelude.{◌≡◌, ◌∷◌, ◌++◌, ◌<◌, ◌≤◌, [], IfOk, OnOk, length, replicate};
-ghost use Rattle.amber_rows.specs.Crew.{crew_of, sends_to};
+ghost use Rattle.amber_rows.specs.Topology.{crew_of, sends_to};
 ghost use Rattle.amber_dataflow.specs.Start.{AreEnds, GivesEnds, web_of};
 
 use amber_link::{In, Out, link};
@@ -110,16 +110,16 @@ fn link_sender(
     alloc: Global,
     flow: &Flow,
     sender: u32,
-    batch: u32,
+    batch_size: u32,
     ins: &mut [Ins],
 ) -> Result<Outs, AllocError>
-    requires some { 0 < batch }
-    requires few { batch ≤ 65536 }
+    requires some { 0 < batch_size }
+    requires few { batch_size ≤ 65536 }
     requires there { sender < crew_of flow.now }
     requires all { length ins.old ≡ crew_of flow.now }
     ensures gives { IfOk result (λ outs. GivesEnds (record {
       sends = sends_to flow.now sender;
-      size = batch;
+      batch_size = batch_size;
       count = crew_of flow.now;
       before = ins.old;
     }) outs ins.new) }
@@ -127,7 +127,7 @@ fn link_sender(
     let mut outs = Outs::new(alloc);
     'receivers: for receiver in 0..flow.workers() {
         if flow.sends_to(sender, receiver) {
-            let (out, into) = link(alloc, batch)?;
+            let (out, into) = link(alloc, batch_size)?;
             outs.push(out)?;
             ins[receiver as usize].push(into)?;
         }
@@ -140,17 +140,17 @@ fn link_sender(
 pub(crate) fn link_crew(
     alloc: Global,
     flow: &Flow,
-    batch: u32,
+    batch_size: u32,
 ) -> Result<(Vec<Outs>, Vec<Ins>), AllocError>
-    requires some { 0 < batch }
-    requires few { batch ≤ 65536 }
-    ensures { IfOk result (λ ends. AreEnds (web_of flow.now batch) ends.0.items ends.1.items) }
+    requires some { 0 < batch_size }
+    requires few { batch_size ≤ 65536 }
+    ensures { IfOk result (λ ends. AreEnds (web_of flow.now batch_size) ends.0.items ends.1.items) }
 {
     let count = flow.workers();
     let mut ins = no_ins(alloc, count)?;
     let mut outs = Vec::new(alloc);
     'senders: for sender in 0..count {
-        outs.push(link_sender(alloc, flow, sender, batch, ins.as_mut_slice())?)?;
+        outs.push(link_sender(alloc, flow, sender, batch_size, ins.as_mut_slice())?)?;
     }
     Ok((outs, ins))
 }

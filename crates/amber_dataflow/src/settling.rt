@@ -2,7 +2,7 @@
 
 ghost use Rattle.std.specs.Prelude.{◌≡◌, ◌≢◌, ◌<◌, ◌==◌, ℕ, OnOk, length, slice_index_or, true};
 ghost use Rattle.std.specs.List.{list_any};
-ghost use Rattle.amber_link.specs.declared.receivers.Receiver.{Receiver};
+ghost use Rattle.amber_link.specs.declared.downstreams.Downstream.{Downstream};
 ghost use Rattle.amber_dataflow.specs.AtWork.{IsJoinedCrew, StayPut, worker_state_at};
 ghost use Rattle.amber_dataflow.specs.Passing.{AreSameBesides, Come, PassedOn, Settled, SettledStay};
 
@@ -30,7 +30,7 @@ fn pass_waiting(crew: &mut [Worker], number: usize, place: usize) -> Result<(), 
         → list_any (λ one. one.to == to) (worker_state_at crew.old number).outs ≡ true
         → Come crew.old number to }
     ensures put { OnOk result (StayPut crew.old crew.new) }
-    ensures settled { OnOk result ((to : ℕ) → ((d : Receiver)
+    ensures settled { OnOk result ((to : ℕ) → ((d : Downstream)
         → (slice_index_or (worker_state_at crew.old number).outs place d).to ≡ to)
         → Settled crew.new number to) }
     ensures come { OnOk result ((to : ℕ)

@@ -197,13 +197,13 @@ impl Debugger {
         alloc: Global,
         flow: Flow,
         files: Files,
-        batch: u32,
+        batch_size: u32,
         threads: u32,
         most: u64,
     ) -> Result<Debugger, HomeErr>
         requires one_each { length files ≡ scan_count flow }
-        requires some { 0 < batch }
-        requires few { batch ≤ 65536 }
+        requires some { 0 < batch_size }
+        requires few { batch_size ≤ 65536 }
         requires some_threads { 0 < threads }
         requires few_threads { threads ≤ 64 }
         requires steps { most ≤ 2 ^ 40 }
@@ -213,12 +213,12 @@ impl Debugger {
           files = files;
           most = most;
           threads = threads;
-          log = record { batch = batch; items = [] };
+          log = record { batch = batch_size; items = [] };
           spent = false;
         }) }
         ensures header { BeginsOrNames result flow files }
     {
-        let home = Home::new(alloc, flow, files, batch, most)?;
+        let home = Home::new(alloc, flow, files, batch_size, most)?;
         Ok(Debugger {
             home,
             threads,

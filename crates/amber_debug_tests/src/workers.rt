@@ -1,6 +1,6 @@
 // Workers that are driven by hand.
 ghost use Rattle.std.specs.Prelude.{◌≡◌, ◌<◌, ◌≤◌, All};
-ghost use Rattle.amber_rows.specs.Crew.{crew_of, op_of, what_at};
+ghost use Rattle.amber_rows.specs.Topology.{crew_of, op_of, what_at};
 ghost use Rattle.amber_worker.specs.Made.{IsFreshIn, IsFreshOut};
 
 use crate::ends::{deliver, last_end, links};

@@ -1,7 +1,7 @@
 -- A leg is closed: the log is legal with it, and the workers stand where it says.
 use Rattle.std.proofs.Common.{◌≡◌, refl, sym, ap, subst, ◌∙◌, ℕ, ◌-◌, ◌<◌, ◌≤◌, List, [], ◌∷◌, ◌++◌, length, map, nat_eq, Bool, true, false, None, is_some, unwrap_or, if◌then◌else◌, arith}
 use Rattle.std.specs.List.{slice_get}
-use Rattle.amber_rows.specs.Crew.{crew_of, op_of}
+use Rattle.amber_rows.specs.Topology.{crew_of, op_of}
 use Rattle.amber_rows.specs.FlowRules.{IsFlow}
 use Rattle.amber_rows.specs.declared.flow.Operator.{Operator}
 use Rattle.amber_lines.specs.KeptStops.{kept_stops, leg_of}
@@ -37,7 +37,7 @@ module _ (flow : List Operator) (state : State) (quiet : (op : ℕ) → IsQuiet 
   left-orders : (op : ℕ) → orders_of (arms_left flow state op) ≡ orders_of (arms_at state op)
   left-orders op = λ i. record {
     constants = (arms_at state op).constants;
-    watch = (arms_at state op).watch;
+    when = (arms_at state op).when;
     counted = ap is_some (ap (count_left flow state op) (quiet op).uncounted ∙ sym (quiet op).uncounted) i;
   }
 

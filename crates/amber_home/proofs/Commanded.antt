@@ -2,7 +2,7 @@
 use Rattle.std.proofs.Common.{◌≡◌, ◌≢◌, refl, sym, ap, subst, ◌∙◌, ℕ, zero, suc, ◌+◌, ◌-◌, eqb, nat_eq, List, [], ◌∷◌, length, Bool, true, false, Option, None, Some, unwrap_or, option_map, if◌then◌else◌, inl, inr}
 use Rattle.std.specs.List.{slice_get}
 use Rattle.std.proofs.lemmas.Bool.Decides.{eqb_tells}
-use Rattle.amber_rows.specs.Crew.{op_of}
+use Rattle.amber_rows.specs.Topology.{op_of}
 use Rattle.amber_rows.specs.FlowRules.{IsFlow}
 use Rattle.amber_rows.specs.Lists.{changed_at, changed_from, nth}
 use Rattle.amber_rows.specs.declared.value.Value.{Value}
@@ -20,7 +20,7 @@ use Rattle.amber_log.specs.declared.log.Log.{Log}
 use Rattle.amber_meaning.specs.Legal.{IsLegal, Query}
 use Rattle.amber_meaning.specs.Replay.{state_after}
 use Rattle.amber_meaning.specs.State.{Arms, State, after_action, after_command, arms_changed, arms_at, gone_at, no_arms, orders_of, position_at, put_constant}
-use Rattle.amber_meaning.proofs.AtRest.{IsBuilt, armed-alike, armed-count, armed-orders, armed-watch, built, built-positions, rest-there}
+use Rattle.amber_meaning.proofs.AtRest.{IsBuilt, armed-alike, armed-count, armed-orders, armed-when, built, built-positions, rest-there}
 use Rattle.amber_meaning.proofs.Fronts.{legal_logs_grow}
 use Rattle.amber_meaning.proofs.Lists.{nth-next}
 use Rattle.amber_meaning.proofs.OneState.{legal_logs_have_one_state}
@@ -114,7 +114,7 @@ module _ (query : Query) (state : State) (d : DataflowState) (stand : StandAt qu
 
   pub quiet-after : (op : ℕ) → IsQuiet (arms_at after op)
   quiet-after = quiet-changed asked effect.op state.arms quiet (λ one was. record {
-    unwatched = armed-watch effect.arming (gone_at query.flow state effect.op) one is.unwatched was.unwatched;
+    unwatched = armed-when effect.arming (gone_at query.flow state effect.op) one is.unwatched was.unwatched;
     uncounted = armed-count effect.arming (gone_at query.flow state effect.op) one is.uncounted was.uncounted;
   })
 

@@ -31,7 +31,7 @@ module _ (query : Query) (start : State) (d : DataflowState) (positions : ℕ �
       λ i. record {
         pause = pause-cut op (arms_at reached op).pause i;
         count = (ap (count_left query.flow reached op) uncounted ∙ sym uncounted) i;
-        watch = (arms_at reached op).watch;
+        when = (arms_at reached op).when;
         constants = (arms_at reached op).constants;
       }
 

@@ -5,7 +5,7 @@ use Rattle.std.specs.List.{slice_get}
 use Rattle.std.proofs.lemmas.Bool.{ne_eqb}
 use Rattle.std.proofs.lemmas.List.{append_cancel_left}
 use Rattle.std.specs.Str.{chars, is_utf8}
-use Rattle.amber_rows.specs.Crew.{workers_of}
+use Rattle.amber_rows.specs.Topology.{workers_of}
 use Rattle.amber_rows.specs.Lists.{nth}
 use Rattle.amber_rows.specs.Number.{read_int_of}
 use Rattle.amber_rows.specs.Record.{cells_of, file_records, row_of, typed_records}

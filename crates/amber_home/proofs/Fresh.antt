@@ -16,7 +16,7 @@ use Rattle.amber_home.specs.Kept.{IsHome}
 use Rattle.amber_home.specs.declared.phase.Phase.TheVariants as phase
 
 -- the empty log is legal
-fresh-legal : (query : Query) → 0 < query.size → query.size ≤ 65536 → IsLegal query (record { batch = query.size; items = [] })
+fresh-legal : (query : Query) → 0 < query.batch_size → query.batch_size ≤ 65536 → IsLegal query (record { batch = query.batch_size; items = [] })
 unfolding AreItems Reaches
 fresh-legal query some few = record { text = record { batch = (some, few); items = tt }; batch = refl; after = start_of query.flow; reached = refl }
 

@@ -1,7 +1,7 @@
 -- Workers that go on.
 use Rattle.std.proofs.Common.{◌≡◌, refl, ap, ◌∙◌, ℕ, ◌+◌, ◌≤◌, true, inl, inr, Result, Ok, Err, OnOk, arith}
 use Rattle.std.proofs.lemmas.Bool.Decides.{eqb_tells}
-use Rattle.amber_rows.specs.Crew.{op_of}
+use Rattle.amber_rows.specs.Topology.{op_of}
 use Rattle.amber_dataflow.specs.Dataflow.{DataflowState, FirstHaveFinished, StepsAt, has_finished, have_all_finished}
 use Rattle.amber_home.specs.Going.{GoOn, MovesAlone}
 

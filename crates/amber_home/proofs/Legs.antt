@@ -1,7 +1,7 @@
 -- A home within a leg: what its workers need to go on, and how they may be closed.
 use Rattle.std.proofs.Common.{◌≡◌, refl, sym, ap, subst, ◌∙◌, ℕ, ◌<◌, ◌≤◌, List, length, map, Bool, true, false, None}
 use Rattle.std.proofs.lemmas.List.{length-map}
-use Rattle.amber_rows.specs.Crew.{crew_of}
+use Rattle.amber_rows.specs.Topology.{crew_of}
 use Rattle.amber_log.specs.declared.leg.Close.{Close}
 use Rattle.amber_meaning.specs.Legal.{IsLegal, IsSettled, leg_start}
 use Rattle.amber_meaning.specs.Position.{Position}

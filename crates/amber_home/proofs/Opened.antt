@@ -2,7 +2,7 @@
 use Rattle.std.proofs.Common.{◌≡◌, refl, sym, ap, subst, ◌∙◌, ℕ, zero, suc, ◌-◌, ◌≤◌, List, [], ◌∷◌, length, map, nat_eq, Bool, true, false, None, is_some, unwrap_or, if◌then◌else◌, arith}
 use Rattle.std.specs.List.{slice_get}
 use Rattle.std.proofs.Math.ListN.{get_or-map}
-use Rattle.amber_rows.specs.Crew.{op_of}
+use Rattle.amber_rows.specs.Topology.{op_of}
 use Rattle.amber_log.specs.Grammar.{ends_over}
 use Rattle.amber_lines.specs.Moving.{orders_in}
 use Rattle.amber_meaning.specs.Legal.{IsLegal, Query, leg_start}
@@ -35,7 +35,7 @@ arms-map change arms positions op none = by (nat_eq op 0)
     by false = get arms (op - 1)
 
 pub quiet-orders : (arms : Arms) → IsQuiet arms → orders_of (without_arms arms) ≡ orders_of arms
-quiet-orders arms quiet = λ i. record { constants = arms.constants; watch = sym quiet.unwatched i; counted = ap is_some (sym quiet.uncounted) i }
+quiet-orders arms quiet = λ i. record { constants = arms.constants; when = sym quiet.unwatched i; counted = ap is_some (sym quiet.uncounted) i }
 
 module _ (query : Query) (rest : State) (quiet : (op : ℕ) → IsQuiet (arms_at rest op)) where
   pub orders-start : (to_end : Bool) (worker : ℕ) → orders_in query (leg_start to_end rest) worker ≡ orders_in query rest worker

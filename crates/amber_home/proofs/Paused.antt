@@ -2,7 +2,7 @@
 use Rattle.std.proofs.Common.{◌≡◌, sym, ap, ◌∙◌, ℕ, ◌<◌, List, Option, Some, false, inl, inr, arith}
 use Rattle.std.proofs.lemmas.Bool.{leb-false}
 use Rattle.std.proofs.lemmas.Bool.Decides.{eqb_tells}
-use Rattle.amber_rows.specs.Crew.{op_of}
+use Rattle.amber_rows.specs.Topology.{op_of}
 use Rattle.amber_meaning.specs.State.{Arms}
 use Rattle.amber_dataflow.specs.Dataflow.{DataflowState, StepsAt, rows_emitted}
 use Rattle.amber_home.specs.Going.{MovesAlone}

@@ -1,7 +1,7 @@
 -- Units at hand, and the first that has not finished.
 use Rattle.std.proofs.Common.{◌≡◌, refl, sym, ap, ◌∙◌, ℕ, zero, suc, ◌<◌, List, [], ◌∷◌, get_or, map, if◌then◌else◌, true, false, None, Some, is_some, subst, arith}
 use Rattle.std.proofs.lemmas.Bool.{false≢true}
-use Rattle.amber_rows.specs.Crew.{crew_of, op_of}
+use Rattle.amber_rows.specs.Topology.{crew_of, op_of}
 use Rattle.amber_rows.specs.Lists.{numbers_below}
 use Rattle.amber_log.specs.declared.entry.Entry.{Entry}
 use Rattle.amber_log.specs.declared.entry.Entry.TheVariants as entry

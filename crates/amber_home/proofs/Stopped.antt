@@ -2,7 +2,7 @@
 use Rattle.std.proofs.Common.{◌≡◌, ◌≢◌, refl, sym, ap, ◌∙◌, ℕ, zero, suc, ◌-◌, ◌<◌, ◌≤◌, List, [], ◌∷◌, ◌++◌, length, nat_le, Bool, true, false, Option, None, Some, unwrap_or, if◌then◌else◌, ◌⊎◌, inl, inr, add-one, arith}
 use Rattle.std.specs.List.{flat_map, slice_get}
 use Rattle.std.proofs.lemmas.Bool.{cases_lt, false≢true}
-use Rattle.amber_rows.specs.Crew.{crew_of, first_worker_of, op_of}
+use Rattle.amber_rows.specs.Topology.{crew_of, first_worker_of, op_of}
 use Rattle.amber_rows.specs.Lists.{nth, numbers_below}
 use Rattle.amber_rows.specs.declared.flow.Operator.{Operator}
 use Rattle.amber_rows.specs.declared.value.Value.{Value}
@@ -30,21 +30,21 @@ use Rattle.amber_home.proofs.Reached.{leads-at, settled-reached}
 
 -- ---- nobody is held
 
-held-moves : (role : Role) (orders : Orders) (p q : Position) (one : Entry) → orders.watch ≡ None → p.restraint.held ≡ false → Moves (assigned role orders) p one q → q.restraint.held ≡ false
+held-moves : (role : Role) (orders : Orders) (p q : Position) (one : Entry) → orders.when ≡ None → p.restraint.held ≡ false → Moves (assigned role orders) p one q → q.restraint.held ≡ false
 held-moves role orders p q (entry.Take from number) unwatched none moves = ap (λ m. m.restraint.held) moves.2 ∙ none
 held-moves role orders p q (entry.Go rows outs) unwatched none moves = ap (λ m. m.restraint.held) moves.2 ∙ none
 held-moves role orders p q (entry.Grant n) unwatched none moves = ap (λ m. m.restraint.held) moves.2 ∙ none
 held-moves role orders p q (entry.Back n) unwatched none moves = ap (λ m. m.restraint.held) moves.2 ∙ none
 held-moves role orders p q entry.Pause unwatched none moves = ap (λ m. m.restraint.held) moves.2 ∙ none
 held-moves role orders p q entry.Resume unwatched none moves = ap (λ m. m.restraint.held) moves.2 ∙ none
-held-moves role orders p q entry.Hold unwatched none moves = absurd (false≢true (sym (unwatched-first (pending_rows role p)) ∙ ap (λ watch. first_is_watched watch (pending_rows role p)) (sym unwatched) ∙ moves.1.watched))
+held-moves role orders p q entry.Hold unwatched none moves = absurd (false≢true (sym (unwatched-first (pending_rows role p)) ∙ ap (λ when. first_is_watched when (pending_rows role p)) (sym unwatched) ∙ moves.1.watched))
   where
     unwatched-first : (rows : List (List Value)) → first_is_watched None rows ≡ false
     unwatched-first [] = refl
     unwatched-first (row ∷ rows) = refl
 held-moves role orders p q entry.Finish unwatched none moves = ap (λ m. m.restraint.held) moves.2 ∙ none
 
-held-stays : (role : Role) (orders : Orders) (p q : Position) (entries : List Entry) → orders.watch ≡ None → p.restraint.held ≡ false → Leads (assigned role orders) p entries q → q.restraint.held ≡ false
+held-stays : (role : Role) (orders : Orders) (p q : Position) (entries : List Entry) → orders.when ≡ None → p.restraint.held ≡ false → Leads (assigned role orders) p entries q → q.restraint.held ≡ false
 unfolding Leads
 held-stays role orders p q [] unwatched none leads = ap (λ m. m.restraint.held) (sym leads) ∙ none
 held-stays role orders p q (one ∷ more) unwatched none leads =

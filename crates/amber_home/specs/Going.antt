@@ -4,7 +4,7 @@ use Rattle.amber_dataflow.specs.Dataflow.{AreAllThere, DataflowState, StandAt, h
 use Rattle.amber_meaning.specs.Legal.{Query}
 use Rattle.amber_meaning.specs.Position.{Position}
 use Rattle.amber_meaning.specs.State.{State}
-use Rattle.amber_rows.specs.Crew.{op_of}
+use Rattle.amber_rows.specs.Topology.{op_of}
 
 -- of whatever query they are the workers, they have moved on
 pub record GoOn (old new : DataflowState) : Type 0 where

@@ -29,7 +29,7 @@ impl Model for Counting {
 pub struct Armed {
     pause: Option<u64>,
     count: Option<Counting>,
-    watch: Option<Cond>,
+    when: Option<Cond>,
     constant: Option<Value>,
 }
 
@@ -42,7 +42,7 @@ impl Model for Armed {
     ghost view = { λ a. record {
       pause = a.pause;
       count = a.count;
-      watch = a.watch;
+      when = a.when;
       constants = option_to_list a.constant;
     } };
 }
@@ -60,7 +60,7 @@ impl Armed {
         Ok(Armed {
             pause: None,
             count: None,
-            watch: None,
+            when: None,
             constant,
         })
     }
@@ -83,7 +83,7 @@ impl Armed {
     /// them yet. The constant is a copy of the command's.
     pub fn change(&mut self, arming: &Arming<'_>, constant: Option<Value>)
         requires uncounted { is_put arming.now.count ≡ false }
-        requires unwatched { is_put arming.now.watch ≡ false }
+        requires unwatched { is_put arming.now.when ≡ false }
         requires constant { constant ≡ arming.now.constant }
         ensures { self.new ≡ arms_changed arming.now [] self.old }
     {
@@ -97,9 +97,9 @@ impl Armed {
             Change::TakeBack => self.count = None,
             Change::Put(_) => unreachable!(),
         }
-        match arming.watch {
+        match arming.when {
             Change::Keep => {}
-            Change::TakeBack => self.watch = None,
+            Change::TakeBack => self.when = None,
             Change::Put(_) => unreachable!(),
         }
         if let Some(value) = constant {
@@ -120,6 +120,6 @@ impl Armed {
     {
         self.pause = None;
         self.count = None;
-        self.watch = None;
+        self.when = None;
     }
 }

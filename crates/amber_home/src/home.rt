@@ -17,10 +17,10 @@ ghost use Rattle.amber_home.specs.HomeState.{stops_of_home, with_item, with_clos
 use crate::applying::{copies_for, push_command, put_in_force};
 use crate::error::LegErr;
 use crate::in_force::InForce;
+use crate::inspection::inspect;
+use crate::leg_item::{is_last, push_leg};
 use crate::opening::clear_for;
-use crate::parts::{is_last, push_leg};
 use crate::phase::Phase;
-use crate::shown::inspect;
 use crate::stopping::{close_arms, run_leg, stops_of};
 use amber_dataflow::{Dataflow, HomeErr};
 use amber_log::{Action, Close, Command, Item, Items, Leg, Log, commands_have_text};
@@ -81,31 +81,31 @@ impl Home {
         alloc: Global,
         flow: Flow,
         files: Files,
-        batch: u32,
+        batch_size: u32,
         most: u64,
     ) -> Result<Home, HomeErr>
         requires one_each { length files ≡ scan_count flow }
-        requires some { 0 < batch }
-        requires few { batch ≤ 65536 }
+        requires some { 0 < batch_size }
+        requires few { batch_size ≤ 65536 }
         requires steps { most ≤ 2 ^ 40 }
         ensures begins { IfOk result (λ home. home ≡ record {
           flow = flow;
           files = files;
           most = most;
-          log = record { batch = batch; items = [] };
+          log = record { batch = batch_size; items = [] };
           phase = Phase.Resting;
           parts = [];
         }) }
         ensures header { BeginsOrNames result flow files }
     {
-        let dataflow = Dataflow::new(alloc, flow, &files, batch)?;
+        let dataflow = Dataflow::new(alloc, flow, &files, batch_size)?;
         let arms = InForce::new(alloc, dataflow.flow())?;
         Ok(Home {
             dataflow,
             files,
             most,
             log: Log {
-                batch,
+                batch: batch_size,
                 items: Items::new(Vec::new(alloc)),
             },
             phase: Phase::Resting,

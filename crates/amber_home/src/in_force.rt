@@ -64,7 +64,7 @@ impl InForce {
         requires some { 0 < op }
         requires there { op ≤ length self.old }
         requires uncounted { is_put arming.now.count ≡ false }
-        requires unwatched { is_put arming.now.watch ≡ false }
+        requires unwatched { is_put arming.now.when ≡ false }
         requires constant { constant ≡ arming.now.constant }
         ensures { self.new ≡ changed_at (arms_changed arming.now []) op self.old }
     {

@@ -2,7 +2,7 @@
 
 ghost use Rattle.std.specs.Prelude.{◌≡◌, ◌+◌, ◌^◌, ◌<◌, ◌≤◌, ◌||◌, IfOk, OnErr, OnOk, false, length, true};
 ghost use Rattle.amber_dataflow.specs.Dataflow.{AreAllThere, FirstHaveFinished, has_finished, have_all_finished, step_count, without_workers};
-ghost use Rattle.amber_rows.specs.Crew.{crew_of, op_of};
+ghost use Rattle.amber_rows.specs.Topology.{crew_of, op_of};
 ghost use Rattle.amber_home.specs.Going.{GoOn, MovesAlone};
 ghost use Rattle.amber_home.specs.Leg.{IsLegDone, NoneIsLate, NonePaused, is_paused};
 

@@ -13,11 +13,11 @@ mod armed;
 pub mod error;
 pub mod home;
 mod in_force;
+mod inspection;
 mod leg;
+mod leg_item;
 mod opening;
-mod parts;
 pub mod phase;
-mod shown;
 mod stopping;
 
 pub use amber_dataflow::HomeErr;

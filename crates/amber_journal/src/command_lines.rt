@@ -7,7 +7,7 @@ ghost use Rattle.amber_journal.specs.Parted.{words_after};
 
 use crate::constants::{comparison, constant};
 use crate::numbers::{number, number32};
-use crate::parting::next_word;
+use crate::splitting::next_word;
 use amber_log::Command;
 use amber_rows::{Cond, Value};
 use std::alloc::{AllocError, Global};

@@ -7,9 +7,9 @@ ghost use Rattle.amber_log.specs.declared.log.Log.{Log};
 ghost use Rattle.amber_journal.specs.Answered.{GivesLog, IfText, IsBadLineOf, IsUnlessNoMemory};
 ghost use Rattle.amber_journal.specs.declared.read.LogErr.TheVariants.{NoMemory, Text};
 
-use crate::parting::next_line;
-use crate::steps::{finish, start, step};
-use crate::whole::whole_items;
+use crate::log_reading::{finish, start, step};
+use crate::splitting::next_line;
+use crate::whole_prefix::whole_items;
 use crate::words::read_line;
 use amber_log::{Items, Log, Reading};
 use std::alloc::{AllocError, Global};

@@ -8,7 +8,7 @@ ghost use Rattle.amber_journal.specs.Parted.{words_after};
 
 use crate::command_lines::command;
 use crate::numbers::{number, number32};
-use crate::parting::next_word;
+use crate::splitting::next_word;
 use amber_log::{Close, Entry, Line};
 use std::alloc::{AllocError, Global};
 

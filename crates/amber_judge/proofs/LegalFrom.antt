@@ -7,7 +7,7 @@ use Rattle.std.proofs.lemmas.List.Folds.{list_all-map}
 use Rattle.std.proofs.lemmas.Option.{slice_get_past}
 use Rattle.amber_meaning.proofs.Led.{no_batch}
 use Rattle.amber_rows.specs.Lists.{numbers_below, nth, is_empty}
-use Rattle.amber_rows.specs.Crew.{crew_of, op_of}
+use Rattle.amber_rows.specs.Topology.{crew_of, op_of}
 use Rattle.amber_rows.specs.declared.batch.Batch.{Batch}
 use Rattle.amber_log.specs.declared.entry.Entry.{Entry}
 use Rattle.amber_log.specs.declared.entry.Entry.TheVariants as entry

@@ -2,7 +2,7 @@
 use Rattle.std.specs.Prelude.{ℕ, ◌==◌, nat_le, nat_lt, ◌&&◌, not, suc, List, [], ◌∷◌, length, map, Option, Some, None, is_some, Bool, true, false}
 use Rattle.std.specs.List.{list_all}
 use Rattle.amber_rows.specs.Lists.{numbers_below, is_empty}
-use Rattle.amber_rows.specs.Crew.{crew_of}
+use Rattle.amber_rows.specs.Topology.{crew_of}
 use Rattle.amber_rows.specs.Operators.{same_row}
 use Rattle.amber_rows.specs.declared.value.Value.{Value}
 use Rattle.amber_rows.specs.declared.batch.Batch.{Batch}

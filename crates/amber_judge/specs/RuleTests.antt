@@ -24,7 +24,7 @@ may_go it p rows outs =
     && ((not (nat_lt 0 rows) || nat_le (produced_with it.role it.orders p (rows - 1)) (length p.outcomes + outs))
     && ((not it.orders.counted || nat_le outs p.restraint.hand)
     && ((not it.orders.counted || (not (nat_lt 0 rows) || nat_lt (produced_with it.role it.orders p (rows - 1)) (length p.outcomes + p.restraint.hand)))
-    && pass_by it.orders.watch p.restraint.waved (take outs (drop (length p.outcomes) (product_with it.role it.orders p rows))))))))
+    && pass_by it.orders.when p.restraint.waved (take outs (drop (length p.outcomes) (product_with it.role it.orders p rows))))))))
 
 unfoldable pub may_grant : Orders → Position → Bool
 may_grant orders p = orders.counted && not p.finished
@@ -40,7 +40,7 @@ may_resume p = p.restraint.paused && (not p.restraint.held && not p.finished)
 
 unfoldable pub may_hold : Assignment → Position → Bool
 may_hold it p =
-    is_free p && (first_is_watched it.orders.watch (pending_rows it.role p) && (not p.restraint.waved && (not it.orders.counted || nat_lt 0 p.restraint.hand)))
+    is_free p && (first_is_watched it.orders.when (pending_rows it.role p) && (not p.restraint.waved && (not it.orders.counted || nat_lt 0 p.restraint.hand)))
 
 unfoldable pub may_finish : Role → Position → Bool
 may_finish role p = is_free p && (is_empty (rest_of role p) && (is_empty (pending_rows role p) && have_ended role.senders p.taken))

@@ -5,7 +5,7 @@ use Rattle.std.proofs.lemmas.Bool.{eq-eqb, false≢true}
 use Rattle.std.proofs.lemmas.List.{append-nil, get_or_default, map_push, nil_from_length}
 use Rattle.std.proofs.lemmas.List.Concat.{flat_map-append}
 use Rattle.amber_rows.specs.Lists.{numbers_below, list_at}
-use Rattle.amber_rows.specs.Crew.{crew_of, reads, what_at, workers_of}
+use Rattle.amber_rows.specs.Topology.{crew_of, reads, what_at, workers_of}
 use Rattle.amber_rows.specs.FlowRules.{IsFlow}
 use Rattle.amber_rows.specs.Columns.{columns_at}
 use Rattle.amber_rows.specs.Kinds.{is_sink, is_scan}

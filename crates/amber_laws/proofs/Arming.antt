@@ -7,7 +7,7 @@ use Rattle.std.proofs.lemmas.Bool.{cases_eq, cases_lt, eq-eqb, ne_eqb}
 use Rattle.std.proofs.lemmas.List.{append-nil, get_or_append_left, get_or_past, get_or_push, length-map, length_push, map-append}
 use Rattle.std.proofs.lemmas.List.Sums.{sum_by-append, sum_by-cons}
 use Rattle.amber_rows.specs.Lists.{IsPrefix, changed_at, changed_from, nth, numbers_below}
-use Rattle.amber_rows.specs.Crew.{crew_of, workers_of}
+use Rattle.amber_rows.specs.Topology.{crew_of, workers_of}
 use Rattle.amber_rows.specs.declared.flow.Operator.{Operator}
 use Rattle.amber_log.specs.Commands.{action_of}
 use Rattle.amber_log.specs.declared.command.Command.{Command}

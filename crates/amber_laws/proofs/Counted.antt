@@ -9,7 +9,7 @@ use Rattle.std.proofs.lemmas.List.Folds.{sum_by-replicate}
 use Rattle.std.proofs.lemmas.List.Sums.{sum_by_more, sum_by_push}
 use Rattle.std.proofs.lemmas.Nat.{le-div}
 use Rattle.amber_rows.specs.Lists.{numbers_below}
-use Rattle.amber_rows.specs.Crew.{crew_of, receiver_of}
+use Rattle.amber_rows.specs.Topology.{crew_of, receiver_of}
 use Rattle.amber_meaning.specs.Laws.{SendersFirst}
 use Rattle.amber_meaning.specs.Legal.{Query, batches_for, role_in, stream_of}
 use Rattle.amber_meaning.specs.Position.{Position, Taken, emitted_count, emitted_rows, have_ended, is_emitted, one_if, origin, produced_rows, steps_of, taken_from}
@@ -53,27 +53,27 @@ div-most m n size some h = le-div (m / size) n size some (omega (arith, div-mul-
 -- a sender's batches are no more than those of the rows that it is dealt
 batches-most : (query : Query) (state : State) → SendersFirst query.flow → IsRun query state → (worker sender : ℕ) → worker < crew_of query.flow
     → among sender (role_in query worker).senders ≡ true
-    → length (taken_from (stands state worker).taken sender) ≤ length (dealt_stream query (dealt_to query) worker sender) / query.size + 1
+    → length (taken_from (stands state worker).taken sender) ≤ length (dealt_stream query (dealt_to query) worker sender) / query.batch_size + 1
 unfolding batches_for stream_of
 batches-most query state first run worker sender less known =
     let begins = taken-begins query state run worker sender less known in
     let before = sender-before query first worker sender known in
-    let few = front-count query.size (stream_of query state.positions sender worker) (stands state sender).finished
+    let few = front-count query.batch_size (stream_of query state.positions sender worker) (stands state sender).finished
     (taken_from (stands state worker).taken sender) begins.0 begins.1 in
     let shorter = part-length (part-filter (λ row. eqb (receiver_of query.flow sender row) worker) (emitted-part query state first run sender (omega arith))) in
-    let most = div-most (length (stream_of query state.positions sender worker)) (length (dealt_stream query (dealt_to query) worker sender)) query.size run.some shorter in
+    let most = div-most (length (stream_of query state.positions sender worker)) (length (dealt_stream query (dealt_to query) worker sender)) query.batch_size run.some shorter in
     omega arith
 
 -- and as many once all were taken
 batches-whole : (query : Query) (state : State) → SendersFirst query.flow → IsRun query state → (worker sender : ℕ) → worker < crew_of query.flow
     → have_ended (role_in query worker).senders (stands state worker).taken ≡ true → among sender (role_in query worker).senders ≡ true
-    → length (taken_from (stands state worker).taken sender) ≡ length (dealt_stream query (dealt_to query) worker sender) / query.size + 1
+    → length (taken_from (stands state worker).taken sender) ≡ length (dealt_stream query (dealt_to query) worker sender) / query.batch_size + 1
 batches-whole query state first run worker sender less ended known =
     let whole = rows-whole query state run worker sender less known (has-ended (role_in query worker).senders (stands state worker).taken sender ended known) in
     let before = sender-before query first worker sender known in
     let dealt = finished-dealt query state first run sender (omega arith) whole.over in
     let same = same-length (same-filter (λ row. eqb (receiver_of query.flow sender row) worker) dealt) in
-    whole.count ∙ ap (λ n. n / query.size + 1) same
+    whole.count ∙ ap (λ n. n / query.batch_size + 1) same
 
 -- rows that were emitted
 emitted-count : (role : Role) (p : Position) → IsSound role p → emitted_count p.outcomes ≡ length (emitted_rows role p)
@@ -102,7 +102,7 @@ worker-counts query state first run worker less =
     let emitted = part-length (emitted-part query state first run worker less) in
     let counted = emitted-count role p sound in
     let each = batches-each query state run worker less in
-    let most = sum-most (λ sender. length (taken_from p.taken sender)) (λ sender. length (dealt_stream query (dealt_to query) worker sender) / query.size + 1) role.senders
+    let most = sum-most (λ sender. length (taken_from p.taken sender)) (λ sender. length (dealt_stream query (dealt_to query) worker sender) / query.batch_size + 1) role.senders
     (λ sender known. batches-most query state first run worker sender less known) in
     omega arith
 
@@ -128,7 +128,7 @@ worker-whole query state first run worker less e =
     let emitted = same-length (finished-dealt query state first run worker less e) in
     let counted = emitted-count role p sound in
     let each = batches-each query state run worker less in
-    let whole = sum-equal (λ sender. length (taken_from p.taken sender)) (λ sender. length (dealt_stream query (dealt_to query) worker sender) / query.size + 1) role.senders
+    let whole = sum-equal (λ sender. length (taken_from p.taken sender)) (λ sender. length (dealt_stream query (dealt_to query) worker sender) / query.batch_size + 1) role.senders
     (λ sender known. batches-whole query state first run worker sender less ended known) in
     let over = ap one_if e in
     omega arith

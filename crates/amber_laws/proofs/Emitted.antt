@@ -3,7 +3,7 @@ use Rattle.std.proofs.Common.{◌≡◌, ℕ, zero, suc, ◌<◌, eqb, List, [],
 use Rattle.std.specs.List.{flat_map}
 use Rattle.std.proofs.lemmas.Bool.{and_parts}
 use Rattle.std.proofs.lemmas.List.{take-append-drop}
-use Rattle.amber_rows.specs.Crew.{crew_of, receiver_of}
+use Rattle.amber_rows.specs.Topology.{crew_of, receiver_of}
 use Rattle.amber_rows.specs.declared.value.Value.{Value}
 use Rattle.amber_meaning.specs.Laws.{SendersFirst}
 use Rattle.amber_meaning.specs.Legal.{AreOffered, Query, batches_for, role_in, stream_of}
@@ -51,18 +51,18 @@ pub rows-front : (query : Query) (state : State) → IsRun query state → (work
 unfolding batches_for stream_of
 rows-front query state run worker sender less known =
     let begins = taken-begins query state run worker sender less known in
-    let front = front-rows query.size (stream_of query state.positions sender worker) (stands state sender).finished
+    let front = front-rows query.batch_size (stream_of query state.positions sender worker) (stands state sender).finished
     (taken_from (stands state worker).taken sender) begins.0 run.some begins.1 in
     rw (← front.1) (part-begin (rows_taken state worker sender) front.0)
 
 -- with the last one they are all
 pub rows-whole : (query : Query) (state : State) → IsRun query state → (worker sender : ℕ) → worker < crew_of query.flow
     → among sender (role_in query worker).senders ≡ true → has_last (stands state worker).taken sender ≡ true
-    → IsWhole query.size (dealt_stream query (emitted_at query state) worker sender) (stands state sender).finished (taken_from (stands state worker).taken sender)
+    → IsWhole query.batch_size (dealt_stream query (emitted_at query state) worker sender) (stands state sender).finished (taken_from (stands state worker).taken sender)
 unfolding batches_for stream_of
 rows-whole query state run worker sender less known last =
     let begins = taken-begins query state run worker sender less known in
-    front-whole query.size (stream_of query state.positions sender worker) (stands state sender).finished
+    front-whole query.batch_size (stream_of query state.positions sender worker) (stands state sender).finished
     (taken_from (stands state worker).taken sender) begins.0 run.some begins.1 last
 
 pub has-ended : (senders : List ℕ) (taken : List Taken) (sender : ℕ) → have_ended senders taken ≡ true → among sender senders ≡ true → has_last taken sender ≡ true

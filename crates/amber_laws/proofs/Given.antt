@@ -5,7 +5,7 @@ use Rattle.std.proofs.lemmas.Bool.{eqb-true}
 use Rattle.std.proofs.lemmas.List.{map-append}
 use Rattle.std.proofs.lemmas.List.Concat.{flat_map-append}
 use Rattle.amber_rows.specs.Kinds.{is_scan}
-use Rattle.amber_rows.specs.Crew.{crew_of, senders_of, sends_to}
+use Rattle.amber_rows.specs.Topology.{crew_of, senders_of, sends_to}
 use Rattle.amber_rows.specs.Lists.{numbers_below}
 use Rattle.amber_rows.specs.Operators.{matches_of, pick_cells, same_row}
 use Rattle.amber_rows.specs.declared.value.Value.{Value}

@@ -7,7 +7,7 @@ use Rattle.std.proofs.lemmas.List.{append-nil}
 use Rattle.std.proofs.lemmas.List.Elements.{filter-append, filter_agree}
 use Rattle.std.proofs.lemmas.List.Folds.{list_all-append}
 use Rattle.amber_rows.specs.Lists.{numbers_below, list_at}
-use Rattle.amber_rows.specs.Crew.{crew_of, first_worker_of, follower_of, keyed_receiver_of, op_of, reader_of, reads, receiver_of, senders_of, sends_to, what_at, worker_count, workers_of}
+use Rattle.amber_rows.specs.Topology.{crew_of, first_worker_of, follower_of, keyed_receiver_of, op_of, reader_of, reads, receiver_of, senders_of, sends_to, what_at, worker_count, workers_of}
 use Rattle.amber_rows.specs.Kinds.{is_keyed, side_keys, inputs_of, is_scan}
 use Rattle.amber_rows.specs.FlowRules.{IsFlow}
 use Rattle.amber_rows.specs.Routing.{key_bytes_of, route_of}

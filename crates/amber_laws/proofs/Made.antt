@@ -8,7 +8,7 @@ use Rattle.std.proofs.lemmas.List.Folds.{list_all-append}
 use Rattle.std.proofs.lemmas.Option.{none-some, same_Some}
 use Rattle.amber_rows.specs.Cond.{holds_of}
 use Rattle.amber_rows.specs.Lists.{nth}
-use Rattle.amber_rows.specs.Crew.{crew_of, op_of, what_at}
+use Rattle.amber_rows.specs.Topology.{crew_of, op_of, what_at}
 use Rattle.amber_rows.specs.FlowRules.{IsFlow}
 use Rattle.amber_rows.specs.Columns.{HasInput, IsEarlier, agg_kind, column_kinds, columns_at, kinds_at, schema_of}
 use Rattle.amber_rows.specs.Kinds.{IsKind}

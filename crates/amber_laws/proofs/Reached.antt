@@ -5,7 +5,7 @@ use Rattle.std.specs.List.{slice_get}
 use Rattle.std.proofs.lemmas.Bool.{and_parts, false≢true}
 use Rattle.std.proofs.lemmas.List.{map-append, take_all, take_more}
 use Rattle.amber_rows.specs.Lists.{numbers_below, changed_from}
-use Rattle.amber_rows.specs.Crew.{crew_of, kind_at, op_of, what_at}
+use Rattle.amber_rows.specs.Topology.{crew_of, kind_at, op_of, what_at}
 use Rattle.amber_rows.specs.declared.flow.Operator.{Operator}
 use Rattle.amber_rows.specs.declared.value.Value.{Value}
 use Rattle.amber_log.specs.Commands.{action_of}
@@ -203,7 +203,7 @@ start-fit query = record {
 
 -- a state that an unaltered run may reach, also within a leg
 pub record IsRun (query : Query) (state : State) : Type 0 where
-  pub some : 0 < query.size
+  pub some : 0 < query.batch_size
   pub crew : length state.positions ≡ crew_of query.flow
   pub sound : (worker : ℕ) → worker < crew_of query.flow → IsSound (role_in query worker) (position_at state.positions worker)
   pub offered : AreOffered query state.positions

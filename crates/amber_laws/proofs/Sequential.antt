@@ -7,7 +7,7 @@ use Rattle.std.proofs.lemmas.List.{append-nil}
 use Rattle.std.proofs.lemmas.List.Folds.{list_all-map}
 use Rattle.amber_meaning.specs.Plan.{numbered_record}
 use Rattle.amber_rows.specs.Cond.{holds_of}
-use Rattle.amber_rows.specs.Crew.{reads, what_at, workers_of}
+use Rattle.amber_rows.specs.Topology.{reads, what_at, workers_of}
 use Rattle.amber_rows.specs.FlowRules.{IsFlow}
 use Rattle.amber_rows.specs.Columns.{columns_at, kind_of}
 use Rattle.amber_rows.specs.Kinds.{is_sink, is_scan}
@@ -110,8 +110,8 @@ some_typed kind columns file = by (is_scan kind)
     by true = file_typed columns file
     by false = refl
 
-pub typed-over : (flow : List Operator) (files : List (List ℕ)) (size most : ℕ) → IsFlow flow → AreTyped (query_over flow files size most)
-typed-over flow files size most is op some within scan =
+pub typed-over : (flow : List Operator) (files : List (List ℕ)) (batch_size most : ℕ) → IsFlow flow → AreTyped (query_over flow files batch_size most)
+typed-over flow files batch_size most is op some within scan =
     let at = there flow is op some within in
     let records : list_at (records_of files flow) op ≡ records_at at.operator.what at.operator.schema (first_list (files_left files (take (op - 1) flow))) =
     list_at-is (records_of files flow) op some ∙ records-here files flow (op - 1) at.operator (omega arith) at.at in

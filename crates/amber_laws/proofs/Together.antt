@@ -6,7 +6,7 @@ use Rattle.std.proofs.lemmas.Bool.{both_ways, eq-eqb, false_from_ne_true, ne_eqb
 use Rattle.std.proofs.lemmas.List.{append-nil}
 use Rattle.std.proofs.lemmas.List.Elements.{filter_agree}
 use Rattle.amber_rows.specs.Cond.{holds_of}
-use Rattle.amber_rows.specs.Crew.{first_worker_of, keyed_receiver_of, op_of, reader_of, receiver_of, what_at, worker_count, workers_of}
+use Rattle.amber_rows.specs.Topology.{first_worker_of, keyed_receiver_of, op_of, reader_of, receiver_of, what_at, worker_count, workers_of}
 use Rattle.amber_rows.specs.Kinds.{is_keyed, side_keys, inputs_of, is_scan}
 use Rattle.amber_rows.specs.FlowRules.{IsFlow}
 use Rattle.amber_rows.specs.Columns.{columns_at}

@@ -7,7 +7,7 @@ use Rattle.std.proofs.lemmas.List.Concat.{length-flat_map}
 use Rattle.std.proofs.lemmas.List.Sums.{sum_by-append, sum_by-cons}
 use Rattle.amber_meaning.specs.Plan.{numbered_record}
 use Rattle.amber_rows.specs.Lists.{numbers_below, list_at}
-use Rattle.amber_rows.specs.Crew.{crew_of, op_of, what_at, workers_of}
+use Rattle.amber_rows.specs.Topology.{crew_of, op_of, what_at, workers_of}
 use Rattle.amber_rows.specs.FlowRules.{IsFlow}
 use Rattle.amber_rows.specs.Kinds.{inputs_of, is_scan}
 use Rattle.amber_rows.specs.declared.flow.Operator.{Operator}
@@ -29,8 +29,8 @@ use Rattle.amber_laws.proofs.Sequential.{AreTyped, operators-together, typed-ove
 use Rattle.amber_laws.specs.DealtLaws.{DealtRowsAreTheOperators, TakenRowsComeIn, TotalIsByOperator}
 
 pub dealt_rows_are_the_operators : DealtRowsAreTheOperators
-dealt_rows_are_the_operators flow files size most op is some within row =
-    same_times row (operators-together (query_over flow files size most) is (typed-over flow files size most is) op some within)
+dealt_rows_are_the_operators flow files batch_size most op is some within row =
+    same_times row (operators-together (query_over flow files batch_size most) is (typed-over flow files batch_size most is) op some within)
 
 -- ---- the rows that are taken
 
@@ -85,16 +85,16 @@ rows-taken query op is typed some within rows =
     (λ input r. input-length query op is typed some within input r)
 
 pub taken_rows_come_in : TakenRowsComeIn
-taken_rows_come_in flow files size most op is some within = by (is_scan (what_at flow op)) refl
+taken_rows_come_in flow files batch_size most op is some within = by (is_scan (what_at flow op)) refl
   where
     query : Query
-    query = query_over flow files size most
+    query = query_over flow files batch_size most
 
     by : (b : Bool) → is_scan (what_at flow op) ≡ b
         → sum_by (λ worker. length (total_arrivals query (dealt_to query) worker)) (workers_of flow op)
         ≡ (if b then length (list_at (records_of files flow) op) else sum_by (λ input. length (plain_rows query input)) (inputs_of (what_at flow op)))
     by true e = scan-taken query op is some within e
-    by false e = rows-taken query op is (typed-over flow files size most is) some within e
+    by false e = rows-taken query op is (typed-over flow files batch_size most is) some within e
 
 -- ---- all workers
 

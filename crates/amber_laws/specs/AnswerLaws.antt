@@ -21,17 +21,17 @@ ended_log batch done leg = record { batch = batch; items = done ++ item.End leg 
 -- whatever the order in which the workers of a workflow moved: a legal log that sets no constant, drops no row and ends with a whole
 -- leg to the end leads to the sequential answer, with what was refused
 abbrev pub SchedulesHaveOneAnswer : Type 0
-SchedulesHaveOneAnswer = (flow : List Operator) (files : List (List ℕ)) (size most batch : ℕ) (done : List Item) (leg : Leg)
+SchedulesHaveOneAnswer = (flow : List Operator) (files : List (List ℕ)) (batch_size most batch : ℕ) (done : List Item) (leg : Leg)
     → IsFlow flow → leg.close ≡ close.Cut → IsUnaltered (ended_log batch done leg).items
-    → (legal : IsLegal (query_over flow files size most) (ended_log batch done leg))
-    → answer_in (query_over flow files size most) legal.after ≡ answer_of flow files
+    → (legal : IsLegal (query_over flow files batch_size most) (ended_log batch done leg))
+    → answer_in (query_over flow files batch_size most) legal.after ≡ answer_of flow files
 
 -- and that is what is replied to its last item
 abbrev pub EndsReplyTheAnswer : Type 0
-EndsReplyTheAnswer = (flow : List Operator) (files : List (List ℕ)) (size most batch : ℕ) (done : List Item) (leg : Leg)
+EndsReplyTheAnswer = (flow : List Operator) (files : List (List ℕ)) (batch_size most batch : ℕ) (done : List Item) (leg : Leg)
     → IsFlow flow → leg.close ≡ close.Cut → IsUnaltered (ended_log batch done leg).items
-    → IsLegal (query_over flow files size most) (ended_log batch done leg)
-    → reply_of (query_over flow files size most) (state_after (query_over flow files size most) done) (item.End leg) ≡ answer_text flow (answer_of flow files)
+    → IsLegal (query_over flow files batch_size most) (ended_log batch done leg)
+    → reply_of (query_over flow files batch_size most) (state_after (query_over flow files batch_size most) done) (item.End leg) ≡ answer_text flow (answer_of flow files)
 
 -- an operator as it would be with one worker
 abbrev pub with_one_worker : Operator → Operator

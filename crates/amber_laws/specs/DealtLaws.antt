@@ -1,7 +1,7 @@
 -- The step total against the rows of each operator.
 use Rattle.std.specs.Prelude.{◌≡◌, ℕ, ◌<◌, ◌≤◌, List, [], length, sum_by, if◌then◌else◌}
 use Rattle.std.specs.List.{flat_map}
-use Rattle.amber_rows.specs.Crew.{what_at, workers_of}
+use Rattle.amber_rows.specs.Topology.{what_at, workers_of}
 use Rattle.amber_rows.specs.FlowRules.{IsFlow}
 use Rattle.amber_rows.specs.Kinds.{inputs_of, is_scan}
 use Rattle.amber_rows.specs.Order.{SameBag}
@@ -25,13 +25,13 @@ rows_into flow files op =
 
 -- the rows that an operator's workers are dealt together are the operator's rows, in some order; the sink's workers give none
 abbrev pub DealtRowsAreTheOperators : Type 0
-DealtRowsAreTheOperators = (flow : List Operator) (files : List (List ℕ)) (size most op : ℕ) → IsFlow flow → 0 < op → op < length flow
-    → SameBag (flat_map (dealt_to (query_over flow files size most)) (workers_of flow op)) (operator_rows flow files op)
+DealtRowsAreTheOperators = (flow : List Operator) (files : List (List ℕ)) (batch_size most op : ℕ) → IsFlow flow → 0 < op → op < length flow
+    → SameBag (flat_map (dealt_to (query_over flow files batch_size most)) (workers_of flow op)) (operator_rows flow files op)
 
 -- and those that they take together are as many as come into it
 abbrev pub TakenRowsComeIn : Type 0
-TakenRowsComeIn = (flow : List Operator) (files : List (List ℕ)) (size most op : ℕ) → IsFlow flow → 0 < op → op ≤ length flow
-    → sum_by (λ worker. length (total_arrivals (query_over flow files size most) (dealt_to (query_over flow files size most)) worker)) (workers_of flow op) ≡ rows_into flow files op
+TakenRowsComeIn = (flow : List Operator) (files : List (List ℕ)) (batch_size most op : ℕ) → IsFlow flow → 0 < op → op ≤ length flow
+    → sum_by (λ worker. length (total_arrivals (query_over flow files batch_size most) (dealt_to (query_over flow files batch_size most)) worker)) (workers_of flow op) ≡ rows_into flow files op
 
 -- the steps of a query are those of its operators' workers, operator by operator
 abbrev pub TotalIsByOperator : Type 0

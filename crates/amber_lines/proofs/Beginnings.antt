@@ -2,7 +2,7 @@
 use Rattle.std.proofs.Common.{◌≡◌, ℕ, ◌<◌, List, [], ◌∷◌, ◌++◌, Some, Bool, true, false, refl, sym, ap, ◌∙◌, append_assoc, append-nil}
 use Rattle.std.specs.List.{flat_map}
 use Rattle.std.proofs.lemmas.List.Concat.{flat_map-append}
-use Rattle.amber_rows.specs.Crew.{crew_of}
+use Rattle.amber_rows.specs.Topology.{crew_of}
 use Rattle.amber_log.specs.Grammar.{AreParts, IsItem, IsLog, ends_over}
 use Rattle.amber_log.specs.LogText.{item_lines, log_lines, part_lines}
 use Rattle.amber_log.specs.declared.entry.Entry.TheVariants as entry

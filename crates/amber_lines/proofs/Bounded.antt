@@ -90,13 +90,13 @@ with_rows-bounded role orders p rows outs may =
     let produced = may.produced in
     record { within = omega arith; produced = omega arith; held = not_held p _ may.free.loose }
 
-watched-some : (watch : Option Cond) (rows : List (List Value)) → first_is_watched watch rows ≡ true → 0 < length rows
-watched-some watch [] e = absurd (false≢true e)
-watched-some watch (row ∷ rows) e = omega arith
+watched-some : (when : Option Cond) (rows : List (List Value)) → first_is_watched when rows ≡ true → 0 < length rows
+watched-some when [] e = absurd (false≢true e)
+watched-some when (row ∷ rows) e = omega arith
 
 held-bounded : (role : Role) (orders : Orders) (p : Position) → MayHold (assigned role orders) p → IsBounded role p → IsBounded role (record p { restraint = record p.restraint { held = true } })
 held-bounded role orders p may h =
-    let some = watched-some orders.watch (pending_rows role p) may.watched in
+    let some = watched-some orders.when (pending_rows role p) may.watched in
     let size = length-drop (length p.outcomes) (produced_rows role p) in
     record { within = h.within; produced = h.produced; held = λ e. omega arith }
 

@@ -1,6 +1,6 @@
 -- In every state that a legal log leads to, and in a leg that goes on, each worker's position is bounded.
 use Rattle.std.proofs.Common.{◌≡◌, ℕ, zero, suc, ◌+◌, ◌<◌, eqb, List, [], ◌∷◌, map, get_or, Option, Some, None, Bool, true, false, if◌then◌else◌, ◌⊎◌, inl, inr, refl}
-use Rattle.amber_rows.specs.Crew.{crew_of}
+use Rattle.amber_rows.specs.Topology.{crew_of}
 use Rattle.amber_log.specs.Commands.{action_of}
 use Rattle.amber_log.specs.declared.command.Command.{Command}
 use Rattle.amber_log.specs.declared.effect.Action.{Action}

@@ -3,7 +3,7 @@ use Rattle.std.proofs.Common.{◌≡◌, ℕ, ◌<◌, ◌≤◌, ◌&&◌, eqb,
 use Rattle.std.specs.List.{flat_map}
 use Rattle.std.proofs.lemmas.List.Folds.{list_any-append}
 use Rattle.std.proofs.lemmas.Bool.{and_parts, eq-eqb, eqb-true, false≢true, leb-true, ltb-true, or_left, or_right}
-use Rattle.amber_rows.specs.Crew.{crew_of}
+use Rattle.amber_rows.specs.Topology.{crew_of}
 use Rattle.amber_log.specs.Fits.{fits_of}
 use Rattle.amber_log.specs.Grammar.{AreItems, AreParts, IsBatch, IsItem, IsLog, ends_over}
 use Rattle.amber_log.specs.LogText.{item_lines, log_lines, part_lines}
@@ -312,7 +312,7 @@ items-legal query batch done (one ∷ rest) more last state legal is e =
     (items-legal query batch (done ++ one ∷ []) rest more last next.after next.legal
     (subst (λ (b : Bool). AreItems b rest) (sym (ends_over-push false done one)) is.2) next.rest)
 
-head-legal : (query : Query) (batch : ℕ) → IsBatch batch → batch ≡ query.size → LegalAt query (log_of batch []) (start_of query.flow)
+head-legal : (query : Query) (batch : ℕ) → IsBatch batch → batch ≡ query.batch_size → LegalAt query (log_of batch []) (start_of query.flow)
 unfolding AreItems Reaches
 head-legal query batch is same = (record { text = record { batch = is; items = tt }; batch = same; after = start_of query.flow; reached = refl }, refl)
 
@@ -322,6 +322,6 @@ pub log-legal : (query : Query) (log : Log) (more : List Line) (last : Progress)
 unfolding judge_all
 log-legal query log more last is e =
     let found = first-of (judge query Fresh (line.Head log.batch)) (λ next. judge_all query next (flat_map item_lines log.items ++ more)) last e in
-    let test = passes (eqb log.batch query.size) (Between (start_of query.flow)) found.0 found.1 in
-    items-legal query log.batch [] log.items more last (start_of query.flow) (head-legal query log.batch is.batch (eqb-true log.batch query.size test.0)) is.items
+    let test = passes (eqb log.batch query.batch_size) (Between (start_of query.flow)) found.0 found.1 in
+    items-legal query log.batch [] log.items more last (start_of query.flow) (head-legal query log.batch is.batch (eqb-true log.batch query.batch_size test.0)) is.items
     (subst (λ (p : Progress). judge_all query p (flat_map item_lines log.items ++ more) ≡ Some last) (sym test.1) found.2)

@@ -10,7 +10,7 @@ use Rattle.std.proofs.lemmas.Nat.{le-div}
 use Rattle.std.proofs.lemmas.Option.{slice_get_within}
 use Rattle.amber_rows.specs.Chunks.{chunks_of}
 use Rattle.amber_rows.specs.Lists.{numbers_below, nth, IsPrefix}
-use Rattle.amber_rows.specs.Crew.{crew_of, receiver_of}
+use Rattle.amber_rows.specs.Topology.{crew_of, receiver_of}
 use Rattle.amber_rows.specs.declared.value.Value.{Value}
 use Rattle.amber_rows.specs.declared.batch.Batch.{Batch}
 use Rattle.amber_log.specs.Grammar.{IsBatch}
@@ -107,25 +107,25 @@ numbers-begin fewer (suc more) h = by (cases_lt fewer (suc more)) (λ less. numb
         (front.0 ++ more ∷ [], sym (append_assoc (numbers_below fewer) front.0 (more ∷ [])) ∙ ap (λ (l : List ℕ). l ++ more ∷ []) front.1)
     by (inr all) rest = let same : fewer ≡ suc more = omega arith in rw same (IsPrefix-refl (numbers_below more ++ more ∷ []))
 
-fulls-begin : (size : ℕ) (stream more : List (List Value)) → 0 < size
-    → IsPrefix (map (full_batch size stream) (numbers_below (length stream / size))) (map (full_batch size (stream ++ more)) (numbers_below (length (stream ++ more) / size)))
-fulls-begin size stream more some =
-    let fewer = length stream / size in
-    let within : fewer * size ≤ length stream = div-mul-le_self (length stream) size in
+fulls-begin : (batch_size : ℕ) (stream more : List (List Value)) → 0 < batch_size
+    → IsPrefix (map (full_batch batch_size stream) (numbers_below (length stream / batch_size))) (map (full_batch batch_size (stream ++ more)) (numbers_below (length (stream ++ more) / batch_size)))
+fulls-begin batch_size stream more some =
+    let fewer = length stream / batch_size in
+    let within : fewer * batch_size ≤ length stream = div-mul-le_self (length stream) batch_size in
     let longer = length-append stream more in
-    let above : fewer ≤ length (stream ++ more) / size = le-div fewer (length (stream ++ more)) size some (omega arith) in
-    let numbers = numbers-begin fewer (length (stream ++ more) / size) above in (
-      map (full_batch size (stream ++ more)) numbers.0,
-      ap (λ (l : List Batch). l ++ map (full_batch size (stream ++ more)) numbers.0) (sym (fulls-longer size fewer stream more within))
-          ∙ sym (map-append (full_batch size (stream ++ more)) (numbers_below fewer) numbers.0)
-          ∙ ap (map (full_batch size (stream ++ more))) numbers.1,
+    let above : fewer ≤ length (stream ++ more) / batch_size = le-div fewer (length (stream ++ more)) batch_size some (omega arith) in
+    let numbers = numbers-begin fewer (length (stream ++ more) / batch_size) above in (
+      map (full_batch batch_size (stream ++ more)) numbers.0,
+      ap (λ (l : List Batch). l ++ map (full_batch batch_size (stream ++ more)) numbers.0) (sym (fulls-longer batch_size fewer stream more within))
+          ∙ sym (map-append (full_batch batch_size (stream ++ more)) (numbers_below fewer) numbers.0)
+          ∙ ap (map (full_batch batch_size (stream ++ more))) numbers.1,
     )
 
-chunks-grow : (size : ℕ) (stream more : List (List Value)) (ended : Bool) → 0 < size → IsPrefix (chunks_of size stream false) (chunks_of size (stream ++ more) ended)
+chunks-grow : (batch_size : ℕ) (stream more : List (List Value)) (ended : Bool) → 0 < batch_size → IsPrefix (chunks_of batch_size stream false) (chunks_of batch_size (stream ++ more) ended)
 unfolding chunks_of
-chunks-grow size stream more ended some =
-    let fulls = fulls-begin size stream more some in
-    let front : IsPrefix (map (full_batch size stream) (numbers_below (length stream / size)) ++ []) (map (full_batch size stream) (numbers_below (length stream / size))) =
+chunks-grow batch_size stream more ended some =
+    let fulls = fulls-begin batch_size stream more some in
+    let front : IsPrefix (map (full_batch batch_size stream) (numbers_below (length stream / batch_size)) ++ []) (map (full_batch batch_size stream) (numbers_below (length stream / batch_size))) =
     ([], append-nil _ ∙ append-nil _) in
     IsPrefix-trans _ _ _ front (IsPrefix-trans _ _ _ fulls (_, refl))
 
@@ -137,7 +137,7 @@ same-stream : (query : Query) (sender receiver : ℕ) (rows more all : List (Lis
 same-stream query sender receiver rows more all e =
     ap (filter (λ row. eqb (receiver_of query.flow sender row) receiver)) (sym e) ∙ filter-append (λ row. eqb (receiver_of query.flow sender row) receiver) rows more
 
-pub batches-grow : (query : Query) (before after : List Position) (sender receiver : ℕ) → 0 < query.size
+pub batches-grow : (query : Query) (before after : List Position) (sender receiver : ℕ) → 0 < query.batch_size
     → IsGrown (role_in query sender) (position_at before sender) (position_at after sender)
     → IsPrefix (batches_for query before sender receiver) (batches_for query after sender receiver)
 unfolding batches_for stream_of role_of
@@ -150,14 +150,14 @@ batches-grow query before after sender receiver some grown = by (position_at bef
     goes = λ row. eqb (receiver_of query.flow sender row) receiver
 
     by : (over : Bool) → (position_at before sender).finished ≡ over
-        → IsPrefix (chunks_of query.size (filter goes (emitted_rows role (position_at before sender))) over)
-        (chunks_of query.size (filter goes (emitted_rows role (position_at after sender))) (position_at after sender).finished)
+        → IsPrefix (chunks_of query.batch_size (filter goes (emitted_rows role (position_at before sender))) over)
+        (chunks_of query.batch_size (filter goes (emitted_rows role (position_at after sender))) (position_at after sender).finished)
     by true e =
         let same = grown.over e in
-        rw (same.0, same.1) (IsPrefix-refl (chunks_of query.size (filter goes (emitted_rows role (position_at before sender))) true))
+        rw (same.0, same.1) (IsPrefix-refl (chunks_of query.batch_size (filter goes (emitted_rows role (position_at before sender))) true))
     by false e =
         rw (same-stream query sender receiver (emitted_rows role (position_at before sender)) grown.emitted.0 (emitted_rows role (position_at after sender)) grown.emitted.1)
-        (chunks-grow query.size (filter goes (emitted_rows role (position_at before sender))) (filter goes grown.emitted.0) (position_at after sender).finished some)
+        (chunks-grow query.batch_size (filter goes (emitted_rows role (position_at before sender))) (filter goes grown.emitted.0) (position_at after sender).finished some)
 
 -- ---- one entry more
 
@@ -199,7 +199,7 @@ taken-offered role orders offer p q entry.Hold sender h there begins = rw h.2 be
 taken-offered role orders offer p q entry.Finish sender h there begins = rw h.2 begins
 
 -- behind an entry more everything that was taken is offered
-grown-offered : (query : Query) (next : NextEntry) → 0 < query.size → AreOffered query next.now.positions
+grown-offered : (query : Query) (next : NextEntry) → 0 < query.batch_size → AreOffered query next.now.positions
     → IsBounded (role_in query next.worker) (position_at next.now.positions next.worker) → IsNextEntry query next → AreOffered query next.after.positions
 unfolding AreOffered batches_for role_of
 grown-offered query next some offered bounded h receiver less sender known =
@@ -221,7 +221,7 @@ grown-offered query next some offered bounded h receiver less sender known =
     orderly = λ one is.
         let begins = taken-offered role (orders_in query next.start next.worker) offer (position_at now next.worker) (position_at after next.worker) next.made one h.allowed h.offered
         (offered next.worker h.inside one is) in
-        marked-front _ begins.0 (rw begins.1 (chunks-marked query.size _ _))
+        marked-front _ begins.0 (rw begins.1 (chunks-marked query.batch_size _ _))
 
     grows : (sender ≡ next.worker) ⊎ (sender ≡ next.worker → ⊥) → IsPrefix (batches_for query now sender receiver) (batches_for query after sender receiver)
     grows (inl same) =
@@ -254,7 +254,7 @@ grown-moved query next moved h = record {
         (sym same) h.leads
     by worker less (inr other) = rw ((h.others worker other).0, (h.others worker other).1) (moved.moved worker less)
 
-some-size : (query : Query) (log : Log) → IsLegal query log → 0 < query.size
+some-size : (query : Query) (log : Log) → IsLegal query log → 0 < query.batch_size
 some-size query log legal = let same = legal.batch in let batch : IsBatch log.batch = legal.text.batch in omega arith
 
 pub open_legs_grow : OpenLegsGrow

@@ -4,7 +4,7 @@ use Rattle.std.specs.Prelude.{option_and_then}
 use Rattle.std.specs.List.{flat_map}
 use Rattle.std.proofs.lemmas.Bool.{and_from, cases_eq, eq-eqb, le-leb, lt-ltb}
 use Rattle.std.proofs.lemmas.List.{ext_get_or, length-map}
-use Rattle.amber_rows.specs.Crew.{crew_of}
+use Rattle.amber_rows.specs.Topology.{crew_of}
 use Rattle.amber_rows.specs.declared.batch.Batch.{Batch}
 use Rattle.amber_log.specs.Grammar.{AreItems, AreParts, IsItem, ends_over}
 use Rattle.amber_log.specs.LogText.{item_lines, log_lines, part_lines}
@@ -285,7 +285,7 @@ pub log-judged : (query : Query) (log : Log) (more : List Line) → SendersFirst
     → judge_all query Fresh (log_lines log ++ more) ≡ judge_all query (Between legal.after) more
 unfolding judge_all
 log-judged query log more first legal =
-    ap (λ (b : Bool). option_and_then (λ next. judge_all query next (flat_map item_lines log.items ++ more)) (when b (Between (start_of query.flow)))) (eq-eqb log.batch query.size legal.batch)
+    ap (λ (b : Bool). option_and_then (λ next. judge_all query next (flat_map item_lines log.items ++ more)) (when b (Between (start_of query.flow)))) (eq-eqb log.batch query.batch_size legal.batch)
     ∙ items-judged query log.batch [] log.items (start_of query.flow) legal.after more first (start-legal query log legal) legal.text.items legal.reached
 
 pub opening-judged : (query : Query) (to_end : Bool) (state : State) (more : List Line)

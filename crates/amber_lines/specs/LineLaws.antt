@@ -1,6 +1,6 @@
 -- Laws of logs that are judged line by line.
 use Rattle.std.specs.Prelude.{◌≡◌, ℕ, ◌+◌, ◌<◌, ◌≤◌, ◌↔◌, List, [], ◌∷◌, ◌++◌, length, take, Some, None, Bool, true, false}
-use Rattle.amber_rows.specs.Crew.{crew_of}
+use Rattle.amber_rows.specs.Topology.{crew_of}
 use Rattle.amber_log.specs.Grammar.{AreParts, IsLog, ends_over}
 use Rattle.amber_log.specs.LogText.{log_lines}
 use Rattle.amber_log.specs.ReadLines.{part_of}

@@ -2,7 +2,7 @@
 use Rattle.std.specs.Prelude.{◌≡◌, ℕ, ◌+◌, ◌==◌, nat_le, nat_lt, ◌&&◌, List, [], ◌∷◌, ◌++◌, Option, Some, None, option_and_then, Bool, true, false}
 use Rattle.std.specs.List.{flat_map}
 use Rattle.amber_meaning.specs.Replay.{batch_for}
-use Rattle.amber_rows.specs.Crew.{crew_of}
+use Rattle.amber_rows.specs.Topology.{crew_of}
 use Rattle.amber_rows.specs.declared.batch.Batch.{Batch}
 use Rattle.amber_log.specs.Fits.{fits_of}
 use Rattle.amber_log.specs.Grammar.{IsLog}
@@ -89,7 +89,7 @@ judge_within query to_end now worker line.End = None
 
 -- the first line: the query's batch size
 abbrev pub judge_head : Query → Line → Option Progress
-judge_head query (line.Head batch) = when (batch == query.size) (Between (start_of query.flow))
+judge_head query (line.Head batch) = when (batch == query.batch_size) (Between (start_of query.flow))
 judge_head query (line.Do command) = None
 judge_head query line.Run = None
 judge_head query line.End = None

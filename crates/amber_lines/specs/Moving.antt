@@ -1,7 +1,7 @@
 -- A leg's work in two parts: each worker moves by its rules, and what was taken was offered.
 use Rattle.std.specs.Prelude.{◌≡◌, ℕ, ◌+◌, ◌<◌, ◌≤◌, List, length, Some, Bool, false}
 use Rattle.amber_rows.specs.Lists.{nth}
-use Rattle.amber_rows.specs.Crew.{crew_of}
+use Rattle.amber_rows.specs.Topology.{crew_of}
 use Rattle.amber_rows.specs.declared.batch.Batch.{Batch}
 use Rattle.amber_log.specs.Grammar.{AreParts, ends_over}
 use Rattle.amber_log.specs.declared.entry.Entry.{Entry}

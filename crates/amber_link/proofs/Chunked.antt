@@ -12,7 +12,7 @@ use Rattle.amber_link.specs.Outgoing.{left_over}
 
 -- the full batch with this number
 abbrev full_batch : ℕ → List (List Value) → ℕ → Batch
-full_batch size stream number = record { seq = number; rows = piece_of size stream number; last = false }
+full_batch batch_size stream number = record { seq = number; rows = piece_of batch_size stream number; last = false }
 
 -- ---- full batches stay as the stream grows
 
@@ -24,89 +24,89 @@ map-below f g (suc n) h =
     let last = h n (omega arith) in
     rw (map-append f, map-append g, front, last)
 
-full-below : (size n q : ℕ) (stream : List (List Value)) → n < q → q * size ≤ length stream → n * size + size ≤ length stream
-full-below size n q stream less within =
-    let more : (n + 1) * size ≤ q * size = mul-le-mul_right size (omega arith) in
+full-below : (batch_size n q : ℕ) (stream : List (List Value)) → n < q → q * batch_size ≤ length stream → n * batch_size + batch_size ≤ length stream
+full-below batch_size n q stream less within =
+    let more : (n + 1) * batch_size ≤ q * batch_size = mul-le-mul_right batch_size (omega arith) in
     omega arith
 
-piece-longer : (size n q : ℕ) (stream more : List (List Value)) → n < q → q * size ≤ length stream → piece_of size (stream ++ more) n ≡ piece_of size stream n
-piece-longer size n q stream more less within =
-    let all = full-below size n q stream less within in
-    let start : n * size ≤ length stream = omega arith in
-    let enough : size ≤ length (drop (n * size) stream) = omega (arith, length-drop (n * size) stream) in
+piece-longer : (batch_size n q : ℕ) (stream more : List (List Value)) → n < q → q * batch_size ≤ length stream → piece_of batch_size (stream ++ more) n ≡ piece_of batch_size stream n
+piece-longer batch_size n q stream more less within =
+    let all = full-below batch_size n q stream less within in
+    let start : n * batch_size ≤ length stream = omega arith in
+    let enough : batch_size ≤ length (drop (n * batch_size) stream) = omega (arith, length-drop (n * batch_size) stream) in
     rw (drop-append-le, take-append-le)
 
-fulls-longer : (size q : ℕ) (stream more : List (List Value)) → q * size ≤ length stream
-    → map (full_batch size (stream ++ more)) (numbers_below q) ≡ map (full_batch size stream) (numbers_below q)
-fulls-longer size q stream more within =
-    map-below (full_batch size (stream ++ more)) (full_batch size stream) q
-    (λ n less. ap (λ (rows : List (List Value)). record { seq = n; rows = rows; last = false }) (piece-longer size n q stream more less within))
+fulls-longer : (batch_size q : ℕ) (stream more : List (List Value)) → q * batch_size ≤ length stream
+    → map (full_batch batch_size (stream ++ more)) (numbers_below q) ≡ map (full_batch batch_size stream) (numbers_below q)
+fulls-longer batch_size q stream more within =
+    map-below (full_batch batch_size (stream ++ more)) (full_batch batch_size stream) q
+    (λ n less. ap (λ (rows : List (List Value)). record { seq = n; rows = rows; last = false }) (piece-longer batch_size n q stream more less within))
 
 -- ---- what is left
 
 -- the stream's length by its batches and what is left
-pub length-left_over : (size : ℕ) (stream : List (List Value)) → length stream ≡ length stream / size * size + length (left_over size stream)
-length-left_over size stream =
-    let parts = div-add-mod' (length stream) size in
-    omega (arith, length-drop (length stream / size * size) stream)
+pub length-left_over : (batch_size : ℕ) (stream : List (List Value)) → length stream ≡ length stream / batch_size * batch_size + length (left_over batch_size stream)
+length-left_over batch_size stream =
+    let parts = div-add-mod' (length stream) batch_size in
+    omega (arith, length-drop (length stream / batch_size * batch_size) stream)
 
 -- these are fewer than a batch has
-pub left_over-few : (size : ℕ) (stream : List (List Value)) → 0 < size → length (left_over size stream) < size
-left_over-few size stream some =
-    let parts = div-add-mod' (length stream) size in
-    omega (arith, length-drop (length stream / size * size) stream)
+pub left_over-few : (batch_size : ℕ) (stream : List (List Value)) → 0 < batch_size → length (left_over batch_size stream) < batch_size
+left_over-few batch_size stream some =
+    let parts = div-add-mod' (length stream) batch_size in
+    omega (arith, length-drop (length stream / batch_size * batch_size) stream)
 
 -- ---- a row more
 
-quotient-same : (size q l n : ℕ) → n ≡ q * size + l → l < size → n / size ≡ q
-quotient-same size q l n e few = rw e (div-mul-add q size l few)
+quotient-same : (batch_size q l n : ℕ) → n ≡ q * batch_size + l → l < batch_size → n / batch_size ≡ q
+quotient-same batch_size q l n e few = rw e (div-mul-add q batch_size l few)
 
 -- a row that does not fill the batch
-pub chunks-more : (size : ℕ) (stream : List (List Value)) (row : List Value) → length (left_over size stream) + 1 < size
-    → (length (stream ++ row ∷ []) / size ≡ length stream / size) × (chunks_of size (stream ++ row ∷ []) false ≡ chunks_of size stream false)
-    × (left_over size (stream ++ row ∷ []) ≡ left_over size stream ++ row ∷ [])
+pub chunks-more : (batch_size : ℕ) (stream : List (List Value)) (row : List Value) → length (left_over batch_size stream) + 1 < batch_size
+    → (length (stream ++ row ∷ []) / batch_size ≡ length stream / batch_size) × (chunks_of batch_size (stream ++ row ∷ []) false ≡ chunks_of batch_size stream false)
+    × (left_over batch_size (stream ++ row ∷ []) ≡ left_over batch_size stream ++ row ∷ [])
 unfolding chunks_of
-chunks-more size stream row few =
-    let q = length stream / size in
-    let whole = length-left_over size stream in
-    let longer : length (stream ++ row ∷ []) ≡ q * size + (length (left_over size stream) + 1) = omega (arith, length-append stream (row ∷ [])) in
-    let same : length (stream ++ row ∷ []) / size ≡ q = quotient-same size q (length (left_over size stream) + 1) (length (stream ++ row ∷ [])) longer few in
-    let within : q * size ≤ length stream = omega arith in (
+chunks-more batch_size stream row few =
+    let q = length stream / batch_size in
+    let whole = length-left_over batch_size stream in
+    let longer : length (stream ++ row ∷ []) ≡ q * batch_size + (length (left_over batch_size stream) + 1) = omega (arith, length-append stream (row ∷ [])) in
+    let same : length (stream ++ row ∷ []) / batch_size ≡ q = quotient-same batch_size q (length (left_over batch_size stream) + 1) (length (stream ++ row ∷ [])) longer few in
+    let within : q * batch_size ≤ length stream = omega arith in (
       same,
-      rw (same, append-nil, append-nil) (fulls-longer size q stream (row ∷ []) within),
+      rw (same, append-nil, append-nil) (fulls-longer batch_size q stream (row ∷ []) within),
       rw (same, drop-append-le) refl,
     )
 
 -- a row that fills it
-pub chunks-full : (size : ℕ) (stream : List (List Value)) (row : List Value) → length (left_over size stream) + 1 ≡ size
-    → (length (stream ++ row ∷ []) / size ≡ length stream / size + 1)
-    × (chunks_of size (stream ++ row ∷ []) false ≡ chunks_of size stream false ++ record { seq = length stream / size; rows = left_over size stream ++ row ∷ []; last = false } ∷ [])
-    × (left_over size (stream ++ row ∷ []) ≡ [])
+pub chunks-full : (batch_size : ℕ) (stream : List (List Value)) (row : List Value) → length (left_over batch_size stream) + 1 ≡ batch_size
+    → (length (stream ++ row ∷ []) / batch_size ≡ length stream / batch_size + 1)
+    × (chunks_of batch_size (stream ++ row ∷ []) false ≡ chunks_of batch_size stream false ++ record { seq = length stream / batch_size; rows = left_over batch_size stream ++ row ∷ []; last = false } ∷ [])
+    × (left_over batch_size (stream ++ row ∷ []) ≡ [])
 unfolding chunks_of numbers_below
-chunks-full size stream row fills =
-    let q = length stream / size in
-    let whole = length-left_over size stream in
-    let longer : length (stream ++ row ∷ []) ≡ (q + 1) * size + 0 = omega (arith, length-append stream (row ∷ [])) in
-    let next : length (stream ++ row ∷ []) / size ≡ q + 1 = quotient-same size (q + 1) 0 (length (stream ++ row ∷ [])) longer (omega arith) in
-    let next_suc : length (stream ++ row ∷ []) / size ≡ suc q = omega arith in
-    let within : q * size ≤ length stream = omega arith in
-    let front = fulls-longer size q stream (row ∷ []) within in
-    let piece : piece_of size (stream ++ row ∷ []) q ≡ left_over size stream ++ row ∷ [] =
-    ap (λ rows. take size rows) (drop-append-le (q * size) stream (row ∷ []) within)
-    ∙ take_all size (left_over size stream ++ row ∷ []) (omega (arith, length-append (left_over size stream) (row ∷ []))) in
-    let last : full_batch size (stream ++ row ∷ []) q ≡ record { seq = q; rows = left_over size stream ++ row ∷ []; last = false } =
+chunks-full batch_size stream row fills =
+    let q = length stream / batch_size in
+    let whole = length-left_over batch_size stream in
+    let longer : length (stream ++ row ∷ []) ≡ (q + 1) * batch_size + 0 = omega (arith, length-append stream (row ∷ [])) in
+    let next : length (stream ++ row ∷ []) / batch_size ≡ q + 1 = quotient-same batch_size (q + 1) 0 (length (stream ++ row ∷ [])) longer (omega arith) in
+    let next_suc : length (stream ++ row ∷ []) / batch_size ≡ suc q = omega arith in
+    let within : q * batch_size ≤ length stream = omega arith in
+    let front = fulls-longer batch_size q stream (row ∷ []) within in
+    let piece : piece_of batch_size (stream ++ row ∷ []) q ≡ left_over batch_size stream ++ row ∷ [] =
+    ap (λ rows. take batch_size rows) (drop-append-le (q * batch_size) stream (row ∷ []) within)
+    ∙ take_all batch_size (left_over batch_size stream ++ row ∷ []) (omega (arith, length-append (left_over batch_size stream) (row ∷ []))) in
+    let last : full_batch batch_size (stream ++ row ∷ []) q ≡ record { seq = q; rows = left_over batch_size stream ++ row ∷ []; last = false } =
     ap (λ (rows : List (List Value)). record { seq = q; rows = rows; last = false }) piece in
-    let gone : left_over size (stream ++ row ∷ []) ≡ [] =
-    rw next (drop_of_length-le (stream ++ row ∷ []) {i = (q + 1) * size} (omega arith)) in
-    (next, rw (next_suc, append-nil, append-nil, map-append (full_batch size (stream ++ row ∷ [])), front, last) refl, gone)
+    let gone : left_over batch_size (stream ++ row ∷ []) ≡ [] =
+    rw next (drop_of_length-le (stream ++ row ∷ []) {i = (q + 1) * batch_size} (omega arith)) in
+    (next, rw (next_suc, append-nil, append-nil, map-append (full_batch batch_size (stream ++ row ∷ [])), front, last) refl, gone)
 
 -- ---- the end
 
 -- the rows that are left are the last batch
-pub chunks-end : (size : ℕ) (stream : List (List Value)) → 0 < size
-    → chunks_of size stream true ≡ chunks_of size stream false ++ record { seq = length stream / size; rows = left_over size stream; last = true } ∷ []
+pub chunks-end : (batch_size : ℕ) (stream : List (List Value)) → 0 < batch_size
+    → chunks_of batch_size stream true ≡ chunks_of batch_size stream false ++ record { seq = length stream / batch_size; rows = left_over batch_size stream; last = true } ∷ []
 unfolding chunks_of
-chunks-end size stream some =
-    let few = left_over-few size stream some in
-    let piece : piece_of size stream (length stream / size) ≡ left_over size stream = take_all size (left_over size stream) (omega arith) in
+chunks-end batch_size stream some =
+    let few = left_over-few batch_size stream some in
+    let piece : piece_of batch_size stream (length stream / batch_size) ≡ left_over batch_size stream = take_all batch_size (left_over batch_size stream) (omega arith) in
     rw (append-nil, piece) refl

@@ -32,11 +32,11 @@ five = row 1 ∷ row 2 ∷ row 3 ∷ row 4 ∷ row 5 ∷ []
 
 -- what is kept of a receiver once these were pushed, where these batches wait
 abbrev kept : List Batch → Outgoing
-kept waiting = record { size = 2; made = 2; ended = false; waiting = waiting; partial = row 5 ∷ []; room = 0 }
+kept waiting = record { batch_size = 2; made = 2; ended = false; waiting = waiting; partial = row 5 ∷ []; room = 0 }
 
 -- once the stream was ended too
 abbrev kept_at_the_end : List Batch → Outgoing
-kept_at_the_end waiting = record { size = 2; made = 3; ended = true; waiting = waiting; partial = []; room = 0 }
+kept_at_the_end waiting = record { batch_size = 2; made = 3; ended = true; waiting = waiting; partial = []; room = 0 }
 
 -- ---- what is kept of the rows that were pushed
 
@@ -105,7 +105,7 @@ module _ (e : Ends (kept []) (pair 0 1 ∷ pair 1 3 ∷ []) (pair 1 3 ∷ [])) w
   the_first_is_lost whole =
       let all = whole.chunks [] [] five carried (record { all = ap (λ l. l ++ known_items e.into.ring) (e.received_is ∙ sym e.inbox_is) }) in
       let same : (pair 1 3 ∷ []) ++ (whole.beyond ++ e.out.kept.waiting) ≡ chunks_of 2 five false =
-      ap (λ l. l ++ (whole.beyond ++ e.out.kept.waiting)) (sym waits) ∙ all ∙ ap (λ (k : Outgoing). chunks_of k.size five k.ended) e.kept_is in
+      ap (λ l. l ++ (whole.beyond ++ e.out.kept.waiting)) (sym waits) ∙ all ∙ ap (λ (k : Outgoing). chunks_of k.batch_size five k.ended) e.kept_is in
       let wrong = ap numbers same in
       cc
 

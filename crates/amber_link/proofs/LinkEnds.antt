@@ -77,17 +77,17 @@ forwards-then a b c one two = record {
 
 pub carries-forwards : (a b : Out) (gave : List Batch) (pushed : List (List Value)) → Forwards a b → OutCarries a gave pushed → OutCarries b gave pushed
 carries-forwards a b gave pushed forwards carries = record {
-  some = rw size carries.some;
+  some = rw batch_size carries.some;
   batches =
       append_assoc gave (sent b.ring) b.kept.waiting ∙ ap (λ l. gave ++ l) forwards.order ∙ sym (append_assoc gave (sent a.ring) a.kept.waiting) ∙ carries.batches
-      ∙ ap (λ n. chunks_of n pushed a.kept.ended) (sym size) ∙ ap (chunks_of b.kept.size pushed) (sym ended);
+      ∙ ap (λ n. chunks_of n pushed a.kept.ended) (sym batch_size) ∙ ap (chunks_of b.kept.batch_size pushed) (sym ended);
   partial = ap (λ (kept : Outgoing). kept.partial) forwards.only ∙ carries.partial
-      ∙ ap (λ n. if a.kept.ended then [] else left_over n pushed) (sym size) ∙ ap (λ e. if e then [] else left_over b.kept.size pushed) (sym ended);
-  made = λ unended. ap (λ (kept : Outgoing). kept.made) forwards.only ∙ carries.made (sym ended ∙ unended) ∙ ap (λ n. length pushed / n) (sym size);
+      ∙ ap (λ n. if a.kept.ended then [] else left_over n pushed) (sym batch_size) ∙ ap (λ e. if e then [] else left_over b.kept.batch_size pushed) (sym ended);
+  made = λ unended. ap (λ (kept : Outgoing). kept.made) forwards.only ∙ carries.made (sym ended ∙ unended) ∙ ap (λ n. length pushed / n) (sym batch_size);
 }
   where
-    size : b.kept.size ≡ a.kept.size
-    size = ap (λ (kept : Outgoing). kept.size) forwards.only
+    batch_size : b.kept.batch_size ≡ a.kept.batch_size
+    batch_size = ap (λ (kept : Outgoing). kept.batch_size) forwards.only
 
     ended : b.kept.ended ≡ a.kept.ended
     ended = ap (λ (kept : Outgoing). kept.ended) forwards.only

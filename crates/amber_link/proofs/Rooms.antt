@@ -8,8 +8,8 @@ mul-add-one : (a b : ℕ) → a * (b + 1) ≡ a * b + a
 mul-add-one a b = omega arith
 
 -- nothing is pushed, and nothing has room
-pub room-none : (size capacity slots : ℕ) → 0 < size → HasRoom (record { size = size; room = 0; held = 0; capacity = capacity; spares = 0; waiting = 0; slots = slots })
-room-none size capacity slots some = record {
+pub room-none : (batch_size capacity slots : ℕ) → 0 < batch_size → HasRoom (record { batch_size = batch_size; room = 0; held = 0; capacity = capacity; spares = 0; waiting = 0; slots = slots })
+room-none batch_size capacity slots some = record {
   some = some;
   few = some;
   own = λ less. omega arith;
@@ -18,7 +18,7 @@ room-none size capacity slots some = record {
 }
 
 -- a row more, that does not fill the batch
-pub room-row : (r : Room) → HasRoom r → 1 < r.room → r.held + 1 < r.size → HasRoom (record r { room = r.room - 1; held = r.held + 1 })
+pub room-row : (r : Room) → HasRoom r → 1 < r.room → r.held + 1 < r.batch_size → HasRoom (record r { room = r.room - 1; held = r.held + 1 })
 room-row r has some less = record {
   some = has.some;
   few = less;
@@ -28,7 +28,7 @@ room-row r has some less = record {
 }
 
 -- a row that fills it: a list that was spare takes the next ones, or a new one
-pub room-full : (r : Room) (capacity spares : ℕ) → HasRoom r → 1 < r.room → r.held + 1 ≡ r.size → (0 < r.spares → r.size ≤ capacity)
+pub room-full : (r : Room) (capacity spares : ℕ) → HasRoom r → 1 < r.room → r.held + 1 ≡ r.batch_size → (0 < r.spares → r.batch_size ≤ capacity)
     → (0 < r.spares → r.spares ≡ spares + 1) → (r.spares ≡ 0 → spares ≡ 0)
     → HasRoom (record r { room = r.room - 1; held = 0; capacity = capacity; spares = spares; waiting = r.waiting + 1 })
 room-full r capacity spares has some full large fewer none = record {
@@ -44,30 +44,30 @@ room-full r capacity spares has some full large fewer none = record {
     zero-or (suc n) = inr (omega arith)
 
     last : r.spares ≡ 0 → r.room ≤ 2
-    last e = let more = has.more in let gone : r.size * r.spares ≡ r.size * 0 = ap (λ n. r.size * n) e in omega (arith, more, gone)
+    last e = let more = has.more in let gone : r.batch_size * r.spares ≡ r.batch_size * 0 = ap (λ n. r.batch_size * n) e in omega (arith, more, gone)
 
-    own-full : capacity < r.size → (r.spares ≡ 0) ⊎ (0 < r.spares) → 0 + (r.room - 1) ≤ capacity + 1
+    own-full : capacity < r.batch_size → (r.spares ≡ 0) ⊎ (0 < r.spares) → 0 + (r.room - 1) ≤ capacity + 1
     own-full small (inl e) = let few = last e in omega (arith, few)
     own-full small (inr spare) = let enough = large spare in absurd (omega (arith, enough))
 
-    more-full : (r.spares ≡ 0) ⊎ (0 < r.spares) → 0 + (r.room - 1) ≤ r.size + r.size * spares + 1
+    more-full : (r.spares ≡ 0) ⊎ (0 < r.spares) → 0 + (r.room - 1) ≤ r.batch_size + r.batch_size * spares + 1
     more-full (inl e) = let few = last e in let all = has.some in omega (arith, few, all)
     more-full (inr spare) =
         let more = has.more in
-        let product : r.size * r.spares ≡ r.size * (spares + 1) = ap (λ n. r.size * n) (fewer spare) in
-        let out : r.size * (spares + 1) ≡ r.size * spares + r.size = mul-add-one r.size spares in
+        let product : r.batch_size * r.spares ≡ r.batch_size * (spares + 1) = ap (λ n. r.batch_size * n) (fewer spare) in
+        let out : r.batch_size * (spares + 1) ≡ r.batch_size * spares + r.batch_size = mul-add-one r.batch_size spares in
         omega (arith, more, product, out)
 
-    free-full : (r.slots - r.waiting ≡ 0) ⊎ (0 < r.slots - r.waiting) → 0 + (r.room - 1) ≤ r.size * (r.slots - (r.waiting + 1))
+    free-full : (r.slots - r.waiting ≡ 0) ⊎ (0 < r.slots - r.waiting) → 0 + (r.room - 1) ≤ r.batch_size * (r.slots - (r.waiting + 1))
     free-full (inl e) =
         let free = has.free (omega arith) in
-        let gone : r.size * (r.slots - r.waiting) ≡ r.size * 0 = ap (λ n. r.size * n) e in
+        let gone : r.batch_size * (r.slots - r.waiting) ≡ r.batch_size * 0 = ap (λ n. r.batch_size * n) e in
         absurd (omega (arith, free, gone))
     free-full (inr left) =
         let free = has.free (omega arith) in
         let one : r.slots - r.waiting ≡ r.slots - (r.waiting + 1) + 1 = omega arith in
-        let product : r.size * (r.slots - r.waiting) ≡ r.size * (r.slots - (r.waiting + 1) + 1) = ap (λ n. r.size * n) one in
-        let out : r.size * (r.slots - (r.waiting + 1) + 1) ≡ r.size * (r.slots - (r.waiting + 1)) + r.size = mul-add-one r.size (r.slots - (r.waiting + 1)) in
+        let product : r.batch_size * (r.slots - r.waiting) ≡ r.batch_size * (r.slots - (r.waiting + 1) + 1) = ap (λ n. r.batch_size * n) one in
+        let out : r.batch_size * (r.slots - (r.waiting + 1) + 1) ≡ r.batch_size * (r.slots - (r.waiting + 1)) + r.batch_size = mul-add-one r.batch_size (r.slots - (r.waiting + 1)) in
         omega (arith, free, product, out)
 
 -- the last batch
@@ -89,14 +89,14 @@ room-sent r waiting has less = record {
   more = has.more;
   free = λ left.
       let free = has.free left in
-      let more : r.size * (r.slots - r.waiting) ≤ r.size * (r.slots - waiting) = mul-le-mul_left r.size (omega arith) in
+      let more : r.batch_size * (r.slots - r.waiting) ≤ r.batch_size * (r.slots - waiting) = mul-le-mul_left r.batch_size (omega arith) in
       omega (arith, free, more);
 }
 
 -- room for so many rows and the end
 pub room-more : (r : Room) (room capacity spares slots batches : ℕ) → HasRoom r → r.waiting + (batches + 1) ≤ slots → r.slots ≤ slots → r.capacity ≤ capacity → r.spares ≤ spares
-    → 0 < batches → batches ≤ spares + 1 → r.held + (room - 1) ≤ r.size * batches → 0 < room
-    → (capacity < r.size → r.held + (room - 1) ≤ capacity)
+    → 0 < batches → batches ≤ spares + 1 → r.held + (room - 1) ≤ r.batch_size * batches → 0 < room
+    → (capacity < r.batch_size → r.held + (room - 1) ≤ capacity)
     → HasRoom (record r { room = max r.room room; capacity = capacity; spares = spares; slots = slots })
 room-more r room capacity spares slots batches has free_slots more_slots more_capacity more_spares some enough_spares enough has_room own = record {
   some = has.some;
@@ -104,21 +104,21 @@ room-more r room capacity spares slots batches has free_slots more_slots more_ca
   own = λ small. let new = own small in let old = has.own (omega arith) in omega (arith, new, old);
   more =
       let old = has.more in
-      let lists : r.size * r.spares ≤ r.size * spares = mul-le-mul_left r.size more_spares in
-      let filled : r.size * batches ≤ r.size * (spares + 1) = mul-le-mul_left r.size enough_spares in
-      let out : r.size * (spares + 1) ≡ r.size * spares + r.size = mul-add-one r.size spares in
+      let lists : r.batch_size * r.spares ≤ r.batch_size * spares = mul-le-mul_left r.batch_size more_spares in
+      let filled : r.batch_size * batches ≤ r.batch_size * (spares + 1) = mul-le-mul_left r.batch_size enough_spares in
+      let out : r.batch_size * (spares + 1) ≡ r.batch_size * spares + r.batch_size = mul-add-one r.batch_size spares in
       omega (arith, old, lists, filled, out);
   free = λ any.
-      let filled : r.size * (batches + 1) ≤ r.size * (slots - r.waiting) = mul-le-mul_left r.size (omega arith) in
-      let out : r.size * (batches + 1) ≡ r.size * batches + r.size = mul-add-one r.size batches in
-      let size = has.some in
-      let new : r.held + room ≤ r.size * (slots - r.waiting) = omega (arith, filled, out, size) in
+      let filled : r.batch_size * (batches + 1) ≤ r.batch_size * (slots - r.waiting) = mul-le-mul_left r.batch_size (omega arith) in
+      let out : r.batch_size * (batches + 1) ≡ r.batch_size * batches + r.batch_size = mul-add-one r.batch_size batches in
+      let some = has.some in
+      let new : r.held + room ≤ r.batch_size * (slots - r.waiting) = omega (arith, filled, out, some) in
       by new (cases_lt 0 r.room);
 }
   where
-    by : r.held + room ≤ r.size * (slots - r.waiting) → (0 < r.room) ⊎ (r.room ≤ 0) → r.held + max r.room room ≤ r.size * (slots - r.waiting)
+    by : r.held + room ≤ r.batch_size * (slots - r.waiting) → (0 < r.room) ⊎ (r.room ≤ 0) → r.held + max r.room room ≤ r.batch_size * (slots - r.waiting)
     by new (inl had) =
         let old = has.free had in
-        let more : r.size * (r.slots - r.waiting) ≤ r.size * (slots - r.waiting) = mul-le-mul_left r.size (omega arith) in
+        let more : r.batch_size * (r.slots - r.waiting) ≤ r.batch_size * (slots - r.waiting) = mul-le-mul_left r.batch_size (omega arith) in
         omega (arith, old, more)
     by new (inr none) = omega arith

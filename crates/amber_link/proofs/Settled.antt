@@ -5,8 +5,8 @@ use Rattle.amber_link.specs.Outgoing.{Outgoing}
 use Rattle.amber_link.specs.Sides.{Settles, have_builders_ended, without_room}
 use Rattle.amber_link.specs.declared.ends.Out.{Out}
 use Rattle.amber_link.specs.declared.ends.In.{In}
-use Rattle.amber_link.specs.declared.senders.Sender.{Sender}
-use Rattle.amber_link.specs.declared.receivers.Receiver.{Receiver}
+use Rattle.amber_link.specs.declared.upstreams.Upstream.{Upstream}
+use Rattle.amber_link.specs.declared.downstreams.Downstream.{Downstream}
 use Rattle.amber_link.proofs.Carried.{carries-roomy}
 use Rattle.amber_link.proofs.Sides.{get_or-any, map-at, map-set}
 
@@ -30,31 +30,31 @@ settled-erased a b h = record {
   chunks = λ had taken pushed carries has. h.chunks had taken pushed (carries-roomy (erased a).kept a.kept _ pushed refl carries) has;
 }
 
-pub settles-there : (all : Bool) (outs : List Receiver) (j : ℕ) (ins : List Sender) (k : ℕ) (one : Receiver) (other : Sender) (out : Out) (into : In) → j < length outs → k < length ins
+pub settles-there : (all : Bool) (outs : List Downstream) (j : ℕ) (ins : List Upstream) (k : ℕ) (one : Downstream) (other : Upstream) (out : Out) (into : In) → j < length outs → k < length ins
     → AreLinked out into → Forwards (get_or outs j one).link out → GivesBatches (get_or ins k other).link [] into → IsWhole (get_or outs j one).link (get_or ins k other).link
     → (all ≡ true → AreSettled out into)
     → Settles all (record { from = j; to = k }) (record { outs = map without_room outs; ins = ins })
     (record { outs = map without_room (set outs j (record (get_or outs j one) { link = out })); ins = set ins k (record (get_or ins k other) { link = into }) })
 settles-there all outs j ins k one other out into j_less k_less linked forwards gives whole settled =
-    let now : Receiver = record (get_or outs j one) { link = erased out } in
-    let then_in : Sender = record (get_or ins k other) { link = into } in
+    let now : Downstream = record (get_or outs j one) { link = erased out } in
+    let then_in : Upstream = record (get_or ins k other) { link = into } in
     let there : get_or (map without_room outs) j now ≡ without_room (get_or outs j one) = map-at without_room outs j one now j_less in
     let here : get_or ins k then_in ≡ get_or ins k other = get_or-any ins k then_in other k_less in
     record {
       out = now;
       into = then_in;
-      outs_is = map-set without_room outs j (record (get_or outs j one) { link = out }) ∙ ap (λ (r : Receiver). set (map without_room outs) j (record r { link = erased out })) (sym there);
-      ins_is = ap (λ (s : Sender). set ins k (record s { link = into })) (sym here);
+      outs_is = map-set without_room outs j (record (get_or outs j one) { link = out }) ∙ ap (λ (r : Downstream). set (map without_room outs) j (record r { link = erased out })) (sym there);
+      ins_is = ap (λ (s : Upstream). set ins k (record s { link = into })) (sym here);
       linked = linked;
-      forwards = subst (λ (r : Receiver). Forwards r.link (erased out)) (sym there) (forwards-erased (get_or outs j one).link out forwards);
-      gives = subst (λ (s : Sender). GivesBatches s.link [] into) (sym here) gives;
-      whole = subst (λ (r : Receiver). IsWhole r.link (get_or ins k then_in).link) (sym there)
-          (subst (λ (s : Sender). IsWhole (erased (get_or outs j one).link) s.link) (sym here) (whole-erased (get_or outs j one).link (get_or ins k other).link whole));
+      forwards = subst (λ (r : Downstream). Forwards r.link (erased out)) (sym there) (forwards-erased (get_or outs j one).link out forwards);
+      gives = subst (λ (s : Upstream). GivesBatches s.link [] into) (sym here) gives;
+      whole = subst (λ (r : Downstream). IsWhole r.link (get_or ins k then_in).link) (sym there)
+          (subst (λ (s : Upstream). IsWhole (erased (get_or outs j one).link) s.link) (sym here) (whole-erased (get_or outs j one).link (get_or ins k other).link whole));
       settled = λ e. settled-erased out into (settled e);
     }
 
 -- as many of the build side have ended
-pub built-same : (ins : List Sender) (k : ℕ) (d : Sender) (into : In) → k < length ins → have_builders_ended (set ins k (record (get_or ins k d) { link = into })) ≡ have_builders_ended ins
+pub built-same : (ins : List Upstream) (k : ℕ) (d : Upstream) (into : In) → k < length ins → have_builders_ended (set ins k (record (get_or ins k d) { link = into })) ≡ have_builders_ended ins
 built-same [] k d into less = absurd (omega arith)
 built-same (one ∷ ins) zero d into less = refl
 built-same (one ∷ ins) (suc k) d into less = ap (λ b. (not one.builds || one.ended) && b) (built-same ins k d into (omega arith))

@@ -8,8 +8,8 @@ use Rattle.amber_rows.specs.declared.batch.Batch.{Batch}
 use Rattle.amber_link.specs.Links.{GivesBatches, has_some, waiting}
 use Rattle.amber_link.specs.Outgoing.{Adds, Outgoing}
 use Rattle.amber_link.specs.Sides.{AreLooked, IsEnded, HandsOn, IsLooked, IsTaken, Pairwise, have_builders_ended, may_come, without_room}
-use Rattle.amber_link.specs.declared.senders.Sender.{Sender}
-use Rattle.amber_link.specs.declared.receivers.Receiver.{Receiver}
+use Rattle.amber_link.specs.declared.upstreams.Upstream.{Upstream}
+use Rattle.amber_link.specs.declared.downstreams.Downstream.{Downstream}
 use Rattle.amber_link.proofs.Carried.{carries-roomy}
 use Rattle.amber_link.proofs.LinkEnds.{gives-none, gives-then}
 
@@ -100,24 +100,24 @@ map-set-same f (x ∷ xs) (suc i) y h = ap (λ l. f x ∷ l) (map-set-same f xs 
 
 -- ---- looks
 
-pub looked-same : (one : Sender) → IsLooked one one
+pub looked-same : (one : Upstream) → IsLooked one one
 looked-same one = record { gives = gives-none one.link; only = refl }
 
-pub looked-then : (a b c : Sender) → IsLooked a b → IsLooked b c → IsLooked a c
+pub looked-then : (a b c : Upstream) → IsLooked a b → IsLooked b c → IsLooked a c
 looked-then a b c one two = record {
   gives = gives-then a.link b.link c.link [] [] one.gives two.gives;
-  only = two.only ∙ ap (λ (s : Sender). record s { link = c.link }) one.only;
+  only = two.only ∙ ap (λ (s : Upstream). record s { link = c.link }) one.only;
 }
 
 -- one was looked at
-pub looked-at : (first ins : List Sender) (i : ℕ) (now : Sender) → AreLooked first ins → i < length ins → ((d : Sender) → IsLooked (get_or ins i d) now) → AreLooked first (set ins i now)
+pub looked-at : (first ins : List Upstream) (i : ℕ) (now : Upstream) → AreLooked first ins → i < length ins → ((d : Upstream) → IsLooked (get_or ins i d) now) → AreLooked first (set ins i now)
 looked-at first ins i now before less looked =
     pairwise-then IsLooked looked-then first ins (set ins i now) before (pairwise-set IsLooked looked-same ins i now less looked)
 
 -- ---- a batch is taken
 
 -- a sender of whom a batch may be taken
-may-parts : (built : Bool) (one : Sender) → may_come built one ≡ true → (one.ended ≡ false) × ((one.builds || built) ≡ true) × (has_some (waiting one.link) ≡ true)
+may-parts : (built : Bool) (one : Upstream) → may_come built one ≡ true → (one.ended ≡ false) × ((one.builds || built) ≡ true) × (has_some (waiting one.link) ≡ true)
 may-parts built one may =
     let both = and_parts (not one.ended && (one.builds || built)) (has_some (waiting one.link)) may in
     let first = and_parts (not one.ended) (one.builds || built) both.0 in
@@ -127,14 +127,14 @@ may-parts built one may =
     by true e = absurd (false≢true e)
     by false e = refl
 
-pub may-wait : (built : Bool) (one : Sender) → may_come built one ≡ true → has_some (waiting one.link) ≡ true
+pub may-wait : (built : Bool) (one : Upstream) → may_come built one ≡ true → has_some (waiting one.link) ≡ true
 may-wait built one may = (may-parts built one may).2
 
 -- the first batch of the sender at this place was taken
-pub taken-there : (ins : List Sender) (i : ℕ) (d new : Sender) (batch : Batch) (from number : ℕ) (builds : Bool) → i < length ins
+pub taken-there : (ins : List Upstream) (i : ℕ) (d new : Upstream) (batch : Batch) (from number : ℕ) (builds : Bool) → i < length ins
     → may_come (have_builders_ended ins) (get_or ins i d) ≡ true → from ≡ (get_or ins i d).from → number ≡ (get_or ins i d).taken → builds ≡ (get_or ins i d).builds
     → GivesBatches (get_or ins i d).link (batch ∷ []) new.link → new ≡ record (get_or ins i d) { taken = (get_or ins i d).taken + 1; ended = batch.last; link = new.link }
-    → (one : Sender) × (one.from ≡ from) × (one.taken ≡ number) × (one.builds ≡ builds) × IsTaken ins one batch (set ins i new)
+    → (one : Upstream) × (one.from ≡ from) × (one.taken ≡ number) × (one.builds ≡ builds) × IsTaken ins one batch (set ins i new)
 taken-there ins i d new batch from number builds less may from_is number_is builds_is gives is =
     let parts = may-parts (have_builders_ended ins) (get_or ins i d) may in (
       get_or ins i d,
@@ -160,8 +160,8 @@ unroomy : (old new : Outgoing) → new ≡ record old { room = new.room } → re
 unroomy old new is = ap (λ (o : Outgoing). record o { room = 0 }) is
 
 -- room alone is made
-pub reserved-at : (outs : List Receiver) (i : ℕ) (now : Receiver) → ((d : Receiver) → now.to ≡ (get_or outs i d).to)
-    → ((d : Receiver) → now.link.ring ≡ (get_or outs i d).link.ring) → ((d : Receiver) → now.link.kept ≡ record (get_or outs i d).link.kept { room = now.link.kept.room })
+pub reserved-at : (outs : List Downstream) (i : ℕ) (now : Downstream) → ((d : Downstream) → now.to ≡ (get_or outs i d).to)
+    → ((d : Downstream) → now.link.ring ≡ (get_or outs i d).link.ring) → ((d : Downstream) → now.link.kept ≡ record (get_or outs i d).link.kept { room = now.link.kept.room })
     → map without_room (set outs i now) ≡ map without_room outs
 reserved-at outs i now to ring kept = map-set-same without_room outs i now (λ d j. record {
   to = to d j;
@@ -172,12 +172,12 @@ adds-erased : (old new : Outgoing) (row : List Value) → Adds old row new → A
 adds-erased old new row adds = record {
   each = λ gone pushed carries.
       carries-roomy new (record new { room = 0 }) gone (pushed ++ row ∷ []) refl (adds.each gone pushed (carries-roomy (record old { room = 0 }) old gone pushed refl carries));
-  size = adds.size;
+  batch_size = adds.batch_size;
   ended = adds.ended;
 }
 
 -- a row was pushed at this place
-pub hands-on : (outs : List Receiver) (i : ℕ) (now : Receiver) (row : List Value) → i < length outs → now.to ≡ (get_or outs i now).to
+pub hands-on : (outs : List Downstream) (i : ℕ) (now : Downstream) (row : List Value) → i < length outs → now.to ≡ (get_or outs i now).to
     → now.link.ring ≡ (get_or outs i now).link.ring → Adds (get_or outs i now).link.kept row now.link.kept
     → HandsOn i row (map without_room outs) (map without_room (set outs i now))
 hands-on outs i now row less to ring adds =
@@ -186,12 +186,12 @@ hands-on outs i now row less to ring adds =
       within = rw map-length less;
       now = without_room now;
       is = map-set without_room outs i now;
-      to = to ∙ ap (λ (r : Receiver). r.to) (sym there);
-      ring = ring ∙ ap (λ (r : Receiver). r.link.ring) (sym there);
+      to = to ∙ ap (λ (r : Downstream). r.to) (sym there);
+      ring = ring ∙ ap (λ (r : Downstream). r.link.ring) (sym there);
       adds = rw there (adds-erased (get_or outs i now).link.kept now.link.kept row adds);
     }
 
-ends-erased : (a b : Receiver) → IsEnded a b → IsEnded (without_room a) (without_room b)
+ends-erased : (a b : Downstream) → IsEnded a b → IsEnded (without_room a) (without_room b)
 ends-erased a b ends = record {
   to = ends.to;
   ring = ends.ring;
@@ -199,12 +199,12 @@ ends-erased a b ends = record {
     each = λ gone pushed carries.
         carries-roomy b.link.kept (record b.link.kept { room = 0 }) gone pushed refl
         (ends.closes.each gone pushed (carries-roomy (record a.link.kept { room = 0 }) a.link.kept gone pushed refl carries));
-    size = ends.closes.size;
+    batch_size = ends.closes.batch_size;
     ended = ends.closes.ended;
   };
 }
 
-pub all-ended : (outs after : List Receiver) → Pairwise IsEnded outs after → Pairwise IsEnded (map without_room outs) (map without_room after)
+pub all-ended : (outs after : List Downstream) → Pairwise IsEnded outs after → Pairwise IsEnded (map without_room outs) (map without_room after)
 all-ended outs after ends = pairwise-map IsEnded IsEnded without_room ends-erased outs after ends
 
 pub get_or-any : {A : Type 0} (xs : List A) (k : ℕ) (d e : A) → k < length xs → get_or xs k d ≡ get_or xs k e
@@ -213,6 +213,6 @@ get_or-any (x ∷ xs) zero d e less = refl
 get_or-any (x ∷ xs) (suc k) d e less = get_or-any xs k d e (omega arith)
 
 -- those so far are ended, and the others are none
-pub each-ended : (outs after : List Receiver) (n : ℕ) → length after ≡ length outs → length outs ≤ n → ((k : ℕ) (d : Receiver) → k < n → IsEnded (get_or outs k d) (get_or after k d))
+pub each-ended : (outs after : List Downstream) (n : ℕ) → length after ≡ length outs → length outs ≤ n → ((k : ℕ) (d : Downstream) → k < n → IsEnded (get_or outs k d) (get_or after k d))
     → Pairwise IsEnded outs after
 each-ended outs after n same all h = pairwise-each IsEnded outs after same (λ k d e less. rw (get_or-any after k e d (omega (arith, same))) (h k d (omega arith)))

@@ -73,7 +73,7 @@ pub record GivesBatches (old : In) (taken : List Batch) (new : In) : Type 0 wher
 pub record IsWhole (out : Out) (into : In) : Type 0 where
   pub beyond : List Batch
   pub chunks : (had taken : List Batch) (pushed : List (List Value)) → OutCarries out had pushed → HasGiven into had taken
-      → (taken ++ waiting into) ++ (beyond ++ out.kept.waiting) ≡ chunks_of out.kept.size pushed out.kept.ended
+      → (taken ++ waiting into) ++ (beyond ++ out.kept.waiting) ≡ chunks_of out.kept.batch_size pushed out.kept.ended
 
 -- all that was made is in the inbox
 pub record AreSettled (out : Out) (into : In) : Type 0 where
@@ -81,4 +81,4 @@ pub record AreSettled (out : Out) (into : In) : Type 0 where
   pub ring : received into.ring ≡ sent out.ring
   pub known : known_items into.ring ≡ []
   pub chunks : (had taken : List Batch) (pushed : List (List Value)) → OutCarries out had pushed → HasGiven into had taken
-      → taken ++ into.inbox.items ≡ chunks_of out.kept.size pushed out.kept.ended
+      → taken ++ into.inbox.items ≡ chunks_of out.kept.batch_size pushed out.kept.ended

@@ -6,7 +6,7 @@ use Rattle.amber_rows.specs.declared.row.Row.{Row}
 -- the rows of a batch, how many rows and an end have room, the rows at hand and how many their list takes, how many empty lists are
 -- spare, the batches that wait, and how many may
 pub record Room : Type 0 where
-  pub size : ℕ
+  pub batch_size : ℕ
   pub room : ℕ
   pub held : ℕ
   pub capacity : ℕ
@@ -16,12 +16,12 @@ pub record Room : Type 0 where
 
 -- the list at hand and the spare ones take the rows, and the batches find their places
 pub record HasRoom (r : Room) : Type 0 where
-  pub some : 0 < r.size
-  pub few : r.held < r.size
-  pub own : r.capacity < r.size → r.held + r.room ≤ r.capacity + 1
-  pub more : r.held + r.room ≤ r.size + r.size * r.spares + 1
-  pub free : 0 < r.room → r.held + r.room ≤ r.size * (r.slots - r.waiting)
+  pub some : 0 < r.batch_size
+  pub few : r.held < r.batch_size
+  pub own : r.capacity < r.batch_size → r.held + r.room ≤ r.capacity + 1
+  pub more : r.held + r.room ≤ r.batch_size + r.batch_size * r.spares + 1
+  pub free : 0 < r.room → r.held + r.room ≤ r.batch_size * (r.slots - r.waiting)
 
 -- lists with no row that take a batch
 abbrev pub AreSpare : ℕ → List (Vec Row) → Type 0
-AreSpare size spares = All (λ one. (one.items ≡ []) × (size ≤ vec_capacity one)) spares
+AreSpare batch_size spares = All (λ one. (one.items ≡ []) × (batch_size ≤ vec_capacity one)) spares

@@ -48,13 +48,13 @@ pub enum Sent {
 }
 
 /// A link whose batches have so many rows, 1 to 65,536.
-pub fn link(alloc: Global, batch: u32) -> Result<(Out, In), AllocError>
-    requires some { 0 < batch }
-    requires few { batch ≤ 65536 }
+pub fn link(alloc: Global, batch_size: u32) -> Result<(Out, In), AllocError>
+    requires some { 0 < batch_size }
+    requires few { batch_size ≤ 65536 }
     ensures linked { IfOk result (λ ends. AreLinked ends.0 ends.1) }
     ensures out { IfOk result
         (λ ends. ends.0.kept
-        ≡ record { size = batch; made = 0; ended = false; waiting = []; partial = []; room = 0 }) }
+        ≡ record { batch_size = batch_size; made = 0; ended = false; waiting = []; partial = []; room = 0 }) }
     ensures none_sent { IfOk result (λ ends. sent ends.0.ring ≡ []) }
     ensures none_came { IfOk result (λ ends. received ends.1.ring ≡ []) }
     ensures none_known { IfOk result (λ ends. waiting ends.1 ≡ []) }
@@ -62,7 +62,7 @@ pub fn link(alloc: Global, batch: u32) -> Result<(Out, In), AllocError>
     let (producer, consumer) = RingBuffer::new(alloc, SLOTS)?;
     let out = Out {
         ring: producer,
-        kept: Outbox::new(alloc, batch),
+        kept: Outbox::new(alloc, batch_size),
     };
     let into = In {
         ring: consumer,

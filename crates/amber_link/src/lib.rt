@@ -13,19 +13,19 @@
 //! last batches of all of the build side were taken.
 #![tactic(auto)]
 
+pub mod downstreams;
 pub mod ends;
 pub mod outbox;
-pub mod receivers;
-pub mod senders;
-pub mod settling;
+pub mod settling_places;
+pub mod upstreams;
 
+pub use downstreams::{
+    Downstream, end_all, has_receiver, place_to, push_at, reserve_at, reserve_ends, waiting_at,
+};
 pub use ends::{In, Out, Sent, link, settle};
 pub use outbox::Outbox;
-pub use receivers::{
-    Receiver, end_all, has_receiver, place_to, push_at, reserve_at, reserve_ends, waiting_at,
-};
-pub use senders::{
-    Found, Sender, have_built, have_ended, is_empty_at, place_of, ready_place, take_at,
-};
-pub use settling::settle_at;
+pub use settling_places::settle_at;
 pub use std::alloc::AllocError as NoMemory;
+pub use upstreams::{
+    Found, Upstream, have_built, have_ended, is_empty_at, place_of, ready_place, take_at,
+};

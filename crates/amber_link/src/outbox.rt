@@ -16,41 +16,45 @@ use std::mem;
 const MOST_ROWS: u64 = 1 << 40;
 
 // How many batches so many rows fill at most, those that are left among them.
-fn batches_for(size: u64, rows: u64) -> u64
-    requires some { 0 < size }
+fn batches_for(batch_size: u64, rows: u64) -> u64
+    requires some { 0 < batch_size }
     requires few { rows < 2 ^ 48 }
-    ensures enough { rows ≤ size * result }
+    ensures enough { rows ≤ batch_size * result }
     ensures some { 0 < result }
     ensures few { result ≤ rows + 1 }
 {
-    if rows <= size { 1 } else { rows / size + 1 }
+    if rows <= batch_size {
+        1
+    } else {
+        rows / batch_size + 1
+    }
 }
 
 // Makes as many empty lists of rows spare.
 fn reserve_spares(
     alloc: Global,
     spare: &mut Vec<Vec<Row>>,
-    size: usize,
+    batch_size: usize,
     wanted: usize,
 ) -> Result<(), AllocError>
-    requires { AreSpare size spare.old.items }
-    ensures spare { AreSpare size spare.new.items }
+    requires { AreSpare batch_size spare.old.items }
+    ensures spare { AreSpare batch_size spare.new.items }
     ensures more { vec_len spare.old ≤ vec_len spare.new }
     ensures enough { OnOk result (wanted ≤ vec_len spare.new) }
 {
     for _ in spare.len()..wanted {
-        spare.push(Vec::with_capacity(alloc, size)?)?;
+        spare.push(Vec::with_capacity(alloc, batch_size)?)?;
     }
     Ok(())
 }
 
 // An empty list of rows, a spare one if there is any.
-fn next_list(alloc: Global, spare: &mut Vec<Vec<Row>>, size: usize) -> Vec<Row>
-    requires { AreSpare size spare.old.items }
+fn next_list(alloc: Global, spare: &mut Vec<Vec<Row>>, batch_size: usize) -> Vec<Row>
+    requires { AreSpare batch_size spare.old.items }
     ensures empty { result.items ≡ [] }
     ensures none_held { vec_len result ≡ 0 }
-    ensures spare { AreSpare size spare.new.items }
-    ensures large { 0 < vec_len spare.old → size ≤ vec_capacity result }
+    ensures spare { AreSpare batch_size spare.new.items }
+    ensures large { 0 < vec_len spare.old → batch_size ≤ vec_capacity result }
     ensures fewer { 0 < vec_len spare.old → vec_len spare.old ≡ vec_len spare.new + 1 }
     ensures none { vec_len spare.old ≡ 0 → vec_len spare.new ≡ 0 }
 {
@@ -76,7 +80,7 @@ fn cut(waiting: &mut VecDeque<Batch>, partial: &mut Vec<Row>, next: Vec<Row>, se
 /// What a worker keeps of one to which it sends.
 pub struct Outbox {
     alloc: Global,
-    size: u32,
+    batch_size: u32,
     made: u64,
     ended: bool,
     waiting: VecDeque<Batch>,
@@ -89,7 +93,7 @@ impl Drop for Outbox {
     fn drop(self) {
         let Outbox {
             alloc: _,
-            size: _,
+            batch_size: _,
             made: _,
             ended: _,
             waiting: _,
@@ -108,18 +112,18 @@ impl Model for Outbox {
 
     ghost Value = { Outgoing };
 
-    ghost view = { λ a. record { size = a.size; made = a.made; ended = a.ended; waiting = a.waiting.items; partial = a.partial.items; room = a.room } };
+    ghost view = { λ a. record { batch_size = a.batch_size; made = a.made; ended = a.ended; waiting = a.waiting.items; partial = a.partial.items; room = a.room } };
 
     ghost invariant = { λ a. HasRoom
-        (record { size = a.size; room = a.room; held = vec_len a.partial; capacity = vec_capacity a.partial; spares = vec_len a.spare; waiting = deque_len a.waiting; slots = deque_capacity a.waiting }) × AreSpare a.size a.spare.items };
+        (record { batch_size = a.batch_size; room = a.room; held = vec_len a.partial; capacity = vec_capacity a.partial; spares = vec_len a.spare; waiting = deque_len a.waiting; slots = deque_capacity a.waiting }) × AreSpare a.batch_size a.spare.items };
 }
 
 impl Outbox {
     /// Nothing was made for this receiver.
-    pub(crate) fn new(alloc: Global, size: u32) -> Self
-        requires { 0 < size }
+    pub(crate) fn new(alloc: Global, batch_size: u32) -> Self
+        requires { 0 < batch_size }
         ensures { result ≡ record {
-          size = size;
+          batch_size = batch_size;
           made = 0;
           ended = false;
           waiting = [];
@@ -129,7 +133,7 @@ impl Outbox {
     {
         Outbox {
             alloc,
-            size,
+            batch_size,
             made: 0,
             ended: false,
             waiting: VecDeque::new(alloc),
@@ -179,13 +183,18 @@ impl Outbox {
         if rows > MOST_ROWS {
             return Err(AllocError);
         }
-        let size = u64::from(self.size);
+        let batch_size = u64::from(self.batch_size);
         let held = self.partial.len() as u64;
-        let batches = batches_for(size, held + rows);
-        let most = size.min(held + rows);
+        let batches = batches_for(batch_size, held + rows);
+        let most = batch_size.min(held + rows);
         self.partial.reserve((most - held) as usize)?;
         let spares = (batches - 1) as usize;
-        reserve_spares(self.alloc, &mut self.spare, self.size as usize, spares)?;
+        reserve_spares(
+            self.alloc,
+            &mut self.spare,
+            self.batch_size as usize,
+            spares,
+        )?;
         self.waiting.reserve((batches + 1) as usize)?;
         self.room = self.room.max(rows + 1);
         Ok(())
@@ -199,10 +208,10 @@ impl Outbox {
     {
         self.room -= 1;
         self.partial.push_reserved(row);
-        if self.partial.len() != self.size as usize {
+        if self.partial.len() != self.batch_size as usize {
             return;
         }
-        let next = next_list(self.alloc, &mut self.spare, self.size as usize);
+        let next = next_list(self.alloc, &mut self.spare, self.batch_size as usize);
         cut(&mut self.waiting, &mut self.partial, next, self.made, false);
         self.made += 1;
     }

@@ -11,7 +11,7 @@ pub use Rattle.amber_log.specs.declared.effect.Effect.{Effect}
 
 -- all stays as it is
 abbrev pub no_change : Arming
-no_change = record { pause = Keep; count = Keep; watch = Keep; constant = None }
+no_change = record { pause = Keep; count = Keep; when = Keep; constant = None }
 
 -- at this operator, nothing is said, changed or lost, and it is replied that it was done: each command says in what it differs
 abbrev pub done_at : ℕ → Effect
@@ -40,4 +40,4 @@ is_nobody (Some worker) = false
 
 -- no count and no condition is armed, no row is dropped, and no worker is lost
 abbrev pub is_built : Effect → Bool
-is_built effect = not (is_put effect.arming.count) && (not (is_put effect.arming.watch) && (is_nobody effect.drops && is_nobody effect.loses))
+is_built effect = not (is_put effect.arming.count) && (not (is_put effect.arming.when) && (is_nobody effect.drops && is_nobody effect.loses))

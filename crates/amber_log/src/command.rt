@@ -117,7 +117,7 @@ fn no_change<'a>() -> Arming<'a>
     Arming {
         pause: Change::Keep,
         count: Change::Keep,
-        watch: Change::Keep,
+        when: Change::Keep,
         constant: None,
     }
 }
@@ -177,7 +177,7 @@ fn stop_when(op: u32, cond: &Cond) -> Effect<'_>
         words: Words::new(&[b"break", b"when"]),
         argument: Argument::Condition(Lent::new(cond)),
         arming: Arming {
-            watch: Change::Put(Lent::new(cond)),
+            when: Change::Put(Lent::new(cond)),
             ..no_change()
         },
         ..done_at(op)
@@ -193,7 +193,7 @@ fn clear<'a>(op: u32) -> Effect<'a>
         arming: Arming {
             pause: Change::TakeBack,
             count: Change::TakeBack,
-            watch: Change::TakeBack,
+            when: Change::TakeBack,
             ..no_change()
         },
         ..done_at(op)

@@ -33,7 +33,7 @@ pub enum Change<A> {
 pub struct Arming<'a> {
     pub pause: Change<u64>,
     pub count: Change<u64>,
-    pub watch: Change<Lent<'a, Cond>>,
+    pub when: Change<Lent<'a, Cond>>,
     pub constant: Option<Lent<'a, Value>>,
 }
 
@@ -83,7 +83,7 @@ impl Effect<'_> {
         ensures { result ≡ is_built self.now }
     {
         !self.arming.count.is_put()
-            && !self.arming.watch.is_put()
+            && !self.arming.when.is_put()
             && self.drops.is_none()
             && self.loses.is_none()
     }

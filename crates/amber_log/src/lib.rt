@@ -7,26 +7,26 @@
 #![tactic(auto)]
 
 pub mod command;
+pub mod command_text;
+mod comparison_signs;
 pub mod effect;
 pub mod entry;
 pub mod fitting;
-pub mod kept;
 pub mod laws;
 pub mod leg;
 pub mod lent;
 pub mod line;
 pub mod log;
 pub mod reading;
-mod signs;
 
 pub use command::{Command, Commands};
+pub use command_text::commands_have_text;
+pub use comparison_signs::sign;
 pub use effect::{Action, Argument, Arming, Change, Effect, Reply};
 pub use entry::{Entries, Entry};
 pub use fitting::{fits, is_source};
-pub use kept::commands_have_text;
 pub use leg::{Close, Leg, Part, Parts};
 pub use lent::{Lent, Word, Words};
 pub use line::Line;
 pub use log::{Item, Items, Log};
 pub use reading::{Place, Reading};
-pub use signs::sign;

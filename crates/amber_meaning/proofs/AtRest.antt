@@ -39,7 +39,7 @@ rest-there flow done effect is fits = nth-within flow effect.op (λ operator. Un
 
 pub record IsBuilt (effect : Effect) : Type 0 where
   pub uncounted : is_put effect.arming.count ≡ false
-  pub unwatched : is_put effect.arming.watch ≡ false
+  pub unwatched : is_put effect.arming.when ≡ false
   pub drops : effect.drops ≡ None
   pub loses : effect.loses ≡ None
 
@@ -54,11 +54,11 @@ nobody-none (Some worker) e = cc
 pub built : (effect : Effect) → is_built effect ≡ true → IsBuilt effect
 built effect e =
     let count = and_parts (not (is_put effect.arming.count)) _ e in
-    let watch = and_parts (not (is_put effect.arming.watch)) _ count.1 in
-    let rest = and_parts (is_nobody effect.drops) (is_nobody effect.loses) watch.1 in
+    let when = and_parts (not (is_put effect.arming.when)) _ count.1 in
+    let rest = and_parts (is_nobody effect.drops) (is_nobody effect.loses) when.1 in
     record {
       uncounted = not-true (is_put effect.arming.count) count.0;
-      unwatched = not-true (is_put effect.arming.watch) watch.0;
+      unwatched = not-true (is_put effect.arming.when) when.0;
       drops = nobody-none effect.drops rest.0;
       loses = nobody-none effect.loses rest.1;
     }
@@ -79,8 +79,8 @@ uncounted gone (change.Put n) e = cc
 pub armed-count : (arming : Arming) (gone : List ℕ) (arms : Arms) → is_put arming.count ≡ false → arms.count ≡ None → (arms_changed arming gone arms).count ≡ None
 armed-count arming gone arms none was = ap (put (counting_from gone arming.count)) was ∙ uncounted gone arming.count none
 
-pub armed-watch : (arming : Arming) (gone : List ℕ) (arms : Arms) → is_put arming.watch ≡ false → arms.watch ≡ None → (arms_changed arming gone arms).watch ≡ None
-armed-watch arming gone arms none was = ap (put arming.watch) was ∙ unput arming.watch none
+pub armed-when : (arming : Arming) (gone : List ℕ) (arms : Arms) → is_put arming.when ≡ false → arms.when ≡ None → (arms_changed arming gone arms).when ≡ None
+armed-when arming gone arms none was = ap (put arming.when) was ∙ unput arming.when none
 
 -- where no count is put, it does not matter how many rows are gone
 counting-alike : (gone other : List ℕ) (change : Change ℕ) → is_put change ≡ false → counting_from gone change ≡ counting_from other change
@@ -94,12 +94,12 @@ armed-alike effect gone other is =
     λ i arms. record (arms_changed effect.arming gone arms) { count = put (alike i) arms.count }
 
 -- where neither stands, only the constants of the orders change
-pub armed-orders : (effect : Effect) (gone : List ℕ) (arms : Arms) → IsBuilt effect → arms.count ≡ None → arms.watch ≡ None
+pub armed-orders : (effect : Effect) (gone : List ℕ) (arms : Arms) → IsBuilt effect → arms.count ≡ None → arms.when ≡ None
     → orders_of (arms_changed effect.arming gone arms) ≡ record (orders_of arms) { constants = put_constant effect.arming.constant arms.constants }
-armed-orders effect gone arms is count watch =
-    let same : (arms_changed effect.arming gone arms).watch ≡ arms.watch = armed-watch effect.arming gone arms is.unwatched watch ∙ sym watch in
+armed-orders effect gone arms is count when =
+    let same : (arms_changed effect.arming gone arms).when ≡ arms.when = armed-when effect.arming gone arms is.unwatched when ∙ sym when in
     let counted : is_some (arms_changed effect.arming gone arms).count ≡ is_some arms.count = ap is_some (armed-count effect.arming gone arms is.uncounted count ∙ sym count) in
-    λ i. record { constants = put_constant effect.arming.constant arms.constants; watch = same i; counted = counted i }
+    λ i. record { constants = put_constant effect.arming.constant arms.constants; when = same i; counted = counted i }
 
 -- ---- the workers
 

@@ -11,7 +11,7 @@ use Rattle.amber_rows.specs.Chunks.{chunks_of, piece_of}
 use Rattle.amber_rows.specs.Lists.{numbers_below}
 use Rattle.amber_rows.specs.declared.value.Value.{Value}
 use Rattle.amber_rows.specs.declared.batch.Batch.{Batch}
-use Rattle.amber_rows.specs.Crew.{crew_of}
+use Rattle.amber_rows.specs.Topology.{crew_of}
 use Rattle.amber_meaning.specs.Legal.{AreOffered, Query, batches_for, role_in}
 use Rattle.amber_meaning.specs.Position.{Position, one_if, taken_from}
 use Rattle.amber_meaning.specs.State.{position_at}
@@ -25,113 +25,113 @@ is_marked batch = batch.last
 
 -- the full batch with this number
 abbrev pub full_batch : ℕ → List (List Value) → ℕ → Batch
-full_batch size stream number = record { seq = number; rows = piece_of size stream number; last = false }
+full_batch batch_size stream number = record { seq = number; rows = piece_of batch_size stream number; last = false }
 
-full-unmarked : (size : ℕ) (stream : List (List Value)) (ns : List ℕ) → list_any is_marked (map (full_batch size stream) ns) ≡ false
-full-unmarked size stream [] = refl
-full-unmarked size stream (n ∷ ns) = full-unmarked size stream ns
+full-unmarked : (batch_size : ℕ) (stream : List (List Value)) (ns : List ℕ) → list_any is_marked (map (full_batch batch_size stream) ns) ≡ false
+full-unmarked batch_size stream [] = refl
+full-unmarked batch_size stream (n ∷ ns) = full-unmarked batch_size stream ns
 
-marked-behind : (size : ℕ) (stream : List (List Value)) (ns : List ℕ) (b : Batch) → IsMarkedLast (map (full_batch size stream) ns ++ b ∷ [])
-marked-behind size stream [] b = (λ e. refl, tt)
-marked-behind size stream (n ∷ ns) b = (λ e. absurd (false≢true e), marked-behind size stream ns b)
+marked-behind : (batch_size : ℕ) (stream : List (List Value)) (ns : List ℕ) (b : Batch) → IsMarkedLast (map (full_batch batch_size stream) ns ++ b ∷ [])
+marked-behind batch_size stream [] b = (λ e. refl, tt)
+marked-behind batch_size stream (n ∷ ns) b = (λ e. absurd (false≢true e), marked-behind batch_size stream ns b)
 
-marked-none : (size : ℕ) (stream : List (List Value)) (ns : List ℕ) → IsMarkedLast (map (full_batch size stream) ns ++ [])
-marked-none size stream [] = tt
-marked-none size stream (n ∷ ns) = (λ e. absurd (false≢true e), marked-none size stream ns)
+marked-none : (batch_size : ℕ) (stream : List (List Value)) (ns : List ℕ) → IsMarkedLast (map (full_batch batch_size stream) ns ++ [])
+marked-none batch_size stream [] = tt
+marked-none batch_size stream (n ∷ ns) = (λ e. absurd (false≢true e), marked-none batch_size stream ns)
 
-pub chunks-marked : (size : ℕ) (stream : List (List Value)) (ended : Bool) → IsMarkedLast (chunks_of size stream ended)
+pub chunks-marked : (batch_size : ℕ) (stream : List (List Value)) (ended : Bool) → IsMarkedLast (chunks_of batch_size stream ended)
 unfolding chunks_of
-chunks-marked size stream true = marked-behind size stream _ _
-chunks-marked size stream false = marked-none size stream _
+chunks-marked batch_size stream true = marked-behind batch_size stream _ _
+chunks-marked batch_size stream false = marked-none batch_size stream _
 
 -- ---- the rows
 
-pieces : (size : ℕ) (stream : List (List Value)) (n : ℕ) → flat_map (piece_of size stream) (numbers_below n) ≡ take (n * size) stream
+pieces : (batch_size : ℕ) (stream : List (List Value)) (n : ℕ) → flat_map (piece_of batch_size stream) (numbers_below n) ≡ take (n * batch_size) stream
 unfolding numbers_below
-pieces size stream zero = rw (zero-mul size) refl
-pieces size stream (suc n) =
-    flat_map-append (piece_of size stream) (numbers_below n) (n ∷ [])
-    ∙ rw (pieces size stream n, append-nil (piece_of size stream n), suc-mul n size) (sym (take-add (n * size) size stream))
+pieces batch_size stream zero = rw (zero-mul batch_size) refl
+pieces batch_size stream (suc n) =
+    flat_map-append (piece_of batch_size stream) (numbers_below n) (n ∷ [])
+    ∙ rw (pieces batch_size stream n, append-nil (piece_of batch_size stream n), suc-mul n batch_size) (sym (take-add (n * batch_size) batch_size stream))
 
-full-rows : (size : ℕ) (stream : List (List Value)) (n : ℕ) → flat_map batch_rows (map (full_batch size stream) (numbers_below n)) ≡ take (n * size) stream
-full-rows size stream n = flat_map-map batch_rows (full_batch size stream) (numbers_below n) ∙ pieces size stream n
+full-rows : (batch_size : ℕ) (stream : List (List Value)) (n : ℕ) → flat_map batch_rows (map (full_batch batch_size stream) (numbers_below n)) ≡ take (n * batch_size) stream
+full-rows batch_size stream n = flat_map-map batch_rows (full_batch batch_size stream) (numbers_below n) ∙ pieces batch_size stream n
 
 -- what is left behind the full batches
 abbrev left_of : ℕ → List (List Value) → List (List Value)
-left_of size stream = drop (length stream / size * size) stream
+left_of batch_size stream = drop (length stream / batch_size * batch_size) stream
 
-chunks-whole : (size : ℕ) (stream : List (List Value)) → 0 < size → flat_map batch_rows (chunks_of size stream true) ≡ stream
+chunks-whole : (batch_size : ℕ) (stream : List (List Value)) → 0 < batch_size → flat_map batch_rows (chunks_of batch_size stream true) ≡ stream
 unfolding chunks_of
-chunks-whole size stream some =
-    let q = length stream / size in
-    let near : length stream < q * size + size = lt-div-mul-add some in
-    let short : length (drop (q * size) stream) ≤ size = rw (length-drop (q * size) stream) (omega arith) in
-    flat_map-append batch_rows (map (full_batch size stream) (numbers_below q)) _
-    ∙ rw (full-rows size stream q, take_all size (drop (q * size) stream) short, append-nil (drop (q * size) stream)) (take-append-drop (q * size) stream)
+chunks-whole batch_size stream some =
+    let q = length stream / batch_size in
+    let near : length stream < q * batch_size + batch_size = lt-div-mul-add some in
+    let short : length (drop (q * batch_size) stream) ≤ batch_size = rw (length-drop (q * batch_size) stream) (omega arith) in
+    flat_map-append batch_rows (map (full_batch batch_size stream) (numbers_below q)) _
+    ∙ rw (full-rows batch_size stream q, take_all batch_size (drop (q * batch_size) stream) short, append-nil (drop (q * batch_size) stream)) (take-append-drop (q * batch_size) stream)
 
-chunks-part : (size : ℕ) (stream : List (List Value)) → flat_map batch_rows (chunks_of size stream false) ++ left_of size stream ≡ stream
+chunks-part : (batch_size : ℕ) (stream : List (List Value)) → flat_map batch_rows (chunks_of batch_size stream false) ++ left_of batch_size stream ≡ stream
 unfolding chunks_of
-chunks-part size stream =
-    let q = length stream / size in
-    rw (append-nil (map (full_batch size stream) (numbers_below q)), full-rows size stream q) (take-append-drop (q * size) stream)
+chunks-part batch_size stream =
+    let q = length stream / batch_size in
+    rw (append-nil (map (full_batch batch_size stream) (numbers_below q)), full-rows batch_size stream q) (take-append-drop (q * batch_size) stream)
 
 -- the first batches have the first rows
-pub front-rows : (size : ℕ) (stream : List (List Value)) (ended : Bool) (xs more : List Batch) → 0 < size → xs ++ more ≡ chunks_of size stream ended
+pub front-rows : (batch_size : ℕ) (stream : List (List Value)) (ended : Bool) (xs more : List Batch) → 0 < batch_size → xs ++ more ≡ chunks_of batch_size stream ended
     → (rest : List (List Value)) × (flat_map batch_rows xs ++ rest ≡ stream)
-front-rows size stream true xs more some e =
-    (flat_map batch_rows more, sym (flat_map-append batch_rows xs more) ∙ ap (flat_map batch_rows) e ∙ chunks-whole size stream some)
-front-rows size stream false xs more some e = (
-  flat_map batch_rows more ++ left_of size stream,
-  sym (append_assoc (flat_map batch_rows xs) (flat_map batch_rows more) (left_of size stream))
-      ∙ ap (λ l. l ++ left_of size stream) (sym (flat_map-append batch_rows xs more) ∙ ap (flat_map batch_rows) e)
-      ∙ chunks-part size stream,
+front-rows batch_size stream true xs more some e =
+    (flat_map batch_rows more, sym (flat_map-append batch_rows xs more) ∙ ap (flat_map batch_rows) e ∙ chunks-whole batch_size stream some)
+front-rows batch_size stream false xs more some e = (
+  flat_map batch_rows more ++ left_of batch_size stream,
+  sym (append_assoc (flat_map batch_rows xs) (flat_map batch_rows more) (left_of batch_size stream))
+      ∙ ap (λ l. l ++ left_of batch_size stream) (sym (flat_map-append batch_rows xs more) ∙ ap (flat_map batch_rows) e)
+      ∙ chunks-part batch_size stream,
 )
 
 -- with a marked batch they are all
-pub record IsWhole (size : ℕ) (stream : List (List Value)) (ended : Bool) (xs : List Batch) : Type 0 where
+pub record IsWhole (batch_size : ℕ) (stream : List (List Value)) (ended : Bool) (xs : List Batch) : Type 0 where
   pub over : ended ≡ true
   pub rows : flat_map batch_rows xs ≡ stream
-  pub count : length xs ≡ length stream / size + 1
+  pub count : length xs ≡ length stream / batch_size + 1
 
 pub numbers-length : (n : ℕ) → length (numbers_below n) ≡ n
 unfolding numbers_below
 numbers-length zero = refl
 numbers-length (suc n) = omega (arith, length-append (numbers_below n) (n ∷ []), numbers-length n)
 
-pub chunks-count : (size : ℕ) (stream : List (List Value)) (ended : Bool) → length (chunks_of size stream ended) ≡ length stream / size + one_if ended
+pub chunks-count : (batch_size : ℕ) (stream : List (List Value)) (ended : Bool) → length (chunks_of batch_size stream ended) ≡ length stream / batch_size + one_if ended
 unfolding chunks_of
-chunks-count size stream true =
-    length-append (map (full_batch size stream) (numbers_below (length stream / size))) _
-    ∙ rw (length-map (numbers_below (length stream / size)) (full_batch size stream), numbers-length (length stream / size)) refl
-chunks-count size stream false =
-    length-append (map (full_batch size stream) (numbers_below (length stream / size))) []
-    ∙ rw (length-map (numbers_below (length stream / size)) (full_batch size stream), numbers-length (length stream / size)) refl
+chunks-count batch_size stream true =
+    length-append (map (full_batch batch_size stream) (numbers_below (length stream / batch_size))) _
+    ∙ rw (length-map (numbers_below (length stream / batch_size)) (full_batch batch_size stream), numbers-length (length stream / batch_size)) refl
+chunks-count batch_size stream false =
+    length-append (map (full_batch batch_size stream) (numbers_below (length stream / batch_size))) []
+    ∙ rw (length-map (numbers_below (length stream / batch_size)) (full_batch batch_size stream), numbers-length (length stream / batch_size)) refl
 
-chunks-unended : (size : ℕ) (stream : List (List Value)) → list_any is_marked (chunks_of size stream false) ≡ false
+chunks-unended : (batch_size : ℕ) (stream : List (List Value)) → list_any is_marked (chunks_of batch_size stream false) ≡ false
 unfolding chunks_of
-chunks-unended size stream =
-    ap (list_any is_marked) (append-nil (map (full_batch size stream) (numbers_below (length stream / size)))) ∙ full-unmarked size stream (numbers_below (length stream / size))
+chunks-unended batch_size stream =
+    ap (list_any is_marked) (append-nil (map (full_batch batch_size stream) (numbers_below (length stream / batch_size)))) ∙ full-unmarked batch_size stream (numbers_below (length stream / batch_size))
 
-pub front-whole : (size : ℕ) (stream : List (List Value)) (ended : Bool) (xs more : List Batch) → 0 < size → xs ++ more ≡ chunks_of size stream ended
-    → list_any is_marked xs ≡ true → IsWhole size stream ended xs
-front-whole size stream ended xs more some e marked =
-    let none : more ≡ [] = marked-ends xs more (rw e (chunks-marked size stream ended)) marked in
-    let all : xs ≡ chunks_of size stream ended = sym (append-nil xs) ∙ ap (λ l. xs ++ l) (sym none) ∙ e in
+pub front-whole : (batch_size : ℕ) (stream : List (List Value)) (ended : Bool) (xs more : List Batch) → 0 < batch_size → xs ++ more ≡ chunks_of batch_size stream ended
+    → list_any is_marked xs ≡ true → IsWhole batch_size stream ended xs
+front-whole batch_size stream ended xs more some e marked =
+    let none : more ≡ [] = marked-ends xs more (rw e (chunks-marked batch_size stream ended)) marked in
+    let all : xs ≡ chunks_of batch_size stream ended = sym (append-nil xs) ∙ ap (λ l. xs ++ l) (sym none) ∙ e in
     by ended all
   where
-    by : (b : Bool) → xs ≡ chunks_of size stream b → IsWhole size stream b xs
-    by true all = record { over = refl; rows = ap (flat_map batch_rows) all ∙ chunks-whole size stream some; count = ap length all ∙ chunks-count size stream true }
-    by false all = absurd (false≢true (sym (chunks-unended size stream) ∙ sym (ap (list_any is_marked) all) ∙ marked))
+    by : (b : Bool) → xs ≡ chunks_of batch_size stream b → IsWhole batch_size stream b xs
+    by true all = record { over = refl; rows = ap (flat_map batch_rows) all ∙ chunks-whole batch_size stream some; count = ap length all ∙ chunks-count batch_size stream true }
+    by false all = absurd (false≢true (sym (chunks-unended batch_size stream) ∙ sym (ap (list_any is_marked) all) ∙ marked))
 
 -- never more than one behind the full ones
-pub front-count : (size : ℕ) (stream : List (List Value)) (ended : Bool) (xs more : List Batch) → xs ++ more ≡ chunks_of size stream ended
-    → length xs ≤ length stream / size + 1
-front-count size stream ended xs more e =
-    let all = ap length e ∙ chunks-count size stream ended in
+pub front-count : (batch_size : ℕ) (stream : List (List Value)) (ended : Bool) (xs more : List Batch) → xs ++ more ≡ chunks_of batch_size stream ended
+    → length xs ≤ length stream / batch_size + 1
+front-count batch_size stream ended xs more e =
+    let all = ap length e ∙ chunks-count batch_size stream ended in
     let parts = length-append xs more in
     by ended all
   where
-    by : (b : Bool) → length (xs ++ more) ≡ length stream / size + one_if b → length xs ≤ length stream / size + 1
+    by : (b : Bool) → length (xs ++ more) ≡ length stream / batch_size + one_if b → length xs ≤ length stream / batch_size + 1
     by true all = let parts = length-append xs more in omega arith
     by false all = let parts = length-append xs more in omega arith
 
@@ -145,24 +145,24 @@ map-below f g (suc n) h =
     let last = h n (omega arith) in
     rw (map-append f, map-append g, front, last)
 
-full-below : (size n q : ℕ) (stream : List (List Value)) → n < q → q * size ≤ length stream → n * size + size ≤ length stream
-full-below size n q stream less within =
-    let more : (n + 1) * size ≤ q * size = mul-le-mul_right size (omega arith) in
+full-below : (batch_size n q : ℕ) (stream : List (List Value)) → n < q → q * batch_size ≤ length stream → n * batch_size + batch_size ≤ length stream
+full-below batch_size n q stream less within =
+    let more : (n + 1) * batch_size ≤ q * batch_size = mul-le-mul_right batch_size (omega arith) in
     omega arith
 
-piece-longer : (size n q : ℕ) (stream more : List (List Value)) → n < q → q * size ≤ length stream → piece_of size (stream ++ more) n ≡ piece_of size stream n
-piece-longer size n q stream more less within =
-    let all = full-below size n q stream less within in
-    let start : n * size ≤ length stream = omega arith in
-    let enough : size ≤ length (drop (n * size) stream) = omega (arith, length-drop (n * size) stream) in
+piece-longer : (batch_size n q : ℕ) (stream more : List (List Value)) → n < q → q * batch_size ≤ length stream → piece_of batch_size (stream ++ more) n ≡ piece_of batch_size stream n
+piece-longer batch_size n q stream more less within =
+    let all = full-below batch_size n q stream less within in
+    let start : n * batch_size ≤ length stream = omega arith in
+    let enough : batch_size ≤ length (drop (n * batch_size) stream) = omega (arith, length-drop (n * batch_size) stream) in
     rw (drop-append-le, take-append-le)
 
 -- full batches stay as the stream grows
-pub fulls-longer : (size q : ℕ) (stream more : List (List Value)) → q * size ≤ length stream
-    → map (full_batch size (stream ++ more)) (numbers_below q) ≡ map (full_batch size stream) (numbers_below q)
-fulls-longer size q stream more within =
-    map-below (full_batch size (stream ++ more)) (full_batch size stream) q
-    (λ n less. ap (λ (rows : List (List Value)). record { seq = n; rows = rows; last = false }) (piece-longer size n q stream more less within))
+pub fulls-longer : (batch_size q : ℕ) (stream more : List (List Value)) → q * batch_size ≤ length stream
+    → map (full_batch batch_size (stream ++ more)) (numbers_below q) ≡ map (full_batch batch_size stream) (numbers_below q)
+fulls-longer batch_size q stream more within =
+    map-below (full_batch batch_size (stream ++ more)) (full_batch batch_size stream) q
+    (λ n less. ap (λ (rows : List (List Value)). record { seq = n; rows = rows; last = false }) (piece-longer batch_size n q stream more less within))
 
 -- ---- offered batches
 
@@ -172,4 +172,4 @@ pub offered-orderly : (query : Query) (positions : List Position) (worker : ℕ)
 unfolding AreOffered batches_for
 offered-orderly query positions worker offered less sender known =
     let begins = offered worker less sender known in
-    marked-front (taken_from (position_at positions worker).taken sender) begins.0 (rw begins.1 (chunks-marked query.size _ _))
+    marked-front (taken_from (position_at positions worker).taken sender) begins.0 (rw begins.1 (chunks-marked query.batch_size _ _))

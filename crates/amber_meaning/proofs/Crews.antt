@@ -2,7 +2,7 @@
 use Rattle.std.proofs.Common.{◌≡◌, ℕ, zero, suc, ◌+◌, ◌-◌, ◌<◌, ◌≤◌, true, List, [], ◌∷◌, length, take, slice_get, refl, sym, ◌∙◌, ap, arith, ◌⊎◌, inl, inr}
 use Rattle.std.proofs.lemmas.Bool.{cases_lt, le-ltb, lt-ltb}
 use Rattle.std.proofs.lemmas.List.Sums.{sum_by-cons}
-use Rattle.amber_rows.specs.Crew.{crew_of, first_worker_of, op_of, worker_count, workers_in, workers_of}
+use Rattle.amber_rows.specs.Topology.{crew_of, first_worker_of, op_of, worker_count, workers_in, workers_of}
 use Rattle.amber_rows.specs.declared.flow.Operator.{Operator}
 use Rattle.amber_meaning.proofs.Numbers.{among, are_different, different-row, in-row, row-in}
 use Rattle.amber_meaning.proofs.Lists.{nth-next}

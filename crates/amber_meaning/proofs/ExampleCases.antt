@@ -16,7 +16,7 @@ use Rattle.amber_rows.specs.declared.record.RowFault.{RowFault}
 use Rattle.amber_rows.specs.Chunks.{chunks_of}
 use Rattle.amber_rows.specs.Lists.{numbers_below}
 use Rattle.amber_rows.specs.Cond.{holds_of}
-use Rattle.amber_rows.specs.Crew.{crew_of, first_worker_of, follower_of, keyed_receiver_of, op_of, reader_from, receiver_of, senders_of, sends_to, workers_of}
+use Rattle.amber_rows.specs.Topology.{crew_of, first_worker_of, follower_of, keyed_receiver_of, op_of, reader_from, receiver_of, senders_of, sends_to, workers_of}
 use Rattle.amber_rows.specs.Operators.{agg_value, agg_values, first_keys, greatest_of, group_result, join_result, least_of, matches_of, pick_cells, project_result, refused_keys, total_of}
 use Rattle.amber_rows.specs.Order.{insert_row, sort_rows}
 use Rattle.amber_rows.specs.Routing.{fnv_of, key_bytes_of, route_of}
@@ -130,11 +130,11 @@ with_prices =
     ∷ record { id = codes "s"; what = what.Sink 3; schema = orders ++ prices; workers = 1 } ∷ []
 
 abbrev pub priced_query : Query
-priced_query = record { flow = with_prices; records = typed three ∷ typed five ∷ [] ∷ [] ∷ []; size = 400; most = 1000 }
+priced_query = record { flow = with_prices; records = typed three ∷ typed five ∷ [] ∷ [] ∷ []; batch_size = 400; most = 1000 }
 
 -- over the five orders, with batches of so many rows
 abbrev pub query_of : List Operator → ℕ → Query
-query_of flow size = record { flow = flow; records = typed five ∷ [] ∷ [] ∷ []; size = size; most = 1000 }
+query_of flow batch_size = record { flow = flow; records = typed five ∷ [] ∷ [] ∷ []; batch_size = batch_size; most = 1000 }
 
 -- ---- a log
 

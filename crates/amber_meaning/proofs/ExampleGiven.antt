@@ -37,7 +37,7 @@ abbrev records : List (Result (List Value) RowFault)
 records = Ok (pair (codes "nut") 1) ∷ Err fault.Width ∷ Err (fault.Int 1) ∷ Err fault.Width ∷ []
 
 abbrev query : Query
-query = record { flow = flow; records = records ∷ [] ∷ [] ∷ []; size = 400; most = 1000 }
+query = record { flow = flow; records = records ∷ [] ∷ [] ∷ []; batch_size = 400; most = 1000 }
 
 -- so many records taken
 abbrev scanning : ℕ → Position

@@ -5,7 +5,7 @@ use Rattle.std.proofs.lemmas.Bool.{and_parts, eq-eqb, eqb-true, false≢true, no
 use Rattle.std.proofs.lemmas.List.{length-take}
 use Rattle.std.proofs.lemmas.List.Sums.{sum_by-append, sum_by-cons}
 use Rattle.amber_rows.specs.Lists.{nth}
-use Rattle.amber_rows.specs.Crew.{kind_at, reader_from, reader_of, reads, what_at, worker_count, workers_in}
+use Rattle.amber_rows.specs.Topology.{kind_at, reader_from, reader_of, reads, what_at, worker_count, workers_in}
 use Rattle.amber_rows.specs.FlowRules.{IsFlow, IsNext, ends_in_sink, reader_count}
 use Rattle.amber_rows.specs.Columns.{HasInput, IsEarlier, columns_at, schema_of}
 use Rattle.amber_rows.specs.Kinds.{inputs_of, is_sink, IsKind}

@@ -4,7 +4,7 @@ use Rattle.std.specs.List.{flat_map, list_all}
 use Rattle.std.proofs.lemmas.Bool.{and_parts}
 use Rattle.std.proofs.lemmas.List.{append-nil}
 use Rattle.amber_rows.proofs.Sorting.{sort-bag, times-append, times-sort}
-use Rattle.amber_rows.specs.Crew.{workers_of}
+use Rattle.amber_rows.specs.Topology.{workers_of}
 use Rattle.amber_rows.specs.Order.{sort_rows, times}
 use Rattle.amber_rows.specs.declared.value.Value.{Value}
 use Rattle.amber_meaning.specs.declared.answer.Refusal.TheVariants as refusal

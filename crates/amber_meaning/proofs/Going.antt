@@ -43,19 +43,19 @@ with_rows-both orders p rows outs more others = λ i. record p {
 
 -- ---- rows that pass by the condition
 
-pass-unwaved : (watch : Option Cond) (rows : List (List Value)) → pass_by watch false rows ≡ list_all (λ (row : List Value). not (is_watched watch row)) rows
-pass-unwaved watch [] = refl
-pass-unwaved watch (row ∷ rows) = refl
+pass-unwaved : (when : Option Cond) (rows : List (List Value)) → pass_by when false rows ≡ list_all (λ (row : List Value). not (is_watched when row)) rows
+pass-unwaved when [] = refl
+pass-unwaved when (row ∷ rows) = refl
 
-pass-both : (watch : Option Cond) (waved : Bool) (n : ℕ) (xs ys : List (List Value)) → length xs ≡ n → pass_by watch waved xs ≡ true
-    → pass_by watch (waved && eqb n 0) ys ≡ true → pass_by watch waved (xs ++ ys) ≡ true
-pass-both watch true n [] ys size h k = rw (ap (λ (m : ℕ). pass_by watch (eqb m 0) ys) (sym size)) at k
-pass-both watch false n [] ys size h k = k
-pass-both watch true n (x ∷ xs) ys size h k =
-    let later = sym (pass-unwaved watch ys) ∙ sym (ap (λ b. pass_by watch b ys) (ne_eqb n 0 (λ none. omega arith))) ∙ k in
-    list_all-append (λ (row : List Value). not (is_watched watch row)) xs ys ∙ and_from _ _ h later
-pass-both watch false n (x ∷ xs) ys size h k =
-    list_all-append (λ (row : List Value). not (is_watched watch row)) (x ∷ xs) ys ∙ and_from _ _ h (sym (pass-unwaved watch ys) ∙ k)
+pass-both : (when : Option Cond) (waved : Bool) (n : ℕ) (xs ys : List (List Value)) → length xs ≡ n → pass_by when waved xs ≡ true
+    → pass_by when (waved && eqb n 0) ys ≡ true → pass_by when waved (xs ++ ys) ≡ true
+pass-both when true n [] ys size h k = rw (ap (λ (m : ℕ). pass_by when (eqb m 0) ys) (sym size)) at k
+pass-both when false n [] ys size h k = k
+pass-both when true n (x ∷ xs) ys size h k =
+    let later = sym (pass-unwaved when ys) ∙ sym (ap (λ b. pass_by when b ys) (ne_eqb n 0 (λ none. omega arith))) ∙ k in
+    list_all-append (λ (row : List Value). not (is_watched when row)) xs ys ∙ and_from _ _ h later
+pass-both when false n (x ∷ xs) ys size h k =
+    list_all-append (λ (row : List Value). not (is_watched when row)) (x ∷ xs) ys ∙ and_from _ _ h (sym (pass-unwaved when ys) ∙ k)
 
 -- ---- both together
 
@@ -132,7 +132,7 @@ go-both role orders p rows outs more others a b =
     all : List (List Value)
     all = product_with role orders p (rows + more)
 
-    no_stop : pass_by orders.watch p.restraint.waved (take (outs + others) (drop (length p.outcomes) all)) ≡ true
+    no_stop : pass_by orders.when p.restraint.waved (take (outs + others) (drop (length p.outcomes) all)) ≡ true
     no_stop =
         let longer = product-later role p.taken (p.constants ++ replicate rows orders.constants) more orders.constants (let h = b.within in h) in
         let is : all ≡ product_with role orders p rows ++ longer.0 = sym (product-both role orders p rows outs more) ∙ longer.1 in
@@ -140,8 +140,8 @@ go-both role orders p rows outs more others a b =
         let second : List (List Value) = take others (drop (length p.outcomes + outs) all) in
         let dropped = length-drop (length p.outcomes) (product_with role orders p rows) in
         let size : length first ≡ outs = length-take outs (drop (length p.outcomes) (product_with role orders p rows)) ∙ (let h = a.produced in omega arith) in
-        let later : pass_by orders.watch (p.restraint.waved && eqb outs 0) second ≡ true =
-        ap (λ (rows : List (List Value)). pass_by orders.watch (p.restraint.waved && eqb outs 0) (take others rows))
+        let later : pass_by orders.when (p.restraint.waved && eqb outs 0) second ≡ true =
+        ap (λ (rows : List (List Value)). pass_by orders.when (p.restraint.waved && eqb outs 0) (take others rows))
         (ap (λ (n : ℕ). drop n all) (sym gone) ∙ ap (drop (length (p.outcomes ++ replicate outs true))) (sym (product-both role orders p rows outs more))) ∙ b.no_stop in
-        ap (pass_by orders.watch p.restraint.waved) (rows-both (length p.outcomes) outs others (product_with role orders p rows) longer.0 all is a.produced)
-        ∙ pass-both orders.watch p.restraint.waved outs first second size a.no_stop later
+        ap (pass_by orders.when p.restraint.waved) (rows-both (length p.outcomes) outs others (product_with role orders p rows) longer.0 all is a.produced)
+        ∙ pass-both orders.when p.restraint.waved outs first second size a.no_stop later

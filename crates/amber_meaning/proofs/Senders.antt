@@ -4,7 +4,7 @@ use Rattle.std.specs.Prelude.{filter}
 use Rattle.std.specs.List.{list_all, list_any, slice_get}
 use Rattle.std.proofs.lemmas.Bool.{and_from, and_parts, cases_lt, eqb-true, false≢true, lt-ltb, ltb-false, ltb-true, or_cases}
 use Rattle.std.proofs.lemmas.List.{length_push}
-use Rattle.amber_rows.specs.Crew.{kind_at, op_of, reads, senders_of, sends_to, what_at}
+use Rattle.amber_rows.specs.Topology.{kind_at, op_of, reads, senders_of, sends_to, what_at}
 use Rattle.amber_rows.specs.FlowRules.{AreNext}
 use Rattle.amber_rows.specs.Columns.{HasInput, IsEarlier}
 use Rattle.amber_rows.specs.Kinds.{inputs_of, IsKind}

@@ -1,7 +1,7 @@
 -- What the workers of an operator give back: what they refused, and the rows of the sink.
 use Rattle.std.specs.Prelude.{◌≡◌, ℕ, List, [], ◌∷◌, ◌++◌, true, if◌then◌else◌}
 use Rattle.std.specs.List.{flat_map, list_all}
-use Rattle.amber_rows.specs.Crew.{workers_of}
+use Rattle.amber_rows.specs.Topology.{workers_of}
 use Rattle.amber_rows.specs.Order.{sort_rows}
 use Rattle.amber_rows.specs.declared.value.Value.{Value}
 use Rattle.amber_meaning.specs.declared.answer.Refusal.{Refusal}

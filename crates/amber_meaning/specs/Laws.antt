@@ -1,7 +1,7 @@
 -- Laws of legal logs.
 use Rattle.std.specs.Prelude.{◌≡◌, ℕ, ◌<◌, ◌≤◌, ◌==◌, List, [], ◌∷◌, ◌++◌, length, Bool, true, false}
 use Rattle.std.specs.List.{list_any}
-use Rattle.amber_rows.specs.Crew.{crew_of, senders_of}
+use Rattle.amber_rows.specs.Topology.{crew_of, senders_of}
 use Rattle.amber_rows.specs.FlowRules.{IsFlow}
 use Rattle.amber_rows.specs.declared.flow.Operator.{Operator}
 use Rattle.amber_log.specs.Grammar.{IsItem, ends_over}

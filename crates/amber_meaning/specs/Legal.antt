@@ -3,7 +3,7 @@ use Rattle.std.specs.Prelude.{◌≡◌, ◌≢◌, ℕ, ◌==◌, ◌<◌, ◌�
 use Rattle.std.specs.List.{flat_map, list_all, list_any}
 use Rattle.amber_rows.specs.Lists.{IsPrefix}
 use Rattle.amber_rows.specs.Chunks.{chunks_of}
-use Rattle.amber_rows.specs.Crew.{crew_of, op_of, receiver_of}
+use Rattle.amber_rows.specs.Topology.{crew_of, op_of, receiver_of}
 use Rattle.amber_rows.specs.declared.value.Value.{Value}
 use Rattle.amber_rows.specs.declared.batch.Batch.{Batch}
 use Rattle.amber_rows.specs.declared.record.RowFault.{RowFault}
@@ -33,12 +33,12 @@ use Rattle.amber_meaning.specs.Task.{Role}
 pub record Query : Type 0 where
   pub flow : List Operator
   pub records : List (List (Result (List Value) RowFault))
-  pub size : ℕ
+  pub batch_size : ℕ
   pub most : ℕ
 
 -- a query over the files of the scans, in their order
 abbrev pub query_over : List Operator → List (List ℕ) → ℕ → ℕ → Query
-query_over flow files size most = record { flow = flow; records = records_of files flow; size = size; most = most }
+query_over flow files batch_size most = record { flow = flow; records = records_of files flow; batch_size = batch_size; most = most }
 
 abbrev pub role_in : Query → ℕ → Role
 role_in query worker = role_of query.flow query.records worker
@@ -57,7 +57,7 @@ stream_of query positions sender receiver =
 -- the batches that a worker has made for a receiver
 unfoldable pub batches_for : Query → List Position → ℕ → ℕ → List Batch
 batches_for query positions sender receiver =
-    chunks_of query.size (stream_of query positions sender receiver) (position_at positions sender).finished
+    chunks_of query.batch_size (stream_of query positions sender receiver) (position_at positions sender).finished
 
 -- what each worker took of each sender are the first batches that the sender has made for it
 unfoldable pub AreOffered : Query → List Position → Type 0
@@ -124,7 +124,7 @@ Reaches query state (one ∷ more) after = (m : State) × Makes query state one 
 -- a legal log: it has a text, its batches are the query's, and its items lead from the start to a state
 pub record IsLegal (query : Query) (log : Log) : Type 0 where
   pub text : IsLog log
-  pub batch : log.batch ≡ query.size
+  pub batch : log.batch ≡ query.batch_size
   pub after : State
   pub reached : Reaches query (start_of query.flow) log.items after
 

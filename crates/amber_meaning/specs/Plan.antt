@@ -2,7 +2,7 @@
 use Rattle.std.specs.Prelude.{ℕ, ◌-◌, List, [], Result, Option, Some, None, unwrap_or}
 use Rattle.amber_rows.specs.Shares.{share_of, with_numbers}
 use Rattle.amber_rows.specs.Kinds.{build_input, main_input}
-use Rattle.amber_rows.specs.Crew.{first_worker_of, op_of, senders_of, what_at, worker_count, workers_of}
+use Rattle.amber_rows.specs.Topology.{first_worker_of, op_of, senders_of, what_at, worker_count, workers_of}
 use Rattle.amber_rows.specs.Columns.{columns_at}
 use Rattle.amber_rows.specs.declared.value.Value.{Value}
 use Rattle.amber_rows.specs.declared.column.Column.{Column}

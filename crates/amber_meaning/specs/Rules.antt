@@ -13,7 +13,7 @@ use Rattle.amber_meaning.specs.Position.{Position, Restraint, Taken, all_arrival
 -- what commands have put in force for a leg: a filter's constants, the operator's condition, and whether a count is armed
 pub record Orders : Type 0 where
   pub constants : List Value
-  pub watch : Option Cond
+  pub when : Option Cond
   pub counted : Bool
 
 -- what a worker does, and the orders that it is under
@@ -48,14 +48,14 @@ is_watched (Some cond) row = holds_of cond row
 
 -- no row meets the condition, but perhaps the first, where that one is waved on
 abbrev pub pass_by : Option Cond → Bool → List (List Value) → Bool
-pass_by watch waved [] = true
-pass_by watch true (row ∷ rows) = list_all (λ other. not (is_watched watch other)) rows
-pass_by watch false (row ∷ rows) = list_all (λ other. not (is_watched watch other)) (row ∷ rows)
+pass_by when waved [] = true
+pass_by when true (row ∷ rows) = list_all (λ other. not (is_watched when other)) rows
+pass_by when false (row ∷ rows) = list_all (λ other. not (is_watched when other)) (row ∷ rows)
 
 -- the first row meets the condition
 abbrev pub first_is_watched : Option Cond → List (List Value) → Bool
-first_is_watched watch [] = false
-first_is_watched watch (row ∷ rows) = is_watched watch row
+first_is_watched when [] = false
+first_is_watched when (row ∷ rows) = is_watched when row
 
 -- the batch's side may be taken: of a join the probe side only once the build side has ended
 abbrev pub may_take_from : Role → List Taken → ℕ → Bool
@@ -82,7 +82,7 @@ pub record MayGo (it : Assignment) (p : Position) (rows outs : ℕ) : Type 0 whe
   -- under a count each row is emitted with a unit, and each is taken while there is one
   pub in_hand : it.orders.counted ≡ true → outs ≤ p.restraint.hand
   pub before_taking : it.orders.counted ≡ true → 0 < rows → produced_with it.role it.orders p (rows - 1) < length p.outcomes + p.restraint.hand
-  pub no_stop : pass_by it.orders.watch p.restraint.waved (take outs (drop (length p.outcomes) (product_with it.role it.orders p rows))) ≡ true
+  pub no_stop : pass_by it.orders.when p.restraint.waved (take outs (drop (length p.outcomes) (product_with it.role it.orders p rows))) ≡ true
 
 -- claiming units of a count
 pub record MayGrant (orders : Orders) (p : Position) : Type 0 where
@@ -106,7 +106,7 @@ pub record MayResume (p : Position) : Type 0 where
 -- stopping before a row that meets the condition
 pub record MayHold (it : Assignment) (p : Position) : Type 0 where
   pub free : IsFree p
-  pub watched : first_is_watched it.orders.watch (pending_rows it.role p) ≡ true
+  pub watched : first_is_watched it.orders.when (pending_rows it.role p) ≡ true
   pub not_waved : p.restraint.waved ≡ false
   pub in_hand : it.orders.counted ≡ true → 0 < p.restraint.hand
 

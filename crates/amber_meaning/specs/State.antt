@@ -3,7 +3,7 @@ use Rattle.std.specs.Prelude.{ℕ, ◌+◌, ◌||◌, List, [], ◌∷◌, ◌++
 use Rattle.std.specs.List.{list_all}
 use Rattle.amber_rows.specs.Kinds.{settable_cond}
 use Rattle.amber_rows.specs.Lists.{nth, changed_at}
-use Rattle.amber_rows.specs.Crew.{crew_of, first_worker_of, workers_of}
+use Rattle.amber_rows.specs.Topology.{crew_of, first_worker_of, workers_of}
 use Rattle.amber_rows.specs.declared.value.Value.{Value}
 use Rattle.amber_rows.specs.declared.cond.Cond.{Cond}
 use Rattle.amber_rows.specs.declared.flow.What.{What}
@@ -27,7 +27,7 @@ pub record Counting : Type 0 where
 pub record Arms : Type 0 where
   pub pause : Option ℕ
   pub count : Option Counting
-  pub watch : Option Cond
+  pub when : Option Cond
   pub constants : List Value
 
 -- what is in force at each operator, and the position of each worker
@@ -38,7 +38,7 @@ pub record State : Type 0 where
 -- ---- reading a state
 
 abbrev pub no_arms : Arms
-no_arms = record { pause = None; count = None; watch = None; constants = [] }
+no_arms = record { pause = None; count = None; when = None; constants = [] }
 
 abbrev pub arms_at : State → ℕ → Arms
 arms_at state op = unwrap_or (nth state.arms op) no_arms
@@ -49,7 +49,7 @@ position_at positions worker = unwrap_or (nth positions (worker + 1)) origin
 
 -- the orders of an operator's workers for a leg
 abbrev pub orders_of : Arms → Orders
-orders_of arms = record { constants = arms.constants; watch = arms.watch; counted = is_some arms.count }
+orders_of arms = record { constants = arms.constants; when = arms.when; counted = is_some arms.count }
 
 -- the positions of an operator's workers
 unfoldable pub crew_at : List Operator → State → ℕ → List Position
@@ -103,7 +103,7 @@ start_of flow = record {
 
 -- no pause, count or condition
 abbrev pub without_arms : Arms → Arms
-without_arms arms = record arms { pause = None; count = None; watch = None }
+without_arms arms = record arms { pause = None; count = None; when = None }
 
 -- what a change leaves of something that may be in force
 abbrev pub put : {A : Type 0} → Change A → Option A → Option A
@@ -127,7 +127,7 @@ abbrev pub arms_changed : Arming → List ℕ → Arms → Arms
 arms_changed arming gone arms = record {
   pause = put arming.pause arms.pause;
   count = put (counting_from gone arming.count) arms.count;
-  watch = put arming.watch arms.watch;
+  when = put arming.when arms.when;
   constants = put_constant arming.constant arms.constants;
 }
 

@@ -2,7 +2,7 @@
 use Rattle.std.specs.Prelude.{ℕ, suc, ◌-◌, ◌==◌, nat_le, List, [], ◌∷◌, ◌++◌, length, map, Option, Some, None, Bool, true, false, if◌then◌else◌}
 use Rattle.std.specs.List.{flat_map}
 use Rattle.amber_rows.specs.Lists.{numbers_below}
-use Rattle.amber_rows.specs.Crew.{crew_of, first_worker_of, op_of}
+use Rattle.amber_rows.specs.Topology.{crew_of, first_worker_of, op_of}
 use Rattle.amber_rows.specs.declared.value.Value.{Value}
 use Rattle.amber_rows.specs.declared.flow.Operator.{Operator}
 use Rattle.amber_meaning.specs.declared.view.Stop.{Stop}

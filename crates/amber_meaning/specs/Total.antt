@@ -2,7 +2,7 @@
 use Rattle.std.specs.Prelude.{ℕ, zero, suc, ◌+◌, ◌/◌, ◌==◌, List, [], ◌∷◌, ◌++◌, length, map, filter, sum_by, Ok}
 use Rattle.std.specs.List.{flat_map}
 use Rattle.amber_rows.specs.Lists.{numbers_below, list_at}
-use Rattle.amber_rows.specs.Crew.{crew_of, receiver_of}
+use Rattle.amber_rows.specs.Topology.{crew_of, receiver_of}
 use Rattle.amber_rows.specs.declared.value.Value.{Value}
 use Rattle.amber_meaning.specs.Legal.{Query, role_in}
 use Rattle.amber_meaning.specs.Position.{share_or}
@@ -45,7 +45,7 @@ dealt_to query worker = list_at (dealt_by query (crew_of query.flow)) (worker + 
 unfoldable pub work_of : Query → ℕ → ℕ
 work_of query worker =
     length (total_arrivals query (dealt_to query) worker) + length (dealt_to query worker)
-    + sum_by (λ sender. length (dealt_stream query (dealt_to query) worker sender) / query.size + 1) (role_in query worker).senders + 1
+    + sum_by (λ sender. length (dealt_stream query (dealt_to query) worker sender) / query.batch_size + 1) (role_in query worker).senders + 1
 
 -- the steps of a query
 unfoldable pub step_total : Query → ℕ

@@ -3,7 +3,7 @@ use Rattle.std.specs.Prelude.{ℕ, nat_lt, List, [], ◌∷◌, ◌++◌, length
 use Rattle.std.specs.List.{flat_map}
 use Rattle.amber_meaning.specs.Kinds.{extra_of, keys_refused}
 use Rattle.amber_rows.specs.Lists.{first_of}
-use Rattle.amber_rows.specs.Crew.{workers_of}
+use Rattle.amber_rows.specs.Topology.{workers_of}
 use Rattle.amber_rows.specs.Columns.{columns_at}
 use Rattle.amber_rows.specs.Order.{sort_rows}
 use Rattle.amber_rows.specs.declared.value.Value.{Value}
@@ -53,7 +53,7 @@ inspected_of query state op = record {
   constant = first_of (arms_at state op).constants;
   pause = (arms_at state op).pause;
   count = option_map (counted_view query state op) (arms_at state op).count;
-  when = (arms_at state op).watch;
+  when = (arms_at state op).when;
   workers = map (λ worker. view_of (role_in query worker) (position_at state.positions worker)) (workers_of query.flow op);
 }
 

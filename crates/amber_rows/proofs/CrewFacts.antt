@@ -6,7 +6,7 @@ use Rattle.std.proofs.lemmas.Bool.{cases_lt, lt-ltb, le-ltb, ne_eqb}
 use Rattle.amber_rows.specs.Lists.{numbers_below}
 use Rattle.amber_rows.specs.Lists.{nth}
 use Rattle.amber_rows.specs.Kinds.{is_keyed}
-use Rattle.amber_rows.specs.Crew.{crew_of, follower_of, kind_at, op_of, reader_from, reader_of, reads, sends_to, what_at, worker_count, workers_in}
+use Rattle.amber_rows.specs.Topology.{crew_of, follower_of, kind_at, op_of, reader_from, reader_of, reads, sends_to, what_at, worker_count, workers_in}
 use Rattle.amber_rows.specs.declared.flow.Operator.{Operator}
 
 pub crew-take : (n : ℕ) (flow : List Operator) → crew_of (take n flow) ≤ crew_of flow

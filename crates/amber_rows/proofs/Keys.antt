@@ -10,7 +10,7 @@ use Rattle.std.specs.Prelude.{◌<ℤ◌}
 use Rattle.std.specs.Ordering.{nat_cmp, ordering_then, ordering_reverse}
 use Rattle.std.specs.declared.cmp.Ordering.{Ordering}
 use Rattle.std.specs.declared.cmp.Ordering.TheVariants.{Equal, Less, Greater}
-use Rattle.amber_rows.specs.Key.{cell_key, front, int_key, key_of, key_tells_number}
+use Rattle.amber_rows.specs.SortKey.{cell_key, front, int_key, key_of, key_tells_number}
 use Rattle.amber_rows.specs.Order.{row_cmp, value_cmp}
 use Rattle.amber_rows.specs.OrderLaws.{row-total}
 use Rattle.amber_rows.specs.declared.value.Value.{Value}

@@ -6,10 +6,10 @@ use Rattle.amber_rows.specs.declared.batch.Batch.{Batch}
 
 -- the piece of a stream with this number: `size` rows, or those that are left
 abbrev pub piece_of : ℕ → List (List Value) → ℕ → List (List Value)
-piece_of size stream number = take size (drop (number * size) stream)
+piece_of batch_size stream seq = take batch_size (drop (seq * batch_size) stream)
 
 -- a stream in pieces of `size` rows, numbered from 0, and where it has ended the rest, fewer rows, as the last one
 unfoldable pub chunks_of : ℕ → List (List Value) → Bool → List Batch
-chunks_of size stream ended =
-    map (λ number. record { seq = number; rows = piece_of size stream number; last = false }) (numbers_below (length stream / size))
-    ++ (if ended then record { seq = length stream / size; rows = piece_of size stream (length stream / size); last = true } ∷ [] else [])
+chunks_of batch_size stream ended =
+    map (λ seq. record { seq = seq; rows = piece_of batch_size stream seq; last = false }) (numbers_below (length stream / batch_size))
+    ++ (if ended then record { seq = length stream / batch_size; rows = piece_of batch_size stream (length stream / batch_size); last = true } ∷ [] else [])

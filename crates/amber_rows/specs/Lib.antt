@@ -2,9 +2,9 @@ pub mod Chain
 pub mod Chunks
 pub mod Columns
 pub mod Cond
-pub mod Crew
+pub mod Topology
 pub mod FlowRules
-pub mod Key
+pub mod SortKey
 pub mod Kinds
 pub mod Lists
 pub mod Number

@@ -1,6 +1,6 @@
 // What is so of each kind of operator.
 ghost use Rattle.std.specs.Prelude.{◌≡◌, option_map};
-ghost use Rattle.amber_rows.specs.Crew.{reads};
+ghost use Rattle.amber_rows.specs.Topology.{reads};
 ghost use Rattle.amber_rows.specs.Kinds.{build_input, is_keyed, is_scan, is_sink, main_input, settable_cond};
 
 use crate::cond::Cond;

@@ -10,7 +10,7 @@ ghost use Rattle.std.specs.Prelude.{refl};
 ghost use Rattle.amber_rows.specs.OrderLaws.{row-total};
 
 use crate::column::Cols;
-use crate::key::{key_of, tells_number};
+use crate::sort_key::{key_of, tells_number};
 use crate::value::Value;
 use std::alloc::{AllocError, Global};
 use std::cmp::Ordering;
@@ -31,7 +31,7 @@ impl Drop for Row {
 
 impl Model for Row {
     ghost use Rattle.std.specs.Prelude.{◌≡◌, List};
-    ghost use Rattle.amber_rows.specs.Key.{key_of};
+    ghost use Rattle.amber_rows.specs.SortKey.{key_of};
     ghost use Rattle.amber_rows.specs.declared.value.Value.{Value as Cell};
 
     ghost Value = { List Cell };

@@ -1,6 +1,6 @@
 // Which worker gets a row, and who sends to whom.
 ghost use Rattle.std.specs.Prelude.{◌<◌};
-ghost use Rattle.amber_rows.specs.Crew.{crew_of};
+ghost use Rattle.amber_rows.specs.Topology.{crew_of};
 
 use crate::expected::expect_text;
 use crate::written::{cols, row};

@@ -13,8 +13,8 @@ use Rattle.amber_meaning.specs.Task.{Arrival, row_in}
 use Rattle.amber_meaning.specs.Refused.{refusal_in}
 use Rattle.amber_scan.specs.declared.share.Scanned.{Scanned}
 use Rattle.amber_link.specs.Sides.{IsTaken, have_all_ended, have_builders_ended}
-use Rattle.amber_link.specs.declared.senders.Sender.{Sender}
-use Rattle.amber_link.specs.declared.receivers.Receiver.{Receiver}
+use Rattle.amber_link.specs.declared.upstreams.Upstream.{Upstream}
+use Rattle.amber_link.specs.declared.downstreams.Downstream.{Downstream}
 use Rattle.amber_link.specs.Sides.{AreEnded, AreLooked}
 use Rattle.amber_worker.specs.Links.{EmitsFirst}
 use Rattle.amber_worker.specs.Fields.{AreFew, WorkerFields, restraint_of, row_from, rows_moved}
@@ -112,7 +112,7 @@ takes-row w one later now last rest pending refused kept journal columns over co
 
 -- ---- a row is emitted
 
-pub few-emitted : (f : WorkerFields) (after : List Receiver) → f.finished ≡ false → AreFew f → f.taken + f.emitted + f.batches + one_if f.finished < 2 ^ 40
+pub few-emitted : (f : WorkerFields) (after : List Downstream) → f.finished ≡ false → AreFew f → f.taken + f.emitted + f.batches + one_if f.finished < 2 ^ 40
     → ((n : ℕ) → All (λ one. one.link.kept.made ≤ n) f.outs → All (λ one. one.link.kept.made ≤ n + 1) after) → All (λ one. one.link.kept.ended ≡ false) after
     → AreFew (record f { emitted = f.emitted + 1; outs = after; journal = with_go f.journal 0 1 })
 few-emitted f after unfinished few less made over = record {
@@ -130,7 +130,7 @@ few-emitted f after unfinished few less made over = record {
 
 -- ---- the end
 
-pub few-done : (f : WorkerFields) (after : List Receiver) → AreFew f → f.taken + f.emitted + f.batches + one_if f.finished < 2 ^ 40 → All (λ one. one.link.kept.ended ≡ true) after
+pub few-done : (f : WorkerFields) (after : List Downstream) → AreFew f → f.taken + f.emitted + f.batches + one_if f.finished < 2 ^ 40 → All (λ one. one.link.kept.ended ≡ true) after
     → AreFew (record f { finished = true; outs = after; journal = f.journal ++ entry.Finish ∷ [] })
 few-done f after few less over = record {
   in_order = few.in_order;
@@ -154,8 +154,8 @@ written-back n old new e same = take-append-le n new (drop (length new) old) (om
 turned-scan : (does : OperatorState) (builds : Bool) → does ≡ operator_state.Scan → turned_to builds does ≡ operator_state.Scan
 turned-scan does builds scan = ap (turned_to builds) scan
 
-pub few-batch : (f : WorkerFields) (found later : List Sender) (place from number : ℕ) (builds : Bool) (batch : Batch)
-    → ((one : Sender) × (one.from ≡ from) × (one.taken ≡ number) × (one.builds ≡ builds) × IsTaken found one batch later)
+pub few-batch : (f : WorkerFields) (found later : List Upstream) (place from number : ℕ) (builds : Bool) (batch : Batch)
+    → ((one : Upstream) × (one.from ≡ from) × (one.taken ≡ number) × (one.builds ≡ builds) × IsTaken found one batch later)
     → have_builders_ended found ≡ have_builders_ended f.ins → length found ≡ length f.ins → AreFew f → f.taken + f.emitted + f.batches + one_if f.finished < 2 ^ 40 → place < length f.ins
     → All (λ one. one.taken ≤ f.batches + 1) later
     → AreFew (record f { operator_state = turned_to builds f.operator_state; building = builds; batches = f.batches + 1; ins = later; journal = f.journal ++ entry.Take from number ∷ [] })
@@ -177,13 +177,13 @@ few-batch f found later place from number builds batch so built same few less th
     none (Some x) h = let empty = ap length h in absurd (omega arith)
 
 -- a share stands where there are no senders alone
-pub no-share : (share : Option (List Scanned)) (ins : List Sender) (place : ℕ) → IfSome share (λ _. ins ≡ []) → place < length ins → share ≡ None
+pub no-share : (share : Option (List Scanned)) (ins : List Upstream) (place : ℕ) → IfSome share (λ _. ins ≡ []) → place < length ins → share ≡ None
 no-share None ins place h less = refl
 no-share (Some x) ins place h less = let empty = ap length h in absurd (omega arith)
 
-pub takes-batch : (w : WorkerState) (from number : ℕ) (builds : Bool) (batch : Batch) (looked ins found : List Sender) (rest : List Arrival) (journal : List Entry) (now : OperatorState)
+pub takes-batch : (w : WorkerState) (from number : ℕ) (builds : Bool) (batch : Batch) (looked ins found : List Upstream) (rest : List Arrival) (journal : List Entry) (now : OperatorState)
     (closing pending : List (List Value)) (empty over : Bool)
-    → ((one : Sender) × (one.from ≡ from) × (one.taken ≡ number) × (one.builds ≡ builds) × IsTaken looked one batch ins) → AreLooked w.ins looked → has_ready looked ≡ true → from < 2 ^ 32 → number < 2 ^ 64
+    → ((one : Upstream) × (one.from ≡ from) × (one.taken ≡ number) × (one.builds ≡ builds) × IsTaken looked one batch ins) → AreLooked w.ins looked → has_ready looked ≡ true → from < 2 ^ 32 → number < 2 ^ 64
     → rest ≡ map (row_from from) batch.rows → found ≡ ins → journal ≡ w.journal ++ entry.Take from number ∷ [] → now ≡ turned_to builds w.operator_state
     → empty ≡ eqb (length batch.rows) 0 → over ≡ have_all_ended ins → Closes w.operator_state empty closing → pending ≡ (if over then closing else [])
     → TakesBatch w (record w { operator_state = now; building = builds; rest = rest; pending = pending; batches = w.batches + 1; ins = found; journal = journal })
@@ -203,7 +203,7 @@ takes-batch w from number builds batch looked ins found rest journal now closing
 }
 
 -- batches have come
-pub few-settled : (f : WorkerFields) (later : List Sender) → AreFew f → length later ≡ length f.ins → All (λ one. one.taken ≤ f.batches) later
+pub few-settled : (f : WorkerFields) (later : List Upstream) → AreFew f → length later ≡ length f.ins → All (λ one. one.taken ≤ f.batches) later
     → have_builders_ended later ≡ have_builders_ended f.ins → AreFew (record f { ins = later })
 few-settled f later few same received built = record {
   in_order = in_order-settled f.operator_state f.building f.taken f.ins later built few.in_order;
@@ -223,7 +223,7 @@ few-settled f later few same received built = record {
     none (Some x) h = let empty = ap length h in nil_from_length later (omega arith)
 
 -- batches have gone
-pub few-sent : (f : WorkerFields) (later : List Receiver) → AreFew f → (f.finished ≡ false → All (λ one. one.link.kept.made ≤ f.emitted) later)
+pub few-sent : (f : WorkerFields) (later : List Downstream) → AreFew f → (f.finished ≡ false → All (λ one. one.link.kept.made ≤ f.emitted) later)
     → All (λ one. one.link.kept.ended ≡ f.finished) later → AreFew (record f { outs = later })
 few-sent f later few made over = record {
   in_order = few.in_order;
@@ -256,7 +256,7 @@ few-begun f flags journal few lowered none = record {
 
 -- ---- rows that are emitted
 
-pub emits-row : (w : WorkerState) (later : List (List Value)) (outs after : List Receiver) (journal : List Entry) → EmitsFirst w.route (record { pending = w.pending; outs = w.outs }) (record { pending = later; outs = after }) → outs ≡ after
+pub emits-row : (w : WorkerState) (later : List (List Value)) (outs after : List Downstream) (journal : List Entry) → EmitsFirst w.route (record { pending = w.pending; outs = w.outs }) (record { pending = later; outs = after }) → outs ≡ after
     → journal ≡ with_go w.journal 0 1 → w.restraint ≡ no_restraint → EmitsRow false w (record w { pending = later; emitted = w.emitted + 1; outs = outs; journal = journal })
 emits-row w later outs after journal emits outs_is journal_is restraint = record {
   row = emits.row;
@@ -269,6 +269,6 @@ emits-row w later outs after journal emits outs_is journal_is restraint = record
 
 -- ---- all streams are ended
 
-pub finishes : (w : WorkerState) (outs after : List Receiver) (journal : List Entry) → AreEnded w.outs after → outs ≡ after → journal ≡ w.journal ++ entry.Finish ∷ []
+pub finishes : (w : WorkerState) (outs after : List Downstream) (journal : List Entry) → AreEnded w.outs after → outs ≡ after → journal ≡ w.journal ++ entry.Finish ∷ []
     → Finishes w (record w { finished = true; outs = outs; journal = journal })
 finishes w outs after journal ends outs_is journal_is = record { outs = after; ends = ends; after = rw (outs_is, journal_is) refl }

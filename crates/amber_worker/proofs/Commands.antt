@@ -53,7 +53,7 @@ shows-set value w context p shows = record {
   sides = shows.sides;
   builders = shows.builders;
   building = shows.building;
-  watch = shows.watch;
+  when = shows.when;
   rest = shows.rest;
   pending = shows.pending;
   taken = shows.taken;
@@ -83,7 +83,7 @@ shows-at_leg context w p shows = record {
   sides = shows.sides;
   builders = shows.builders;
   building = shows.building;
-  watch = shows.watch;
+  when = shows.when;
   rest = shows.rest;
   pending = shows.pending;
   taken = shows.taken;
@@ -107,12 +107,12 @@ stands-at_leg w context p shows = record { leads = refl; text = tt; shows = show
 -- ---- a condition is put in force, or a count is armed
 
 -- the context in which this condition is in force, and a count is armed or not
-abbrev pub with_watch : Option Cond → Bool → Context → Context
-with_watch watch counted context = record context { orders = record context.orders { watch = watch; counted = counted } }
+abbrev pub with_when : Option Cond → Bool → Context → Context
+with_when when counted context = record context { orders = record context.orders { when = when; counted = counted } }
 
-shows-watched : (context : Context) (w : WorkerState) (p : Position) (watch : Option Cond) (counted : Bool) → Shows context w p
-    → Shows (with_watch watch counted context) (record w { watch = watch }) p
-shows-watched context w p watch counted shows = record {
+shows-watched : (context : Context) (w : WorkerState) (p : Position) (when : Option Cond) (counted : Bool) → Shows context w p
+    → Shows (with_when when counted context) (record w { when = when }) p
+shows-watched context w p when counted shows = record {
   op = shows.op;
   number = shows.number;
   operator_state = shows.operator_state;
@@ -122,7 +122,7 @@ shows-watched context w p watch counted shows = record {
   sides = shows.sides;
   builders = shows.builders;
   building = shows.building;
-  watch = refl;
+  when = refl;
   rest = shows.rest;
   pending = shows.pending;
   taken = shows.taken;
@@ -140,12 +140,12 @@ shows-watched context w p watch counted shows = record {
 }
 
 -- between legs, where nothing was done since
-pub stands-watched : (context : Context) (w : WorkerState) (p : Position) (watch : Option Cond) (counted : Bool)
+pub stands-watched : (context : Context) (w : WorkerState) (p : Position) (when : Option Cond) (counted : Bool)
     → IsAtPosition context w p p → w.journal ≡ []
-    → IsAtPosition (with_watch watch counted context) (record w { watch = watch }) p p
+    → IsAtPosition (with_when when counted context) (record w { when = when }) p p
 unfolding Leads AreEntries
-stands-watched context w p watch counted stands none = record {
+stands-watched context w p when counted stands none = record {
   leads = rw none refl;
   text = rw none tt;
-  shows = shows-watched context w p watch counted stands.shows;
+  shows = shows-watched context w p when counted stands.shows;
 }

@@ -8,7 +8,7 @@ use Rattle.amber_meaning.specs.Position.{Position, emitted_rows, is_emitted, pro
 use Rattle.amber_meaning.specs.Rules.{MayFinish, MayGo, assigned, pass_by, product_with, produced_with, with_rows}
 use Rattle.amber_link.specs.Sides.{AreEnded, have_all_ended}
 use Rattle.amber_worker.specs.Links.{IsHandedOn, number_to}
-use Rattle.amber_link.specs.declared.receivers.Receiver.{Receiver}
+use Rattle.amber_link.specs.declared.downstreams.Downstream.{Downstream}
 use Rattle.amber_worker.specs.AtPosition.{Context, KeepsUnder, SendAll, Shows, output_at}
 use Rattle.amber_worker.specs.WorkerState.{WorkerState}
 use Rattle.amber_worker.specs.Steps.{all_done, row_emitted}
@@ -45,12 +45,12 @@ may-emit_row context w p row later shows pending works unit by_it =
       no_stop =
           let first : drop (length p.outcomes) (product_with context.placement.role context.orders p 0) ≡ row ∷ later =
           ap (λ constants. drop (length p.outcomes) (product context.placement.role p.taken constants)) (append-nil p.constants) ∙ sym shows.pending ∙ pending in
-          let passed : pass_by context.orders.watch p.restraint.waved (row ∷ []) ≡ true =
-          first-passes context.orders.watch p.restraint.waved row (rw (shows.restraint, shows.watch) at by_it) in
-          subst (λ l. pass_by context.orders.watch p.restraint.waved (take 1 l) ≡ true) (sym first) passed;
+          let passed : pass_by context.orders.when p.restraint.waved (row ∷ []) ≡ true =
+          first-passes context.orders.when p.restraint.waved row (rw (shows.restraint, shows.when) at by_it) in
+          subst (λ l. pass_by context.orders.when p.restraint.waved (take 1 l) ≡ true) (sym first) passed;
     }
 
-shows-row_emitted : (counted : Bool) (context : Context) (w : WorkerState) (p : Position) (row : List Value) (later : List (List Value)) (outs : List Receiver)
+shows-row_emitted : (counted : Bool) (context : Context) (w : WorkerState) (p : Position) (row : List Value) (later : List (List Value)) (outs : List Downstream)
     → context.orders.counted ≡ counted → Shows context w p → w.pending ≡ row ∷ later → IsHandedOn (number_to w.route row) row w.outs outs → IsWorking w
     → Shows context (row_emitted counted later outs w) (with_rows context.orders 0 1 p)
 shows-row_emitted counted context w p row later outs armed shows pending handed works =
@@ -70,7 +70,7 @@ shows-row_emitted counted context w p row later outs armed shows pending handed 
       sides = shows.sides;
       builders = shows.builders;
       building = shows.building;
-      watch = shows.watch;
+      when = shows.when;
       rest = rw no_row shows.rest;
       pending = rw (no_row, more) (sym (left-next (length p.outcomes) (product context.placement.role p.taken p.constants) row later left));
       taken = rw no_row shows.taken;
@@ -90,7 +90,7 @@ shows-row_emitted counted context w p row later outs armed shows pending handed 
     }
 
 -- wherever a worker stood, it stands once it emitted a row
-pub Keeps-row_emitted : (counted : Bool) (w : WorkerState) (row : List Value) (later : List (List Value)) (outs : List Receiver) → w.pending ≡ row ∷ later
+pub Keeps-row_emitted : (counted : Bool) (w : WorkerState) (row : List Value) (later : List (List Value)) (outs : List Downstream) → w.pending ≡ row ∷ later
     → IsHandedOn (number_to w.route row) row w.outs outs → IsWorking w → HasUnit counted w → lets_by w row ≡ true → KeepsUnder counted w (row_emitted counted later outs w)
 unfolding KeepsUnder
 Keeps-row_emitted counted w row later outs pending handed works unit by_it context start p armed stands = (
@@ -105,7 +105,7 @@ Keeps-row_emitted counted w row later outs pending handed works unit by_it conte
 -- ---- the end
 
 -- wherever a worker stood, it stands once it finished
-pub Keeps-all_done : (counted : Bool) (w : WorkerState) (outs : List Receiver) → w.rest ≡ [] → w.pending ≡ [] → have_all_ended w.ins ≡ true → AreEnded w.outs outs → IsWorking w
+pub Keeps-all_done : (counted : Bool) (w : WorkerState) (outs : List Downstream) → w.rest ≡ [] → w.pending ≡ [] → have_all_ended w.ins ≡ true → AreEnded w.outs outs → IsWorking w
     → KeepsUnder counted w (all_done outs w)
 unfolding KeepsUnder
 Keeps-all_done counted w outs rest pending ended ends works context start p armed stands =
@@ -130,7 +130,7 @@ Keeps-all_done counted w outs rest pending ended ends works context start p arme
           sides = shows.sides;
           builders = shows.builders;
           building = shows.building;
-          watch = shows.watch;
+          when = shows.when;
           rest = shows.rest;
           pending = shows.pending;
           taken = shows.taken;

@@ -1,6 +1,6 @@
 -- A worker of a keyed operator with three senders and four receivers, under any condition, with a count armed or not.
 use Rattle.std.proofs.Common.{◌≡◌, ℕ, zero, suc, List, [], ◌∷◌, All, Option, None, Result, Bool, false, codes, refl, sym, arith}
-use Rattle.amber_rows.specs.Crew.{crew_of, first_worker_of, keyed_receiver_of, op_of, reader_from, receiver_of, receivers_of, senders_of, sends_to, what_at}
+use Rattle.amber_rows.specs.Topology.{crew_of, first_worker_of, keyed_receiver_of, op_of, reader_from, receiver_of, receivers_of, senders_of, sends_to, what_at}
 use Rattle.amber_rows.specs.Kinds.{is_scan}
 use Rattle.amber_rows.specs.Lists.{numbers_below}
 use Rattle.amber_rows.specs.Operators.{first_keys}
@@ -15,14 +15,14 @@ use Rattle.amber_group.specs.Group.{groups_of}
 use Rattle.amber_meaning.specs.Position.{origin}
 use Rattle.amber_link.specs.declared.ends.Out.{Out}
 use Rattle.amber_link.specs.declared.ends.In.{In}
-use Rattle.amber_link.specs.declared.senders.Sender.{Sender}
-use Rattle.amber_link.specs.declared.receivers.Receiver.{Receiver}
+use Rattle.amber_link.specs.declared.upstreams.Upstream.{Upstream}
+use Rattle.amber_link.specs.declared.downstreams.Downstream.{Downstream}
 use Rattle.amber_worker.specs.AtPosition.{IsAtPosition, first_context}
 use Rattle.amber_worker.specs.Made.{AreFreshSenders, IsFresh, IsFreshIn, IsFreshOut}
 use Rattle.amber_worker.specs.WorkerState.{WorkerState, empty_worker_state}
 use Rattle.amber_worker.specs.declared.operator_state.OperatorState.TheVariants as operator_state
 use Rattle.amber_worker.specs.declared.route.Route.TheVariants as route
-use Rattle.amber_worker.proofs.Commands.{stands-watched, with_watch}
+use Rattle.amber_worker.proofs.Commands.{stands-watched, with_when}
 use Rattle.amber_worker.proofs.FreshStands.{fresh-stands}
 
 -- ---- the workflow: the different numbers of a file, and the different ones of these
@@ -58,10 +58,10 @@ goes row = refl
 
 -- ---- the worker, whatever the ends of its links are
 
-abbrev pub from : ℕ → In → Sender
+abbrev pub from : ℕ → In → Upstream
 from number link = record { from = number; builds = false; taken = 0; ended = false; link = link }
 
-abbrev pub to : ℕ → Out → Receiver
+abbrev pub to : ℕ → Out → Downstream
 to number link = record { to = number; link = link }
 
 pub record Ends : Type 0 where
@@ -97,20 +97,20 @@ fresh-senders e (suc zero) d less = (refl, refl, refl)
 fresh-senders e (suc (suc zero)) d less = (refl, refl, refl)
 fresh-senders e (suc (suc (suc k))) d less = absurd (omega arith)
 
-fresh-ins : (e : Ends) → All (λ (one : Sender). IsFreshIn one.link) (worker e).ins
+fresh-ins : (e : Ends) → All (λ (one : Upstream). IsFreshIn one.link) (worker e).ins
 fresh-ins e zero d less = e.fresh0
 fresh-ins e (suc zero) d less = e.fresh1
 fresh-ins e (suc (suc zero)) d less = e.fresh2
 fresh-ins e (suc (suc (suc k))) d less = absurd (omega arith)
 
-fresh-outs : (e : Ends) → All (λ (one : Receiver). IsFreshOut 2 one.link) (worker e).outs
+fresh-outs : (e : Ends) → All (λ (one : Downstream). IsFreshOut 2 one.link) (worker e).outs
 fresh-outs e zero d less = e.fresh5
 fresh-outs e (suc zero) d less = e.fresh6
 fresh-outs e (suc (suc zero)) d less = e.fresh7
 fresh-outs e (suc (suc (suc zero))) d less = e.fresh8
 fresh-outs e (suc (suc (suc (suc k)))) d less = absurd (omega arith)
 
-is-fresh : (e : Ends) → IsFresh (record { flow = grouped; number = 3; size = 2; share = None }) (worker e)
+is-fresh : (e : Ends) → IsFresh (record { flow = grouped; number = 3; batch_size = 2; share = None }) (worker e)
 unfolding op_of receiver_of reader_from first_worker_of keyed_receiver_of crew_of groups_of first_keys
 is-fresh e = record {
   op = refl;
@@ -126,7 +126,7 @@ is-fresh e = record {
   batches = refl;
   refused = refl;
   kept = refl;
-  watch = refl;
+  when = refl;
   restraint = refl;
   finished = refl;
   senders = sym senders;
@@ -139,10 +139,10 @@ is-fresh e = record {
 }
 
 -- it stands at the beginning, under any condition, with a count armed or not, from whatever records
-pub stands : (e : Ends) (records : List (List (Result (List Value) RowFault))) (watch : Option Cond) (counted : Bool)
-    → IsAtPosition (with_watch watch counted (first_context grouped records 2 3)) (record (worker e) { watch = watch }) origin origin
-stands e records watch counted =
-    stands-watched (first_context grouped records 2 3) (worker e) origin watch counted
+pub stands : (e : Ends) (records : List (List (Result (List Value) RowFault))) (when : Option Cond) (counted : Bool)
+    → IsAtPosition (with_when when counted (first_context grouped records 2 3)) (record (worker e) { when = when }) origin origin
+stands e records when counted =
+    stands-watched (first_context grouped records 2 3) (worker e) origin when counted
     (fresh-stands grouped records 2 3 None (worker e) (omega arith) (by refl) tt (is-fresh e)) refl
   where
     by : op_of grouped 3 ≡ op_of grouped 3 → false ≡ is_scan (what_at grouped (op_of grouped 3))

@@ -20,7 +20,7 @@ use Rattle.amber_link.specs.Outgoing.{Carries, Outgoing}
 use Rattle.amber_link.specs.Sides.{IsLooked}
 use Rattle.amber_link.specs.declared.ends.Out.{Out}
 use Rattle.amber_link.specs.declared.ends.In.{In}
-use Rattle.amber_link.specs.declared.senders.Sender.{Sender}
+use Rattle.amber_link.specs.declared.upstreams.Upstream.{Upstream}
 use Rattle.amber_link.proofs.Sides.{looked-same, pairwise-refl}
 use Rattle.amber_worker.specs.AtPosition.{Context, ReceiveAll, SendAll, Shows, no_base}
 use Rattle.amber_worker.specs.Fields.{row_from, rows_moved}
@@ -45,8 +45,8 @@ role = record { task = record { kind = what.Filter 1 two_or_more; columns = numb
 -- it is to stop before a 2, and a count is armed
 abbrev context : Context
 context = record {
-  placement = record { op = 2; number = 1; role = role; receivers = 2 ∷ []; route = λ row. 2; size = 400 };
-  orders = record { constants = value.Int (pos 2) ∷ []; watch = Some (record two_or_more { op = cmp.Eq }); counted = true };
+  placement = record { op = 2; number = 1; role = role; receivers = 2 ∷ []; route = λ row. 2; batch_size = 400 };
+  orders = record { constants = value.Int (pos 2) ∷ []; when = Some (record two_or_more { op = cmp.Eq }); counted = true };
   base = no_base;
 }
 
@@ -60,10 +60,10 @@ pub record Ends : Type 0 where
   pub out : Out
   pub come_is : come into ≡ batch_of_five ∷ []
   pub waiting_is : waiting into ≡ []
-  pub kept_is : out.kept ≡ record { size = 400; made = 0; ended = false; waiting = []; partial = cell 3 ∷ []; room = 0 }
+  pub kept_is : out.kept ≡ record { batch_size = 400; made = 0; ended = false; waiting = []; partial = cell 3 ∷ []; room = 0 }
   pub sent_is : sent out.ring ≡ []
 
-abbrev from : In → Sender
+abbrev from : In → Upstream
 from link = record { from = 0; builds = false; taken = 1; ended = true; link = link }
 
 -- with nothing watched and no unit
@@ -85,12 +85,12 @@ free e = record empty_worker_state {
 }
 
 abbrev held : Ends → WorkerState
-held e = record (free e) { watch = Some (record two_or_more { op = cmp.Eq }); restraint = record no_restraint { hand = 4; held = true } }
+held e = record (free e) { when = Some (record two_or_more { op = cmp.Eq }); restraint = record no_restraint { hand = 4; held = true } }
 
 -- ---- what it shows
 
 module _ (e : Ends) where
-  of_no_build_side : All (λ (one : Sender). one.builds ≡ is_builder role.task one.from) (held e).ins
+  of_no_build_side : All (λ (one : Upstream). one.builds ≡ is_builder role.task one.from) (held e).ins
   of_no_build_side zero d less = refl
   of_no_build_side (suc k) d less = absurd (omega arith)
 
@@ -118,7 +118,7 @@ module _ (e : Ends) where
     sides = of_no_build_side;
     builders = λ sender builds. absurd (false≢true builds);
     building = rows_of_no_build_side;
-    watch = refl;
+    when = refl;
     rest = refl;
     pending = refl;
     taken = refl;
@@ -132,7 +132,7 @@ module _ (e : Ends) where
     finished = refl;
     ins = (record { from = refl; taken = refl; ended = refl; come = record { all = e.come_is ∙ ap (λ l. batch_of_five ∷ l) (sym e.waiting_is) } }, refl, tt);
     outs = (
-      record { to = refl; size = ap (λ (out : Outgoing). out.size) e.kept_is; over = ap (λ (out : Outgoing). out.ended) e.kept_is; carries = one_is_kept },
+      record { to = refl; batch_size = ap (λ (out : Outgoing). out.batch_size) e.kept_is; over = ap (λ (out : Outgoing). out.ended) e.kept_is; carries = one_is_kept },
       refl,
       tt,
     );
@@ -156,8 +156,8 @@ module _ (e : Ends) where
   a_hold_that_is_over : Shows context (record (held e) { restraint = record no_restraint { hand = 4 } }) place → ⊥
   a_hold_that_is_over shows = false≢true (ap (λ (r : Restraint). r.held) shows.restraint)
 
-  another_condition : Shows context (record (held e) { watch = None }) place → ⊥
-  another_condition shows = let wrong = shows.watch in cc
+  another_condition : Shows context (record (held e) { when = None }) place → ⊥
+  another_condition shows = let wrong = shows.when in cc
 
   a_sender_forgotten : Shows context (record (held e) { ins = [] }) place → ⊥
   unfolding ReceiveAll

@@ -9,7 +9,7 @@ use Rattle.amber_rows.specs.declared.record.RowFault.TheVariants as fault
 use Rattle.amber_rows.specs.Chunks.{chunks_of}
 use Rattle.amber_rows.specs.Lists.{numbers_below}
 use Rattle.amber_rows.specs.Cond.{holds_of}
-use Rattle.amber_rows.specs.Crew.{crew_of, first_worker_of, follower_of, op_of, reader_from, receiver_of, senders_of, sends_to, workers_of}
+use Rattle.amber_rows.specs.Topology.{crew_of, first_worker_of, follower_of, op_of, reader_from, receiver_of, senders_of, sends_to, workers_of}
 use Rattle.amber_rows.specs.Operators.{group_result, pick_cells}
 use Rattle.amber_rows.specs.Order.{insert_row, sort_rows}
 use Rattle.amber_rows.specs.Suits.{suits_of}
@@ -63,7 +63,7 @@ abbrev n : ℕ → Typed
 n number = Ok (cell number)
 
 abbrev query : List Typed → ℕ → Query
-query records size = record { flow = from_two; records = records ∷ [] ∷ [] ∷ []; size = size; most = 10000 }
+query records batch_size = record { flow = from_two; records = records ∷ [] ∷ [] ∷ []; batch_size = batch_size; most = 10000 }
 
 abbrev t : ℕ → ℕ → Entry
 t from batch = entry.Take from batch
@@ -193,8 +193,8 @@ threes count = replicate count (cell 3)
 
 -- the filter may write this down where the scan has made the batches of so many rows of these threes
 abbrev may_write : ℕ → ℕ → List Entry → Bool
-may_write size count entries =
-    may_lead (λ sender. chunks_of size (threes count) true) (assigned (role_in (query five 400) 1) (record { constants = cell 2; watch = None; counted = false })) origin entries
+may_write batch_size count entries =
+    may_lead (λ sender. chunks_of batch_size (threes count) true) (assigned (role_in (query five 400) 1) (record { constants = cell 2; when = None; counted = false })) origin entries
 
 in_one_batch : may_write 400 400 (t 0 0 ∷ g 400 400 ∷ t 0 1 ∷ f ∷ []) ≡ true
 unfolding logs_on_literals

@@ -3,7 +3,7 @@ use Rattle.std.proofs.Common.{◌≡◌, ℕ, zero, suc, ◌+◌, ◌<◌, ◌++
 use Rattle.std.proofs.lemmas.List.{map-append}
 use Rattle.amber_rows.specs.Lists.{numbers_below}
 use Rattle.std.proofs.lemmas.Bool.{and_parts}
-use Rattle.amber_rows.specs.Crew.{crew_of, first_worker_of, follower_of, keyed_receiver_of, op_of, reader_of, reads, receiver_of, receivers_of, senders_of, sends_to, what_at, worker_count}
+use Rattle.amber_rows.specs.Topology.{crew_of, first_worker_of, follower_of, keyed_receiver_of, op_of, reader_of, reads, receiver_of, receivers_of, senders_of, sends_to, what_at, worker_count}
 use Rattle.amber_rows.specs.Kinds.{is_keyed, side_keys}
 use Rattle.amber_rows.specs.Routing.{key_bytes_of, route_of}
 use Rattle.amber_rows.specs.declared.value.Value.{Value}

@@ -2,7 +2,7 @@
 use Rattle.std.proofs.Common.{◌≡◌, ℕ, eqb, Bool, if◌then◌else◌, List, [], ◌∷◌, filter, ◌<◌, All, Option, Some, None, is_some, true, false, refl, sym, ap, ◌∙◌, arith}
 use Rattle.std.specs.List.{filter_map}
 use Rattle.std.proofs.lemmas.Bool.{eq-eqb, eqb-true, false≢true, both_ways, or_left}
-use Rattle.amber_rows.specs.Crew.{crew_of, op_of, reads, senders_of, sends_to, what_at, workers_of}
+use Rattle.amber_rows.specs.Topology.{crew_of, op_of, reads, senders_of, sends_to, what_at, workers_of}
 use Rattle.amber_rows.specs.Lists.{numbers_below}
 use Rattle.amber_rows.specs.Operators.{first_keys, group_result}
 use Rattle.amber_rows.specs.Columns.{columns_at}
@@ -20,7 +20,7 @@ use Rattle.amber_meaning.proofs.Crews.{own-worker, worker-known, worker-op}
 use Rattle.amber_meaning.proofs.Numbers.{among, among-kept, in-below}
 use Rattle.amber_scan.specs.declared.share.Scanned.{Scanned}
 use Rattle.amber_join.specs.Join.{Join}
-use Rattle.amber_link.specs.declared.senders.Sender.{Sender}
+use Rattle.amber_link.specs.declared.upstreams.Upstream.{Upstream}
 use Rattle.amber_worker.specs.Fields.{IsInOrder, rest_in}
 use Rattle.amber_worker.specs.Made.{IsOperatorStateOf, builds_for, handing_operator, is_join}
 use Rattle.amber_worker.specs.AtPosition.{DoesKind, HasShare, KeepsRows}
@@ -111,7 +111,7 @@ scan-operator_state operator_state.Sink (what.Sink input) is scans = absurd (fal
 scan-operator_state d kind is scans = absurd is
 
 -- what a new worker keeps is in order
-pub order-first : (d : OperatorState) (kind : What) (ins : List Sender) → IsOperatorStateOf d kind → IsInOrder d (is_join kind) 0 ins
+pub order-first : (d : OperatorState) (kind : What) (ins : List Upstream) → IsOperatorStateOf d kind → IsInOrder d (is_join kind) 0 ins
 order-first operator_state.Scan kind ins is = tt
 order-first (operator_state.Filter cond) kind ins is = tt
 order-first (operator_state.Project from) kind ins is = tt

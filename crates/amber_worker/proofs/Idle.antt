@@ -10,7 +10,7 @@ use Rattle.amber_rows.specs.declared.batch.Batch.{Batch}
 use Rattle.amber_meaning.specs.Position.{Position, Taken, has_last, taken_from}
 use Rattle.amber_meaning.specs.Task.{Task, is_builder}
 use Rattle.amber_link.specs.Sides.{have_all_ended, have_builders_ended, may_come}
-use Rattle.amber_link.specs.declared.senders.Sender.{Sender}
+use Rattle.amber_link.specs.declared.upstreams.Upstream.{Upstream}
 use Rattle.amber_link.specs.Links.{has_some, waiting}
 use Rattle.amber_link.specs.Links.{HasGiven}
 use Rattle.amber_worker.specs.AtPosition.{Context, ReceiveAll, Shows}
@@ -26,19 +26,19 @@ marked_behind [] last h = or_left _ _ h
 marked_behind (one ∷ more) last h = or_right _ _ (marked_behind more last h)
 
 -- the batches that an ended stream was cut into have a last one
-pub has_marked-chunks_of : (size : ℕ) (stream : List (List Value)) → has_marked (chunks_of size stream true) ≡ true
+pub has_marked-chunks_of : (batch_size : ℕ) (stream : List (List Value)) → has_marked (chunks_of batch_size stream true) ≡ true
 unfolding chunks_of
-has_marked-chunks_of size stream =
-    marked_behind (map (λ number. record { seq = number; rows = piece_of size stream number; last = false }) (numbers_below (length stream / size)))
-    (record { seq = length stream / size; rows = piece_of size stream (length stream / size); last = true }) refl
+has_marked-chunks_of batch_size stream =
+    marked_behind (map (λ number. record { seq = number; rows = piece_of batch_size stream number; last = false }) (numbers_below (length stream / batch_size)))
+    (record { seq = length stream / batch_size; rows = piece_of batch_size stream (length stream / batch_size); last = true }) refl
 
 not_ready : (ended some : Bool) → (not ended && some) ≡ false → ended ≡ false → some ≡ false
 not_ready true some h e = absurd (false≢true (sym e))
 not_ready false some h e = h
 
 -- it is one of these, and has this number
-abbrev pub IsAmong : ℕ → Sender → List Sender → Type 0
-IsAmong sender one ins = (k : ℕ) × (k < length ins) × ((d : Sender) → get_or ins k d ≡ one) × (one.from ≡ sender)
+abbrev pub IsAmong : ℕ → Upstream → List Upstream → Type 0
+IsAmong sender one ins = (k : ℕ) × (k < length ins) × ((d : Upstream) → get_or ins k d ≡ one) × (one.from ≡ sender)
 
 none : {A : Type 0} (xs : List A) → has_some xs ≡ false → xs ≡ []
 none [] h = refl
@@ -49,7 +49,7 @@ parts_false true b h = absurd (false≢true (sym h))
 parts_false false true h = absurd (false≢true (sym h))
 parts_false false false h = (refl, refl)
 
-neither : (ready : Sender → Bool) (one : Sender) (more : List Sender) → list_any ready (one ∷ more) ≡ false → (ready one ≡ false) × (list_any ready more ≡ false)
+neither : (ready : Upstream → Bool) (one : Upstream) (more : List Upstream) → list_any ready (one ∷ more) ≡ false → (ready one ≡ false) × (list_any ready more ≡ false)
 neither ready one more h = by (ready one) (list_any ready more) refl refl
   where
     by : (a b : Bool) → ready one ≡ a → list_any ready more ≡ b → (ready one ≡ false) × (list_any ready more ≡ false)
@@ -63,10 +63,10 @@ unready false false waits h e so = absurd (false≢true so)
 unready false true waits h e so = h
 
 -- where no batch may be taken, of a sender that has not ended and whose side may be taken all that has come was taken
-none_waits : (had : ℕ → List Batch) (task : Task) (built : Bool) (taken : List Taken) (senders : List ℕ) (ins : List Sender) (sender : ℕ) → ReceiveAll senders had taken ins
+none_waits : (had : ℕ → List Batch) (task : Task) (built : Bool) (taken : List Taken) (senders : List ℕ) (ins : List Upstream) (sender : ℕ) → ReceiveAll senders had taken ins
     → All (λ one. one.builds ≡ is_builder task one.from) ins → (is_builder task sender || built) ≡ true → list_any (may_come built) ins ≡ false
     → list_any (λ one. eqb one sender) senders ≡ true → has_last taken sender ≡ false
-    → (one : Sender) × HasGiven one.link (had sender) (taken_from taken sender) × (waiting one.link ≡ []) × IsAmong sender one ins
+    → (one : Upstream) × HasGiven one.link (had sender) (taken_from taken sender) × (waiting one.link ≡ []) × IsAmong sender one ins
 unfolding ReceiveAll
 none_waits had task built taken [] ins sender h sides side ready member last = absurd (false≢true member)
 none_waits had task built taken (first ∷ more) [] sender h sides side ready member last = absurd h
@@ -79,8 +79,8 @@ none_waits had task built taken (first ∷ more) (one ∷ ins) sender h sides si
 
     by : (eqb first sender ≡ true) ⊎ (list_any (λ other. eqb other sender) more ≡ true)
         → (list_any (λ other. eqb other sender) more ≡ true
-        → (found : Sender) × HasGiven found.link (had sender) (taken_from taken sender) × (waiting found.link ≡ []) × IsAmong sender found ins)
-        → (found : Sender) × HasGiven found.link (had sender) (taken_from taken sender) × (waiting found.link ≡ []) × IsAmong sender found (one ∷ ins)
+        → (found : Upstream) × HasGiven found.link (had sender) (taken_from taken sender) × (waiting found.link ≡ []) × IsAmong sender found ins)
+        → (found : Upstream) × HasGiven found.link (had sender) (taken_from taken sender) × (waiting found.link ≡ []) × IsAmong sender found (one ∷ ins)
     by (inl e) rest =
         let same : first ≡ sender = eqb-true first sender e in
         let here : one.from ≡ sender = h.0.from ∙ same in
@@ -97,7 +97,7 @@ none_waits had task built taken (first ∷ more) (one ∷ ins) sender h sides si
         (found.0, found.1, found.2, (suc place.0, let less = place.1 in omega arith, place.2, place.3))
 
 -- where those of the build side have ended, the build side has
-built_so : (had : ℕ → List Batch) (task : Task) (taken : List Taken) (senders : List ℕ) (ins : List Sender) → ReceiveAll senders had taken ins → All (λ one. one.builds ≡ is_builder task one.from) ins
+built_so : (had : ℕ → List Batch) (task : Task) (taken : List Taken) (senders : List ℕ) (ins : List Upstream) → ReceiveAll senders had taken ins → All (λ one. one.builds ≡ is_builder task one.from) ins
     → ((sender : ℕ) → list_any (λ one. eqb one sender) senders ≡ true → is_builder task sender ≡ true → has_last taken sender ≡ true) → have_builders_ended ins ≡ true
 unfolding ReceiveAll
 built_so had task taken [] [] h sides last = refl
@@ -112,7 +112,7 @@ built_so had task taken (first ∷ more) (one ∷ ins) h sides last =
     by false own = refl
 
 -- where no batch may be taken and of each sender the last one was taken or waits, all have ended
-all_ended : (had : ℕ → List Batch) (taken : List Taken) (senders : List ℕ) (ins : List Sender) → ReceiveAll senders had taken ins
+all_ended : (had : ℕ → List Batch) (taken : List Taken) (senders : List ℕ) (ins : List Upstream) → ReceiveAll senders had taken ins
     → ((sender : ℕ) → list_any (λ one. eqb one sender) senders ≡ true → has_last taken sender ≡ true) → have_all_ended ins ≡ true
 unfolding ReceiveAll
 all_ended had taken [] [] h last = refl
@@ -133,7 +133,7 @@ idle_parts false false false false false h = (refl, refl)
 
 -- a worker of whose senders each last batch was taken or waits is never idle
 pub never_idle : (context : Context) (w : WorkerState) (p : Position) → Shows context w p
-    → ((sender k : ℕ) → k < length w.ins → ((d : Sender) → (get_or w.ins k d).from ≡ sender) → (d : Sender) → has_marked (taken_from p.taken sender ++ waiting (get_or w.ins k d).link) ≡ true)
+    → ((sender k : ℕ) → k < length w.ins → ((d : Upstream) → (get_or w.ins k d).from ≡ sender) → (d : Upstream) → has_marked (taken_from p.taken sender ++ waiting (get_or w.ins k d).link) ≡ true)
     → next_turn w ≡ turn.Idle → ⊥
 never_idle context w p shows marked idle =
     let parts = idle_parts w.finished (has_some w.pending) (has_some w.rest) (has_ready w.ins) (have_all_ended w.ins) idle in
@@ -149,5 +149,5 @@ never_idle context w p shows marked idle =
     last built ready sender member side false e =
         let waits = none_waits context.base.had context.placement.role.task built p.taken context.placement.role.senders w.ins sender shows.ins shows.sides side ready member e in
         let place = waits.3 in
-        let empty : waiting (get_or w.ins place.0 waits.0).link ≡ [] = ap (λ (s : Sender). waiting s.link) (place.2 waits.0) ∙ waits.2 in
-        absurd (false≢true (sym e ∙ rw (empty, append-nil) at (marked sender place.0 place.1 (λ d. ap (λ (s : Sender). s.from) (place.2 d) ∙ place.3) waits.0)))
+        let empty : waiting (get_or w.ins place.0 waits.0).link ≡ [] = ap (λ (s : Upstream). waiting s.link) (place.2 waits.0) ∙ waits.2 in
+        absurd (false≢true (sym e ∙ rw (empty, append-nil) at (marked sender place.0 place.1 (λ d. ap (λ (s : Upstream). s.from) (place.2 d) ∙ place.3) waits.0)))

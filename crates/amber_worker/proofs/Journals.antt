@@ -28,9 +28,9 @@ AreEntries-push gone (first ∷ more) one text entry other = (text.0, text.1, Ar
 -- ---- conditions
 
 -- a first row that is let through passes
-pub first-passes : (watch : Option Cond) (waved : Bool) (row : List Value) → (waved || not (is_watched watch row)) ≡ true → pass_by watch waved (row ∷ []) ≡ true
-first-passes watch true row h = refl
-first-passes watch false row h = rw h refl
+pub first-passes : (when : Option Cond) (waved : Bool) (row : List Value) → (waved || not (is_watched when row)) ≡ true → pass_by when waved (row ∷ []) ≡ true
+first-passes when true row h = refl
+first-passes when false row h = rw h refl
 
 -- ---- rows more
 

@@ -2,30 +2,30 @@
 use Rattle.std.proofs.Common.{◌≡◌, ℕ, suc, ◌≤◌, eqb, ◌&&◌, ◌||◌, not, arith, All, List, [], ◌∷◌, length, refl, ap, ◌∙◌, subst}
 use Rattle.std.proofs.lemmas.List.Elements.{All-cons}
 use Rattle.amber_link.specs.Sides.{AreLooked, IsLooked, Pairwise, have_all_ended, have_builders_ended}
-use Rattle.amber_link.specs.declared.senders.Sender.{Sender}
+use Rattle.amber_link.specs.declared.upstreams.Upstream.{Upstream}
 use Rattle.amber_link.proofs.Sides.{looked-then, pairwise-then}
 use Rattle.amber_worker.specs.AtPosition.{IsLookedAt}
 use Rattle.amber_worker.specs.Steps.{Closes, TakesBatch, batch_taken}
 use Rattle.amber_worker.specs.WorkerState.{WorkerState}
 
 -- as many batches were taken
-pub looked-few : (n : ℕ) (old new : List Sender) → AreLooked old new → All (λ one. one.taken ≤ n) old → All (λ one. one.taken ≤ n) new
+pub looked-few : (n : ℕ) (old new : List Upstream) → AreLooked old new → All (λ one. one.taken ≤ n) old → All (λ one. one.taken ≤ n) new
 unfolding Pairwise
 looked-few n [] [] h few = few
 looked-few n [] (y ∷ ys) h few = absurd h
 looked-few n (x ∷ xs) [] h few = absurd h
 looked-few n (x ∷ xs) (y ∷ ys) h few =
-    let same = ap (λ (one : Sender). one.taken) h.0.only in
+    let same = ap (λ (one : Upstream). one.taken) h.0.only in
     let first = few 0 x (omega arith) in
-    All-cons (λ (one : Sender). one.taken ≤ n) y ys (omega arith) (looked-few n xs ys h.1 (λ k d less. few (suc k) d (omega arith)))
+    All-cons (λ (one : Upstream). one.taken ≤ n) y ys (omega arith) (looked-few n xs ys h.1 (λ k d less. few (suc k) d (omega arith)))
 
 -- and as many of the build side have ended
-pub looked-built : (old new : List Sender) → AreLooked old new → have_builders_ended new ≡ have_builders_ended old
+pub looked-built : (old new : List Upstream) → AreLooked old new → have_builders_ended new ≡ have_builders_ended old
 unfolding Pairwise
 looked-built [] [] h = refl
 looked-built [] (y ∷ ys) h = absurd h
 looked-built (x ∷ xs) [] h = absurd h
-looked-built (x ∷ xs) (y ∷ ys) h = ap (λ (one : Sender). (not one.builds || one.ended) && have_builders_ended ys) h.0.only ∙ ap (λ b. (not x.builds || x.ended) && b) (looked-built xs ys h.1)
+looked-built (x ∷ xs) (y ∷ ys) h = ap (λ (one : Upstream). (not one.builds || one.ended) && have_builders_ended ys) h.0.only ∙ ap (λ b. (not x.builds || x.ended) && b) (looked-built xs ys h.1)
 
 -- a batch is taken after a look
 pub takes-looked : (old between new : WorkerState) → IsLookedAt old between → TakesBatch between new → TakesBatch old new

@@ -18,7 +18,7 @@ use Rattle.amber_meaning.specs.Kinds.{closing_rows, yields_row, kept_rows}
 use Rattle.amber_meaning.specs.Refused.{refusal_in, refused_in}
 use Rattle.amber_meaning.specs.Views.{taken_of}
 use Rattle.amber_link.specs.Sides.{have_all_ended}
-use Rattle.amber_link.specs.declared.senders.Sender.{Sender}
+use Rattle.amber_link.specs.declared.upstreams.Upstream.{Upstream}
 use Rattle.amber_worker.specs.Fields.{rows_moved}
 use Rattle.amber_worker.specs.AtPosition.{Context, DoesKind, KeepsRows, KeepsUnder, ReceiveAll, Shows}
 use Rattle.amber_worker.specs.WorkerState.{WorkerState}
@@ -42,7 +42,7 @@ HasUnit counted w = counted ≡ true → 0 < w.restraint.hand
 
 -- a row does not meet the condition, or it was waved on
 abbrev pub lets_by : WorkerState → List Value → Bool
-lets_by w row = w.restraint.waved || not (is_watched w.watch row)
+lets_by w row = w.restraint.waved || not (is_watched w.when row)
 
 pub free-shown : (context : Context) (w : WorkerState) (p : Position) → Shows context w p → IsWorking w → IsFree p
 free-shown context w p shows works = record {
@@ -145,7 +145,7 @@ taken-now : (context : Context) (w : WorkerState) (p : Position) (one : Arrival)
     → TakesOne context w p one later now last → take (length p.constants + 1) (all_arrivals context.placement.role p.taken) ≡ taken_of context.placement.role p ++ one ∷ []
 taken-now context w p one later now last takes = take-next (length p.constants) (all_arrivals context.placement.role p.taken) one later (sym takes.shows.rest ∙ takes.rest)
 
-pub all-ended : (senders : List ℕ) (had : ℕ → List Batch) (taken : List Taken) (ins : List Sender) → ReceiveAll senders had taken ins → have_all_ended ins ≡ have_ended senders taken
+pub all-ended : (senders : List ℕ) (had : ℕ → List Batch) (taken : List Taken) (ins : List Upstream) → ReceiveAll senders had taken ins → have_all_ended ins ≡ have_ended senders taken
 unfolding ReceiveAll have_ended
 all-ended [] had taken [] h = refl
 all-ended [] had taken (one ∷ ins) h = absurd h
@@ -277,7 +277,7 @@ shows-row_taken context w p one later now last takes =
       sides = shows.sides;
       builders = shows.builders;
       building = λ k d less. side-is context w p one later now last takes (suc k) d (omega arith);
-      watch = shows.watch;
+      when = shows.when;
       rest = sym (rw more (left-next (length p.constants) (all_arrivals context.placement.role p.taken) one later left));
       pending = rw (takes.pending, no_fate, grown) (sym (left-behind (length p.outcomes) (product context.placement.role p.taken p.constants) _ gone));
       taken = rw (more, shows.taken) refl;

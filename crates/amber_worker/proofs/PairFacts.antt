@@ -10,9 +10,9 @@ use Rattle.amber_link.specs.Links.{AreLinked, AreSettled, OutCarries, waiting}
 use Rattle.amber_link.specs.Sides.{AreSameReceivers, AreSameSenders, IsSameReceiver, IsSameSender, Pairwise, without_room}
 use Rattle.amber_link.specs.declared.ends.Out.{Out}
 use Rattle.amber_link.specs.declared.ends.In.{In}
-use Rattle.amber_link.specs.declared.senders.Sender.{Sender}
+use Rattle.amber_link.specs.declared.upstreams.Upstream.{Upstream}
 use Rattle.amber_worker.specs.Made.{end_of, link_of, roomless}
-use Rattle.amber_link.specs.declared.receivers.Receiver.{Receiver}
+use Rattle.amber_link.specs.declared.downstreams.Downstream.{Downstream}
 use Rattle.amber_link.proofs.LinkEnds.{linked-still, same-in, same-out}
 use Rattle.amber_link.proofs.SameEnds.{receivers-same, senders-same}
 use Rattle.amber_link.proofs.Sides.{get_or-any, map-at, map-length, pairwise-length, pairwise-set}
@@ -68,25 +68,25 @@ to-stays all from to from_now to_now h context start p stands =
 
 -- ---- the same ends
 
-sender-same : (one : Sender) → IsSameSender one one
+sender-same : (one : Upstream) → IsSameSender one one
 sender-same one = record { from = refl; link = same-in one.link }
 
-receiver-same : (one : Receiver) → IsSameReceiver one one
+receiver-same : (one : Downstream) → IsSameReceiver one one
 receiver-same one = record { to = refl; link = same-out one.link }
 
 pub from-ends : (all : Bool) (from to from_now to_now : WorkerState) → Passed all from to from_now to_now → HasSameEnds from from_now
 from-ends all from to from_now to_now h =
     let s = h.passes.settles in
     let j = h.passes.j in
-    let now : Receiver = record (get_or from.outs j s.out) { link = s.out.link } in
+    let now : Downstream = record (get_or from.outs j s.out) { link = s.out.link } in
     subst (λ w. HasSameEnds from w) (sym h.from_only)
     (record {
       ins = senders-same from.ins;
       outs = subst (λ l. AreSameReceivers from.outs l) (sym s.outs_is)
           (pairwise-set IsSameReceiver receiver-same from.outs j now h.passes.j_within
-          (λ d. subst (λ (one : Receiver). IsSameReceiver one now) (get_or-any from.outs j s.out d h.passes.j_within) (record { to = refl; link = s.forwards.ring })));
+          (λ d. subst (λ (one : Downstream). IsSameReceiver one now) (get_or-any from.outs j s.out d h.passes.j_within) (record { to = refl; link = s.forwards.ring })));
       number = refl;
-      watch = refl;
+      when = refl;
       route = refl;
     })
 
@@ -94,22 +94,22 @@ pub to-ends : (all : Bool) (from to from_now to_now : WorkerState) → Passed al
 to-ends all from to from_now to_now h =
     let s = h.passes.settles in
     let k = h.passes.k in
-    let now : Sender = record (get_or to.ins k s.into) { link = s.into.link } in
+    let now : Upstream = record (get_or to.ins k s.into) { link = s.into.link } in
     subst (λ w. HasSameEnds to w) (sym h.to_only)
     (record {
       ins = subst (λ l. AreSameSenders to.ins l) (sym s.ins_is)
           (pairwise-set IsSameSender sender-same to.ins k now h.passes.k_within
-          (λ d. subst (λ (one : Sender). IsSameSender one now) (get_or-any to.ins k s.into d h.passes.k_within) (record { from = refl; link = s.gives.ring })));
+          (λ d. subst (λ (one : Upstream). IsSameSender one now) (get_or-any to.ins k s.into d h.passes.k_within) (record { from = refl; link = s.gives.ring })));
       outs = receivers-same to.outs;
       number = refl;
-      watch = refl;
+      when = refl;
       route = refl;
     })
 
 -- ---- the places of a link
 
 -- what is kept of the receiver at a place
-pub sends-at : (placement : Placement) (receivers : List ℕ) (output : Output) (outs : List Receiver) (j : ℕ) (n : ℕ) (d : Receiver) → j < length outs
+pub sends-at : (placement : Placement) (receivers : List ℕ) (output : Output) (outs : List Downstream) (j : ℕ) (n : ℕ) (d : Downstream) → j < length outs
     → (get_or outs j d).to ≡ n → SendAll placement receivers output outs → Sends placement n output (get_or outs j d)
 unfolding SendAll
 sends-at placement [] output [] j n d less own h = absurd (omega arith)
@@ -120,7 +120,7 @@ sends-at placement (receiver ∷ receivers) output (one ∷ outs) zero n d less 
 sends-at placement (receiver ∷ receivers) output (one ∷ outs) (suc j) n d less own h = sends-at placement receivers output outs j n d (omega arith) own h.2
 
 -- what is kept of the sender at a place
-pub receives-at : (senders : List ℕ) (had : ℕ → List Batch) (batches : List Taken) (ins : List Sender) (k : ℕ) (n : ℕ) (d : Sender) → k < length ins → (get_or ins k d).from ≡ n
+pub receives-at : (senders : List ℕ) (had : ℕ → List Batch) (batches : List Taken) (ins : List Upstream) (k : ℕ) (n : ℕ) (d : Upstream) → k < length ins → (get_or ins k d).from ≡ n
     → ReceiveAll senders had batches ins → Receives n (had n) batches (get_or ins k d)
 unfolding ReceiveAll
 receives-at [] had batches [] k n d less own h = absurd (omega arith)
@@ -130,7 +130,7 @@ receives-at (sender ∷ senders) had batches (one ∷ ins) zero n d less own h =
 receives-at (sender ∷ senders) had batches (one ∷ ins) (suc k) n d less own h = receives-at senders had batches ins k n d (omega arith) own h.2
 
 -- it is one of the senders
-is-sender : (senders : List ℕ) (had : ℕ → List Batch) (batches : List Taken) (ins : List Sender) (k : ℕ) (n : ℕ) (d : Sender) → k < length ins → (get_or ins k d).from ≡ n
+is-sender : (senders : List ℕ) (had : ℕ → List Batch) (batches : List Taken) (ins : List Upstream) (k : ℕ) (n : ℕ) (d : Upstream) → k < length ins → (get_or ins k d).from ≡ n
     → ReceiveAll senders had batches ins → list_any (λ other. eqb other n) senders ≡ true
 unfolding ReceiveAll
 is-sender [] had batches [] k n d less own h = absurd (omega arith)
@@ -140,7 +140,7 @@ is-sender (sender ∷ senders) had batches (one ∷ ins) zero n d less own h = o
 is-sender (sender ∷ senders) had batches (one ∷ ins) (suc k) n d less own h = or_right _ _ (is-sender senders had batches ins k n d (omega arith) own h.2)
 
 -- and stands at one place alone
-one-place : (senders : List ℕ) (had : ℕ → List Batch) (batches : List Taken) (ins : List Sender) (k m : ℕ) (n : ℕ) (d e : Sender) → k < length ins → m < length ins
+one-place : (senders : List ℕ) (had : ℕ → List Batch) (batches : List Taken) (ins : List Upstream) (k m : ℕ) (n : ℕ) (d e : Upstream) → k < length ins → m < length ins
     → (get_or ins k d).from ≡ n → (get_or ins m e).from ≡ n → ReceiveAll senders had batches ins → k ≡ m
 unfolding ReceiveAll
 one-place [] had batches [] k m n d e less below own same h = absurd (omega arith)
@@ -166,8 +166,8 @@ offers all from to from_now to_now h one other beside =
     let p : Position = one.position in
     let q : Position = other.position in
     let s = h.passes.settles in
-    let out : Receiver = get_or from.outs h.passes.j s.out in
-    let into : Sender = get_or to.ins h.passes.k s.into in
+    let out : Downstream = get_or from.outs h.passes.j s.out in
+    let into : Upstream = get_or to.ins h.passes.k s.into in
     let sends = sends-at sender sender.receivers (output_at one.context p) from.outs h.passes.j receiver.number s.out h.passes.j_within
     (h.passes.to_is s.out ∙ beside.other_shows.number) beside.shows.outs in
     let receives = receives-at receiver.role.senders other.context.base.had q.taken to.ins h.passes.k sender.number s.into h.passes.k_within
@@ -177,8 +177,8 @@ offers all from to from_now to_now h one other beside =
     let whole = s.whole.chunks (other.context.base.had sender.number) (taken_from q.taken sender.number) (stream_to sender receiver.number (emitted_rows sender.role p)) carries receives.come in (
       waiting into.link ++ (s.whole.beyond ++ out.link.kept.waiting),
       sym (append_assoc (taken_from q.taken sender.number) (waiting into.link) (s.whole.beyond ++ out.link.kept.waiting)) ∙ whole
-          ∙ ap (λ n. chunks_of n (stream_to sender receiver.number (emitted_rows sender.role p)) out.link.kept.ended) sends.size
-          ∙ ap (λ b. chunks_of sender.size (stream_to sender receiver.number (emitted_rows sender.role p)) b) sends.over,
+          ∙ ap (λ n. chunks_of n (stream_to sender receiver.number (emitted_rows sender.role p)) out.link.kept.ended) sends.batch_size
+          ∙ ap (λ b. chunks_of sender.batch_size (stream_to sender receiver.number (emitted_rows sender.role p)) b) sends.over,
     )
 
 -- of a link that is settled
@@ -189,8 +189,8 @@ offers-all from to h one other beside k d less own =
     let receiver : Placement = other.context.placement in
     let p : Position = one.position in
     let q : Position = other.position in
-    let out : Receiver = get_or from.outs h.j h.out in
-    let into : Sender = get_or to.ins k d in
+    let out : Downstream = get_or from.outs h.j h.out in
+    let into : Upstream = get_or to.ins k d in
     let from_is = h.places.from_is d ∙ beside.shows.number in
     let same : k ≡ h.k = one-place receiver.role.senders other.context.base.had q.taken to.ins k h.k sender.number d d less h.places.k_within own from_is beside.other_shows.ins in
     let sends = sends-at sender sender.receivers (output_at one.context p) from.outs h.j receiver.number h.out h.places.j_within
@@ -198,25 +198,25 @@ offers-all from to h one other beside k d less own =
     let receives = receives-at receiver.role.senders other.context.base.had q.taken to.ins k sender.number d less own beside.other_shows.ins in
     let carries : OutCarries out.link (other.context.base.had sender.number) (stream_to sender receiver.number (emitted_rows sender.role p)) =
     subst (λ gave. OutCarries out.link gave (stream_to sender receiver.number (emitted_rows sender.role p))) beside.earlier sends.carries in
-    let settled : AreSettled out.link into.link = subst (λ (r : Receiver). AreSettled r.link into.link) (sym (h.out_is h.out))
-    (subst (λ (r : Sender). AreSettled h.out.link r.link) (sym (ap (λ n. get_or to.ins n d) same ∙ h.into_is d)) h.settled) in
+    let settled : AreSettled out.link into.link = subst (λ (r : Downstream). AreSettled r.link into.link) (sym (h.out_is h.out))
+    (subst (λ (r : Upstream). AreSettled h.out.link r.link) (sym (ap (λ n. get_or to.ins n d) same ∙ h.into_is d)) h.settled) in
     let known : waiting into.link ≡ into.link.inbox.items = ap (λ l. into.link.inbox.items ++ l) settled.known ∙ append-nil into.link.inbox.items in
     ap (λ l. taken_from q.taken sender.number ++ l) known
     ∙ settled.chunks (other.context.base.had sender.number) (taken_from q.taken sender.number) (stream_to sender receiver.number (emitted_rows sender.role p)) carries receives.come
-    ∙ ap (λ n. chunks_of n (stream_to sender receiver.number (emitted_rows sender.role p)) out.link.kept.ended) sends.size
-    ∙ ap (λ b. chunks_of sender.size (stream_to sender receiver.number (emitted_rows sender.role p)) b) sends.over
+    ∙ ap (λ n. chunks_of n (stream_to sender receiver.number (emitted_rows sender.role p)) out.link.kept.ended) sends.batch_size
+    ∙ ap (λ b. chunks_of sender.batch_size (stream_to sender receiver.number (emitted_rows sender.role p)) b) sends.over
 
 pub settled-at : (from to from_now to_now : WorkerState) → Passed true from to from_now to_now → AreSettledAt from_now to_now
 settled-at from to from_now to_now h =
     let s = h.passes.settles in
     let j = h.passes.j in
     let k = h.passes.k in
-    let now : Receiver = record (get_or from.outs j s.out) { link = s.out.link } in
-    let then_in : Sender = record (get_or to.ins k s.into) { link = s.into.link } in
+    let now : Downstream = record (get_or from.outs j s.out) { link = s.out.link } in
+    let then_in : Upstream = record (get_or to.ins k s.into) { link = s.into.link } in
     let j_within : j < length from_now.outs = rw (s.outs_is, length-set) h.passes.j_within in
     let k_within : k < length to_now.ins = rw (s.ins_is, length-set) h.passes.k_within in
-    let out_is : (d : Receiver) → get_or from_now.outs j d ≡ now = λ d. ap (λ l. get_or l j d) s.outs_is ∙ get_or-set_same from.outs j now d h.passes.j_within in
-    let in_is : (d : Sender) → get_or to_now.ins k d ≡ then_in = λ d. ap (λ l. get_or l k d) s.ins_is ∙ get_or-set_same to.ins k then_in d h.passes.k_within in
+    let out_is : (d : Downstream) → get_or from_now.outs j d ≡ now = λ d. ap (λ l. get_or l j d) s.outs_is ∙ get_or-set_same from.outs j now d h.passes.j_within in
+    let in_is : (d : Upstream) → get_or to_now.ins k d ≡ then_in = λ d. ap (λ l. get_or l k d) s.ins_is ∙ get_or-set_same to.ins k then_in d h.passes.k_within in
     record {
       j = j;
       k = k;
@@ -227,25 +227,25 @@ settled-at from to from_now to_now h =
       places = record {
         j_within = j_within;
         k_within = k_within;
-        to_is = λ d. ap (λ (r : Receiver). r.to) (out_is d) ∙ h.passes.to_is s.out ∙ sym (ap (λ (w : WorkerState). w.number) h.to_only);
-        from_is = λ d. ap (λ (r : Sender). r.from) (in_is d) ∙ h.passes.from_is s.into ∙ sym (ap (λ (w : WorkerState). w.number) h.from_only);
+        to_is = λ d. ap (λ (r : Downstream). r.to) (out_is d) ∙ h.passes.to_is s.out ∙ sym (ap (λ (w : WorkerState). w.number) h.to_only);
+        from_is = λ d. ap (λ (r : Upstream). r.from) (in_is d) ∙ h.passes.from_is s.into ∙ sym (ap (λ (w : WorkerState). w.number) h.from_only);
       };
       settled = s.settled refl;
     }
 
 -- the ends of their link, whatever room there is
-pub ends-of : (from to : WorkerState) (outs : List Receiver) → from.outs ≡ map without_room outs → AreJoined from to → AreEndsOf from.number to.number outs to.ins
+pub ends-of : (from to : WorkerState) (outs : List Downstream) → from.outs ≡ map without_room outs → AreJoined from to → AreEndsOf from.number to.number outs to.ins
 unfolding AreJoined
 ends-of from to outs is joined j k one other j_less k_less to_is from_is =
-    let here : (d : Receiver) → get_or from.outs j d ≡ without_room (get_or outs j one) = λ d. ap (λ l. get_or l j d) is ∙ map-at without_room outs j one d j_less in
-    let there : (d : Sender) → get_or to.ins k d ≡ get_or to.ins k other = λ d. get_or-any to.ins k d other k_less in
+    let here : (d : Downstream) → get_or from.outs j d ≡ without_room (get_or outs j one) = λ d. ap (λ l. get_or l j d) is ∙ map-at without_room outs j one d j_less in
+    let there : (d : Upstream) → get_or to.ins k d ≡ get_or to.ins k other = λ d. get_or-any to.ins k d other k_less in
     let places : IsLinkAt from to j k = record {
       j_within = rw (is, map-length) j_less;
       k_within = k_less;
-      to_is = λ d. ap (λ (r : Receiver). r.to) (here d) ∙ to_is;
-      from_is = λ d. ap (λ (r : Sender). r.from) (there d) ∙ from_is;
+      to_is = λ d. ap (λ (r : Downstream). r.to) (here d) ∙ to_is;
+      from_is = λ d. ap (λ (r : Upstream). r.from) (there d) ∙ from_is;
     } in
-    subst (λ (r : Receiver). AreLinked r.link (get_or to.ins k other).link) (here one) (joined j k places one other)
+    subst (λ (r : Downstream). AreLinked r.link (get_or to.ins k other).link) (here one) (joined j k places one other)
 
 -- ---- they stay joined
 
@@ -261,8 +261,8 @@ pairwise-at R (x ∷ xs) (y ∷ ys) (suc k) d e less h = pairwise-at R xs ys k d
 pub joined-still : (from to from_now to_now : WorkerState) → AreJoined from to → HasSameEnds from from_now → HasSameEnds to to_now → AreJoined from_now to_now
 unfolding AreJoined
 joined-still from to from_now to_now joined out_ends in_ends j k places one other =
-    let outs : (d e : Receiver) → IsSameReceiver (get_or from.outs j d) (get_or from_now.outs j e) = λ d e. pairwise-at IsSameReceiver from.outs from_now.outs j d e places.j_within out_ends.outs in
-    let ins : (d e : Sender) → IsSameSender (get_or to.ins k d) (get_or to_now.ins k e) = λ d e. pairwise-at IsSameSender to.ins to_now.ins k d e places.k_within in_ends.ins in
+    let outs : (d e : Downstream) → IsSameReceiver (get_or from.outs j d) (get_or from_now.outs j e) = λ d e. pairwise-at IsSameReceiver from.outs from_now.outs j d e places.j_within out_ends.outs in
+    let ins : (d e : Upstream) → IsSameSender (get_or to.ins k d) (get_or to_now.ins k e) = λ d e. pairwise-at IsSameSender to.ins to_now.ins k d e places.k_within in_ends.ins in
     let before : IsLinkAt from to j k = record {
       j_within = let same = pairwise-length IsSameReceiver from.outs from_now.outs out_ends.outs in let less = places.j_within in omega arith;
       k_within = let same = pairwise-length IsSameSender to.ins to_now.ins in_ends.ins in let less = places.k_within in omega arith;

@@ -10,7 +10,7 @@ use Rattle.amber_meaning.specs.Task.{Task, is_builder}
 use Rattle.amber_link.specs.Links.{GivesBatches, HasGiven}
 use Rattle.amber_link.specs.Sides.{AreLooked, IsLooked, Pairwise}
 use Rattle.amber_link.proofs.LinkEnds.{taken-gives, taken-looked}
-use Rattle.amber_link.specs.declared.senders.Sender.{Sender}
+use Rattle.amber_link.specs.declared.upstreams.Upstream.{Upstream}
 use Rattle.amber_worker.specs.AtPosition.{ReceiveAll, Receives}
 
 -- ---- the batches of one sender
@@ -56,7 +56,7 @@ turned a b h = by (eqb b a) refl
     by true e = let same : b ≡ a = eqb-true b a e in absurd (false≢true (sym h ∙ eq-eqb a b (sym same)))
     by false e = refl
 
-receives-other : (taken : List Taken) (from sender : ℕ) (had : List Batch) (batch : Batch) (one : Sender) → eqb from sender ≡ false → Receives sender had taken one
+receives-other : (taken : List Taken) (from sender : ℕ) (had : List Batch) (batch : Batch) (one : Upstream) → eqb from sender ≡ false → Receives sender had taken one
     → Receives sender had (taken ++ as_taken from batch ∷ []) one
 receives-other taken from sender had batch one other h = record {
   from = h.from;
@@ -65,7 +65,7 @@ receives-other taken from sender had batch one other h = record {
   come = subst (λ batches. HasGiven one.link had batches) (sym (taken_from-other taken from sender batch other)) h.come;
 }
 
-receive_all-other : (had : ℕ → List Batch) (taken : List Taken) (from : ℕ) (batch : Batch) (senders : List ℕ) (ins : List Sender) → list_any (λ other. eqb other from) senders ≡ false
+receive_all-other : (had : ℕ → List Batch) (taken : List Taken) (from : ℕ) (batch : Batch) (senders : List ℕ) (ins : List Upstream) → list_any (λ other. eqb other from) senders ≡ false
     → ReceiveAll senders had taken ins → ReceiveAll senders had (taken ++ as_taken from batch ∷ []) ins
 unfolding ReceiveAll
 receive_all-other had taken from batch [] [] other h = tt
@@ -76,7 +76,7 @@ receive_all-other had taken from batch (sender ∷ senders) (one ∷ ins) other 
     (receives-other taken from sender (had sender) batch one (turned sender from parts.0) h.0, h.1, receive_all-other had taken from batch senders ins parts.1 h.2)
 
 -- one of these is a sender
-pub is-sender : (had : ℕ → List Batch) (taken : List Taken) (senders : List ℕ) (front back : List Sender) (one : Sender) → ReceiveAll senders had taken (front ++ one ∷ back)
+pub is-sender : (had : ℕ → List Batch) (taken : List Taken) (senders : List ℕ) (front back : List Upstream) (one : Upstream) → ReceiveAll senders had taken (front ++ one ∷ back)
     → list_any (λ other. eqb other one.from) senders ≡ true
 unfolding ReceiveAll
 is-sender had taken [] [] back one h = absurd h
@@ -84,7 +84,7 @@ is-sender had taken [] (first ∷ front) back one h = absurd h
 is-sender had taken (sender ∷ senders) [] back one h = or_left _ _ (eq-eqb sender one.from (sym h.0.from))
 is-sender had taken (sender ∷ senders) (first ∷ front) back one h = or_right _ _ (is-sender had taken senders front back one h.2)
 
-its-own : (taken : List Taken) (sender : ℕ) (had : List Batch) (one : Sender) → Receives sender had taken one → Receives one.from had taken one
+its-own : (taken : List Taken) (sender : ℕ) (had : List Batch) (one : Upstream) → Receives sender had taken one → Receives one.from had taken one
 its-own taken sender had one h = record {
   from = refl;
   taken = h.taken ∙ ap (λ n. length (taken_from taken n)) (sym h.from);
@@ -93,7 +93,7 @@ its-own taken sender had one h = record {
 }
 
 -- what is kept of it is of its own number
-pub is-received : (had : ℕ → List Batch) (taken : List Taken) (senders : List ℕ) (front back : List Sender) (one : Sender) → ReceiveAll senders had taken (front ++ one ∷ back)
+pub is-received : (had : ℕ → List Batch) (taken : List Taken) (senders : List ℕ) (front back : List Upstream) (one : Upstream) → ReceiveAll senders had taken (front ++ one ∷ back)
     → Receives one.from (had one.from) taken one
 unfolding ReceiveAll
 is-received had taken [] [] back one h = absurd h
@@ -102,7 +102,7 @@ is-received had taken (sender ∷ senders) [] back one h = subst (λ n. Receives
 is-received had taken (sender ∷ senders) (first ∷ front) back one h = is-received had taken senders front back one h.2
 
 -- those before it are others
-before-others : (had : ℕ → List Batch) (taken : List Taken) (sender : ℕ) (senders : List ℕ) (front back : List Sender) (one : Sender) → list_any (λ other. eqb other sender) senders ≡ false
+before-others : (had : ℕ → List Batch) (taken : List Taken) (sender : ℕ) (senders : List ℕ) (front back : List Upstream) (one : Upstream) → list_any (λ other. eqb other sender) senders ≡ false
     → ReceiveAll senders had taken (front ++ one ∷ back) → eqb sender one.from ≡ false
 before-others had taken sender senders front back one apart h = by (eqb sender one.from) refl
   where
@@ -123,19 +123,19 @@ marked-more (first ∷ batches) batch h =
     rw parts.0 (marked-more batches batch parts.1)
 
 -- its next batch was taken
-receives-next : (taken : List Taken) (sender : ℕ) (had : List Batch) (one now : Sender) (batch : Batch) → one.ended ≡ false → GivesBatches one.link (batch ∷ []) now.link
+receives-next : (taken : List Taken) (sender : ℕ) (had : List Batch) (one now : Upstream) (batch : Batch) → one.ended ≡ false → GivesBatches one.link (batch ∷ []) now.link
     → now ≡ record one { taken = one.taken + 1; ended = batch.last; link = now.link } → Receives sender had taken one → Receives sender had (taken ++ as_taken sender batch ∷ []) now
 receives-next taken sender had one now batch unended gives is h =
     let before = h.taken in
-    let next : now.taken ≡ one.taken + 1 = ap (λ (s : Sender). s.taken) is in
+    let next : now.taken ≡ one.taken + 1 = ap (λ (s : Upstream). s.taken) is in
     record {
-      from = ap (λ (s : Sender). s.from) is ∙ h.from;
+      from = ap (λ (s : Upstream). s.from) is ∙ h.from;
       taken = rw (taken_from-same taken sender batch) (omega (arith, length-append (taken_from taken sender) (batch ∷ [])));
-      ended = ap (λ (s : Sender). s.ended) is ∙ rw (taken_from-same taken sender batch) (sym (marked-more (taken_from taken sender) batch (sym h.ended ∙ unended)));
+      ended = ap (λ (s : Upstream). s.ended) is ∙ rw (taken_from-same taken sender batch) (sym (marked-more (taken_from taken sender) batch (sym h.ended ∙ unended)));
       come = subst (λ batches. HasGiven now.link had batches) (sym (taken_from-same taken sender batch)) (taken-gives one.link now.link had (taken_from taken sender) (batch ∷ []) gives h.come);
     }
 
-pub receive_all-next : (had : ℕ → List Batch) (taken : List Taken) (senders : List ℕ) (front back : List Sender) (one now : Sender) (batch : Batch) → one.ended ≡ false
+pub receive_all-next : (had : ℕ → List Batch) (taken : List Taken) (senders : List ℕ) (front back : List Upstream) (one now : Upstream) (batch : Batch) → one.ended ≡ false
     → GivesBatches one.link (batch ∷ []) now.link → now ≡ record one { taken = one.taken + 1; ended = batch.last; link = now.link }
     → ReceiveAll senders had taken (front ++ one ∷ back) → ReceiveAll senders had (taken ++ as_taken one.from batch ∷ []) (front ++ now ∷ back)
 unfolding ReceiveAll
@@ -155,15 +155,15 @@ receive_all-next had taken (sender ∷ senders) (first ∷ front) back one now b
 
 -- ---- looks
 
-receives-looked : (sender : ℕ) (had : List Batch) (taken : List Taken) (one now : Sender) → IsLooked one now → Receives sender had taken one → Receives sender had taken now
+receives-looked : (sender : ℕ) (had : List Batch) (taken : List Taken) (one now : Upstream) → IsLooked one now → Receives sender had taken one → Receives sender had taken now
 receives-looked sender had taken one now looked h = record {
-  from = ap (λ (s : Sender). s.from) looked.only ∙ h.from;
-  taken = ap (λ (s : Sender). s.taken) looked.only ∙ h.taken;
-  ended = ap (λ (s : Sender). s.ended) looked.only ∙ h.ended;
+  from = ap (λ (s : Upstream). s.from) looked.only ∙ h.from;
+  taken = ap (λ (s : Upstream). s.taken) looked.only ∙ h.taken;
+  ended = ap (λ (s : Upstream). s.ended) looked.only ∙ h.ended;
   come = taken-looked one.link now.link had (taken_from taken sender) looked.gives h.come;
 }
 
-pub receive_all-looked : (had : ℕ → List Batch) (taken : List Taken) (senders : List ℕ) (ins found : List Sender) → AreLooked ins found → ReceiveAll senders had taken ins → ReceiveAll senders had taken found
+pub receive_all-looked : (had : ℕ → List Batch) (taken : List Taken) (senders : List ℕ) (ins found : List Upstream) → AreLooked ins found → ReceiveAll senders had taken ins → ReceiveAll senders had taken found
 unfolding ReceiveAll Pairwise
 receive_all-looked had taken senders [] [] looked h = h
 receive_all-looked had taken senders [] (now ∷ found) looked h = absurd looked
@@ -172,13 +172,13 @@ receive_all-looked had taken [] (one ∷ ins) (now ∷ found) looked h = absurd 
 receive_all-looked had taken (sender ∷ senders) (one ∷ ins) (now ∷ found) looked h =
     (receives-looked sender (had sender) taken one now looked.0 h.0, h.1, receive_all-looked had taken senders ins found looked.1 h.2)
 
-pub sides-looked : (task : Task) (ins found : List Sender) → AreLooked ins found → All (λ one. one.builds ≡ is_builder task one.from) ins
+pub sides-looked : (task : Task) (ins found : List Upstream) → AreLooked ins found → All (λ one. one.builds ≡ is_builder task one.from) ins
     → All (λ one. one.builds ≡ is_builder task one.from) found
 unfolding Pairwise
 sides-looked task [] [] looked sides = λ k d less. absurd (omega arith)
 sides-looked task [] (now ∷ found) looked sides = absurd looked
 sides-looked task (one ∷ ins) [] looked sides = absurd looked
 sides-looked task (one ∷ ins) (now ∷ found) looked sides =
-    All-cons (λ (s : Sender). s.builds ≡ is_builder task s.from) now found
-    (ap (λ (s : Sender). s.builds) looked.0.only ∙ sides 0 one (omega arith) ∙ ap (λ (s : Sender). is_builder task s.from) (sym looked.0.only))
+    All-cons (λ (s : Upstream). s.builds ≡ is_builder task s.from) now found
+    (ap (λ (s : Upstream). s.builds) looked.0.only ∙ sides 0 one (omega arith) ∙ ap (λ (s : Upstream). is_builder task s.from) (sym looked.0.only))
     (sides-looked task ins found looked.1 (λ k d less. sides (suc k) d (omega arith)))

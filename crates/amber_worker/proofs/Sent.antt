@@ -11,7 +11,7 @@ use Rattle.amber_rows.specs.declared.batch.Batch.{Batch}
 use Rattle.amber_link.specs.Links.{Forwards, OutCarries}
 use Rattle.amber_link.specs.Outgoing.{Adds, Carries, Outgoing}
 use Rattle.amber_link.specs.Sides.{AreEnded, IsEnded, HandsOn, Pairwise}
-use Rattle.amber_link.specs.declared.receivers.Receiver.{Receiver}
+use Rattle.amber_link.specs.declared.downstreams.Downstream.{Downstream}
 use Rattle.amber_link.proofs.LinkEnds.{carries-forwards}
 use Rattle.amber_worker.specs.Links.{IsHandedOn}
 use Rattle.amber_worker.specs.AtPosition.{Output, Placement, SendAll, Sends, stream_to}
@@ -29,16 +29,16 @@ turned a b h = by (eqb b a) refl
 
 -- ---- which receivers there are
 
-pub sends-to-all : (placement : Placement) (receivers : List ℕ) (output : Output) (outs : List Receiver) (receiver : ℕ)
-    → SendAll placement receivers output outs → list_any (λ (one : Receiver). eqb one.to receiver) outs ≡ list_any (λ one. eqb one receiver) receivers
+pub sends-to-all : (placement : Placement) (receivers : List ℕ) (output : Output) (outs : List Downstream) (receiver : ℕ)
+    → SendAll placement receivers output outs → list_any (λ (one : Downstream). eqb one.to receiver) outs ≡ list_any (λ one. eqb one receiver) receivers
 unfolding SendAll
 sends-to-all placement [] output [] receiver h = refl
 sends-to-all placement [] output (one ∷ outs) receiver h = absurd h
 sends-to-all placement (first ∷ more) output [] receiver h = absurd h
 sends-to-all placement (first ∷ more) output (one ∷ outs) receiver h = rw (h.0.to, sends-to-all placement more output outs receiver h.2)
 
-is-receiver : (placement : Placement) (receivers : List ℕ) (output : Output) (outs : List Receiver) (i : ℕ) → i < length outs → (n : ℕ)
-    → ((d : Receiver) → (get_or outs i d).to ≡ n) → SendAll placement receivers output outs → list_any (λ other. eqb other n) receivers ≡ true
+is-receiver : (placement : Placement) (receivers : List ℕ) (output : Output) (outs : List Downstream) (i : ℕ) → i < length outs → (n : ℕ)
+    → ((d : Downstream) → (get_or outs i d).to ≡ n) → SendAll placement receivers output outs → list_any (λ other. eqb other n) receivers ≡ true
 unfolding SendAll
 is-receiver placement [] output [] i less n own h = absurd (omega arith)
 is-receiver placement [] output (one ∷ outs) i less n own h = absurd h
@@ -64,21 +64,21 @@ stream-there : (placement : Placement) (receiver : ℕ) (rows : List (List Value
 stream-there placement receiver rows row other =
     filter-append (λ (one : List Value). eqb (placement.route one) receiver) rows (row ∷ []) ∙ ap (λ l. stream_to placement receiver rows ++ l) (rw other refl) ∙ append-nil (stream_to placement receiver rows)
 
-sends-other : (placement : Placement) (receiver : ℕ) (rows : List (List Value)) (row : List Value) (gave : ℕ → List Batch) (one : Receiver) → eqb (placement.route row) receiver ≡ false
+sends-other : (placement : Placement) (receiver : ℕ) (rows : List (List Value)) (row : List Value) (gave : ℕ → List Batch) (one : Downstream) → eqb (placement.route row) receiver ≡ false
     → Sends placement receiver (unended rows gave) one → Sends placement receiver (unended (rows ++ row ∷ []) gave) one
 sends-other placement receiver rows row gave one other h = record {
   to = h.to;
-  size = h.size;
+  batch_size = h.batch_size;
   over = h.over;
   carries = subst (λ stream. OutCarries one.link (gave receiver) stream) (sym (stream-there placement receiver rows row other)) h.carries;
 }
 
-sends-more : (placement : Placement) (receiver : ℕ) (rows : List (List Value)) (row : List Value) (gave : ℕ → List Batch) (one now : Receiver) → placement.route row ≡ receiver
+sends-more : (placement : Placement) (receiver : ℕ) (rows : List (List Value)) (row : List Value) (gave : ℕ → List Batch) (one now : Downstream) → placement.route row ≡ receiver
     → now.to ≡ one.to → now.link.ring ≡ one.link.ring → Adds one.link.kept row now.link.kept
     → Sends placement receiver (unended rows gave) one → Sends placement receiver (unended (rows ++ row ∷ []) gave) now
 sends-more placement receiver rows row gave one now here to ring adds h = record {
   to = to ∙ h.to;
-  size = adds.size ∙ h.size;
+  batch_size = adds.batch_size ∙ h.batch_size;
   over = adds.ended;
   carries = subst (λ stream. OutCarries now.link (gave receiver) stream) (sym (stream-here placement receiver rows row here))
       (subst (λ l. Carries now.link.kept (gave receiver ++ l) (stream_to placement receiver rows ++ row ∷ [])) (sym (ap sent ring))
@@ -86,7 +86,7 @@ sends-more placement receiver rows row gave one now here to ring adds h = record
 }
 
 -- none of these gets the row
-all-other : (placement : Placement) (receivers : List ℕ) (rows : List (List Value)) (row : List Value) (gave : ℕ → List Batch) (outs : List Receiver)
+all-other : (placement : Placement) (receivers : List ℕ) (rows : List (List Value)) (row : List Value) (gave : ℕ → List Batch) (outs : List Downstream)
     → list_any (λ other. eqb other (placement.route row)) receivers ≡ false
     → SendAll placement receivers (unended rows gave) outs → SendAll placement receivers (unended (rows ++ row ∷ []) gave) outs
 unfolding SendAll
@@ -98,8 +98,8 @@ all-other placement (receiver ∷ receivers) rows row gave (one ∷ outs) none h
     (sends-other placement receiver rows row gave one (turned receiver (placement.route row) parts.0) h.0, h.1, all-other placement receivers rows row gave outs parts.1 h.2)
 
 -- the one at this place gets it
-one-more : (placement : Placement) (receivers : List ℕ) (rows : List (List Value)) (row : List Value) (gave : ℕ → List Batch) (outs : List Receiver) (i : ℕ) (now : Receiver)
-    → i < length outs → ((d : Receiver) → (get_or outs i d).to ≡ placement.route row) → now.to ≡ (get_or outs i now).to → now.link.ring ≡ (get_or outs i now).link.ring
+one-more : (placement : Placement) (receivers : List ℕ) (rows : List (List Value)) (row : List Value) (gave : ℕ → List Batch) (outs : List Downstream) (i : ℕ) (now : Downstream)
+    → i < length outs → ((d : Downstream) → (get_or outs i d).to ≡ placement.route row) → now.to ≡ (get_or outs i now).to → now.link.ring ≡ (get_or outs i now).link.ring
     → Adds (get_or outs i now).link.kept row now.link.kept
     → SendAll placement receivers (unended rows gave) outs → SendAll placement receivers (unended (rows ++ row ∷ []) gave) (set outs i now)
 unfolding SendAll
@@ -125,7 +125,7 @@ one-more placement (receiver ∷ receivers) rows row gave (one ∷ outs) (suc i)
     by false e = refl
 
 -- the row goes to the receiver with its number
-pub send_all-row : (placement : Placement) (receivers : List ℕ) (rows : List (List Value)) (row : List Value) (gave : ℕ → List Batch) (outs after : List Receiver) (number : ℕ)
+pub send_all-row : (placement : Placement) (receivers : List ℕ) (rows : List (List Value)) (row : List Value) (gave : ℕ → List Batch) (outs after : List Downstream) (number : ℕ)
     → (0 < length receivers → number ≡ placement.route row)
     → SendAll placement receivers (unended rows gave) outs → IsHandedOn number row outs after → SendAll placement receivers (unended (rows ++ row ∷ []) gave) after
 send_all-row placement receivers rows row gave outs after number routes h handed = by handed.place handed.so
@@ -140,7 +140,7 @@ send_all-row placement receivers rows row gave outs after number routes h handed
     some-receiver (receiver ∷ receivers) e = omega arith
 
     by : (place : Option ℕ)
-        → MatchOption place ((list_any (λ (one : Receiver). eqb one.to number) outs ≡ false) × (after ≡ outs)) (λ i. HandsOn i row outs after × ((d : Receiver) → (get_or outs i d).to ≡ number))
+        → MatchOption place ((list_any (λ (one : Downstream). eqb one.to number) outs ≡ false) × (after ≡ outs)) (λ i. HandsOn i row outs after × ((d : Downstream) → (get_or outs i d).to ≡ number))
         → SendAll placement receivers (unended (rows ++ row ∷ []) gave) after
     by None (none, same) =
         subst (λ l. SendAll placement receivers (unended (rows ++ row ∷ []) gave) l) (sym same)
@@ -152,16 +152,16 @@ send_all-row placement receivers rows row gave outs after number routes h handed
 
 -- ---- the end
 
-sends-end : (placement : Placement) (receiver : ℕ) (rows : List (List Value)) (gave : ℕ → List Batch) (one now : Receiver) → Sends placement receiver (unended rows gave) one → IsEnded one now
+sends-end : (placement : Placement) (receiver : ℕ) (rows : List (List Value)) (gave : ℕ → List Batch) (one now : Downstream) → Sends placement receiver (unended rows gave) one → IsEnded one now
     → Sends placement receiver (record { rows = rows; ended = true; gave = gave }) now
 sends-end placement receiver rows gave one now h ends = record {
   to = ends.to ∙ h.to;
-  size = ends.closes.size ∙ h.size;
+  batch_size = ends.closes.batch_size ∙ h.batch_size;
   over = ends.closes.ended;
   carries = subst (λ l. Carries now.link.kept (gave receiver ++ l) (stream_to placement receiver rows)) (sym (ap sent ends.ring)) (ends.closes.each (gave receiver ++ sent one.link.ring) (stream_to placement receiver rows) h.carries);
 }
 
-pub send_all-end : (placement : Placement) (receivers : List ℕ) (rows : List (List Value)) (gave : ℕ → List Batch) (outs after : List Receiver)
+pub send_all-end : (placement : Placement) (receivers : List ℕ) (rows : List (List Value)) (gave : ℕ → List Batch) (outs after : List Downstream)
     → SendAll placement receivers (unended rows gave) outs → AreEnded outs after → SendAll placement receivers (record { rows = rows; ended = true; gave = gave }) after
 unfolding SendAll Pairwise
 send_all-end placement [] rows gave [] [] h ends = tt
@@ -175,7 +175,7 @@ send_all-end placement (receiver ∷ receivers) rows gave (one ∷ outs) (now �
 -- ---- batches go on
 
 -- at this place batches were sent
-pub send_all-sent : (placement : Placement) (receivers : List ℕ) (output : Output) (outs : List Receiver) (j : ℕ) (d out : Receiver)
+pub send_all-sent : (placement : Placement) (receivers : List ℕ) (output : Output) (outs : List Downstream) (j : ℕ) (d out : Downstream)
     → j < length outs → Forwards (get_or outs j d).link out.link
     → SendAll placement receivers output outs → SendAll placement receivers output (set outs j (record (get_or outs j d) { link = out.link }))
 unfolding SendAll
@@ -185,7 +185,7 @@ send_all-sent placement (receiver ∷ receivers) output [] j d out less sends h 
 send_all-sent placement (receiver ∷ receivers) output (one ∷ outs) zero d out less sends h = (
   record {
     to = h.0.to;
-    size = ap (λ (o : Outgoing). o.size) sends.only ∙ h.0.size;
+    batch_size = ap (λ (o : Outgoing). o.batch_size) sends.only ∙ h.0.batch_size;
     over = ap (λ (o : Outgoing). o.ended) sends.only ∙ h.0.over;
     carries = carries-forwards one.link out.link (output.gave receiver) (stream_to placement receiver output.rows) sends h.0.carries;
   },

@@ -8,8 +8,8 @@ use Rattle.amber_log.specs.declared.entry.Entry.{Entry}
 use Rattle.amber_meaning.specs.Position.{Position, Taken, steps_of, taken_from}
 use Rattle.amber_meaning.specs.Rules.{Leads}
 use Rattle.amber_meaning.specs.Task.{Task, is_builder}
-use Rattle.amber_link.specs.declared.senders.Sender.{Sender}
-use Rattle.amber_link.specs.declared.receivers.Receiver.{Receiver}
+use Rattle.amber_link.specs.declared.upstreams.Upstream.{Upstream}
+use Rattle.amber_link.specs.declared.downstreams.Downstream.{Downstream}
 use Rattle.amber_link.specs.Links.{GivesBatches}
 use Rattle.amber_link.specs.Sides.{Way}
 use Rattle.amber_link.proofs.LinkEnds.{taken-looked}
@@ -23,7 +23,7 @@ pub steps-shown : (context : Context) (w : WorkerState) (p : Position) → Shows
 steps-shown context w p shows = rw (shows.taken, shows.emitted, shows.batches, shows.finished)
 
 -- the same position is shown with other links that suit it, and another journal
-pub Shows-relinked : (context : Context) (w : WorkerState) (p : Position) (ins : List Sender) (outs : List Receiver) (journal : List Entry)
+pub Shows-relinked : (context : Context) (w : WorkerState) (p : Position) (ins : List Upstream) (outs : List Downstream) (journal : List Entry)
     → Shows context w p → ReceiveAll context.placement.role.senders context.base.had p.taken ins → All (λ one. one.builds ≡ is_builder context.placement.role.task one.from) ins
     → SendAll context.placement context.placement.receivers (output_at context p) outs
     → Shows context (record w { ins = ins; outs = outs; journal = journal }) p
@@ -37,7 +37,7 @@ Shows-relinked context w p ins outs journal shows received sides sends = record 
   sides = sides;
   builders = shows.builders;
   building = shows.building;
-  watch = shows.watch;
+  when = shows.when;
   rest = shows.rest;
   pending = shows.pending;
   taken = shows.taken;
@@ -74,8 +74,8 @@ pub receives-from : (context : Context) (w : WorkerState) (p : Position) (sender
 unfolding ReceiveAll
 receives-from context w p sender shows = by context.placement.role.senders w.ins shows.ins
   where
-    by : (senders : List ℕ) (ins : List Sender) → ReceiveAll senders context.base.had p.taken ins
-        → list_any (λ (one : Sender). eqb one.from sender) ins ≡ list_any (λ one. eqb one sender) senders
+    by : (senders : List ℕ) (ins : List Upstream) → ReceiveAll senders context.base.had p.taken ins
+        → list_any (λ (one : Upstream). eqb one.from sender) ins ≡ list_any (λ one. eqb one sender) senders
     by [] [] h = refl
     by [] (one ∷ ins) h = absurd h
     by (first ∷ more) [] h = absurd h
@@ -84,7 +84,7 @@ receives-from context w p sender shows = by context.placement.role.senders w.ins
 -- ---- batches went on
 
 -- what a worker keeps of its sender at this place
-receive_all-passed : (senders : List ℕ) (had : ℕ → List Batch) (taken : List Taken) (ins : List Sender) (k : ℕ) (d into : Sender) → k < length ins → GivesBatches (get_or ins k d).link [] into.link
+receive_all-passed : (senders : List ℕ) (had : ℕ → List Batch) (taken : List Taken) (ins : List Upstream) (k : ℕ) (d into : Upstream) → k < length ins → GivesBatches (get_or ins k d).link [] into.link
     → ReceiveAll senders had taken ins → ReceiveAll senders had taken (set ins k (record (get_or ins k d) { link = into.link }))
 unfolding ReceiveAll
 receive_all-passed [] had taken [] k d into less gives h = absurd (omega arith)
@@ -95,17 +95,17 @@ receive_all-passed (sender ∷ senders) had taken (one ∷ ins) zero d into less
 receive_all-passed (sender ∷ senders) had taken (one ∷ ins) (suc k) d into less gives h =
     (h.0, h.1, receive_all-passed senders had taken ins k d into (omega arith) gives h.2)
 
-sides-passed : (task : Task) (ins : List Sender) (k : ℕ) (d into : Sender) → k < length ins → All (λ (one : Sender). one.builds ≡ is_builder task one.from) ins
-    → All (λ (one : Sender). one.builds ≡ is_builder task one.from) (set ins k (record (get_or ins k d) { link = into.link }))
+sides-passed : (task : Task) (ins : List Upstream) (k : ℕ) (d into : Upstream) → k < length ins → All (λ (one : Upstream). one.builds ≡ is_builder task one.from) ins
+    → All (λ (one : Upstream). one.builds ≡ is_builder task one.from) (set ins k (record (get_or ins k d) { link = into.link }))
 sides-passed task [] k d into less sides = absurd (omega arith)
 sides-passed task (one ∷ ins) zero d into less sides =
-    All-cons (λ (s : Sender). s.builds ≡ is_builder task s.from) (record one { link = into.link }) ins (sides 0 one (omega arith)) (λ j e below. sides (suc j) e (omega arith))
+    All-cons (λ (s : Upstream). s.builds ≡ is_builder task s.from) (record one { link = into.link }) ins (sides 0 one (omega arith)) (λ j e below. sides (suc j) e (omega arith))
 sides-passed task (one ∷ ins) (suc k) d into less sides =
-    All-cons (λ (s : Sender). s.builds ≡ is_builder task s.from) one (set ins k (record (get_or ins k d) { link = into.link })) (sides 0 one (omega arith))
+    All-cons (λ (s : Upstream). s.builds ≡ is_builder task s.from) one (set ins k (record (get_or ins k d) { link = into.link })) (sides 0 one (omega arith))
     (sides-passed task ins k d into (omega arith) (λ j e below. sides (suc j) e (omega arith)))
 
 -- the sender stands where it stood
-pub IsAtPosition-passed_on : (all : Bool) (context : Context) (w other : WorkerState) (start p : Position) (way : Way) (outs : List Receiver) (ins : List Sender)
+pub IsAtPosition-passed_on : (all : Bool) (context : Context) (w other : WorkerState) (start p : Position) (way : Way) (outs : List Downstream) (ins : List Upstream)
     → Passes all way (record { outs = w.outs; ins = other.ins }) (record { outs = outs; ins = ins }) → IsAtPosition context w start p → IsAtPosition context (record w { outs = outs }) start p
 IsAtPosition-passed_on all context w other start p way outs ins passes stands =
     let s = passes.settles in
@@ -118,7 +118,7 @@ IsAtPosition-passed_on all context w other start p way outs ins passes stands =
     }
 
 -- and so does the receiver
-pub IsAtPosition-passed_to : (all : Bool) (context : Context) (w other : WorkerState) (start p : Position) (way : Way) (outs : List Receiver) (ins : List Sender)
+pub IsAtPosition-passed_to : (all : Bool) (context : Context) (w other : WorkerState) (start p : Position) (way : Way) (outs : List Downstream) (ins : List Upstream)
     → Passes all way (record { outs = other.outs; ins = w.ins }) (record { outs = outs; ins = ins }) → IsAtPosition context w start p → IsAtPosition context (record w { ins = ins }) start p
 IsAtPosition-passed_to all context w other start p way outs ins passes stands =
     let s = passes.settles in
@@ -128,7 +128,7 @@ IsAtPosition-passed_to all context w other start p way outs ins passes stands =
       shows = Shows-relinked context w p ins w.outs w.journal stands.shows
           (subst (λ l. ReceiveAll context.placement.role.senders context.base.had p.taken l) (sym s.ins_is)
           (receive_all-passed context.placement.role.senders context.base.had p.taken w.ins passes.k s.into s.into passes.k_within s.gives stands.shows.ins))
-          (subst (λ l. All (λ (one : Sender). one.builds ≡ is_builder context.placement.role.task one.from) l) (sym s.ins_is)
+          (subst (λ l. All (λ (one : Upstream). one.builds ≡ is_builder context.placement.role.task one.from) l) (sym s.ins_is)
           (sides-passed context.placement.role.task w.ins passes.k s.into s.into passes.k_within stands.shows.sides))
           stands.shows.outs;
     }

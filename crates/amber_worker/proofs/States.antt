@@ -14,7 +14,7 @@ use Rattle.amber_join.specs.Join.{Join}
 use Rattle.amber_meaning.specs.Task.{Arrival, Role, Task, built_of, is_builder, suiting, rows_in}
 use Rattle.amber_meaning.specs.Kinds.{closing_rows}
 use Rattle.amber_link.specs.Sides.{IsTaken, have_builders_ended}
-use Rattle.amber_link.specs.declared.senders.Sender.{Sender}
+use Rattle.amber_link.specs.declared.upstreams.Upstream.{Upstream}
 use Rattle.amber_worker.specs.Fields.{IsInOrder}
 use Rattle.amber_worker.specs.AtPosition.{DoesKind, KeepsRows}
 use Rattle.amber_worker.specs.Steps.{Becomes, Closes, GivesGroups, MayTakeRow, built_with, turned_to}
@@ -169,7 +169,7 @@ closes-batch operator_state.Sink empty false last closes = refl
 
 -- ---- in order
 
-pub may-take_row : (d : OperatorState) (building : Bool) (taken : ℕ) (ins : List Sender) → IsInOrder d building taken ins → taken < 2 ^ 40 → MayTakeRow d building
+pub may-take_row : (d : OperatorState) (building : Bool) (taken : ℕ) (ins : List Upstream) → IsInOrder d building taken ins → taken < 2 ^ 40 → MayTakeRow d building
 may-take_row operator_state.Scan building taken ins order few = tt
 may-take_row (operator_state.Filter cond) building taken ins order few = tt
 may-take_row (operator_state.Project from) building taken ins order few = tt
@@ -177,7 +177,7 @@ may-take_row (operator_state.Join state) building taken ins order few = order.0
 may-take_row (operator_state.Group state) building taken ins order few = omega arith
 may-take_row operator_state.Sink building taken ins order few = tt
 
-pub in_order-row : (d now : OperatorState) (building : Bool) (found : Option (List Value)) (taken : ℕ) (ins : List Sender) → Becomes d building found now
+pub in_order-row : (d now : OperatorState) (building : Bool) (found : Option (List Value)) (taken : ℕ) (ins : List Upstream) → Becomes d building found now
     → IsInOrder d building taken ins → IsInOrder now building (taken + 1) ins
 in_order-row operator_state.Scan now building found taken ins becomes order = subst (λ d. IsInOrder d building (taken + 1) ins) (sym becomes) tt
 in_order-row (operator_state.Filter cond) now building found taken ins becomes order = subst (λ d. IsInOrder d building (taken + 1) ins) (sym becomes) tt
@@ -191,21 +191,21 @@ in_order-row (operator_state.Group state) now building found taken ins becomes o
 in_order-row operator_state.Sink now building found taken ins becomes order = subst (λ d. IsInOrder d building (taken + 1) ins) (sym becomes) tt
 
 -- a sender of the build side that has not ended
-unbuilt : (front back : List Sender) (one : Sender) → one.builds ≡ true → one.ended ≡ false → have_builders_ended (front ++ one ∷ back) ≡ true → ⊥
+unbuilt : (front back : List Upstream) (one : Upstream) → one.builds ≡ true → one.ended ≡ false → have_builders_ended (front ++ one ∷ back) ≡ true → ⊥
 unbuilt front back one builds unended built =
-    let parts = and_parts (have_builders_ended front) _ (sym (list_all-append (λ (other : Sender). not other.builds || other.ended) front (one ∷ back)) ∙ built) in
+    let parts = and_parts (have_builders_ended front) _ (sym (list_all-append (λ (other : Upstream). not other.builds || other.ended) front (one ∷ back)) ∙ built) in
     let here = and_parts (not one.builds || one.ended) _ parts.1 in
     false≢true (rw (builds, unended) at here.0)
 
-still-built : (front back : List Sender) (one now : Sender) → one.builds ≡ false → now.builds ≡ one.builds → have_builders_ended (front ++ one ∷ back) ≡ true
+still-built : (front back : List Upstream) (one now : Upstream) → one.builds ≡ false → now.builds ≡ one.builds → have_builders_ended (front ++ one ∷ back) ≡ true
     → have_builders_ended (front ++ now ∷ back) ≡ true
 still-built front back one now probes same built =
-    let parts = and_parts (have_builders_ended front) _ (sym (list_all-append (λ (other : Sender). not other.builds || other.ended) front (one ∷ back)) ∙ built) in
+    let parts = and_parts (have_builders_ended front) _ (sym (list_all-append (λ (other : Upstream). not other.builds || other.ended) front (one ∷ back)) ∙ built) in
     let later = and_parts (not one.builds || one.ended) _ parts.1 in
-    list_all-append (λ (other : Sender). not other.builds || other.ended) front (now ∷ back)
+    list_all-append (λ (other : Upstream). not other.builds || other.ended) front (now ∷ back)
     ∙ and_from _ _ parts.0 (and_from _ _ (rw (same, probes) refl) later.1)
 
-pub in_order-batch : (d : OperatorState) (building : Bool) (taken : ℕ) (ins after : List Sender) (one : Sender) (batch : Batch) → IsTaken ins one batch after
+pub in_order-batch : (d : OperatorState) (building : Bool) (taken : ℕ) (ins after : List Upstream) (one : Upstream) (batch : Batch) → IsTaken ins one batch after
     → IsInOrder d building taken ins → IsInOrder (turned_to one.builds d) one.builds taken after
 in_order-batch operator_state.Scan building taken ins after one batch so order = tt
 in_order-batch (operator_state.Filter cond) building taken ins after one batch so order = tt
@@ -218,11 +218,11 @@ in_order-batch (operator_state.Join state) building taken ins after one batch so
     by false true e order = absurd (unbuilt so.front so.back one e so.unended (ap have_builders_ended (sym so.found) ∙ order.1 refl))
     by was false e order =
         let built : have_builders_ended ins ≡ true = rw e at so.side in
-        (refl, λ no. ap have_builders_ended so.after_it ∙ still-built so.front so.back one so.now e (ap (λ (s : Sender). s.builds) so.is) (ap have_builders_ended (sym so.found) ∙ built))
+        (refl, λ no. ap have_builders_ended so.after_it ∙ still-built so.front so.back one so.now e (ap (λ (s : Upstream). s.builds) so.is) (ap have_builders_ended (sym so.found) ∙ built))
 in_order-batch (operator_state.Group state) building taken ins after one batch so order = order
 in_order-batch operator_state.Sink building taken ins after one batch so order = tt
 
-pub in_order-settled : (d : OperatorState) (building : Bool) (taken : ℕ) (ins later : List Sender) → have_builders_ended later ≡ have_builders_ended ins
+pub in_order-settled : (d : OperatorState) (building : Bool) (taken : ℕ) (ins later : List Upstream) → have_builders_ended later ≡ have_builders_ended ins
     → IsInOrder d building taken ins → IsInOrder d building taken later
 in_order-settled operator_state.Scan building taken ins later same order = tt
 in_order-settled (operator_state.Filter cond) building taken ins later same order = tt

@@ -19,7 +19,7 @@ use Rattle.amber_meaning.specs.Produce.{closing, produce}
 use Rattle.amber_meaning.specs.Views.{taken_of}
 use Rattle.amber_link.specs.Sides.{AreLooked, IsTaken, have_all_ended, have_builders_ended}
 use Rattle.amber_worker.proofs.Settling.{Shows-relinked}
-use Rattle.amber_link.specs.declared.senders.Sender.{Sender}
+use Rattle.amber_link.specs.declared.upstreams.Upstream.{Upstream}
 use Rattle.amber_worker.specs.Fields.{row_from}
 use Rattle.amber_worker.specs.AtPosition.{Context, DoesKind, KeepsUnder, ReceiveAll, Shows}
 use Rattle.amber_worker.specs.WorkerState.{WorkerState}
@@ -66,7 +66,7 @@ no-sender (sender ∷ senders) member h e = cc
 -- ---- sides
 
 -- each sender of the build side has ended
-ended-of : (had : ℕ → List Batch) (task : Task) (taken : List Taken) (senders : List ℕ) (ins : List Sender) (sender : ℕ) → ReceiveAll senders had taken ins
+ended-of : (had : ℕ → List Batch) (task : Task) (taken : List Taken) (senders : List ℕ) (ins : List Upstream) (sender : ℕ) → ReceiveAll senders had taken ins
     → All (λ one. one.builds ≡ is_builder task one.from) ins → have_builders_ended ins ≡ true → is_builder task sender ≡ true
     → list_any (λ other. eqb other sender) senders ≡ true → has_last taken sender ≡ true
 unfolding ReceiveAll
@@ -88,7 +88,7 @@ ended-of had task taken (first ∷ senders) (one ∷ ins) sender h sides built b
         ap (λ n. has_last taken n) (sym same) ∙ sym h.0.ended ∙ (rw of_build at here)
     by here own (inr later) rest = rest later
 
-builders-ended : (had : ℕ → List Batch) (task : Task) (taken : List Taken) (senders : List ℕ) (ins : List Sender) → ReceiveAll senders had taken ins
+builders-ended : (had : ℕ → List Batch) (task : Task) (taken : List Taken) (senders : List ℕ) (ins : List Upstream) → ReceiveAll senders had taken ins
     → All (λ one. one.builds ≡ is_builder task one.from) ins
     → ((sender : ℕ) → is_builder task sender ≡ true → list_any (λ one. eqb one sender) senders ≡ true)
     → have_builders_ended ins ≡ true → have_ended task.builders taken ≡ true
@@ -97,19 +97,19 @@ builders-ended had task taken senders ins h sides builders built =
     list_all-members (has_last taken) task.builders (λ sender member. ended-of had task taken senders ins sender h sides built member (builders sender member))
 
 -- the side of the sender whose batch is taken
-side-there : (task : Task) (front back : List Sender) (one : Sender) → All (λ (other : Sender). other.builds ≡ is_builder task other.from) (front ++ one ∷ back)
+side-there : (task : Task) (front back : List Upstream) (one : Upstream) → All (λ (other : Upstream). other.builds ≡ is_builder task other.from) (front ++ one ∷ back)
     → one.builds ≡ is_builder task one.from
 side-there task [] back one sides = sides 0 one (omega arith)
 side-there task (first ∷ front) back one sides = side-there task front back one (λ k d less. sides (suc k) d (omega arith))
 
-sides-next : (task : Task) (front back : List Sender) (one now : Sender) → now.builds ≡ one.builds → now.from ≡ one.from
-    → All (λ (other : Sender). other.builds ≡ is_builder task other.from) (front ++ one ∷ back)
-    → All (λ (other : Sender). other.builds ≡ is_builder task other.from) (front ++ now ∷ back)
+sides-next : (task : Task) (front back : List Upstream) (one now : Upstream) → now.builds ≡ one.builds → now.from ≡ one.from
+    → All (λ (other : Upstream). other.builds ≡ is_builder task other.from) (front ++ one ∷ back)
+    → All (λ (other : Upstream). other.builds ≡ is_builder task other.from) (front ++ now ∷ back)
 sides-next task [] back one now builds from sides =
-    All-cons (λ (other : Sender). other.builds ≡ is_builder task other.from) now back (builds ∙ sides 0 one (omega arith) ∙ ap (is_builder task) (sym from))
+    All-cons (λ (other : Upstream). other.builds ≡ is_builder task other.from) now back (builds ∙ sides 0 one (omega arith) ∙ ap (is_builder task) (sym from))
     (λ k d less. sides (suc k) d (omega arith))
 sides-next task (first ∷ front) back one now builds from sides =
-    All-cons (λ (other : Sender). other.builds ≡ is_builder task other.from) first (front ++ now ∷ back) (sides 0 first (omega arith))
+    All-cons (λ (other : Upstream). other.builds ≡ is_builder task other.from) first (front ++ now ∷ back) (sides 0 first (omega arith))
     (sides-next task front back one now builds from (λ k d less. sides (suc k) d (omega arith)))
 
 -- all rows of a batch are of one side
@@ -119,7 +119,7 @@ one-side task from builds [] e = λ k d less. absurd (omega arith)
 one-side task from builds (row ∷ rows) e =
     All-cons (λ (other : Arrival). is_builder task other.from ≡ builds) (row_from from row) (map (row_from from) rows) e (one-side task from builds rows e)
 
-may-side : (role : Role) (taken : List Taken) (one : Sender) (built : Bool) → one.builds ≡ is_builder role.task one.from → (one.builds || built) ≡ true
+may-side : (role : Role) (taken : List Taken) (one : Upstream) (built : Bool) → one.builds ≡ is_builder role.task one.from → (one.builds || built) ≡ true
     → (built ≡ true → have_ended role.task.builders taken ≡ true) → may_take_from role taken one.from ≡ true
 may-side role taken one built own side ended = by (is_builder role.task one.from) (ap (λ b. b || built) (sym own) ∙ side)
   where
@@ -128,34 +128,34 @@ may-side role taken one built own side ended = by (is_builder role.task one.from
     by false e = ended e
 
 -- one sender has not ended
-unended-there : (front back : List Sender) (one : Sender) → one.ended ≡ false → have_all_ended (front ++ one ∷ back) ≡ false
+unended-there : (front back : List Upstream) (one : Upstream) → one.ended ≡ false → have_all_ended (front ++ one ∷ back) ≡ false
 unended-there front back one unended = by (have_all_ended (front ++ one ∷ back)) refl
   where
     by : (b : Bool) → have_all_ended (front ++ one ∷ back) ≡ b → b ≡ false
     by false e = refl
     by true e =
-        let parts = and_parts (have_all_ended front) _ (sym (list_all-append (λ (other : Sender). other.ended) front (one ∷ back)) ∙ e) in
+        let parts = and_parts (have_all_ended front) _ (sym (list_all-append (λ (other : Upstream). other.ended) front (one ∷ back)) ∙ e) in
         let here = and_parts one.ended _ parts.1 in
         absurd (false≢true (sym unended ∙ here.0))
 
 -- the facts of a batch that is taken
-record TakesOne (w : WorkerState) (one : Sender) (batch : Batch) (ins : List Sender) (last : List (List Value)) : Type 0 where
+record TakesOne (w : WorkerState) (one : Upstream) (batch : Batch) (ins : List Upstream) (last : List (List Value)) : Type 0 where
   rest : w.rest ≡ []
   pending : w.pending ≡ []
   taken_so : IsTaken w.ins one batch ins
   closes : Closes w.operator_state (eqb (length batch.rows) 0 && have_all_ended ins) last
 
-received-all : (context : Context) (w : WorkerState) (p : Position) (one : Sender) (batch : Batch) (ins : List Sender) (last : List (List Value))
+received-all : (context : Context) (w : WorkerState) (p : Position) (one : Upstream) (batch : Batch) (ins : List Upstream) (last : List (List Value))
     → Shows context w p → (takes : TakesOne w one batch ins last) → ReceiveAll context.placement.role.senders context.base.had p.taken (takes.taken_so.front ++ one ∷ takes.taken_so.back)
 received-all context w p one batch ins last shows takes = rw takes.taken_so.found at shows.ins
 
-own-side : (context : Context) (w : WorkerState) (p : Position) (one : Sender) (batch : Batch) (ins : List Sender) (last : List (List Value))
+own-side : (context : Context) (w : WorkerState) (p : Position) (one : Upstream) (batch : Batch) (ins : List Upstream) (last : List (List Value))
     → Shows context w p → TakesOne w one batch ins last → one.builds ≡ is_builder context.placement.role.task one.from
 own-side context w p one batch ins last shows takes =
     let so = takes.taken_so in
     side-there context.placement.role.task so.front so.back one (rw so.found at shows.sides)
 
-may-take : (context : Context) (w : WorkerState) (p : Position) (one : Sender) (batch : Batch) (ins : List Sender) (last : List (List Value))
+may-take : (context : Context) (w : WorkerState) (p : Position) (one : Upstream) (batch : Batch) (ins : List Upstream) (last : List (List Value))
     → Shows context w p → TakesOne w one batch ins last → IsWorking w → MayTake context.placement.role p one.from one.taken
 may-take context w p one batch ins last shows takes works =
     let so = takes.taken_so in
@@ -172,7 +172,7 @@ may-take context w p one batch ins last shows takes works =
     }
 
 -- what was handed with this batch
-fed-now : (context : Context) (w : WorkerState) (p : Position) (one : Sender) (batch : Batch) (ins : List Sender) (last : List (List Value))
+fed-now : (context : Context) (w : WorkerState) (p : Position) (one : Upstream) (batch : Batch) (ins : List Upstream) (last : List (List Value))
     → Shows context w p → TakesOne w one batch ins last
     → all_arrivals context.placement.role (p.taken ++ as_taken one.from batch ∷ []) ≡ all_arrivals context.placement.role p.taken ++ map (row_from one.from) batch.rows
 fed-now context w p one batch ins last shows takes =
@@ -189,14 +189,14 @@ all-taken context w p shows none =
     let within = shows.within in
     omega arith
 
-received-next : (context : Context) (w : WorkerState) (p : Position) (one : Sender) (batch : Batch) (ins : List Sender) (last : List (List Value))
+received-next : (context : Context) (w : WorkerState) (p : Position) (one : Upstream) (batch : Batch) (ins : List Upstream) (last : List (List Value))
     → Shows context w p → TakesOne w one batch ins last → ReceiveAll context.placement.role.senders context.base.had (p.taken ++ as_taken one.from batch ∷ []) ins
 received-next context w p one batch ins last shows takes =
     let so = takes.taken_so in
     rw so.after_it (receive_all-next context.base.had p.taken context.placement.role.senders so.front so.back one so.now batch so.unended so.gives so.is (received-all context w p one batch ins last shows takes))
 
 -- more could come before
-open-before : (context : Context) (w : WorkerState) (p : Position) (one : Sender) (batch : Batch) (ins : List Sender) (last : List (List Value))
+open-before : (context : Context) (w : WorkerState) (p : Position) (one : Upstream) (batch : Batch) (ins : List Upstream) (last : List (List Value))
     → Shows context w p → TakesOne w one batch ins last → is_complete context.placement.role p.taken (length p.constants) ≡ false
 open-before context w p one batch ins last shows takes =
     let so = takes.taken_so in
@@ -204,7 +204,7 @@ open-before context w p one batch ins last shows takes =
     (sym (all-ended context.placement.role.senders context.base.had p.taken w.ins shows.ins) ∙ ap have_all_ended so.found ∙ unended-there so.front so.back one so.unended)
 
 -- nothing more can come behind this batch
-over-is : (context : Context) (w : WorkerState) (p : Position) (one : Sender) (batch : Batch) (ins : List Sender) (last : List (List Value))
+over-is : (context : Context) (w : WorkerState) (p : Position) (one : Upstream) (batch : Batch) (ins : List Upstream) (last : List (List Value))
     → Shows context w p → TakesOne w one batch ins last
     → (eqb (length batch.rows) 0 && have_all_ended ins) ≡ is_complete context.placement.role (p.taken ++ as_taken one.from batch ∷ []) (length p.constants)
 over-is context w p one batch ins last shows takes =
@@ -219,7 +219,7 @@ over-is context w p one batch ins last shows takes =
     (same-test (length batch.rows) 0 (length p.constants) (length (all_arrivals context.placement.role (p.taken ++ as_taken one.from batch ∷ []))) (λ e. omega arith) (λ e. omega arith))
 
 -- as much was taken as before
-taken-same : (context : Context) (w : WorkerState) (p : Position) (one : Sender) (batch : Batch) (ins : List Sender) (last : List (List Value))
+taken-same : (context : Context) (w : WorkerState) (p : Position) (one : Upstream) (batch : Batch) (ins : List Upstream) (last : List (List Value))
     → Shows context w p → TakesOne w one batch ins last
     → take (length p.constants) (all_arrivals context.placement.role (p.taken ++ as_taken one.from batch ∷ [])) ≡ taken_of context.placement.role p
 taken-same context w p one batch ins last shows takes =
@@ -227,7 +227,7 @@ taken-same context w p one batch ins last shows takes =
     (take-append-le (length p.constants) (all_arrivals context.placement.role p.taken) (map (row_from one.from) batch.rows) shows.within)
 
 -- the rows that are given at the end
-last-is : (context : Context) (w : WorkerState) (p : Position) (one : Sender) (batch : Batch) (ins : List Sender) (last : List (List Value))
+last-is : (context : Context) (w : WorkerState) (p : Position) (one : Upstream) (batch : Batch) (ins : List Upstream) (last : List (List Value))
     → Shows context w p → TakesOne w one batch ins last
     → last ≡ (if is_complete context.placement.role (p.taken ++ as_taken one.from batch ∷ []) (length p.constants)
     then closing context.placement.role.task (all_arrivals context.placement.role (p.taken ++ as_taken one.from batch ∷ [])) else [])
@@ -244,7 +244,7 @@ last-is context w p one batch ins last shows takes =
     sym (taken-same context w p one batch ins last shows takes) ∙ take_all (length p.constants) (all_arrivals context.placement.role later) (omega arith))
 
 -- what was produced with this batch
-product-now : (context : Context) (w : WorkerState) (p : Position) (one : Sender) (batch : Batch) (ins : List Sender) (last : List (List Value))
+product-now : (context : Context) (w : WorkerState) (p : Position) (one : Upstream) (batch : Batch) (ins : List Upstream) (last : List (List Value))
     → Shows context w p → TakesOne w one batch ins last
     → product context.placement.role (p.taken ++ as_taken one.from batch ∷ []) p.constants ≡ product context.placement.role p.taken p.constants ++ last
 product-now context w p one batch ins last shows takes =
@@ -258,7 +258,7 @@ product-now context w p one batch ins last shows takes =
     then closing context.placement.role.task (all_arrivals context.placement.role (p.taken ++ as_taken one.from batch ∷ [])) else [])) same
     ∙ ap (λ rows. product context.placement.role p.taken p.constants ++ rows) (sym (last-is context w p one batch ins last shows takes))
 
-shows-batch_taken : (context : Context) (w : WorkerState) (p : Position) (one : Sender) (batch : Batch) (ins : List Sender) (last : List (List Value))
+shows-batch_taken : (context : Context) (w : WorkerState) (p : Position) (one : Upstream) (batch : Batch) (ins : List Upstream) (last : List (List Value))
     → Shows context w p → TakesOne w one batch ins last → Shows context (batch_taken one batch ins last w) (with_batch one.from batch p)
 shows-batch_taken context w p one batch ins last shows takes =
     let so = takes.taken_so in
@@ -279,10 +279,10 @@ shows-batch_taken context w p one batch ins last shows takes =
       state = rw taken_same (has-turned w.operator_state one.builds context.placement.role.task (taken_of context.placement.role p) shows.state);
       columns = shows.columns;
       build_columns = shows.build_columns;
-      sides = rw so.after_it (sides-next context.placement.role.task so.front so.back one so.now (ap (λ (s : Sender). s.builds) so.is) (ap (λ (s : Sender). s.from) so.is) (rw so.found at shows.sides));
+      sides = rw so.after_it (sides-next context.placement.role.task so.front so.back one so.now (ap (λ (s : Upstream). s.builds) so.is) (ap (λ (s : Upstream). s.from) so.is) (rw so.found at shows.sides));
       builders = shows.builders;
       building = one-side context.placement.role.task one.from one.builds batch.rows (sym side);
-      watch = shows.watch;
+      when = shows.when;
       rest = rw more (sym (left-behind (length p.constants) (all_arrivals context.placement.role p.taken) (map (row_from one.from) batch.rows) whole));
       pending = rw grown (sym (left-behind (length p.outcomes) (product context.placement.role p.taken p.constants) last gone));
       taken = shows.taken;
@@ -300,7 +300,7 @@ shows-batch_taken context w p one batch ins last shows takes =
     }
 
 -- wherever a worker stood, it stands once it took a batch
-pub Keeps-batch_taken : (w : WorkerState) (one : Sender) (batch : Batch) (ins : List Sender) (last : List (List Value)) → w.rest ≡ [] → w.pending ≡ []
+pub Keeps-batch_taken : (w : WorkerState) (one : Upstream) (batch : Batch) (ins : List Upstream) (last : List (List Value)) → w.rest ≡ [] → w.pending ≡ []
     → IsTaken w.ins one batch ins → one.from < 2 ^ 32 → one.taken < 2 ^ 64 → Closes w.operator_state (eqb (length batch.rows) 0 && have_all_ended ins) last
     → IsWorking w → (counted : Bool) → KeepsUnder counted w (batch_taken one batch ins last w)
 unfolding KeepsUnder
@@ -316,7 +316,7 @@ Keeps-batch_taken w one batch ins last rest pending so few small closes works co
     )
 
 -- wherever a worker stood, it stands once it looked for batches
-pub Keeps-looked : (counted : Bool) (w : WorkerState) (found : List Sender) → AreLooked w.ins found → KeepsUnder counted w (record w { ins = found })
+pub Keeps-looked : (counted : Bool) (w : WorkerState) (found : List Upstream) → AreLooked w.ins found → KeepsUnder counted w (record w { ins = found })
 unfolding KeepsUnder
 Keeps-looked counted w found looked context start p armed stands = (
   p,

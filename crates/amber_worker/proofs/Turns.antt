@@ -8,8 +8,8 @@ use Rattle.amber_meaning.specs.Position.{Restraint, no_restraint}
 use Rattle.amber_meaning.specs.Rules.{is_watched}
 use Rattle.amber_link.specs.Links.{has_some}
 use Rattle.amber_link.specs.Sides.{AreEnded, AreSameReceivers, HandsOn, IsLooked, Pairwise, have_all_ended}
-use Rattle.amber_link.specs.declared.receivers.Receiver.{Receiver}
-use Rattle.amber_link.specs.declared.senders.Sender.{Sender}
+use Rattle.amber_link.specs.declared.downstreams.Downstream.{Downstream}
+use Rattle.amber_link.specs.declared.upstreams.Upstream.{Upstream}
 use Rattle.amber_link.proofs.SameEnds.{ended-ends, handed-ends, looked-ends, receivers-same, receivers-then, senders-same, senders-then, taken-ends}
 use Rattle.amber_link.proofs.Sides.{get_or-any, looked-same, map-set-same, pairwise-refl}
 use Rattle.amber_worker.specs.AtPosition.{HasSameEnds, IsLookedAt, Keeps}
@@ -28,7 +28,7 @@ use Rattle.amber_worker.proofs.Takes.{Keeps-batch_taken, Keeps-looked}
 
 -- no condition is watched, nothing holds it back or lets it on, and no entry speaks of very many rows
 pub record IsCalm (w : WorkerState) : Type 0 where
-  pub unwatched : w.watch ≡ None
+  pub unwatched : w.when ≡ None
   pub restraint : w.restraint ≡ no_restraint
   pub few : All (λ one. rows_moved one < 2 ^ 63) w.journal
 
@@ -41,7 +41,7 @@ working w calm unfinished = record {
 }
 
 -- whatever has come
-working-looked : (w : WorkerState) (found : List Sender) → IsWorking w → IsWorking (record w { ins = found })
+working-looked : (w : WorkerState) (found : List Upstream) → IsWorking w → IsWorking (record w { ins = found })
 working-looked w found works = record { unfinished = works.unfinished; running = works.running; loose = works.loose; few = works.few }
 
 nothing : {A : Type 0} (xs : List A) → has_some xs ≡ false → xs ≡ []
@@ -52,8 +52,8 @@ no-unit : (w : WorkerState) → HasUnit false w
 no-unit w e = absurd (false≢true e)
 
 -- where no condition is watched each row is let by
-unwatched-by : (w : WorkerState) (row : List Value) → w.watch ≡ None → lets_by w row ≡ true
-unwatched-by w row e = ap (λ watch. w.restraint.waved || not (is_watched watch row)) e ∙ by w.restraint.waved
+unwatched-by : (w : WorkerState) (row : List Value) → w.when ≡ None → lets_by w row ≡ true
+unwatched-by w row e = ap (λ when. w.restraint.waved || not (is_watched when row)) e ∙ by w.restraint.waved
   where
     by : (b : Bool) → (b || true) ≡ true
     by true = refl
@@ -66,7 +66,7 @@ keeps-same old new same = subst (λ w. Keeps old w) (sym same) (Keeps-refl false
 
 pub ends-same : (old new : WorkerState) → new ≡ old → HasSameEnds old new
 ends-same old new same = subst (λ w. HasSameEnds old w) (sym same)
-    (record { ins = senders-same old.ins; outs = receivers-same old.outs; number = refl; watch = refl; route = refl })
+    (record { ins = senders-same old.ins; outs = receivers-same old.outs; number = refl; when = refl; route = refl })
 
 pub looked-none : (old new : WorkerState) → new ≡ old → IsLookedAt old new
 looked-none old new same = subst (λ w. IsLookedAt old w) (sym same) (record { looked = pairwise-refl IsLooked looked-same old.ins; only = refl })
@@ -76,7 +76,7 @@ keeps-looked old new looked = subst (λ w. Keeps old w) (sym looked.only) (Keeps
 
 pub ends-looked : (old new : WorkerState) → IsLookedAt old new → HasSameEnds old new
 ends-looked old new looked = subst (λ w. HasSameEnds old w) (sym looked.only)
-    (record { ins = looked-ends old.ins new.ins looked.looked; outs = receivers-same old.outs; number = refl; watch = refl; route = refl })
+    (record { ins = looked-ends old.ins new.ins looked.looked; outs = receivers-same old.outs; number = refl; when = refl; route = refl })
 
 -- ---- a row is emitted
 
@@ -85,11 +85,11 @@ keeps-emitted old new calm unfinished emits =
     subst (λ w. Keeps old w) (sym emits.after)
     (Keeps-row_emitted false old emits.row emits.later emits.outs emits.first emits.handed (working old calm unfinished) (no-unit old) (unwatched-by old emits.row calm.unwatched))
 
-handed-same : (number : ℕ) (row : List Value) (outs after : List Receiver) → IsHandedOn number row outs after → AreSameReceivers outs after
+handed-same : (number : ℕ) (row : List Value) (outs after : List Downstream) → IsHandedOn number row outs after → AreSameReceivers outs after
 handed-same number row outs after handed = by handed.place handed.so
   where
     by : (place : Option ℕ)
-        → MatchOption place ((list_any (λ (one : Receiver). eqb one.to number) outs ≡ false) × (after ≡ outs)) (λ i. HandsOn i row outs after × ((d : Receiver) → (get_or outs i d).to ≡ number))
+        → MatchOption place ((list_any (λ (one : Downstream). eqb one.to number) outs ≡ false) × (after ≡ outs)) (λ i. HandsOn i row outs after × ((d : Downstream) → (get_or outs i d).to ≡ number))
         → AreSameReceivers outs after
     by None so = subst (λ l. AreSameReceivers outs l) (sym so.1) (receivers-same outs)
     by (Some i) so = handed-ends i row outs after so.0
@@ -97,7 +97,7 @@ handed-same number row outs after handed = by handed.place handed.so
 pub ends-emitted : (old new : WorkerState) → EmitsRow false old new → HasSameEnds old new
 ends-emitted old new emits =
     subst (λ w. HasSameEnds old w) (sym emits.after)
-    (record { ins = senders-same old.ins; outs = handed-same (number_to old.route emits.row) emits.row old.outs emits.outs emits.handed; number = refl; watch = refl; route = refl })
+    (record { ins = senders-same old.ins; outs = handed-same (number_to old.route emits.row) emits.row old.outs emits.outs emits.handed; number = refl; when = refl; route = refl })
 
 -- ---- a row is taken
 
@@ -108,7 +108,7 @@ keeps-taken_row old new calm unfinished none takes =
 
 pub ends-taken_row : (old new : WorkerState) → TakesRow old new → HasSameEnds old new
 ends-taken_row old new takes =
-    subst (λ w. HasSameEnds old w) (sym takes.after) (record { ins = senders-same old.ins; outs = receivers-same old.outs; number = refl; watch = refl; route = refl })
+    subst (λ w. HasSameEnds old w) (sym takes.after) (record { ins = senders-same old.ins; outs = receivers-same old.outs; number = refl; when = refl; route = refl })
 
 -- ---- a batch is taken
 
@@ -131,7 +131,7 @@ ends-taken_batch old new true takes =
       ins = senders-then old.ins takes.found takes.ins (looked-ends old.ins takes.found takes.looked) (taken-ends takes.found takes.ins takes.one takes.batch takes.taken);
       outs = receivers-same old.outs;
       number = refl;
-      watch = refl;
+      when = refl;
       route = refl;
     })
 ends-taken_batch old new false looked = ends-looked old new looked
@@ -167,7 +167,7 @@ ends-then a b c one two = record {
   ins = senders-then a.ins b.ins c.ins one.ins two.ins;
   outs = receivers-then a.outs b.outs c.outs one.outs two.outs;
   number = two.number ∙ one.number;
-  watch = two.watch ∙ one.watch;
+  when = two.when ∙ one.when;
   route = two.route ∙ one.route;
 }
 
@@ -175,7 +175,7 @@ pub ends-done : (old between new : WorkerState) (ended : Bool) → IsLookedAt ol
 ends-done old between new true looked done =
     ends-then old between new (ends-looked old between looked)
     (subst (λ w. HasSameEnds between w) (sym done.after)
-    (record { ins = senders-same between.ins; outs = ended-ends between.outs done.outs done.ends; number = refl; watch = refl; route = refl }))
+    (record { ins = senders-same between.ins; outs = ended-ends between.outs done.outs done.ends; number = refl; when = refl; route = refl }))
 ends-done old between new false looked same = ends-looked old new (subst (λ w. IsLookedAt old w) (sym same) looked)
 
 -- ---- the answer
@@ -250,34 +250,34 @@ is-idle old between new ended unfinished none nothing_left looked unready all so
 -- ---- nothing is sent
 
 pub unsent-same : (old new : WorkerState) → new ≡ old → HaveSentNothing old.outs new.outs
-unsent-same old new same = ap (λ (w : WorkerState). map (λ (one : Receiver). one.link.ring) w.outs) same
+unsent-same old new same = ap (λ (w : WorkerState). map (λ (one : Downstream). one.link.ring) w.outs) same
 
 pub unsent-looked : (old new : WorkerState) → IsLookedAt old new → HaveSentNothing old.outs new.outs
-unsent-looked old new looked = ap (λ (w : WorkerState). map (λ (one : Receiver). one.link.ring) w.outs) looked.only
+unsent-looked old new looked = ap (λ (w : WorkerState). map (λ (one : Downstream). one.link.ring) w.outs) looked.only
 
-unsent-handed : (number : ℕ) (row : List Value) (outs after : List Receiver) → IsHandedOn number row outs after → HaveSentNothing outs after
+unsent-handed : (number : ℕ) (row : List Value) (outs after : List Downstream) → IsHandedOn number row outs after → HaveSentNothing outs after
 unsent-handed number row outs after handed = by handed.place handed.so
   where
     by : (place : Option ℕ)
-        → MatchOption place ((list_any (λ (one : Receiver). eqb one.to number) outs ≡ false) × (after ≡ outs)) (λ i. HandsOn i row outs after × ((d : Receiver) → (get_or outs i d).to ≡ number))
+        → MatchOption place ((list_any (λ (one : Downstream). eqb one.to number) outs ≡ false) × (after ≡ outs)) (λ i. HandsOn i row outs after × ((d : Downstream) → (get_or outs i d).to ≡ number))
         → HaveSentNothing outs after
-    by None so = ap (λ l. map (λ (one : Receiver). one.link.ring) l) so.1
+    by None so = ap (λ l. map (λ (one : Downstream). one.link.ring) l) so.1
     by (Some i) so =
         let h = so.0 in
-        ap (λ l. map (λ (one : Receiver). one.link.ring) l) h.is
-        ∙ map-set-same (λ (one : Receiver). one.link.ring) outs i h.now (λ d. h.ring ∙ ap (λ (one : Receiver). one.link.ring) (get_or-any outs i h.now d h.within))
+        ap (λ l. map (λ (one : Downstream). one.link.ring) l) h.is
+        ∙ map-set-same (λ (one : Downstream). one.link.ring) outs i h.now (λ d. h.ring ∙ ap (λ (one : Downstream). one.link.ring) (get_or-any outs i h.now d h.within))
 
 pub unsent-emitted : (old new : WorkerState) → EmitsRow false old new → HaveSentNothing old.outs new.outs
-unsent-emitted old new emits = ap (λ (w : WorkerState). map (λ (one : Receiver). one.link.ring) w.outs) emits.after ∙ unsent-handed (number_to old.route emits.row) emits.row old.outs emits.outs emits.handed
+unsent-emitted old new emits = ap (λ (w : WorkerState). map (λ (one : Downstream). one.link.ring) w.outs) emits.after ∙ unsent-handed (number_to old.route emits.row) emits.row old.outs emits.outs emits.handed
 
 pub unsent-taken_row : (old new : WorkerState) → TakesRow old new → HaveSentNothing old.outs new.outs
-unsent-taken_row old new takes = ap (λ (w : WorkerState). map (λ (one : Receiver). one.link.ring) w.outs) takes.after
+unsent-taken_row old new takes = ap (λ (w : WorkerState). map (λ (one : Downstream). one.link.ring) w.outs) takes.after
 
 pub unsent-taken_batch : (old new : WorkerState) (taken : Bool) → MatchBool taken (TakesBatch old new) (IsLookedAt old new) → HaveSentNothing old.outs new.outs
-unsent-taken_batch old new true takes = ap (λ (w : WorkerState). map (λ (one : Receiver). one.link.ring) w.outs) takes.after
+unsent-taken_batch old new true takes = ap (λ (w : WorkerState). map (λ (one : Downstream). one.link.ring) w.outs) takes.after
 unsent-taken_batch old new false looked = unsent-looked old new looked
 
-unsent-ended : (outs after : List Receiver) → AreEnded outs after → HaveSentNothing outs after
+unsent-ended : (outs after : List Downstream) → AreEnded outs after → HaveSentNothing outs after
 unfolding Pairwise
 unsent-ended [] [] h = refl
 unsent-ended [] (y ∷ ys) h = absurd h
@@ -286,7 +286,7 @@ unsent-ended (x ∷ xs) (y ∷ ys) h = rw (h.0.ring, unsent-ended xs ys h.1) ref
 
 pub unsent-done : (old between new : WorkerState) (ended : Bool) → IsLookedAt old between → MatchBool ended (Finishes between new) (new ≡ between) → HaveSentNothing old.outs new.outs
 unsent-done old between new true looked done =
-    ap (λ (w : WorkerState). map (λ (one : Receiver). one.link.ring) w.outs) done.after ∙ unsent-ended between.outs done.outs done.ends ∙ unsent-looked old between looked
+    ap (λ (w : WorkerState). map (λ (one : Downstream). one.link.ring) w.outs) done.after ∙ unsent-ended between.outs done.outs done.ends ∙ unsent-looked old between looked
 unsent-done old between new false looked same = unsent-same between new same ∙ unsent-looked old between looked
 
 -- ---- no look was made

@@ -8,7 +8,7 @@ use Rattle.amber_meaning.specs.Position.{one_if}
 use Rattle.amber_meaning.specs.Task.{Arrival}
 use Rattle.amber_meaning.specs.declared.answer.Refusal.{Refusal}
 use Rattle.amber_log.specs.declared.entry.Entry.{Entry}
-use Rattle.amber_link.specs.declared.receivers.Receiver.{Receiver}
+use Rattle.amber_link.specs.declared.downstreams.Downstream.{Downstream}
 use Rattle.amber_worker.specs.WorkerState.{WorkerState, steps_made}
 use Rattle.amber_worker.specs.Fields.{AreFew, WorkerFields, rows_moved}
 use Rattle.amber_worker.specs.declared.operator_state.OperatorState.{OperatorState}
@@ -24,11 +24,11 @@ pub same-journal : (w now : WorkerState) (journal : List Entry) → journal ≡ 
 same-journal w now journal e is = ap (λ l. record w { journal = l }) e ∙ is
 
 -- its receivers too
-pub same-outs : (w now : WorkerState) (journal : List Entry) (outs : List Receiver) → journal ≡ w.journal → outs ≡ w.outs → w ≡ now → record w { outs = outs; journal = journal } ≡ now
+pub same-outs : (w now : WorkerState) (journal : List Entry) (outs : List Downstream) → journal ≡ w.journal → outs ≡ w.outs → w ≡ now → record w { outs = outs; journal = journal } ≡ now
 same-outs w now journal outs e f is = ap (λ l. record w { outs = outs; journal = l }) e ∙ ap (λ l. record w { outs = l }) f ∙ is
 
 -- its receivers, and the rows that are pending
-pub same-emitting : (w now : WorkerState) (journal : List Entry) (outs : List Receiver) (pending : List (List Value)) → journal ≡ w.journal → outs ≡ w.outs → pending ≡ w.pending → w ≡ now
+pub same-emitting : (w now : WorkerState) (journal : List Entry) (outs : List Downstream) (pending : List (List Value)) → journal ≡ w.journal → outs ≡ w.outs → pending ≡ w.pending → w ≡ now
     → record w { pending = pending; outs = outs; journal = journal } ≡ now
 same-emitting w now journal outs pending e f g is = ap (λ l. record w { pending = l; outs = outs; journal = journal }) g ∙ same-outs w now journal outs e f is
 

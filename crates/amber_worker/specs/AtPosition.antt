@@ -2,7 +2,7 @@
 use Rattle.std.specs.Prelude.{◌≡◌, ℕ, ◌==◌, ◌<◌, ◌≤◌, List, [], ◌∷◌, length, map, filter, take, All, Option, Some, None, Result, Bool, true, false}
 use Rattle.std.specs.List.{list_any}
 use Rattle.amber_meaning.specs.Kinds.{kept_rows}
-use Rattle.amber_rows.specs.Crew.{op_of, receiver_of, receivers_of, what_at}
+use Rattle.amber_rows.specs.Topology.{op_of, receiver_of, receivers_of, what_at}
 use Rattle.amber_rows.specs.Order.{sort_rows}
 use Rattle.amber_rows.specs.declared.value.Value.{Value}
 use Rattle.amber_rows.specs.declared.batch.Batch.{Batch}
@@ -25,8 +25,8 @@ use Rattle.amber_meaning.specs.declared.view.WorkerView.{WorkerView}
 use Rattle.amber_scan.specs.declared.share.Scanned.{Scanned}
 use Rattle.amber_link.specs.Links.{HasGiven, OutCarries}
 use Rattle.amber_link.specs.Sides.{AreLooked, AreSameReceivers, AreSameSenders}
-use Rattle.amber_link.specs.declared.senders.Sender.{Sender}
-use Rattle.amber_link.specs.declared.receivers.Receiver.{Receiver}
+use Rattle.amber_link.specs.declared.upstreams.Upstream.{Upstream}
+use Rattle.amber_link.specs.declared.downstreams.Downstream.{Downstream}
 use Rattle.amber_worker.specs.Fields.{arrival_of}
 use Rattle.amber_worker.specs.Links.{number_to}
 use Rattle.amber_worker.specs.WorkerState.{WorkerState}
@@ -43,22 +43,22 @@ pub record Placement : Type 0 where
   pub role : Role
   pub receivers : List ℕ
   pub route : List Value → ℕ
-  pub size : ℕ
+  pub batch_size : ℕ
 
 -- the place of a workflow's worker, from the typed records of the scans
 unfoldable pub placement_of : List Operator → List (List (Result (List Value) RowFault)) → ℕ → ℕ → Placement
-placement_of flow records size worker = record {
+placement_of flow records batch_size worker = record {
   op = op_of flow worker;
   number = worker;
   role = role_of flow records worker;
   receivers = receivers_of flow worker;
   route = receiver_of flow worker;
-  size = size;
+  batch_size = batch_size;
 }
 
 -- the orders of a workflow's worker before any command
 unfoldable pub first_orders : List Operator → ℕ → Orders
-first_orders flow worker = record { constants = first_constants (what_at flow (op_of flow worker)); watch = None; counted = false }
+first_orders flow worker = record { constants = first_constants (what_at flow (op_of flow worker)); when = None; counted = false }
 
 -- a worker of a scan was given its share
 abbrev pub HasShare : Option (List Scanned) → Role → Type 0
@@ -104,18 +104,18 @@ pub record Context : Type 0 where
 
 -- that of a workflow's worker before any command, where nothing went through earlier links
 abbrev pub first_context : List Operator → List (List (Result (List Value) RowFault)) → ℕ → ℕ → Context
-first_context flow records size worker = record { placement = placement_of flow records size worker; orders = first_orders flow worker; base = no_base }
+first_context flow records batch_size worker = record { placement = placement_of flow records batch_size worker; orders = first_orders flow worker; base = no_base }
 
 -- what is kept of a sender: how many of its batches were taken, whether the last was, and that those that have come are those taken
 -- and those that wait
-pub record Receives (sender : ℕ) (had : List Batch) (batches : List Taken) (one : Sender) : Type 0 where
+pub record Receives (sender : ℕ) (had : List Batch) (batches : List Taken) (one : Upstream) : Type 0 where
   pub from : one.from ≡ sender
   pub taken : one.taken ≡ length (taken_from batches sender)
   pub ended : one.ended ≡ has_last batches sender
   pub come : HasGiven one.link had (taken_from batches sender)
 
 -- the same for each sender, none of whom is there twice
-unfoldable pub ReceiveAll : List ℕ → (ℕ → List Batch) → List Taken → List Sender → Type 0
+unfoldable pub ReceiveAll : List ℕ → (ℕ → List Batch) → List Taken → List Upstream → Type 0
 ReceiveAll [] had batches [] = Unit {0}
 ReceiveAll [] had batches (one ∷ more) = ⊥
 ReceiveAll (sender ∷ senders) had batches [] = ⊥
@@ -138,14 +138,14 @@ abbrev pub output_at : Context → Position → Output
 output_at context p = record { rows = emitted_rows context.placement.role p; ended = p.finished; gave = context.base.gave }
 
 -- what is kept of a receiver, where this was sent: its link carries the batches of the rows that go there
-pub record Sends (placement : Placement) (receiver : ℕ) (output : Output) (one : Receiver) : Type 0 where
+pub record Sends (placement : Placement) (receiver : ℕ) (output : Output) (one : Downstream) : Type 0 where
   pub to : one.to ≡ receiver
-  pub size : one.link.kept.size ≡ placement.size
+  pub batch_size : one.link.kept.batch_size ≡ placement.batch_size
   pub over : one.link.kept.ended ≡ output.ended
   pub carries : OutCarries one.link (output.gave receiver) (stream_to placement receiver output.rows)
 
 -- the same for each receiver, none of whom is there twice
-unfoldable pub SendAll : Placement → List ℕ → Output → List Receiver → Type 0
+unfoldable pub SendAll : Placement → List ℕ → Output → List Downstream → Type 0
 SendAll placement [] output [] = Unit {0}
 SendAll placement [] output (one ∷ more) = ⊥
 SendAll placement (receiver ∷ receivers) output [] = ⊥
@@ -166,7 +166,7 @@ pub record Shows (context : Context) (w : WorkerState) (p : Position) : Type 0 w
   pub sides : All (λ one. one.builds ≡ is_builder context.placement.role.task one.from) w.ins
   pub builders : (sender : ℕ) → is_builder context.placement.role.task sender ≡ true → list_any (λ one. one == sender) context.placement.role.senders ≡ true
   pub building : All (λ one. is_builder context.placement.role.task one.from ≡ w.building) w.rest
-  pub watch : w.watch ≡ context.orders.watch
+  pub when : w.when ≡ context.orders.when
   pub rest : w.rest ≡ rest_of context.placement.role p
   pub pending : w.pending ≡ pending_rows context.placement.role p
   pub taken : w.taken ≡ length p.constants
@@ -207,7 +207,7 @@ pub record HasSameEnds (old new : WorkerState) : Type 0 where
   pub ins : AreSameSenders old.ins new.ins
   pub outs : AreSameReceivers old.outs new.outs
   pub number : new.number ≡ old.number
-  pub watch : new.watch ≡ old.watch
+  pub when : new.when ≡ old.when
   pub route : new.route ≡ old.route
 
 -- ---- what a worker gives

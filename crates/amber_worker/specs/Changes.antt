@@ -15,7 +15,7 @@ use Rattle.amber_worker.specs.declared.operator_state.OperatorState.TheVariants 
 -- a new worker stands at the beginning, where its share is that of some records
 unfoldable pub StandsNew : NewWorker → WorkerState → Type 0
 StandsNew new made = (records : List (List (Result (List Value) RowFault))) → HasShare new.share (role_of new.flow records new.number)
-    → IsAtPosition (first_context new.flow records new.size new.number) made origin origin
+    → IsAtPosition (first_context new.flow records new.batch_size new.number) made origin origin
 
 -- a turn begins with a look for a batch: the worker goes on, and has neither a row that is pending nor one that was handed and not
 -- taken

@@ -7,14 +7,14 @@ use Rattle.amber_meaning.specs.Position.{Restraint, one_if, no_restraint}
 use Rattle.amber_meaning.specs.Task.{Arrival}
 use Rattle.amber_scan.specs.declared.share.Scanned.{Scanned}
 use Rattle.amber_link.specs.Sides.{have_builders_ended}
-use Rattle.amber_link.specs.declared.senders.Sender.{Sender}
-use Rattle.amber_link.specs.declared.receivers.Receiver.{Receiver}
+use Rattle.amber_link.specs.declared.upstreams.Upstream.{Upstream}
+use Rattle.amber_link.specs.declared.downstreams.Downstream.{Downstream}
 use Rattle.amber_worker.specs.declared.operator_state.OperatorState.{OperatorState}
 use Rattle.amber_worker.specs.declared.operator_state.OperatorState.TheVariants as operator_state
 use Rattle.amber_worker.specs.Links.{IsSoundRoute}
 use Rattle.amber_worker.specs.declared.flags.Flags.{Flags}
 use Rattle.amber_worker.specs.declared.route.Route.{Route}
-use Rattle.amber_worker.specs.declared.taking.Rest.{Rest}
+use Rattle.amber_worker.specs.declared.taking_rows.Rest.{Rest}
 
 -- a row as it was handed by a sender
 abbrev pub row_from : ℕ → List Value → Arrival
@@ -42,7 +42,7 @@ rows_moved entry.Finish = 0
 
 -- what is kept of a join is sealed once the batches at hand are of the probe side, and then the build side has ended; a group was
 -- fed no more rows than were taken
-abbrev pub IsInOrder : OperatorState → Bool → ℕ → List Sender → Type 0
+abbrev pub IsInOrder : OperatorState → Bool → ℕ → List Upstream → Type 0
 IsInOrder operator_state.Scan building taken ins = Unit {0}
 IsInOrder (operator_state.Filter cond) building taken ins = Unit {0}
 IsInOrder (operator_state.Project from) building taken ins = Unit {0}
@@ -68,8 +68,8 @@ pub record WorkerFields : Type 0 where
   pub batches : ℕ
   pub flags : Flags
   pub finished : Bool
-  pub ins : List Sender
-  pub outs : List Receiver
+  pub ins : List Upstream
+  pub outs : List Downstream
   pub route : Route
   pub journal : List Entry
 

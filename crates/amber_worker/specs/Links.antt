@@ -5,8 +5,8 @@ use Rattle.amber_rows.specs.Routing.{key_bytes_of, route_of}
 use Rattle.amber_rows.specs.declared.value.Value.{Value}
 use Rattle.amber_link.specs.Links.{AreLinked}
 use Rattle.amber_link.specs.Sides.{HandsOn, LinkSides, Settles, Way, have_builders_ended, may_come}
-use Rattle.amber_link.specs.declared.senders.Sender.{Sender}
-use Rattle.amber_link.specs.declared.receivers.Receiver.{Receiver}
+use Rattle.amber_link.specs.declared.upstreams.Upstream.{Upstream}
+use Rattle.amber_link.specs.declared.downstreams.Downstream.{Downstream}
 use Rattle.amber_worker.specs.declared.route.Route.{Route}
 use Rattle.amber_worker.specs.declared.route.Route.TheVariants as route
 
@@ -23,15 +23,15 @@ IsSoundRoute (route.One number) = Unit {0}
 IsSoundRoute (route.ByKeys keys first workers) = (0 < workers) × (first + workers ≤ 2 ^ 32)
 
 -- a row more was pushed for the receiver with this number, if there is one
-pub record IsHandedOn (number : ℕ) (row : List Value) (outs after : List Receiver) : Type 0 where
+pub record IsHandedOn (number : ℕ) (row : List Value) (outs after : List Downstream) : Type 0 where
   pub place : Option ℕ
   pub so : MatchOption place ((list_any (λ one. one.to == number) outs ≡ false) × (after ≡ outs))
-      (λ i. HandsOn i row outs after × ((d : Receiver) → (slice_index_or outs i d).to ≡ number))
+      (λ i. HandsOn i row outs after × ((d : Downstream) → (slice_index_or outs i d).to ≡ number))
 
 -- a worker's side of output: the rows that are pending, and the receivers
 pub record OutputSide : Type 0 where
   pub pending : List (List Value)
-  pub outs : List Receiver
+  pub outs : List Downstream
 
 -- the first of the pending rows was handed on
 pub record EmitsFirst (to : Route) (old new : OutputSide) : Type 0 where
@@ -40,20 +40,20 @@ pub record EmitsFirst (to : Route) (old new : OutputSide) : Type 0 where
   pub handed : IsHandedOn (number_to to row) row old.outs new.outs
 
 -- nothing was sent: the rings of the receivers are as they were
-abbrev pub HaveSentNothing : List Receiver → List Receiver → Type 0
+abbrev pub HaveSentNothing : List Downstream → List Downstream → Type 0
 HaveSentNothing old new = map (λ one. one.link.ring) new ≡ map (λ one. one.link.ring) old
 
 -- ---- from whom a batch comes
 
 -- a batch of the sender at this place may be taken
-abbrev pub MayTakeAt : List Sender → ℕ → Type 0
-MayTakeAt ins place = (d : Sender) → may_come (have_builders_ended ins) (slice_index_or ins place d) ≡ true
+abbrev pub MayTakeAt : List Upstream → ℕ → Type 0
+MayTakeAt ins place = (d : Upstream) → may_come (have_builders_ended ins) (slice_index_or ins place d) ≡ true
 
 -- ---- the link of two workers
 
 -- what one keeps of its receiver and the other of its sender are the two ends of a link
-abbrev pub AreEndsOf : ℕ → ℕ → List Receiver → List Sender → Type 0
-AreEndsOf from to outs ins = (j k : ℕ) (one : Receiver) (other : Sender) → j < length outs → k < length ins
+abbrev pub AreEndsOf : ℕ → ℕ → List Downstream → List Upstream → Type 0
+AreEndsOf from to outs ins = (j k : ℕ) (one : Downstream) (other : Upstream) → j < length outs → k < length ins
     → (slice_index_or outs j one).to ≡ to → (slice_index_or ins k other).from ≡ from
     → AreLinked (slice_index_or outs j one).link (slice_index_or ins k other).link
 
@@ -63,6 +63,6 @@ pub record Passes (all : Bool) (way : Way) (old new : LinkSides) : Type 0 where
   pub k : ℕ
   pub j_within : j < length old.outs
   pub k_within : k < length old.ins
-  pub to_is : (one : Receiver) → (slice_index_or old.outs j one).to ≡ way.to
-  pub from_is : (one : Sender) → (slice_index_or old.ins k one).from ≡ way.from
+  pub to_is : (one : Downstream) → (slice_index_or old.outs j one).to ≡ way.to
+  pub from_is : (one : Upstream) → (slice_index_or old.ins k one).from ≡ way.from
   pub settles : Settles all (record { from = j; to = k }) old new

@@ -1,6 +1,6 @@
 -- What a new worker is made of.
 use Rattle.std.specs.Prelude.{◌≡◌, ℕ, ◌==◌, ◌<◌, All, List, [], length, map, Option, None, Bool, true, false}
-use Rattle.amber_rows.specs.Crew.{op_of, receiver_of, receivers_of, senders_of, what_at}
+use Rattle.amber_rows.specs.Topology.{op_of, receiver_of, receivers_of, senders_of, what_at}
 use Rattle.amber_rows.specs.declared.value.Value.{Value}
 use Rattle.amber_rows.specs.Columns.{columns_at}
 use Rattle.amber_rows.specs.declared.flow.Operator.{Operator}
@@ -14,14 +14,14 @@ use Rattle.rtrb.specs.Ring.{received, sent}
 use Rattle.amber_link.specs.Links.{waiting}
 use Rattle.amber_link.specs.declared.ends.Out.{Out}
 use Rattle.amber_link.specs.declared.ends.In.{In}
-use Rattle.amber_link.specs.declared.senders.Sender.{Sender}
-use Rattle.amber_link.specs.declared.receivers.Receiver.{Receiver}
+use Rattle.amber_link.specs.declared.upstreams.Upstream.{Upstream}
+use Rattle.amber_link.specs.declared.downstreams.Downstream.{Downstream}
 use Rattle.amber_link.specs.Sides.{without_room}
 use Rattle.amber_worker.specs.Links.{IsSoundRoute, number_to}
 use Rattle.amber_worker.specs.Fields.{WorkerFields, no_flags, rest_in}
 use Rattle.amber_worker.specs.WorkerState.{WorkerState, empty_worker_state}
-use Rattle.amber_worker.specs.declared.making.WorkerEnds.{WorkerEnds}
-use Rattle.amber_worker.specs.declared.making.WorkerTask.{WorkerTask}
+use Rattle.amber_worker.specs.declared.new_worker.WorkerEnds.{WorkerEnds}
+use Rattle.amber_worker.specs.declared.new_worker.WorkerTask.{WorkerTask}
 use Rattle.amber_worker.specs.declared.operator_state.OperatorState.{OperatorState}
 use Rattle.amber_worker.specs.declared.operator_state.OperatorState.TheVariants as operator_state
 
@@ -55,23 +55,23 @@ is_join (what.Group input keys aggs) = false
 is_join (what.Sink input) = false
 
 -- the numbers of ends, one by one
-abbrev pub from_of : Sender → ℕ
+abbrev pub from_of : Upstream → ℕ
 from_of one = one.from
 
-abbrev pub to_of : Receiver → ℕ
+abbrev pub to_of : Downstream → ℕ
 to_of one = one.to
 
 -- the end of a sender's link, and of a receiver's whatever room there is
-abbrev pub end_of : Sender → In
+abbrev pub end_of : Upstream → In
 end_of one = one.link
 
 abbrev pub roomless : Out → Out
 roomless out = record out { kept = record out.kept { room = 0 } }
 
-abbrev pub out_of : Receiver → Out
+abbrev pub out_of : Downstream → Out
 out_of one = one.link
 
-abbrev pub link_of : Receiver → Out
+abbrev pub link_of : Downstream → Out
 link_of one = roomless one.link
 
 -- an end of a link through which nothing went: of which nothing was taken, and into which nothing was pushed
@@ -79,7 +79,7 @@ abbrev pub IsFreshIn : In → Type 0
 IsFreshIn into = (received into.ring ≡ []) × (waiting into ≡ [])
 
 abbrev pub IsFreshOut : ℕ → Out → Type 0
-IsFreshOut size out = (sent out.ring ≡ []) × (out.kept ≡ record { size = size; made = 0; ended = false; waiting = []; partial = []; room = out.kept.room })
+IsFreshOut batch_size out = (sent out.ring ≡ []) × (out.kept ≡ record { batch_size = batch_size; made = 0; ended = false; waiting = []; partial = []; room = out.kept.room })
 
 -- whether a worker is of the build side of what an operator of this kind does
 abbrev pub builds_for : List Operator → What → ℕ → Bool
@@ -91,17 +91,17 @@ builds_for flow (what.Group input keys aggs) sender = false
 builds_for flow (what.Sink input) sender = false
 
 -- a sender of whom nothing was taken
-abbrev pub IsFreshSender : List Operator → What → Sender → Type 0
+abbrev pub IsFreshSender : List Operator → What → Upstream → Type 0
 IsFreshSender flow kind one = (one.taken ≡ 0) × (one.ended ≡ false) × (one.builds ≡ builds_for flow kind one.from)
 
-abbrev pub AreFreshSenders : List Operator → What → List Sender → Type 0
+abbrev pub AreFreshSenders : List Operator → What → List Upstream → Type 0
 AreFreshSenders flow kind ins = All (IsFreshSender flow kind) ins
 
 -- what a new worker is made of: its workflow, its own running number, the rows of a batch, and its share
 pub record NewWorker : Type 0 where
   pub flow : List Operator
   pub number : ℕ
-  pub size : ℕ
+  pub batch_size : ℕ
   pub share : Option (List Scanned)
 
 -- a worker that has done nothing
@@ -119,14 +119,14 @@ pub record IsFresh (new : NewWorker) (w : WorkerState) : Type 0 where
   pub batches : w.batches ≡ 0
   pub refused : w.refused ≡ []
   pub kept : w.kept ≡ []
-  pub watch : w.watch ≡ None
+  pub when : w.when ≡ None
   pub restraint : w.restraint ≡ no_restraint
   pub finished : w.finished ≡ false
   pub senders : map from_of w.ins ≡ senders_of new.flow new.number
   pub ins : AreFreshSenders new.flow (what_at new.flow (op_of new.flow new.number)) w.ins
   pub in_ends : All (λ one. IsFreshIn one.link) w.ins
   pub receivers : map to_of w.outs ≡ receivers_of new.flow new.number
-  pub out_ends : All (λ one. IsFreshOut new.size one.link) w.outs
+  pub out_ends : All (λ one. IsFreshOut new.batch_size one.link) w.outs
   pub route : (row : List Value) → 0 < length (receivers_of new.flow new.number) → number_to w.route row ≡ receiver_of new.flow new.number row
   pub journal : w.journal ≡ []
 

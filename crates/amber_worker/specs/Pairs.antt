@@ -5,8 +5,8 @@ use Rattle.amber_rows.specs.Lists.{IsPrefix}
 use Rattle.amber_rows.specs.declared.batch.Batch.{Batch}
 use Rattle.amber_meaning.specs.Position.{Position, emitted_rows, taken_from}
 use Rattle.amber_link.specs.Links.{AreLinked, AreSettled, Forwards, GivesBatches, waiting}
-use Rattle.amber_link.specs.declared.senders.Sender.{Sender}
-use Rattle.amber_link.specs.declared.receivers.Receiver.{Receiver}
+use Rattle.amber_link.specs.declared.upstreams.Upstream.{Upstream}
+use Rattle.amber_link.specs.declared.downstreams.Downstream.{Downstream}
 use Rattle.amber_worker.specs.AtPosition.{Context, IsAtPosition, Placement, Shows, stream_to}
 use Rattle.amber_worker.specs.WorkerState.{WorkerState}
 
@@ -15,12 +15,12 @@ use Rattle.amber_worker.specs.WorkerState.{WorkerState}
 pub record IsLinkAt (from to : WorkerState) (j k : ℕ) : Type 0 where
   pub j_within : j < length from.outs
   pub k_within : k < length to.ins
-  pub to_is : (one : Receiver) → (slice_index_or from.outs j one).to ≡ to.number
-  pub from_is : (one : Sender) → (slice_index_or to.ins k one).from ≡ from.number
+  pub to_is : (one : Downstream) → (slice_index_or from.outs j one).to ≡ to.number
+  pub from_is : (one : Upstream) → (slice_index_or to.ins k one).from ≡ from.number
 
 -- what the one keeps of the other as a receiver, and the other of the one as a sender, are the two ends of a link
 unfoldable pub AreJoined : WorkerState → WorkerState → Type 0
-AreJoined from to = (j k : ℕ) → IsLinkAt from to j k → (one : Receiver) (other : Sender)
+AreJoined from to = (j k : ℕ) → IsLinkAt from to j k → (one : Downstream) (other : Upstream)
     → AreLinked (slice_index_or from.outs j one).link (slice_index_or to.ins k other).link
 
 -- what the one has made for the other went on to it, or a part of that; nothing was taken, and nothing else has changed
@@ -28,8 +28,8 @@ pub record PassesOn (from to from_now to_now : WorkerState) : Type 0 where
   pub j : ℕ
   pub k : ℕ
   pub places : IsLinkAt from to j k
-  pub out : Receiver
-  pub into : Sender
+  pub out : Downstream
+  pub into : Upstream
   pub from_only : from_now ≡ record from { outs = slice_set from.outs j (record (slice_index_or from.outs j out) { link = out.link }) }
   pub to_only : to_now ≡ record to { ins = slice_set to.ins k (record (slice_index_or to.ins k into) { link = into.link }) }
   pub linked : AreLinked out.link into.link
@@ -41,10 +41,10 @@ pub record AreSettledAt (from to : WorkerState) : Type 0 where
   pub j : ℕ
   pub k : ℕ
   pub places : IsLinkAt from to j k
-  pub out : Receiver
-  pub into : Sender
-  pub out_is : (one : Receiver) → slice_index_or from.outs j one ≡ out
-  pub into_is : (one : Sender) → slice_index_or to.ins k one ≡ into
+  pub out : Downstream
+  pub into : Upstream
+  pub out_is : (one : Downstream) → slice_index_or from.outs j one ≡ out
+  pub into_is : (one : Upstream) → slice_index_or to.ins k one ≡ into
   pub settled : AreSettled out.link into.link
 
 -- a worker stands wherever it stood
@@ -54,7 +54,7 @@ StaysAt old new = (context : Context) (start p : Position)
 
 -- the batches that a worker makes in a position for another
 abbrev pub made_for : Placement → Position → ℕ → List Batch
-made_for placement p receiver = chunks_of placement.size (stream_to placement receiver (emitted_rows placement.role p)) p.finished
+made_for placement p receiver = chunks_of placement.batch_size (stream_to placement receiver (emitted_rows placement.role p)) p.finished
 
 -- where a worker stands: at which position, and in what context
 pub record Standing : Type 0 where
@@ -75,6 +75,6 @@ Offers from to = (one other : Standing) → AreBeside from to one other
 -- what the other has taken of the one, and what waits in its inbox, are all of them
 unfoldable pub OffersAll : WorkerState → WorkerState → Type 0
 OffersAll from to = (one other : Standing) → AreBeside from to one other
-    → (k : ℕ) (d : Sender) → k < length to.ins → (slice_index_or to.ins k d).from ≡ one.context.placement.number
+    → (k : ℕ) (d : Upstream) → k < length to.ins → (slice_index_or to.ins k d).from ≡ one.context.placement.number
     → taken_from other.position.taken one.context.placement.number ++ waiting (slice_index_or to.ins k d).link
     ≡ made_for one.context.placement one.position other.context.placement.number

@@ -10,7 +10,7 @@ use Rattle.amber_meaning.specs.Refused.{refusal_in}
 use Rattle.amber_scan.specs.declared.share.Scanned.{Scanned}
 use Rattle.amber_worker.specs.declared.operator_state.OperatorState.{OperatorState}
 use Rattle.amber_worker.specs.declared.operator_state.OperatorState.TheVariants as operator_state
-use Rattle.amber_worker.specs.declared.taking.Gains.{Gains}
+use Rattle.amber_worker.specs.declared.taking_rows.Gains.{Gains}
 use Rattle.amber_worker.specs.Steps.{Becomes, Closes, Feeds, GivesGroups, built_with, gives_if, keeps_if}
 
 -- the same lists

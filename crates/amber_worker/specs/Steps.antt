@@ -21,15 +21,15 @@ use Rattle.amber_meaning.specs.declared.view.Extra.TheVariants as extra
 use Rattle.amber_meaning.specs.declared.view.Stand.TheVariants as stand
 use Rattle.amber_meaning.specs.declared.view.WorkerView.{WorkerView}
 use Rattle.amber_link.specs.Sides.{AreEnded, AreLooked, IsTaken, have_all_ended}
-use Rattle.amber_link.specs.declared.senders.Sender.{Sender}
-use Rattle.amber_link.specs.declared.receivers.Receiver.{Receiver}
+use Rattle.amber_link.specs.declared.upstreams.Upstream.{Upstream}
+use Rattle.amber_link.specs.declared.downstreams.Downstream.{Downstream}
 use Rattle.amber_worker.specs.Fields.{row_from}
 use Rattle.amber_worker.specs.Links.{IsHandedOn, number_to}
 use Rattle.amber_worker.specs.WorkerState.{WorkerState, has_ready}
 use Rattle.amber_worker.specs.declared.operator_state.OperatorState.{OperatorState}
 use Rattle.amber_worker.specs.declared.operator_state.OperatorState.TheVariants as operator_state
-use Rattle.amber_worker.specs.declared.taking.Fate.{Fate}
-use Rattle.amber_worker.specs.declared.taking.Fate.TheVariants as fate
+use Rattle.amber_worker.specs.declared.taking_rows.Fate.{Fate}
+use Rattle.amber_worker.specs.declared.taking_rows.Fate.TheVariants as fate
 
 -- ---- rows
 
@@ -184,7 +184,7 @@ pub record TakesRow (old new : WorkerState) : Type 0 where
   pub after : new ≡ row_taken one later now last old
 
 -- a pending row was emitted, under a count with a unit of the hand
-abbrev pub row_emitted : Bool → List (List Value) → List Receiver → WorkerState → WorkerState
+abbrev pub row_emitted : Bool → List (List Value) → List Downstream → WorkerState → WorkerState
 row_emitted counted later outs w = record w {
   pending = later;
   emitted = w.emitted + 1;
@@ -197,13 +197,13 @@ row_emitted counted later outs w = record w {
 pub record EmitsRow (counted : Bool) (old new : WorkerState) : Type 0 where
   pub row : List Value
   pub later : List (List Value)
-  pub outs : List Receiver
+  pub outs : List Downstream
   pub first : old.pending ≡ row ∷ later
   pub handed : IsHandedOn (number_to old.route row) row old.outs outs
   pub after : new ≡ row_emitted counted later outs old
 
 -- a batch of this sender was taken; these rows are given at the end
-abbrev pub batch_taken : Sender → Batch → List Sender → List (List Value) → WorkerState → WorkerState
+abbrev pub batch_taken : Upstream → Batch → List Upstream → List (List Value) → WorkerState → WorkerState
 batch_taken one batch ins last w = record w {
   operator_state = turned_to one.builds w.operator_state;
   building = one.builds;
@@ -215,7 +215,7 @@ batch_taken one batch ins last w = record w {
 }
 
 -- the end was reached
-abbrev pub all_done : List Receiver → WorkerState → WorkerState
+abbrev pub all_done : List Downstream → WorkerState → WorkerState
 all_done outs w = record w {
   finished = true;
   outs = outs;
@@ -224,18 +224,18 @@ all_done outs w = record w {
 
 -- the end was reached, and all streams were ended
 pub record Finishes (old new : WorkerState) : Type 0 where
-  pub outs : List Receiver
+  pub outs : List Downstream
   pub ends : AreEnded old.outs outs
   pub after : new ≡ all_done outs old
 
 -- a batch of one of its senders was taken
 pub record TakesBatch (old new : WorkerState) : Type 0 where
-  pub one : Sender
+  pub one : Upstream
   pub batch : Batch
-  pub found : List Sender
+  pub found : List Upstream
   pub looked : AreLooked old.ins found
   pub ready : has_ready found ≡ true
-  pub ins : List Sender
+  pub ins : List Upstream
   pub taken : IsTaken found one batch ins
   pub from_small : one.from < 2 ^ 32
   pub number_small : one.taken < 2 ^ 64

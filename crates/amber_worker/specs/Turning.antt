@@ -3,7 +3,7 @@ use Rattle.std.specs.Prelude.{◌≡◌, ◌⊎◌, ℕ, List, [], ◌∷◌, �
 use Rattle.amber_log.specs.declared.entry.Entry.{Entry}
 use Rattle.amber_log.specs.declared.entry.Entry.TheVariants as entry
 use Rattle.amber_link.specs.Sides.{AreLooked}
-use Rattle.amber_link.specs.declared.senders.Sender.{Sender}
+use Rattle.amber_link.specs.declared.upstreams.Upstream.{Upstream}
 use Rattle.amber_worker.specs.AtPosition.{IsLookedAt}
 use Rattle.amber_worker.specs.Steps.{EmitsRow, Finishes, TakesBatch, TakesRow, with_go}
 use Rattle.amber_worker.specs.WorkerState.{WorkerState, next_turn}
@@ -12,7 +12,7 @@ use Rattle.amber_worker.specs.declared.turn.Turn.TheVariants as turn
 
 -- the turn that a worker makes, by what it found when it looked
 pub record IsNextTurn (old : WorkerState) (turn : Turn) : Type 0 where
-  pub found : List Sender
+  pub found : List Upstream
   pub looked : AreLooked old.ins found
   pub is : turn ≡ next_turn (record old { ins = found })
 

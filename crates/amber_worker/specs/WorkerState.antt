@@ -10,8 +10,8 @@ use Rattle.amber_meaning.specs.declared.answer.Refusal.{Refusal}
 use Rattle.amber_rows.specs.declared.cond.Cond.{Cond}
 use Rattle.amber_link.specs.Links.{has_some}
 use Rattle.amber_link.specs.Sides.{have_all_ended, have_builders_ended, may_come}
-use Rattle.amber_link.specs.declared.senders.Sender.{Sender}
-use Rattle.amber_link.specs.declared.receivers.Receiver.{Receiver}
+use Rattle.amber_link.specs.declared.upstreams.Upstream.{Upstream}
+use Rattle.amber_link.specs.declared.downstreams.Downstream.{Downstream}
 use Rattle.amber_worker.specs.declared.route.Route.{Route}
 use Rattle.amber_worker.specs.declared.route.Route.TheVariants as route
 use Rattle.amber_worker.specs.declared.operator_state.OperatorState.{OperatorState}
@@ -40,13 +40,13 @@ pub record WorkerState : Type 0 where
   pub refused : List Refusal
   pub kept : List (List Value)
   -- the condition that is watched
-  pub watch : Option Cond
+  pub when : Option Cond
   -- what holds it back, or lets it on
   pub restraint : Restraint
   pub finished : Bool
   -- its senders, its receivers, and to which of them a row goes
-  pub ins : List Sender
-  pub outs : List Receiver
+  pub ins : List Upstream
+  pub outs : List Downstream
   pub route : Route
   -- what it did since the journal was handed out
   pub journal : List Entry
@@ -67,7 +67,7 @@ empty_worker_state = record {
   batches = 0;
   refused = [];
   kept = [];
-  watch = None;
+  when = None;
   restraint = no_restraint;
   finished = false;
   ins = [];
@@ -83,7 +83,7 @@ steps_made w = w.taken + w.emitted + w.batches + one_if w.finished
 -- ---- which turn comes
 
 -- a batch may be taken: of the probe side once the build side has ended
-abbrev pub has_ready : List Sender → Bool
+abbrev pub has_ready : List Upstream → Bool
 has_ready ins = list_any (may_come (have_builders_ended ins)) ins
 
 -- the turn that a worker makes: it moves where a row is pending, where a row is left, where a batch may be taken, and where nothing

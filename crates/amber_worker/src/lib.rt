@@ -20,13 +20,13 @@ mod grouping;
 mod joining;
 mod journal;
 mod links;
-mod making;
+mod new_worker;
 pub mod operator_state;
 pub mod route;
 mod setting;
-mod shown;
-mod taking;
+mod taking_rows;
 pub mod turn;
+mod view_parts;
 pub mod worker;
 
 pub use given::Given;

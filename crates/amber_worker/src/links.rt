@@ -8,7 +8,7 @@ ghost use Rattle.amber_worker.specs.Links.{AreEndsOf, EmitsFirst, IsSoundRoute, 
 
 use crate::route::Route;
 use amber_link::{
-    Receiver, Sender, end_all, place_of, place_to, push_at, reserve_at, reserve_ends, settle_at,
+    Downstream, Upstream, end_all, place_of, place_to, push_at, reserve_at, reserve_ends, settle_at,
 };
 use amber_rows::Row;
 use std::alloc::AllocError;
@@ -18,7 +18,7 @@ use std::collections::VecDeque;
 pub(crate) fn emit_first(
     route: &Route,
     pending: &mut VecDeque<Row>,
-    outs: &mut [Receiver],
+    outs: &mut [Downstream],
 ) -> Result<(), AllocError>
     requires some { has_some pending.old.items ≡ true }
     requires routed { IsSoundRoute route.now }
@@ -52,7 +52,7 @@ pub(crate) fn emit_first(
 }
 
 // Ends all streams.
-pub(crate) fn end_streams(outs: &mut [Receiver]) -> Result<(), AllocError>
+pub(crate) fn end_streams(outs: &mut [Downstream]) -> Result<(), AllocError>
     requires few { All (λ one. one.link.kept.made < 2 ^ 40) outs.old }
     requires open { All (λ one. one.link.kept.ended ≡ false) outs.old }
     ensures ends { OnOk result
@@ -67,8 +67,8 @@ pub(crate) fn end_streams(outs: &mut [Receiver]) -> Result<(), AllocError>
 
 // Moves the batches that were made for a receiver into its inbox of this sender.
 pub(crate) fn settle_into(
-    outs: &mut [Receiver],
-    ins: &mut [Sender],
+    outs: &mut [Downstream],
+    ins: &mut [Upstream],
     from: u32,
     to: u32,
 ) -> Result<(), AllocError>

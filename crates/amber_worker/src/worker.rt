@@ -2,27 +2,27 @@
 
 ghost use Rattle.std.specs.Prelude.{All, false, true, IfNone, IfSome, is_some, map, length, nat_lt, slice_index_or, IfOk, ◌≡◌, ◌^◌, ◌<◌, ◌≤◌, ◌==◌, []};
 ghost use Rattle.std.specs.List.{list_any};
-ghost use Rattle.amber_rows.specs.Crew.{crew_of, op_of, receivers_of, senders_of, what_at};
+ghost use Rattle.amber_rows.specs.Topology.{crew_of, op_of, receivers_of, senders_of, what_at};
 ghost use Rattle.amber_rows.specs.Kinds.{is_scan};
 ghost use Rattle.amber_link.specs.Links.{has_some};
-ghost use Rattle.amber_link.specs.declared.receivers.Receiver.{Receiver as OneReceiver};
-ghost use Rattle.amber_link.specs.declared.senders.Sender.{Sender as OneSender};
+ghost use Rattle.amber_link.specs.declared.downstreams.Downstream.{Downstream as OneDownstream};
+ghost use Rattle.amber_link.specs.declared.upstreams.Upstream.{Upstream as OneUpstream};
 ghost use Rattle.amber_worker.specs.WorkerState.{steps_made};
 ghost use Rattle.amber_worker.specs.Made.{IsFreshIn, IsFreshOut, end_of, link_of, roomless};
 ghost use Rattle.amber_worker.specs.Changes.{ShowsSet, StandsAtLeg, StandsNew, wants_batch, at_leg_start, with_value};
 
 mod beginning;
-mod giving;
 mod linking;
 mod stepping;
+mod views;
 
 use crate::flags::Flags;
-use crate::making::{ends_of, task_of};
+use crate::new_worker::{ends_of, task_of};
 use crate::operator_state::OperatorState;
 use crate::route::Route;
 use crate::setting::set_value;
-use crate::taking::{Gains, Rest};
-use amber_link::{In, Out, Receiver, Sender, has_receiver, waiting_at};
+use crate::taking_rows::{Gains, Rest};
+use amber_link::{Downstream, In, Out, Upstream, has_receiver, waiting_at};
 use amber_log::{Entries, Entry};
 use amber_rows::{Flow, Schema, Value};
 use amber_scan::Share;
@@ -51,8 +51,8 @@ pub struct Worker {
     // Nothing raises one yet, as the invariant says.
     flags: Flags,
     finished: bool,
-    ins: Vec<Sender>,
-    outs: Vec<Receiver>,
+    ins: Vec<Upstream>,
+    outs: Vec<Downstream>,
     route: Route,
     journal: Vec<Entry>,
 }
@@ -105,7 +105,7 @@ impl Model for Worker {
       batches = a.batches;
       refused = a.gains.refused.items;
       kept = a.gains.kept.items;
-      watch = None;
+      when = None;
       restraint = restraint_of 0 a.flags;
       finished = a.finished;
       ins = a.ins.items;
@@ -139,21 +139,21 @@ impl Worker {
         alloc: Global,
         flow: &Flow,
         worker: u32,
-        batch: u32,
+        batch_size: u32,
         share: Option<Share>,
         outs: Vec<Out>,
         ins: Vec<In>,
     ) -> Result<Worker, AllocError>
         requires there { worker < crew_of flow.now }
-        requires some { 0 < batch }
-        requires few { batch ≤ 65536 }
+        requires some { 0 < batch_size }
+        requires few { batch_size ≤ 65536 }
         requires shared { is_some share ≡ is_scan (what_at flow.now (op_of flow.now worker)) }
         requires all_outs { length outs.items ≡ length (receivers_of flow.now worker) }
         requires all_ins { length ins.items ≡ length (senders_of flow.now worker) }
-        requires fresh_outs { All (IsFreshOut batch) outs.items }
+        requires fresh_outs { All (IsFreshOut batch_size) outs.items }
         requires fresh_ins { All IsFreshIn ins.items }
         ensures stands { IfOk result (StandsNew
-            (record { flow = flow.now; number = worker; size = batch; share = share })) }
+            (record { flow = flow.now; number = worker; batch_size = batch_size; share = share })) }
         ensures outs { IfOk result (λ made. map link_of made.outs ≡ map roomless outs.items) }
         ensures ins { IfOk result (λ made. map end_of made.ins ≡ ins.items) }
         ensures journal { IfOk result (λ made. made.journal ≡ []) }
@@ -223,7 +223,7 @@ impl Worker {
     /// The running number of the sender at a place.
     pub fn sender_at(&self, place: usize) -> u32
         requires { place < length self.now.ins }
-        ensures { (d : OneSender) → result ≡ (slice_index_or self.now.ins place d).from }
+        ensures { (d : OneUpstream) → result ≡ (slice_index_or self.now.ins place d).from }
     {
         self.ins[place].from()
     }
@@ -238,11 +238,11 @@ impl Worker {
     /// The running number of the receiver at a place, if a batch waits to be sent to it.
     pub fn waiting_at(&self, place: usize) -> Option<u32>
         requires { place < length self.now.outs }
-        ensures none { IfNone result ((d : OneReceiver)
+        ensures none { IfNone result ((d : OneDownstream)
             → has_some (slice_index_or self.now.outs place d).link.kept.waiting ≡ false) }
         ensures some { IfSome result
-            (λ to. (d : OneReceiver) → (slice_index_or self.now.outs place d).to ≡ to) }
-        ensures waits { IfSome result (λ _. (d : OneReceiver)
+            (λ to. (d : OneDownstream) → (slice_index_or self.now.outs place d).to ≡ to) }
+        ensures waits { IfSome result (λ _. (d : OneDownstream)
             → has_some (slice_index_or self.now.outs place d).link.kept.waiting ≡ true) }
     {
         waiting_at(self.outs.as_slice(), place)

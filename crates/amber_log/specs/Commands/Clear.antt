@@ -7,5 +7,5 @@ abbrev pub clear : ℕ → Effect
 clear op = record (done_at op) {
   name = codes "clear";
   words = codes "clear" ∷ [];
-  arming = record no_change { pause = TakeBack; count = TakeBack; watch = TakeBack };
+  arming = record no_change { pause = TakeBack; count = TakeBack; when = TakeBack };
 }

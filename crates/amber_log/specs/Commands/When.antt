@@ -10,5 +10,5 @@ stop_when op cond = record (done_at op) {
   name = codes "when";
   words = codes "break" ∷ codes "when" ∷ [];
   argument = Condition cond;
-  arming = record no_change { watch = Put cond };
+  arming = record no_change { when = Put cond };
 }

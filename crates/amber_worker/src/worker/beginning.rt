@@ -6,8 +6,8 @@ ghost use Rattle.amber_worker.specs.Made.{fresh_fields, fresh_worker};
 
 use super::Worker;
 use crate::flags::Flags;
-use crate::making::{WorkerEnds, WorkerTask};
-use crate::taking::{Gains, Rest};
+use crate::new_worker::{WorkerEnds, WorkerTask};
+use crate::taking_rows::{Gains, Rest};
 use amber_scan::Share;
 use std::alloc::{AllocError, Global};
 use std::collections::VecDeque;

@@ -3,7 +3,7 @@
 ghost use Rattle.std.specs.Prelude.{false, true, IfNone, IfSome, MatchBool, length, slice_index_or, IfOk, OnErr, OnOk, ◌≡◌, ◌≢◌, ◌^◌, ◌<◌, ℕ};
 ghost use Rattle.amber_link.specs.Links.{has_some};
 ghost use Rattle.amber_link.specs.Sides.{have_all_ended};
-ghost use Rattle.amber_link.specs.declared.senders.Sender.{Sender as OneSender};
+ghost use Rattle.amber_link.specs.declared.upstreams.Upstream.{Upstream as OneUpstream};
 ghost use Rattle.amber_worker.specs.WorkerState.{has_ready, steps_made};
 ghost use Rattle.amber_worker.specs.Steps.{EmitsRow, Finishes, TakesBatch, TakesRow};
 ghost use Rattle.amber_worker.specs.AtPosition.{HasSameEnds, IsLookedAt, Keeps};
@@ -14,7 +14,7 @@ ghost use Rattle.amber_worker.specs.Turning.{HasTurned, IsNextTurn};
 use super::Worker;
 use crate::journal::note_go;
 use crate::links::{emit_first, end_streams};
-use crate::taking::{close, closing_of, is_last, side_columns, take_next, turn_to};
+use crate::taking_rows::{close, closing_of, is_last, side_columns, take_next, turn_to};
 use crate::turn::Turn;
 use amber_link::{Found, have_built, have_ended, is_empty_at, ready_place, take_at};
 use amber_log::Entry;
@@ -100,7 +100,7 @@ impl Worker {
         requires may { MayTakeAt self.old.ins place }
         requires ready { has_ready self.old.ins ≡ true }
         ensures ok { OnOk result (TakesBatch self.old self.new) }
-        ensures others { OnOk result ((other : ℕ) (d : OneSender) → other ≢ place
+        ensures others { OnOk result ((other : ℕ) (d : OneUpstream) → other ≢ place
             → slice_index_or self.new.ins other d ≡ slice_index_or self.old.ins other d) }
         ensures err { OnErr result (self.new ≡ self.old) }
     {
@@ -110,17 +110,14 @@ impl Worker {
         let Found {
             from,
             builds,
-            number,
+            seq,
             batch,
         } = take_at(self.ins.as_mut_slice(), place);
         let over = have_ended(self.ins.as_slice());
         close(&mut self.gains.pending, last, over);
         turn_to(&mut self.operator_state, builds);
         self.building = builds;
-        self.journal.push_reserved(Entry::Take {
-            from,
-            batch: number,
-        });
+        self.journal.push_reserved(Entry::Take { from, batch: seq });
         self.rest.from = from;
         self.rest.rows = VecDeque::from_vec(batch.rows.into_inner());
         self.batches += 1;

@@ -1,14 +1,14 @@
 -- One receiver more is linked, or is none.
 use Rattle.std.proofs.Common.{◌≡◌, ◌++◌, ◌∷◌, [], true, false, length, rules, ap, ◌∙◌, ◌<◌, set}
 use Rattle.std.proofs.lemmas.List.{get_or_default}
-use Rattle.amber_rows.specs.Crew.{sends_to}
+use Rattle.amber_rows.specs.Topology.{sends_to}
 use Rattle.amber_dataflow.specs.Start.{ends_at}
 use Rattle.amber_dataflow.proofs.Webs.{fresh-out, gives-more, gives-none, gives-not}
 use Rattle.amber_dataflow.proofs.linking.link_sender.Goals as goal
 use Rattle.amber_dataflow.proofs.linking.link_sender.Goals.{then-sends_to+in_ok-out+in_ok-push+in_ok-push-2, else-sends_to}
 
 pub receivers-init : goal.receivers-init
-receivers-init c = record { gives = rw c.new-outs.ensures (gives-none (sends_to c.args.flow.now c.args.sender) c.args.batch c.args.ins.now) }
+receivers-init c = record { gives = rw c.new-outs.ensures (gives-none (sends_to c.args.flow.now c.args.sender) c.args.batch_size c.args.ins.now) }
 
 pub receivers-preserved : goal.receivers-preserved
 receivers-preserved c = elim c.if-sends_to.branch [
@@ -24,7 +24,7 @@ receivers-preserved c = elim c.if-sends_to.branch [
       record {
         gives = rw (longer, later)
             (gives-more _ c.receivers.outs c.receivers.ins gives w.in_ok-out.out w.in_ok-out.into sends there w.in_ok-out.ensures.linked
-            (fresh-out w.in_ok-out.out c.args.batch w.in_ok-out.ensures.none_sent w.in_ok-out.ensures.out) (w.in_ok-out.ensures.none_came, w.in_ok-out.ensures.none_known));
+            (fresh-out w.in_ok-out.out c.args.batch_size w.in_ok-out.ensures.none_sent w.in_ok-out.ensures.out) (w.in_ok-out.ensures.none_came, w.in_ok-out.ensures.none_known));
       })
   | else-sends_to w ↦ (
       let sends : sends_to c.args.flow.now c.args.sender c.receivers.receiver ≡ false = search rules in

@@ -1,6 +1,6 @@
 -- The operators so far are dealt to, and the first wrong header is that of the operators which are left.
 use Rattle.std.proofs.Common.{◌≡◌, ◌+◌, ◌<◌, ℕ, drop, take, length}
-use Rattle.amber_rows.specs.Crew.{crew_of}
+use Rattle.amber_rows.specs.Topology.{crew_of}
 use Rattle.amber_meaning.specs.Plain.{records_of, wrong_header}
 use Rattle.amber_meaning.specs.ScanFiles.{files_left}
 use Rattle.amber_dataflow.specs.Start.{share_of_worker}

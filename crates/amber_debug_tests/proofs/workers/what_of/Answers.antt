@@ -1,6 +1,6 @@
 -- The operator is looked up by its place.
 use Rattle.std.proofs.Common.{◌≡◌, ◌∙◌, ◌-◌, ◌<◌, ℕ, List, get_or, length, ap, arith}
-use Rattle.amber_rows.specs.Crew.{crew_of, op_of, what_at}
+use Rattle.amber_rows.specs.Topology.{crew_of, op_of, what_at}
 use Rattle.amber_rows.specs.declared.flow.Operator.{Operator}
 use Rattle.amber_rows.proofs.CrewFacts.{kind-there, placed}
 use Rattle.amber_debug_tests.proofs.workers.what_of.Goals as goal

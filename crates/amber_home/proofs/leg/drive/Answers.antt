@@ -1,7 +1,7 @@
 -- Each turn is a step of the worker.
 use Rattle.std.proofs.Common.{◌≡◌, ◌<◌, ◌||◌, false, refl, sym, ap, subst, ◌∙◌, add-zero, arith}
 use Rattle.std.proofs.lemmas.Bool.{false≢true, or_parts}
-use Rattle.amber_rows.specs.Crew.{crew_of, op_of}
+use Rattle.amber_rows.specs.Topology.{crew_of, op_of}
 use Rattle.amber_meaning.proofs.Crews.{op-within}
 use Rattle.amber_dataflow.specs.Dataflow.{has_finished, step_count}
 use Rattle.amber_home.specs.Leg.{is_paused}

@@ -1,6 +1,6 @@
 -- One worker after the other finishes.
 use Rattle.std.proofs.Common.{◌≡◌, refl, sym, ap, subst, ◌∙◌, ◌<◌, ◌≤◌, false, inr, arith}
-use Rattle.amber_rows.specs.Crew.{crew_of, op_of}
+use Rattle.amber_rows.specs.Topology.{crew_of, op_of}
 use Rattle.amber_dataflow.specs.Dataflow.{has_finished}
 use Rattle.amber_dataflow.proofs.Standing.{all-finished, one-finished, one-unfinished}
 use Rattle.amber_home.specs.Leg.{is_paused}

@@ -5,7 +5,7 @@ use Rattle.amber_link.proofs.outbox.reserve_spares.Given as goal
 
 abbrev pub invariant-loop : goal.invariant-loop
 invariant-loop l = record {
-  spare : AreSpare l.size l.spare.items;
+  spare : AreSpare l.batch_size l.spare.items;
   more : vec_len l.initial.spare ≤ vec_len l.spare;
   counted : l.counter ≤ vec_len l.spare;
 }

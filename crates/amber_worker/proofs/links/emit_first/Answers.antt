@@ -1,7 +1,7 @@
 -- The first row goes to its receiver.
 use Rattle.std.proofs.Common.{Some, None, ◌<◌, ◌^◌, get_or, map, refl, sym, ap, arith, ◌∙◌, subst}
 use Rattle.amber_link.specs.Sides.{HandsOn, without_room}
-use Rattle.amber_link.specs.declared.receivers.Receiver.{Receiver}
+use Rattle.amber_link.specs.declared.downstreams.Downstream.{Downstream}
 use Rattle.amber_worker.specs.Links.{number_to}
 use Rattle.amber_worker.proofs.Roomless.{same-at, same-receivers, still-all}
 use Rattle.std.proofs.lemmas.Result.{IfOk-from_err}
@@ -62,7 +62,7 @@ pub returns-in_default-place_to-clause-open : goal.returns-in_default-place_to-c
 returns-in_default-place_to-clause-open c = c.requires.«open»
 
 pub push_at-requires-clause-few : goal.push_at-requires-clause-few
-push_at-requires-clause-few c = still-all (λ (one : Receiver). one.link.kept.made < 2 ^ 40) c.args.outs.now c.reserve_at.new.outs c.reserve_at.ensures.same c.requires.few
+push_at-requires-clause-few c = still-all (λ (one : Downstream). one.link.kept.made < 2 ^ 40) c.args.outs.now c.reserve_at.new.outs c.reserve_at.ensures.same c.requires.few
 
 pub push_at-requires-clause-there : goal.push_at-requires-clause-there
 push_at-requires-clause-there c = omega (arith, c.in-Some-place_to.ensures.there, c.reserve_at.auto.outs)

@@ -1,7 +1,7 @@
 -- The link of the two places is settled.
 use Rattle.std.proofs.Common.{◌∙◌, ap}
 use Rattle.amber_link.specs.Sides.{without_room}
-use Rattle.amber_link.specs.declared.receivers.Receiver.{Receiver}
+use Rattle.amber_link.specs.declared.downstreams.Downstream.{Downstream}
 use Rattle.amber_link.proofs.Sides.{map-at, map-length}
 use Rattle.amber_worker.proofs.links.settle_into.Goals as goal
 
@@ -15,7 +15,7 @@ returns-clause-passes c = record {
   k = c.place_of-k.result;
   j_within = rw map-length c.in-Some.ensures.there;
   k_within = c.place_of-k.ensures.there;
-  to_is = λ one. ap (λ (r : Receiver). r.to) (map-at without_room c.args.outs.now c.in-Some.j one one c.in-Some.ensures.there) ∙ c.in-Some.ensures.own one;
+  to_is = λ one. ap (λ (r : Downstream). r.to) (map-at without_room c.args.outs.now c.in-Some.j one one c.in-Some.ensures.there) ∙ c.in-Some.ensures.own one;
   from_is = λ one. c.place_of-k.ensures.own one;
   settles = c.settle_at.ensures.settles;
 }

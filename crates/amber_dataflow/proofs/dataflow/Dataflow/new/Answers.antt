@@ -5,7 +5,7 @@ use Rattle.amber_dataflow.proofs.Kept.{kept-new}
 use Rattle.amber_dataflow.proofs.dataflow.Dataflow.new.Goals as goal
 
 pub invariant_of-result : goal.invariant_of-result
-invariant_of-result c = kept-new c.args.flow c.args.files.now c.args.batch c.in_ok-workers.workers.items c.in_ok-workers.ensures.start
+invariant_of-result c = kept-new c.args.flow c.args.files.now c.args.batch_size c.in_ok-workers.workers.items c.in_ok-workers.ensures.start
 
 pub returns-clause-start : goal.returns-clause-start
 returns-clause-start c most = record { flow = refl; work = c.in_ok-workers.ensures.start most }

@@ -1,6 +1,6 @@
 -- The rows are those of the operator's workers.
 use Rattle.std.proofs.Common.{sym, ap, subst, ◌∙◌, ◌≤◌, ◌^◌}
-use Rattle.amber_rows.specs.Crew.{workers_of}
+use Rattle.amber_rows.specs.Topology.{workers_of}
 use Rattle.amber_dataflow.specs.AtWork.{emitted_at, steps_by}
 use Rattle.amber_dataflow.specs.Dataflow.{DataflowState, rows_emitted, step_count}
 use Rattle.amber_dataflow.proofs.dataflow.Dataflow.rows_emitted.Goals as goal

@@ -1,7 +1,7 @@
 -- One of the workers has made a step, or none is left.
 use Rattle.std.proofs.Common.{sym, ap, subst, ◌∙◌, ◌<◌, ◌^◌, length, take, drop, ◌++◌, arith}
 use Rattle.amber_worker.specs.WorkerState.{steps_made}
-use Rattle.amber_rows.specs.Crew.{crew_of}
+use Rattle.amber_rows.specs.Topology.{crew_of}
 use Rattle.amber_dataflow.specs.AtWork.{HaveFinished, IsCrew, steps_by, worker_state_at}
 use Rattle.amber_dataflow.specs.Dataflow.{AreAllThere, DataflowState, StepsAt, has_finished, step_count}
 use Rattle.amber_dataflow.proofs.Kept.{crew-is, kept-back, none-left, stepped-back}

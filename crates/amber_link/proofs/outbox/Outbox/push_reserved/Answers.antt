@@ -11,11 +11,11 @@ invariant_of-self-2 c =
     let room : own.room ≡ c.args.self.now.room = ap (λ (o : Outgoing). o.room) c.self.view_is in
     let more = c.requires.room in
     let some : 1 < own.room = omega arith in
-    let full : vec_len own.partial + 1 ≡ own.size = omega (arith, c.if-len-self.false, c.len.ensures, c.push_reserved.ensures.len) in
+    let full : vec_len own.partial + 1 ≡ own.batch_size = omega (arith, c.if-len-self.false, c.len.ensures, c.push_reserved.ensures.len) in
     let held : 0 ≡ vec_len c.cut.new.partial = sym (ap (λ list. vec_len list) c.cut.ensures.left ∙ c.next_list-next.ensures.none_held) in
-    let large : 0 < vec_len own.spare → own.size ≤ vec_capacity c.cut.new.partial = λ has. rw c.cut.ensures.left (c.next_list-next.ensures.large has) in (
+    let large : 0 < vec_len own.spare → own.batch_size ≤ vec_capacity c.cut.new.partial = λ has. rw c.cut.ensures.left (c.next_list-next.ensures.large has) in (
       subst HasRoom (λ i. record {
-        size = own.size;
+        batch_size = own.batch_size;
         room = own.room - 1;
         held = held i;
         capacity = vec_capacity c.cut.new.partial;

@@ -21,8 +21,8 @@ room-wider r capacity spares slots h a b e =
       some = h.some;
       few = h.few;
       own = λ small. omega (arith, a, small, h.own);
-      more = omega (arith, h.more, mul-le-mul_left r.size b);
-      free = λ some. omega (arith, h.free some, mul-le-mul_left r.size places);
+      more = omega (arith, h.more, mul-le-mul_left r.batch_size b);
+      free = λ some. omega (arith, h.free some, mul-le-mul_left r.batch_size places);
     }
 
 pub returns-then-rows-gt-MOST_ROWS : goal.returns-then-rows-gt-MOST_ROWS
@@ -32,13 +32,13 @@ pub overflow_add-held : goal.overflow_add-held
 overflow_add-held c = omega (arith, c.self.invariant.0.few, c.len-held.ensures)
 
 pub batches_for-batches-requires : goal.batches_for-batches-requires
-batches_for-batches-requires c = record { some = omega (arith, c.self.invariant.0.some, c.from-size.ensures); few = omega (arith, c.self.invariant.0.few, c.len-held.ensures) }
+batches_for-batches-requires c = record { some = omega (arith, c.self.invariant.0.some, c.from-batch_size.ensures); few = omega (arith, c.self.invariant.0.few, c.len-held.ensures) }
 
 pub overflow_add-held-2 : goal.overflow_add-held-2
 overflow_add-held-2 c = omega (arith, c.self.invariant.0.few, c.len-held.ensures)
 
 pub overflow_sub-most : goal.overflow_sub-most
-overflow_sub-most c = omega (arith, c.self.invariant.0.few, c.len-held.ensures, c.from-size.ensures, c.min-most.ensures)
+overflow_sub-most c = omega (arith, c.self.invariant.0.few, c.len-held.ensures, c.from-batch_size.ensures, c.min-most.ensures)
 
 pub overflow_sub-spares : goal.overflow_sub-spares
 overflow_sub-spares c = c.batches_for-batches.ensures.some
@@ -56,7 +56,7 @@ pub invariant_of-self : goal.invariant_of-self
 invariant_of-self c =
     let own = c.self.inside in (
       subst HasRoom (λ i. record {
-        size = own.size;
+        batch_size = own.batch_size;
         room = own.room;
         held = sym c.reserve.ensures.len i;
         capacity = vec_capacity c.reserve.new.self;
@@ -72,7 +72,7 @@ pub invariant_of-self-in_err-reserve_spares : goal.invariant_of-self-in_err-rese
 invariant_of-self-in_err-reserve_spares c =
     let own = c.self.inside in (
       subst HasRoom (λ i. record {
-        size = own.size;
+        batch_size = own.batch_size;
         room = own.room;
         held = sym c.reserve.ensures.len i;
         capacity = vec_capacity c.reserve.new.self;
@@ -88,7 +88,7 @@ pub invariant_of-self-in_err-reserve-2 : goal.invariant_of-self-in_err-reserve-2
 invariant_of-self-in_err-reserve-2 c =
     let own = c.self.inside in (
       subst HasRoom (λ i. record {
-        size = own.size;
+        batch_size = own.batch_size;
         room = own.room;
         held = sym c.reserve.ensures.len i;
         capacity = vec_capacity c.reserve.new.self;
@@ -111,11 +111,11 @@ invariant_of-self-2 c =
     let rows = c.in_ok-reserve.ensures.ok in
     let least = c.min-most.ensures in
     let held_is = c.len-held.ensures in
-    let size_is = c.from-size.ensures in
-    let product : c.from-size.result * batches ≡ own.size * batches = ap (λ n. n * batches) size_is in
-    let filled : vec_len own.partial + (c.args.rows + 1 - 1) ≤ own.size * batches = omega (arith, enough, held_is, product) in (
+    let size_is = c.from-batch_size.ensures in
+    let product : c.from-batch_size.result * batches ≡ own.batch_size * batches = ap (λ n. n * batches) size_is in
+    let filled : vec_len own.partial + (c.args.rows + 1 - 1) ≤ own.batch_size * batches = omega (arith, enough, held_is, product) in (
       subst HasRoom (λ i. record {
-        size = own.size;
+        batch_size = own.batch_size;
         room = sym c.max-self-inside.ensures i;
         held = sym c.reserve.ensures.len i;
         capacity = vec_capacity c.reserve.new.self;

@@ -1,6 +1,6 @@
 -- The operators before this one have no more workers than all have.
 use Rattle.std.proofs.Common.{◌≡◌, ◌∙◌, ◌-◌, ap, arith, take}
-use Rattle.amber_rows.specs.Crew.{crew_of, first_worker_of}
+use Rattle.amber_rows.specs.Topology.{crew_of, first_worker_of}
 use Rattle.amber_rows.proofs.CrewFacts.{crew-take}
 use Rattle.amber_rows.proofs.flow.Flow.first_worker.Goals as goal
 

@@ -1,6 +1,6 @@
 -- Both operators are there.
 use Rattle.std.proofs.Common.{◌≡◌, ◌∙◌, ◌-◌, ap, arith, refl, take}
-use Rattle.amber_rows.specs.Crew.{crew_of, first_worker_of, follower_of, op_of, reader_of}
+use Rattle.amber_rows.specs.Topology.{crew_of, first_worker_of, follower_of, op_of, reader_of}
 use Rattle.amber_rows.proofs.CrewFacts.{placed}
 use Rattle.amber_rows.proofs.flow.Flow.follower.Goals as goal
 

@@ -1,6 +1,6 @@
 -- The operator of a worker is there.
 use Rattle.std.proofs.Common.{◌∙◌, ◌-◌, ap, arith, get_or, length}
-use Rattle.amber_rows.specs.Crew.{op_of}
+use Rattle.amber_rows.specs.Topology.{op_of}
 use Rattle.amber_rows.proofs.CrewFacts.{kind-there, placed}
 use Rattle.amber_rows.proofs.flow.Flow.kind_of.Goals as goal
 

@@ -1,7 +1,7 @@
 -- The worker is of the next operator, or of one behind it.
 use Rattle.std.proofs.Common.{◌≡◌, ◌∙◌, ap, arith, drop, []}
 use Rattle.std.proofs.lemmas.List.{drop_all}
-use Rattle.amber_rows.specs.Crew.{op_of}
+use Rattle.amber_rows.specs.Topology.{op_of}
 use Rattle.amber_rows.proofs.CrewFacts.{op-here, op-later, op-none}
 use Rattle.amber_rows.proofs.flow.Flow.op_of.Goals as goal
 

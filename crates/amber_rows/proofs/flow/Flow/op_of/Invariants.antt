@@ -1,6 +1,6 @@
 -- The worker is one of the operators from the next one on.
 use Rattle.std.proofs.Common.{◌≡◌, ◌+◌, drop}
-use Rattle.amber_rows.specs.Crew.{op_of}
+use Rattle.amber_rows.specs.Topology.{op_of}
 use Rattle.amber_rows.proofs.flow.Flow.op_of.Given as goal
 
 abbrev pub invariant-loop-i : goal.invariant-loop-i

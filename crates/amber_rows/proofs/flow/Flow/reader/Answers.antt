@@ -1,7 +1,7 @@
 -- The next operator reads, or it does not and the reader stands behind it.
 use Rattle.std.proofs.Common.{◌≡◌, ◌∙◌, ◌+◌, ap, sym, drop, []}
 use Rattle.std.proofs.lemmas.List.{drop_all}
-use Rattle.amber_rows.specs.Crew.{reader_from, reader_of}
+use Rattle.amber_rows.specs.Topology.{reader_from, reader_of}
 use Rattle.amber_rows.proofs.CrewFacts.{reader-here, reader-later, reader-none}
 use Rattle.amber_rows.proofs.flow.Flow.reader.Goals as goal
 

@@ -1,6 +1,6 @@
 -- The reader is one of the operators from the next one on.
 use Rattle.std.proofs.Common.{◌≡◌, ◌+◌, drop}
-use Rattle.amber_rows.specs.Crew.{reader_from, reader_of}
+use Rattle.amber_rows.specs.Topology.{reader_from, reader_of}
 use Rattle.amber_rows.proofs.flow.Flow.reader.Given as goal
 
 abbrev pub invariant-loop-i : goal.invariant-loop-i

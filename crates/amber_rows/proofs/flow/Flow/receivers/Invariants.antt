@@ -1,7 +1,7 @@
 -- The receivers among the workers so far.
 use Rattle.std.proofs.Common.{◌≡◌, filter}
 use Rattle.amber_rows.specs.Lists.{numbers_below}
-use Rattle.amber_rows.specs.Crew.{sends_to}
+use Rattle.amber_rows.specs.Topology.{sends_to}
 use Rattle.amber_rows.proofs.flow.Flow.receivers.Given as goal
 
 abbrev pub invariant-loop-receiver : goal.invariant-loop-receiver

@@ -1,7 +1,7 @@
 -- One number more is tested.
 use Rattle.std.proofs.Common.{◌≡◌, ◌∙◌, ◌++◌, ◌∷◌, [], ap, arith, cond, filter, sym, ℕ}
 use Rattle.amber_rows.specs.Lists.{numbers_below}
-use Rattle.amber_rows.specs.Crew.{crew_of, senders_of, sends_to}
+use Rattle.amber_rows.specs.Topology.{crew_of, senders_of, sends_to}
 use Rattle.amber_rows.proofs.CrewFacts.{below-next, below-none}
 use Rattle.amber_rows.proofs.flow.Flow.senders.Goals as goal
 

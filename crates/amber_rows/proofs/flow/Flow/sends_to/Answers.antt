@@ -1,7 +1,7 @@
 -- The cases of the definition.
 use Rattle.std.proofs.Common.{◌∙◌, ◌==◌, ap, sym}
 use Rattle.amber_rows.specs.Kinds.{is_keyed}
-use Rattle.amber_rows.specs.Crew.{op_of, reads}
+use Rattle.amber_rows.specs.Topology.{op_of, reads}
 use Rattle.amber_rows.proofs.CrewFacts.{has-reader, placed, sends-follower, sends-keyed, sends-not}
 use Rattle.amber_rows.proofs.flow.Flow.sends_to.Goals as goal
 

@@ -1,7 +1,7 @@
 -- All streams are ended.
 use Rattle.std.proofs.Common.{◌≡◌, false, ◌≤◌, ◌∙◌, length, map, ap, arith, refl}
 use Rattle.amber_link.specs.Sides.{have_all_ended, without_room}
-use Rattle.amber_link.specs.declared.receivers.Receiver.{Receiver}
+use Rattle.amber_link.specs.declared.downstreams.Downstream.{Downstream}
 use Rattle.amber_worker.proofs.Bounds.{few-done, few-sent, finishes, written-back}
 use Rattle.amber_worker.proofs.Roomless.{still-all}
 use Rattle.amber_worker.specs.WorkerState.{WorkerState}
@@ -16,8 +16,8 @@ invariant_of-self-in_err-end_streams c =
     let same = c.in_err-end_streams.ensures.err ∙ ap (map without_room) c.as_mut_slice.ensures.value in
     rw (c.reserve.ensures.items, written-back _ _ _ len stays)
     (few-sent _ _ c.self.invariant
-    (λ e. still-all (λ (one : Receiver). one.link.kept.made ≤ c.self.inside.emitted) c.self.inside.outs.items c.end_streams.new.outs same (c.self.invariant.sent e))
-    (still-all (λ (one : Receiver). one.link.kept.ended ≡ c.self.inside.finished) c.self.inside.outs.items c.end_streams.new.outs same c.self.invariant.over))
+    (λ e. still-all (λ (one : Downstream). one.link.kept.made ≤ c.self.inside.emitted) c.self.inside.outs.items c.end_streams.new.outs same (c.self.invariant.sent e))
+    (still-all (λ (one : Downstream). one.link.kept.ended ≡ c.self.inside.finished) c.self.inside.outs.items c.end_streams.new.outs same c.self.invariant.over))
 
 pub invariant_of-self-2 : goal.invariant_of-self-2
 invariant_of-self-2 c =

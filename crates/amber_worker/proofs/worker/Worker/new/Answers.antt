@@ -10,17 +10,17 @@ use Rattle.amber_worker.proofs.worker.Worker.new.Goals as goal
 
 pub fresh-requires : goal.fresh-requires
 fresh-requires c = record {
-  few = few-made c.args.flow.now c.args.worker c.args.batch c.args.share c.in_ok-task.task c.in_ok-ends.ends c.in_ok-task.ensures c.in_ok-ends.ensures.numbers
-      (subst (λ (l : List Out). All (IsFreshOut c.args.batch) l) (sym c.in_ok-ends.ensures.outs) c.requires.fresh_outs) c.requires.shared;
+  few = few-made c.args.flow.now c.args.worker c.args.batch_size c.args.share c.in_ok-task.task c.in_ok-ends.ends c.in_ok-task.ensures c.in_ok-ends.ensures.numbers
+      (subst (λ (l : List Out). All (IsFreshOut c.args.batch_size) l) (sym c.in_ok-ends.ensures.outs) c.requires.fresh_outs) c.requires.shared;
 }
 
 pub returns-clause-stands : goal.returns-clause-stands
 unfolding StandsNew
 returns-clause-stands c records has =
-    fresh-stands c.args.flow.now records c.args.batch c.args.worker c.args.share _ c.requires.some c.requires.shared has
-    (subst (λ (w : WorkerState). IsFresh (record { flow = c.args.flow.now; number = c.args.worker; size = c.args.batch; share = c.args.share }) w) (sym c.fresh.ensures)
-    (made-fresh c.args.flow.now c.args.worker c.args.batch c.args.share c.in_ok-task.task c.in_ok-ends.ends c.in_ok-task.ensures c.in_ok-ends.ensures.numbers
-    (subst (λ (l : List Out). All (IsFreshOut c.args.batch) l) (sym c.in_ok-ends.ensures.outs) c.requires.fresh_outs)
+    fresh-stands c.args.flow.now records c.args.batch_size c.args.worker c.args.share _ c.requires.some c.requires.shared has
+    (subst (λ (w : WorkerState). IsFresh (record { flow = c.args.flow.now; number = c.args.worker; batch_size = c.args.batch_size; share = c.args.share }) w) (sym c.fresh.ensures)
+    (made-fresh c.args.flow.now c.args.worker c.args.batch_size c.args.share c.in_ok-task.task c.in_ok-ends.ends c.in_ok-task.ensures c.in_ok-ends.ensures.numbers
+    (subst (λ (l : List Out). All (IsFreshOut c.args.batch_size) l) (sym c.in_ok-ends.ensures.outs) c.requires.fresh_outs)
     (subst (λ (l : List In). All IsFreshIn l) (sym c.in_ok-ends.ensures.ins) c.requires.fresh_ins)))
 
 pub returns-clause-journal : goal.returns-clause-journal

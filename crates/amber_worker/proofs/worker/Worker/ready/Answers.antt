@@ -3,7 +3,7 @@ use Rattle.std.proofs.Common.{◌≡◌, ◌∙◌, length, get_or, true, false,
 use Rattle.std.specs.List.{list_any}
 use Rattle.std.specs.Option.{IfNone, IfSome}
 use Rattle.amber_link.specs.Sides.{have_builders_ended, may_come}
-use Rattle.amber_link.specs.declared.senders.Sender.{Sender}
+use Rattle.amber_link.specs.declared.upstreams.Upstream.{Upstream}
 use Rattle.amber_worker.proofs.Bounds.{few-settled, written-back}
 use Rattle.amber_worker.proofs.Looks.{looked-built, looked-few}
 use Rattle.amber_worker.proofs.worker.Worker.ready.Goals as goal
@@ -37,4 +37,4 @@ returns-clause-some c =
 pub returns-clause-may : goal.returns-clause-may
 returns-clause-may c =
     rw (written-back _ _ _ (len c) (stays c))
-    (subst (λ b. IfSome c.ready_place.result (λ i. (d : Sender) → may_come b (get_or c.ready_place.new.ins i d) ≡ true)) (built c) c.ready_place.ensures.ready)
+    (subst (λ b. IfSome c.ready_place.result (λ i. (d : Upstream) → may_come b (get_or c.ready_place.new.ins i d) ≡ true)) (built c) c.ready_place.ensures.ready)

@@ -2,7 +2,7 @@
 use Rattle.std.proofs.Common.{◌≡◌, true, subst, ◌<◌, ◌^◌, ◌∙◌, length, ap, arith, rules, refl, sym}
 use Rattle.amber_link.specs.Links.{has_some}
 use Rattle.amber_link.specs.Sides.{IsLooked, have_all_ended}
-use Rattle.amber_link.specs.declared.senders.Sender.{Sender}
+use Rattle.amber_link.specs.declared.upstreams.Upstream.{Upstream}
 use Rattle.amber_link.proofs.Sides.{looked-same, pairwise-refl}
 use Rattle.amber_worker.specs.Links.{MayTakeAt}
 use Rattle.amber_worker.specs.WorkerState.{WorkerState, has_ready}
@@ -28,19 +28,19 @@ invariant_of-self-2 c =
 pub returns-clause-ok : goal.returns-clause-ok
 returns-clause-ok c =
     let from_small : c.take_at-from.result.from < 2 ^ 32 = search rules in
-    let number_small : c.take_at-from.result.number < 2 ^ 64 = search rules in
+    let seq_small : c.take_at-from.result.seq < 2 ^ 64 = search rules in
     let there : c.args.place < length c.self.inside.ins.items = subst (λ (w : WorkerState). c.args.place < length w.ins) (sym c.self.view_is) c.requires.there in
     let ready : has_ready c.self.inside.ins.items ≡ true = ap (λ (w : WorkerState). has_ready w.ins) c.self.view_is ∙ c.requires.ready in
     let lent = ap length c.as_mut_slice.ensures.value in
     let len : c.self.inside.ins.len ≡ length c.self.inside.ins.items = omega (arith, lent, c.as_mut_slice.ensures.len) in
     let stays : length c.take_at-from.new.ins ≡ length c.self.inside.ins.items = omega (arith, lent, c.take_at-from.auto.ins) in
-    let d : Sender = c.take_at-from.ensures.taken.0 in
+    let d : Upstream = c.take_at-from.ensures.taken.0 in
     let before = rw c.as_slice.ensures.value at c.is_empty_at-empty.ensures in
     let after = rw c.as_mut_slice.ensures.value at c.take_at-from.ensures.empty in
     rw (← c.self.view_is)
-    (takes-batch _ c.take_at-from.result.from c.take_at-from.result.number c.take_at-from.result.builds c.take_at-from.result.batch c.self.inside.ins.items c.take_at-from.new.ins _ _ _
+    (takes-batch _ c.take_at-from.result.from c.take_at-from.result.seq c.take_at-from.result.builds c.take_at-from.result.batch c.self.inside.ins.items c.take_at-from.new.ins _ _ _
     c.turn_to.new.operator_state c.in_ok-last.last.items c.close.new.pending.items c.is_empty_at-empty.result c.have_ended-over.result
-    (rw c.as_mut_slice.ensures.value at c.take_at-from.ensures.taken) (pairwise-refl IsLooked looked-same c.self.inside.ins.items) ready from_small number_small
+    (rw c.as_mut_slice.ensures.value at c.take_at-from.ensures.taken) (pairwise-refl IsLooked looked-same c.self.inside.ins.items) ready from_small seq_small
     (rw (no-share _ _ c.args.place c.self.invariant.shares there, c.from_vec.ensures.items, c.into_inner.ensures) refl)
     (written-back _ _ _ len stays)
     (rw (c.push_reserved.ensures.items, c.reserve.ensures.items) refl)

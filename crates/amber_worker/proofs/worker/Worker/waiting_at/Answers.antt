@@ -3,7 +3,7 @@ use Rattle.std.proofs.Common.{◌∙◌, ap, Option, Some, None}
 use Rattle.std.specs.Option.{IfNone, IfSome}
 use Rattle.amber_link.specs.Links.{has_some}
 use Rattle.amber_link.specs.Sides.{without_room}
-use Rattle.amber_link.specs.declared.receivers.Receiver.{Receiver}
+use Rattle.amber_link.specs.declared.downstreams.Downstream.{Downstream}
 use Rattle.amber_link.proofs.Sides.{map-at, map-length}
 use Rattle.amber_worker.proofs.worker.Worker.waiting_at.Goals as goal
 
@@ -26,7 +26,7 @@ returns-clause-none c =
     let there = rw map-length at (rw (← c.self.view_is) at c.requires) in
     rw (← c.self.view_is)
     (if_none c.waiting_at.result _ _
-    (λ none (d : Receiver). ap (λ (one : Receiver). has_some one.link.kept.waiting) (map-at without_room c.self.inside.outs.items c.args.place d d there) ∙ none d) none)
+    (λ none (d : Downstream). ap (λ (one : Downstream). has_some one.link.kept.waiting) (map-at without_room c.self.inside.outs.items c.args.place d d there) ∙ none d) none)
 
 pub returns-clause-some : goal.returns-clause-some
 returns-clause-some c =
@@ -34,4 +34,4 @@ returns-clause-some c =
     let there = rw map-length at (rw (← c.self.view_is) at c.requires) in
     rw (← c.self.view_is)
     (if_some c.waiting_at.result _ _
-    (λ to own (d : Receiver). ap (λ (one : Receiver). one.to) (map-at without_room c.self.inside.outs.items c.args.place d d there) ∙ own d) some)
+    (λ to own (d : Downstream). ap (λ (one : Downstream). one.to) (map-at without_room c.self.inside.outs.items c.args.place d d there) ∙ own d) some)

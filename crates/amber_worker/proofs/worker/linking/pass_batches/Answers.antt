@@ -2,8 +2,8 @@
 use Rattle.std.proofs.Common.{◌≡◌, ◌∙◌, length, eqb, ap, sym, refl, subst, arith}
 use Rattle.std.specs.List.{list_any}
 use Rattle.amber_link.specs.Sides.{have_builders_ended}
-use Rattle.amber_link.specs.declared.senders.Sender.{Sender}
-use Rattle.amber_link.specs.declared.receivers.Receiver.{Receiver}
+use Rattle.amber_link.specs.declared.upstreams.Upstream.{Upstream}
+use Rattle.amber_link.specs.declared.downstreams.Downstream.{Downstream}
 use Rattle.amber_worker.specs.Links.{AreEndsOf}
 use Rattle.amber_worker.proofs.Bounds.{few-sent, few-settled, written-back}
 use Rattle.amber_worker.proofs.PairFacts.{ends-of}
@@ -13,12 +13,12 @@ use Rattle.amber_worker.proofs.worker.linking.pass_batches.Goals as goal
 pub settle_into-requires-clause-sends : goal.settle_into-requires-clause-sends
 settle_into-requires-clause-sends c =
     let sends = rw (← c.from.view_is, ← c.to.view_is) at c.requires.sends in
-    ap (λ outs. list_any (λ (one : Receiver). eqb one.to c.to.inside.number) outs) c.as_mut_slice.ensures.value ∙ same-receivers c.to.inside.number c.from.inside.outs.items ∙ sends
+    ap (λ outs. list_any (λ (one : Downstream). eqb one.to c.to.inside.number) outs) c.as_mut_slice.ensures.value ∙ same-receivers c.to.inside.number c.from.inside.outs.items ∙ sends
 
 pub settle_into-requires-clause-receives : goal.settle_into-requires-clause-receives
 settle_into-requires-clause-receives c =
     let receives = rw (← c.from.view_is, ← c.to.view_is) at c.requires.receives in
-    ap (λ ins. list_any (λ (one : Sender). eqb one.from c.from.inside.number) ins) c.as_mut_slice-2.ensures.value ∙ receives
+    ap (λ ins. list_any (λ (one : Upstream). eqb one.from c.from.inside.number) ins) c.as_mut_slice-2.ensures.value ∙ receives
 
 pub settle_into-requires-clause-joined : goal.settle_into-requires-clause-joined
 settle_into-requires-clause-joined c =

@@ -1,5 +1,0 @@
-use Rattle.amber_laws.proofs.Workers.{workers_change_no_answer}
-use Rattle.amber_laws.proofs.answer.workers_change_no_answer.Goals as goal
-
-pub returns : goal.returns
-returns c = workers_change_no_answer

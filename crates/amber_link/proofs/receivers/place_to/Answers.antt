@@ -1,8 +1,0 @@
--- None is the one.
-use Rattle.std.proofs.Common.{◌==◌, arith}
-use Rattle.amber_link.specs.declared.receivers.Receiver.{Receiver}
-use Rattle.amber_link.proofs.Sides.{none-any}
-use Rattle.amber_link.proofs.receivers.place_to.Goals as goal
-
-pub returns-clause-none : goal.returns-clause-none
-returns-clause-none c = none-any (λ (one : Receiver). one.to == c.args.to) c.args.outs.now (λ k d less. c.loop-i.invariant k d (omega (arith, c.loop-i-test.false)))

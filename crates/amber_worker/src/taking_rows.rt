@@ -1,0 +1,331 @@
+//! How a worker takes rows and batches.
+
+ghost use Rattle.std.specs.Prelude.{◌≡◌, ◌==◌, ◌&&◌, [], if◌then◌else◌, ◌+◌, ◌<◌, ◌++◌, Ok, Some, is_some, true, false, not, length, vec_capacity, vec_len, IfOk, IfSome, OnErr, OnOk};
+ghost use Rattle.std.specs.VecDeque.{deque_capacity, deque_len};
+ghost use Rattle.amber_meaning.specs.Task.{row_in};
+ghost use Rattle.amber_meaning.specs.Refused.{refusal_in};
+ghost use Rattle.amber_link.specs.Links.{has_some};
+ghost use Rattle.amber_link.specs.Sides.{have_all_ended};
+ghost use Rattle.amber_worker.specs.Fields.{arrivals_in};
+ghost use Rattle.amber_worker.specs.RowsTaken.{AreSame, GainsAny, GainsNext, GainsRecord, GainsRow};
+ghost use Rattle.amber_worker.specs.Steps.{Closes, MayTakeRow, gives_if, has_state, held_back_of, keeps_if, passed_of, turned_to};
+
+use crate::grouping::{rows_of_groups, take_grouped};
+use crate::joining::take_joined;
+use crate::operator_state::OperatorState;
+use amber_link::{Upstream, have_ended};
+use amber_meaning::Refusal;
+use amber_rows::{Row, Schema, suits};
+use amber_scan::{Scanned, Share};
+use std::alloc::{AllocError, Global};
+use std::collections::VecDeque;
+
+// What a worker has not taken yet: of a scan's share, or of the batch at hand.
+#[derive(Drop)]
+pub(crate) struct Rest {
+    pub share: Option<Share>,
+    pub from: u32,
+    pub rows: VecDeque<Row>,
+}
+
+impl Rest {
+    // How much is left.
+    pub fn left(&self) -> u64
+        ensures { result ≡ length (arrivals_in self.now) }
+    {
+        match &self.share {
+            Some(share) => share.left(),
+            None => self.rows.len() as u64,
+        }
+    }
+
+    // Whether nothing is left.
+    pub fn is_empty(&self) -> bool
+        ensures { has_some (arrivals_in self.now) ≡ not result }
+    {
+        match &self.share {
+            Some(share) => share.left() == 0,
+            None => self.rows.is_empty(),
+        }
+    }
+}
+
+// What rows give: those that go on, records that were refused, and rows that are kept for the
+// answer.
+#[derive(Drop)]
+pub(crate) struct Gains {
+    pub pending: VecDeque<Row>,
+    pub refused: Vec<Refusal>,
+    pub kept: Vec<Row>,
+}
+
+// What becomes of a row that was taken.
+#[derive(Drop)]
+pub(crate) enum Fate {
+    Dropped,
+    Passed,
+    Made(Row),
+    Kept,
+}
+
+// What becomes of a row that suits.
+fn suited_fate(operator_state: &OperatorState, row: &Row) -> Result<Fate, AllocError>
+    requires plain { has_state operator_state.now ≡ false }
+    ensures goes_on { IfOk result (λ fate. passed_of fate row.now
+        ≡ gives_if operator_state.now false (Some row.now)) }
+    ensures stays { IfOk result (λ fate. held_back_of fate row.now
+        ≡ keeps_if operator_state.now (Some row.now)) }
+{
+    match operator_state {
+        OperatorState::Scan => Ok(Fate::Passed),
+        OperatorState::Filter(state) => {
+            if state.passes(row) {
+                Ok(Fate::Passed)
+            } else {
+                Ok(Fate::Dropped)
+            }
+        }
+        OperatorState::Project(state) => Ok(Fate::Made(state.pick(row)?)),
+        OperatorState::Sink => Ok(Fate::Kept),
+        OperatorState::Join(_) | OperatorState::Group(_) => unreachable!(),
+    }
+}
+
+// What becomes of a row; one that does not suit the columns is dropped.
+pub(crate) fn fate_of(
+    operator_state: &OperatorState,
+    columns: &Schema,
+    row: &Row,
+) -> Result<Fate, AllocError>
+    requires plain { has_state operator_state.now ≡ false }
+    ensures goes_on { IfOk result (λ fate. passed_of fate row.now
+        ≡ gives_if operator_state.now false (row_in columns.now (Ok row.now))) }
+    ensures stays { IfOk result (λ fate. held_back_of fate row.now
+        ≡ keeps_if operator_state.now (row_in columns.now (Ok row.now))) }
+{
+    if suits(row, columns) {
+        suited_fate(operator_state, row)
+    } else {
+        Ok(Fate::Dropped)
+    }
+}
+
+// Puts a row where it goes.
+pub(crate) fn put(fate: Fate, row: Row, pending: &mut VecDeque<Row>, kept: &mut Vec<Row>)
+    requires room { deque_len pending.old < deque_capacity pending.old }
+    requires room_for_kept { vec_len kept.old < vec_capacity kept.old }
+    ensures goes_on { pending.new.items ≡ pending.old.items ++ passed_of fate row }
+    ensures stays { kept.new.items ≡ kept.old.items ++ held_back_of fate row }
+{
+    match fate {
+        Fate::Dropped => {}
+        Fate::Passed => pending.push_back_reserved(row),
+        Fate::Made(other) => pending.push_back_reserved(other),
+        Fate::Kept => kept.push_reserved(row),
+    }
+}
+
+// Puts a scan's record where it goes: a row that suits is passed on, a fault is kept for the
+// answer.
+pub(crate) fn put_record(
+    one: Scanned,
+    op: u32,
+    columns: &Schema,
+    pending: &mut VecDeque<Row>,
+    refused: &mut Vec<Refusal>,
+)
+    requires room { deque_len pending.old < deque_capacity pending.old }
+    requires room_for_refused { vec_len refused.old < vec_capacity refused.old }
+    ensures goes_on { pending.new.items ≡ pending.old.items
+        ++ gives_if OperatorState.Scan false (row_in columns.now one.what) }
+    ensures refused { refused.new.items ≡ refused.old.items ++ refusal_in op one.number one.what }
+{
+    match one.what {
+        Ok(row) => {
+            if suits(&row, columns) {
+                pending.push_back_reserved(row);
+            }
+        }
+        Err(fault) => refused.push_reserved(Refusal::Record {
+            op,
+            number: one.number,
+            fault,
+        }),
+    }
+}
+
+// Takes the next record of a share.
+fn take_record(
+    share: &mut Share,
+    op: u32,
+    columns: &Schema,
+    gains: &mut Gains,
+) -> Result<(), AllocError>
+    requires { has_some share.old ≡ true }
+    ensures ok { OnOk result (GainsRecord op columns.now
+        (record { left = share.old; gains = gains.old })
+        (record { left = share.new; gains = gains.new })) }
+    ensures share_on_err { OnErr result (share.new ≡ share.old) }
+    ensures gains_on_err { OnErr result (AreSame gains.old gains.new) }
+{
+    gains.pending.reserve(1)?;
+    gains.refused.reserve(1)?;
+    let Some(one) = share.next() else {
+        unreachable!()
+    };
+    put_record(one, op, columns, &mut gains.pending, &mut gains.refused);
+    Ok(())
+}
+
+// Takes the next row of a batch, of which a worker keeps nothing but for the answer.
+fn take_arrival(
+    rows: &mut VecDeque<Row>,
+    operator_state: &OperatorState,
+    columns: &Schema,
+    gains: &mut Gains,
+) -> Result<(), AllocError>
+    requires some { has_some rows.old.items ≡ true }
+    requires plain { has_state operator_state.now ≡ false }
+    ensures ok { OnOk result (GainsRow operator_state.now columns.now
+        (record { left = rows.old.items; gains = gains.old })
+        (record { left = rows.new.items; gains = gains.new })) }
+    ensures rows_on_err { OnErr result (rows.new.items ≡ rows.old.items) }
+    ensures gains_on_err { OnErr result (AreSame gains.old gains.new) }
+{
+    gains.pending.reserve(1)?;
+    gains.kept.reserve(1)?;
+    let Some(next) = rows.front() else {
+        unreachable!()
+    };
+    let fate = fate_of(operator_state, columns, next)?;
+    let Some(row) = rows.pop_front() else {
+        unreachable!()
+    };
+    put(fate, row, &mut gains.pending, &mut gains.kept);
+    Ok(())
+}
+
+// Takes the next row of a batch, of the build side or not, the last one where nothing more can
+// come.
+fn take_any(
+    rows: &mut VecDeque<Row>,
+    columns: &Schema,
+    builds: bool,
+    over: bool,
+    operator_state: &mut OperatorState,
+    gains: &mut Gains,
+) -> Result<(), AllocError>
+    requires some { has_some rows.old.items ≡ true }
+    requires may { MayTakeRow operator_state.old builds }
+    ensures ok { OnOk result
+        (GainsAny (record { columns = columns.now; builds = builds; over = over })
+        (record { left = rows.old.items; state = operator_state.old; gains = gains.old })
+        (record { left = rows.new.items; state = operator_state.new; gains = gains.new })) }
+    ensures rows_on_err { OnErr result (rows.new.items ≡ rows.old.items) }
+    ensures operator_state_on_err { OnErr result (operator_state.new ≡ operator_state.old) }
+    ensures gains_on_err { OnErr result (AreSame gains.old gains.new) }
+{
+    match operator_state {
+        OperatorState::Join(state) => take_joined(rows, columns, builds, state, &mut gains.pending),
+        OperatorState::Group(state) => take_grouped(rows, columns, over, state, &mut gains.pending),
+        OperatorState::Scan
+        | OperatorState::Filter(_)
+        | OperatorState::Project(_)
+        | OperatorState::Sink => take_arrival(rows, operator_state, columns, gains),
+    }
+}
+
+// Takes the next row or record.
+pub(crate) fn take_next(
+    rest: &mut Rest,
+    op: u32,
+    columns: &Schema,
+    builds: bool,
+    over: bool,
+    operator_state: &mut OperatorState,
+    gains: &mut Gains,
+) -> Result<(), AllocError>
+    requires some { has_some (arrivals_in rest.old) ≡ true }
+    requires scans { IfSome rest.old.share (λ _. operator_state.old ≡ OperatorState.Scan) }
+    requires may { MayTakeRow operator_state.old builds }
+    ensures ok { OnOk result
+        (GainsNext op (record { columns = columns.now; builds = builds; over = over })
+        (record { left = arrivals_in rest.old; state = operator_state.old; gains = gains.old })
+        (record { left = arrivals_in rest.new; state = operator_state.new; gains = gains.new })) }
+    ensures shares { is_some rest.new.share ≡ is_some rest.old.share }
+    ensures rest_on_err { OnErr result (arrivals_in rest.new ≡ arrivals_in rest.old) }
+    ensures operator_state_on_err { OnErr result (operator_state.new ≡ operator_state.old) }
+    ensures gains_on_err { OnErr result (AreSame gains.old gains.new) }
+{
+    match &mut rest.share {
+        Some(share) => take_record(share, op, columns, gains),
+        None => take_any(&mut rest.rows, columns, builds, over, operator_state, gains),
+    }
+}
+
+// The columns of rows of the build side or of the other.
+pub(crate) fn side_columns<'a>(
+    builds: bool,
+    build_columns: &'a Schema,
+    columns: &'a Schema,
+) -> &'a Schema
+    ensures { result.now ≡ (if builds then build_columns.now else columns.now) }
+{
+    if builds { build_columns } else { columns }
+}
+
+// Whether the next row is the last one that can come.
+pub(crate) fn is_last(rest: &Rest, ins: &[Upstream]) -> bool
+    ensures { result ≡ ((length (arrivals_in rest.now) == 1) && have_all_ended ins.now) }
+{
+    rest.left() == 1 && have_ended(ins)
+}
+
+// The rows that are given at the end, where a batch is empty; none where it is not.
+pub(crate) fn closing_of(
+    alloc: Global,
+    operator_state: &OperatorState,
+    empty: bool,
+) -> Result<VecDeque<Row>, AllocError>
+    ensures { IfOk result (λ last. Closes operator_state.now empty last.items) }
+{
+    if !empty {
+        return Ok(VecDeque::new(alloc));
+    }
+    match operator_state {
+        OperatorState::Group(state) => rows_of_groups(alloc, state),
+        OperatorState::Scan
+        | OperatorState::Filter(_)
+        | OperatorState::Project(_)
+        | OperatorState::Join(_)
+        | OperatorState::Sink => { Ok(VecDeque::new(alloc)) }
+    }
+}
+
+// Where nothing more can come, these rows are pending.
+pub(crate) fn close(pending: &mut VecDeque<Row>, last: VecDeque<Row>, over: bool)
+    requires none { pending.old.items ≡ [] }
+    ensures { pending.new.items ≡ (if over then last.items else []) }
+{
+    if over && !last.is_empty() {
+        *pending = last;
+    }
+}
+
+// The batches at hand are of the build side, or of the other: then what a join keeps is sealed.
+pub(crate) fn turn_to(operator_state: &mut OperatorState, builds: bool)
+    ensures { operator_state.new ≡ turned_to builds operator_state.old }
+{
+    match operator_state {
+        OperatorState::Join(state) => {
+            if !builds {
+                state.seal();
+            }
+        }
+        OperatorState::Scan
+        | OperatorState::Filter(_)
+        | OperatorState::Project(_)
+        | OperatorState::Group(_)
+        | OperatorState::Sink => {}
+    }
+}
