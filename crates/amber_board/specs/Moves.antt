@@ -6,7 +6,7 @@ use Rattle.amber_board.specs.declared.view.Step.TheVariants.{Split, Draw, Grant,
 use Rattle.amber_board.specs.declared.view.View.{View}
 use Rattle.amber_board.specs.Ledger.{worker_number_of}
 
--- a step that leaves so many units in the hand
+-- a step that leaves this many units in the hand
 abbrev pub stepped_to : View → ℕ → Step → View
 stepped_to v hand step = record v { hand = hand; done = step ∷ v.done }
 
@@ -42,11 +42,11 @@ counted_one v w = record v { hand = v.hand - 1; mine = v.mine + 1; done = Count 
 abbrev pub given_back : View → ℕ → View
 given_back v w = stepped_to v 0 (GiveBack w)
 
--- the chief made a seat for the next worker, and kept so many units
+-- the chief made a seat for the next worker, and kept this many units
 abbrev pub after_split : View → ℕ → View
 after_split v left = record v { hand = left; made = v.made + 1; done = Split v.made ∷ v.done }
 
--- the seat of worker w, with so many units
+-- the seat of worker w, with this many units
 abbrev pub new_seat : ℕ → ℕ → View
 new_seat w hand = record { role = Worker w; hand = hand; mine = 0; target = 0; made = 0; seen = []; kept = []; done = [] }
 

@@ -1,4 +1,6 @@
-//! A board is made here, with all its seats, and closed here.
+//! How a board is made, with all its seats, and how it is closed. Rests on the steps of `kinds` and the words
+//! of `words`.
+
 ghost use Rattle.std.specs.Prelude.{◌≡◌, ◌+◌, ◌^◌, ◌<◌, ◌≤◌, ◌==◌, if◌then◌else◌, [], All, IfOk, length, sum, sum_by, vec_len};
 ghost use Rattle.amber_board.specs.declared.TheConstants.{LARGEST_TARGET, MOST_WORKERS};
 ghost use Rattle.amber_board.specs.declared.view.Role.TheVariants.{Chief};

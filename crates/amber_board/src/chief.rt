@@ -1,4 +1,5 @@
-//! What the chief does.
+//! What the chief does at its seat. Rests on the steps of `kinds` and the words of `words`.
+
 ghost use Rattle.std.specs.Prelude.{◌≡◌, ℕ, ◌^◌, ◌≤◌, ◌<◌, ◌↔◌, IsTrue, sum};
 ghost use Rattle.amber_board.specs.Ledger.{IsExact};
 ghost use Rattle.amber_board.specs.Moves.{drawn, after_grant, put_back_of, swept, after_watch};

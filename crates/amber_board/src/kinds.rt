@@ -1,4 +1,5 @@
-//! The kinds of step: what each makes of the view of the seat that makes it.
+//! The kinds of step: what each makes of the `View` of the seat that makes it.
+
 ghost use Rattle.std.specs.Prelude.{◌≡◌, ℕ, ◌+◌, ◌^◌, ◌≤◌};
 ghost use Rattle.amber_board.specs.Ledger.{worker_number_of};
 ghost use Rattle.amber_board.specs.Moves.{drawn, after_grant, put_back_of, swept, after_watch, after_claim, counted_one, given_back, after_split, new_seat, after_join, spent_view};
@@ -32,8 +33,8 @@ impl Play<(), View> for Draw {
         × (me.0.hand + n ≤ 2 ^ 40) × (me.0.made ≡ 0 → me.0.hand + n ≡ me.0.target) };
 }
 
-/// On the allotment of the worker that the word tells. The next two tell the worker in the same way: a sweep by its
-/// allotment, a watch by its count.
+/// On the allotment of the worker whose word it is. The next two know the worker in the same way: a sweep by
+/// its allotment, a watch by its count.
 pub(crate) struct Grant;
 
 impl Play<(), View> for Grant {

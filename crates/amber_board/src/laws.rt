@@ -1,4 +1,5 @@
 //! Laws of the ledger, in every state that meets its rule. Each function does nothing; its contract is the law.
+
 ghost use Rattle.amber_board.specs.Ledger.{CountsAreMine, SeenWasCounted};
 
 /// A worker's word is what its seat counted, as long as the seat is out.

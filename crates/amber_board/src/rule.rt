@@ -1,4 +1,5 @@
-//! The fact that holds of the ledger between any two steps.
+//! The fact that holds of the ledger between any two steps. Over the views of all seats.
+
 ghost use Rattle.amber_board.specs.Ledger.{Conserved, first_view};
 
 use crate::view::{Terms, View};

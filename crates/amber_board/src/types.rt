@@ -1,4 +1,6 @@
-//! The board, and the seats through which the chief and the workers step on it.
+//! The board, and the seats through which the chief and the workers step on it. They keep the `Rule` of
+//! `rule`.
+
 ghost use Rattle.std.specs.Prelude.{◌≡◌, ◌^◌, ◌<◌, ◌≤◌, [], All};
 ghost use Rattle.amber_board.specs.declared.view.Role.TheVariants.{Chief, Worker};
 

@@ -1,4 +1,5 @@
 //! What a seat knows of the ledger. No value of a view is ever made: contracts alone read it.
+
 use std::collections::LinkedList;
 
 /// Whose seat it is.
@@ -17,7 +18,7 @@ pub enum Step {
     Split(u32),
     /// The chief took the unassigned units.
     Draw,
-    /// The chief allotted so many units to this worker.
+    /// The chief allotted this many units to this worker.
     Grant(u32, u64),
     /// The chief made its hand unassigned.
     PutBack,

@@ -1,4 +1,5 @@
 //! The words of a board. Word 0 is the target.
+
 use crate::MOST_WORKERS;
 
 /// The word of the units that are assigned to nobody.

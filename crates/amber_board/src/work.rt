@@ -1,4 +1,5 @@
-//! What a worker does.
+//! What a worker does at its seat. Rests on the steps of `kinds` and the words of `words`.
+
 ghost use Rattle.std.specs.Prelude.{◌≡◌, ◌<◌};
 ghost use Rattle.amber_board.specs.Moves.{after_claim, counted_one, given_back};
 ghost use Rattle.amber_board.specs.Seats.{IsSeatOf, work_view, worker_of};

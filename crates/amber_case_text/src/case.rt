@@ -1,4 +1,5 @@
-// A case.
+//! A case: what is given, what fails, and what is expected. Rests on `CaseText`.
+
 ghost use Rattle.std.specs.Prelude.{◌≡◌, []};
 
 use crate::case_text::CaseText;

@@ -1,4 +1,5 @@
-// A text of a case.
+//! A text of a case, in pieces, some of which are filled in after a run.
+
 ghost use Rattle.std.specs.Prelude.{◌≡◌, []};
 
 use std::alloc::{AllocError, Global};
@@ -8,9 +9,9 @@ use std::alloc::{AllocError, Global};
 pub enum Piece {
     /// These bytes.
     Bytes(Vec<u8>),
-    /// These bytes so many times.
+    /// These bytes, `times` times.
     Repeated { times: u64, bytes: Vec<u8> },
-    /// These bytes again and again, until the text has so many bytes.
+    /// These bytes again and again, until the text has `length` bytes.
     Filled { length: u64, bytes: Vec<u8> },
     /// A number in a range, in decimal.
     Number { least: u64, most: u64 },
@@ -63,7 +64,7 @@ impl CaseText {
         pieces
     }
 
-    /// The bytes of the text where these were found and a failing call keeps so many.
+    /// The bytes of the text, where `found` was found and a failing call keeps `keep` bytes.
     ///
     /// A number of the text is the one that was found at its place, where that is in the range.
     pub fn bytes(&self, alloc: Global, keep: u64, found: &[u8]) -> Result<Vec<u8>, AllocError> {
@@ -80,7 +81,7 @@ impl CaseText {
     }
 }
 
-// How many bytes are left of which those behind `start` are kept in part.
+// How many bytes are left, where of those after `start` only the first `keep` are kept.
 fn kept_length(start: usize, keep: u64) -> usize {
     match usize::try_from(keep) {
         Ok(keep) => start.saturating_add(keep),
@@ -104,7 +105,7 @@ fn add_piece(
     }
 }
 
-// Adds a piece so many times.
+// Adds a piece `times` times.
 fn repeat(all: &mut Vec<u8>, times: u64, piece: &[u8]) -> Result<(), AllocError> {
     for _ in 0..times {
         all.extend_from_slice(piece)?;
@@ -112,7 +113,7 @@ fn repeat(all: &mut Vec<u8>, times: u64, piece: &[u8]) -> Result<(), AllocError>
     Ok(())
 }
 
-// Adds a piece again and again, the last time perhaps in part, up to so many bytes in all.
+// Adds a piece again and again, the last time perhaps in part, up to `length` bytes in all.
 fn fill(all: &mut Vec<u8>, length: u64, piece: &[u8]) -> Result<(), AllocError> {
     let missing = length.saturating_sub(all.len() as u64);
     let size = piece.len() as u64;

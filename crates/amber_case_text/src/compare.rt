@@ -1,4 +1,5 @@
-// What was found beside what is expected.
+//! Compares what was found with what is expected.
+
 ghost use Rattle.std.specs.Prelude.{◌≡◌, ◌↔◌, IsOk};
 
 use std::fmt;

@@ -1,4 +1,5 @@
-// Texts with escapes.
+//! Texts with escapes, and words with blanks between them.
+
 use crate::fault::{Why, push};
 use std::alloc::Global;
 
@@ -23,7 +24,7 @@ fn digit(byte: u8) -> Result<u8, Why> {
     }
 }
 
-// The byte that stands behind a backslash in this form.
+// The byte that follows a backslash in this form.
 fn escape(byte: u8) -> Result<u8, Why> {
     match byte {
         b'n' => Ok(b'\n'),

@@ -1,4 +1,5 @@
-// Why a file of cases is broken.
+//! Why a file of cases is broken.
+
 ghost use Rattle.std.specs.Prelude.{◌≡◌};
 ghost use Rattle.amber_case_text.specs.declared.fault.Why.TheVariants.{NoMemory};
 

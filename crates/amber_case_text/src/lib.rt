@@ -2,7 +2,7 @@
 //! person writes.
 //!
 //! `docs/ADDING_CASES.md` has the format. A `Reader` reads the cases of one file after another, a
-//! `CaseText` is a text of a case, and `compare_answer` and `compare_bytes` tell what differs first.
+//! `CaseText` is a text of a case, and `compare_answer` and `compare_bytes` say what differs first.
 #![tactic(auto)]
 
 pub use case::{After, Case, Left, NamedText};

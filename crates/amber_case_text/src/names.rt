@@ -1,4 +1,5 @@
-// The names of cases.
+//! The names of cases, no two of which may be the same.
+
 ghost use Rattle.std.specs.Prelude.{◌≡◌, IsErrOf, OnOk, false, true};
 ghost use Rattle.amber_case_text.specs.Names.{has_name};
 

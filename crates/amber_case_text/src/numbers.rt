@@ -1,4 +1,5 @@
-// The numbers of a line.
+//! The numbers of a line.
+
 use crate::fault::{Why, push};
 use std::alloc::Global;
 
@@ -31,7 +32,7 @@ pub(crate) fn number_and_rest<'a>(written: &'a str, end: &str) -> Result<(u64, &
     }
 }
 
-/// A line with a range in braces: what stands before it, its two numbers, and what stands behind it.
+/// A line with a range in braces: what stands before it, its two numbers, and what follows it.
 pub(crate) struct RangeLine<'a> {
     pub before: &'a str,
     pub least: u64,

@@ -1,4 +1,5 @@
-// The reader of case files.
+//! The reader of case files. Rests on `escapes` and `numbers`; gives `Case`.
+
 use crate::case::{After, Case, Left, NamedText, find_text};
 use crate::case_text::{CaseText, Piece};
 use crate::escapes::{unescaped, words};
@@ -104,7 +105,7 @@ impl Reader {
         }
     }
 
-    // The name of what begins behind the last case, which has to have words.
+    // The name of what begins after the last case, which has to have words.
     fn next_name<'a>(&self, written: &'a str) -> Result<&'a str, Why> {
         if self.lacks_words() {
             return Err(Why::NoWords);
@@ -276,7 +277,7 @@ fn named(written: &str) -> Result<&str, Why> {
     Ok(name)
 }
 
-// A name, and that of a shared text behind ` = `.
+// A name, and that of a shared text after ` = `.
 fn name_and_shared(written: &str) -> (&str, Option<&str>) {
     match written.split_once(" = ") {
         Some((name, shared)) => (name, Some(shared)),
@@ -284,7 +285,7 @@ fn name_and_shared(written: &str) -> (&str, Option<&str>) {
     }
 }
 
-// A name, without what is said behind it of its file.
+// A name, without what is said after it of its file.
 fn without_left(written: &str) -> &str {
     let written = written.trim_end();
     match written.strip_suffix(" absent") {
@@ -293,7 +294,7 @@ fn without_left(written: &str) -> &str {
     }
 }
 
-// What is said behind a name of its file.
+// What is said after a name of its file.
 fn left_of(alloc: Global, written: &str) -> Left {
     let written = written.trim_end();
     if written.ends_with(" absent") {

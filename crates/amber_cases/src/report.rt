@@ -1,4 +1,5 @@
-// What is printed of the cases.
+//! What is printed of the cases.
+
 use std::fmt::Display;
 use std::io;
 

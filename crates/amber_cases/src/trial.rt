@@ -1,4 +1,5 @@
-// The runs of a case.
+//! The runs of a case. Over `Case` of `amber_case_text`, on the folder and the sink in memory of `amber_io`.
+
 use amber_case_text::{Case, CaseText, Left, compare_answer, compare_bytes};
 use amber_io::{Fails, MemFolder, MemSink, NamedFiles, Numbers};
 use amber_run::{Printed, amber};

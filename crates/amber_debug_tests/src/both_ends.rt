@@ -1,4 +1,5 @@
-// Links of which a test holds both ends.
+//! Links of which a test holds both ends. Tests `amber_link`.
+
 ghost use Rattle.std.specs.Prelude.{◌≡◌, ◌+◌, ◌^◌, ◌≤◌, OnOk, false};
 
 use crate::ends::push;
@@ -8,7 +9,7 @@ use amber_rows::{Batch, Row};
 use std::alloc::Global;
 use std::test::Fail;
 
-// The cells of a row, with a blank behind each.
+// The cells of a row, with a blank after each.
 fn append_row(alloc: Global, told: &mut String, row: &Row) -> Result<(), NoMemory> {
     for cell in row.get() {
         told.push_str(&format!(in alloc; "{cell} ")?)?;

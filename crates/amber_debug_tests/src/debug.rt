@@ -1,4 +1,6 @@
-// A debugger whose runs are short: the numbers of a file that are 2 or more.
+//! A debugger whose runs are short: the numbers of a file that are 2 or more. Tests `amber_debug`, over
+//! `query`.
+
 ghost use Rattle.std.specs.Prelude.{◌≡◌, ◌≤◌, ◌^◌, [], IfOk};
 
 use crate::expected::expect_text;
@@ -8,7 +10,7 @@ use amber_log::Command;
 use std::alloc::Global;
 use std::test::Fail;
 
-// A debugger of the query over this file, with 400 rows in a batch and at most so many steps.
+// A debugger of the query over this file, with 400 rows in a batch and at most `most` steps.
 fn started(alloc: Global, file: &str, most: u64) -> Result<Debugger, HomeErr>
     requires { most ≤ 2 ^ 40 }
     ensures { IfOk result (λ d. d.log.items ≡ []) }

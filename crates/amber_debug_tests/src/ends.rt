@@ -1,4 +1,5 @@
-// Links of which a test holds the one end, and a worker or the test the other.
+//! Links of which a test holds the one end, and a worker or the test the other. Over `amber_link`.
+
 ghost use Rattle.std.specs.Prelude.{◌≡◌, ◌+◌, ◌^◌, ◌<◌, ◌≤◌, All, IfOk, OnOk, false};
 ghost use Rattle.amber_worker.specs.Made.{IsFreshIn, IsFreshOut};
 
@@ -7,7 +8,7 @@ use amber_rows::{Row, Value};
 use std::alloc::Global;
 use std::test::Fail;
 
-// Puts the ends of a new link behind the others.
+// Appends the ends of a new link.
 fn add_link(
     alloc: Global,
     batch: u32,
@@ -27,7 +28,7 @@ fn add_link(
     Ok(())
 }
 
-/// The ends of so many links.
+/// The ends of `count` links.
 pub fn links(alloc: Global, count: u32, batch: u32) -> Result<(Vec<Out>, Vec<In>), NoMemory>
     requires some { 0 < batch }
     requires few { batch ≤ 65536 }

@@ -1,4 +1,5 @@
-// What is expected of texts. A test fails by what was found, not by its line.
+//! What is expected of texts. A test fails by what was found, not by its line.
+
 use std::test::Fail;
 
 /// Expects a text.

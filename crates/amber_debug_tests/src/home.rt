@@ -1,4 +1,5 @@
-// A home called by hand: a leg step by step, commands at rest, and a leg to the end.
+//! A home called by hand: a leg step by step, commands at rest, and a leg to the end. Rests on `home_calls`.
+
 use crate::expected::expect_text;
 use crate::home_calls::{
     answer, apply, close_leg, finished, home_over, numbers, open_leg, run_leg, shown, step, stops,
@@ -33,7 +34,7 @@ fn steps_to_a_stop(alloc: Global, home: &mut Home) -> Result<u32, NoMemory> {
     Ok(30)
 }
 
-// What a leg tells of itself: whether it was opened, how many steps were made, and whether it was closed.
+// What is known of a leg: whether it was opened, how many steps were made, and whether it was closed.
 fn leg_text(alloc: Global, home: &mut Home) -> Result<String, NoMemory> {
     let opened = begin_leg(alloc, home)?;
     let made = steps_to_a_stop(alloc, home)?;
@@ -41,7 +42,7 @@ fn leg_text(alloc: Global, home: &mut Home) -> Result<String, NoMemory> {
     format!(in alloc; "opened {opened} steps {made} closed {closed}")
 }
 
-// The same, with the stops and the numbers of the home behind it.
+// The same, and then the stops and the numbers of the home.
 fn stopped_text(alloc: Global, home: &mut Home) -> Result<String, NoMemory> {
     let leg = leg_text(alloc, home)?;
     let stops = stops(alloc, home)?;
@@ -91,13 +92,13 @@ fn a_filter_shows_what_was_asked_of_it(rt: HostRuntime) -> Result<(), Fail> {
 
 // ---- a leg up to a pause
 
-// Asks the filter to pause after so many rows, and runs a leg. Whether both was done.
+// Asks the filter to pause after `n` rows, and runs a leg. Whether both was done.
 fn run_to_a_pause(alloc: Global, home: &mut Home, n: u64) -> Result<bool, Fail> {
     let pause = Command::Pause { op: 2, n };
     Ok(apply(alloc, home, &pause)? && run_leg(alloc, home, false)?)
 }
 
-// The stops of such a leg, what the filter shows behind it, and what each worker has written down.
+// The stops of such a leg, what the filter shows after it, and what each worker has written down.
 fn paused_text(alloc: Global, home: &mut Home, n: u64) -> Result<String, Fail> {
     let ran = run_to_a_pause(alloc, home, n)?;
     let stops = stops(alloc, home)?;
@@ -129,7 +130,7 @@ fn nobody_does_anything_where_a_pause_stands(rt: HostRuntime) -> Result<(), Fail
     )
 }
 
-// Stops behind the first row of the filter, sets another constant, and goes on to the end; and the answer.
+// Stops after the first row of the filter, sets another constant, and goes on to the end; and the answer.
 fn changed_text(alloc: Global, home: &mut Home) -> Result<String, Fail> {
     let ran = run_to_a_pause(alloc, home, 1)?;
     let value = Value::Int(4);
@@ -139,7 +140,7 @@ fn changed_text(alloc: Global, home: &mut Home) -> Result<String, Fail> {
     Ok(format!(in alloc; "ran {ran} set {set} ended {ended}\n{told}")?)
 }
 
-// The 2 has gone through; the 3, which comes behind the change, does not.
+// The 2 has gone through; the 3, which comes after the change, does not.
 #[test]
 fn a_constant_holds_from_the_next_row_on(rt: HostRuntime) -> Result<(), Fail> {
     let alloc = rt.alloc();
@@ -158,7 +159,7 @@ fn come_to_the_end(alloc: Global, home: &mut Home) -> Result<bool, Fail> {
     Ok(ask(alloc, home)? && apply(alloc, home, &look)? && run_leg(alloc, home, true)?)
 }
 
-// The answer, as it is told and as it is taken out, and whether the home is over then.
+// The answer, as it is shown and as it is taken out, and whether the home is over then.
 fn answers_text(alloc: Global, home: &mut Home) -> Result<String, NoMemory> {
     let told = answer(alloc, home)?;
     let taken = take_answer(alloc, home)?;

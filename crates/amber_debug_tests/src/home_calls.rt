@@ -1,4 +1,5 @@
-// Calls of a home that are made where they may be, and what they tell as texts.
+//! Calls of a home that are made where they may be, and what they give as texts. Over `Home` of `amber_home`.
+
 ghost use Rattle.std.specs.Prelude.{◌≡◌, false, true};
 ghost use Rattle.amber_log.specs.Grammar.{ends_over};
 ghost use Rattle.amber_home.specs.HomeState.{has_crew, is_done_at_rest, is_open};
@@ -101,7 +102,7 @@ pub fn run_leg(alloc: Global, home: &mut Home, to_end: bool) -> Result<bool, Fai
     Ok(true)
 }
 
-// ---- what is told
+// ---- what is shown
 
 /// The numbers of a home.
 pub fn numbers(alloc: Global, home: &Home) -> Result<String, NoMemory> {
@@ -121,7 +122,7 @@ fn text_of(alloc: Global, lines: &Bytes) -> Result<String, NoMemory> {
     String::from_utf8_lossy(alloc, lines.get())
 }
 
-/// The stops that are told.
+/// The stops that are shown.
 pub fn stops(alloc: Global, home: &Home) -> Result<String, NoMemory> {
     if !are_there(home) {
         return Ok(String::new(alloc));
@@ -142,7 +143,7 @@ fn parts_text(alloc: Global, leg: &Leg) -> Result<String, NoMemory> {
     Ok(told)
 }
 
-/// What each worker has written down in the last leg; nothing where a command came behind it.
+/// What each worker has written down in the last leg; nothing where a command came after it.
 pub fn written(alloc: Global, home: &Home) -> Result<String, NoMemory> {
     match home.log().items.get().last() {
         Some(Item::Run(leg) | Item::End(leg)) => parts_text(alloc, leg),

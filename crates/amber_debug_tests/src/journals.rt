@@ -1,4 +1,5 @@
-// What workers have written down, as a text.
+//! What workers have written down, as a text. Over `Entry` of `amber_log`.
+
 use amber_log::Entry;
 use amber_worker::NoMemory;
 use std::alloc::Global;

@@ -1,4 +1,5 @@
-// One query, the numbers of a file that are 2 or more: a scan, a filter and a sink; and its file.
+//! One query, the numbers of a file that are 2 or more: a scan, a filter and a sink; and its file.
+
 ghost use Rattle.std.specs.Prelude.{◌≡◌, ◌++◌, ◌∷◌, [], codes, length, IfOk, OnOk};
 ghost use Rattle.amber_meaning.specs.Plain.{scan_count};
 
@@ -25,7 +26,7 @@ fn columns(alloc: Global) -> Result<Schema, NoMemory>
     Ok(Schema::new(columns))
 }
 
-// Puts an operator with one worker behind the others.
+// Appends an operator with one worker.
 fn add(alloc: Global, operators: &mut Vec<Operator>, id: &str, what: What) -> Result<(), NoMemory>
     ensures { OnOk result (operators.new.items ≡ operators.old.items ++ record {
       id = id.now;

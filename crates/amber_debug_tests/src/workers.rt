@@ -1,4 +1,5 @@
-// Workers that are driven by hand.
+//! Workers that are driven by hand, with the ends of their links from `ends`. Tests `amber_worker`.
+
 ghost use Rattle.std.specs.Prelude.{◌≡◌, ◌<◌, ◌≤◌, All};
 ghost use Rattle.amber_rows.specs.Topology.{crew_of, op_of, what_at};
 ghost use Rattle.amber_worker.specs.Made.{IsFreshIn, IsFreshOut};
@@ -136,7 +137,8 @@ fn join_of(alloc: Global, ins: Vec<In>) -> Result<Worker, Fail>
     worker_of(alloc, &flow, 4, outs, ins)
 }
 
-// A row and the end of the last of the senders that have not ended, and what the join does then. Tells how many steps it has made.
+// A row and the end of the last of the senders that have not ended, and what the join does then: how many
+// steps it has made.
 fn tell_on(
     alloc: Global,
     senders: &mut Vec<Out>,

@@ -12,7 +12,7 @@ use Rattle.amber_flow.specs.Aggregates.{agg_of, agg_or, behind}
 use Rattle.amber_flow.specs.Columns.{column_number}
 use Rattle.amber_flow.proofs.NameFacts.{number-named}
 
--- ---- what stands behind a word
+-- ---- what follows a word
 
 strip_by : (word text : List ℕ) (begins : Bool) → begins ≡ pointwise eqb word (take (length word) text) → (found : Option (Bor (List ℕ)))
     → MatchOption found (FindsTextPrefix word text None) (λ rest. StripsPrefix (FindsTextPrefix word) text rest.now) → option_map (λ rest. rest.now) found ≡ cond begins (Some (drop (length word) text)) None
@@ -47,7 +47,7 @@ by_number columns make word name text agg named is (Some n) found given =
     let called : name_at columns n ≡ name = rw there.here there.named in
     sym (ap (agg_name columns) made) ∙ named n ∙ ap (λ more. word ++ more) called ∙ sym is
 
--- behind a word, or else by what follows
+-- after a word, or else by what follows
 by_word : (columns : List Column) (make : ℕ → Agg) (word text : List ℕ) (agg : Agg) (other : Option Agg) → ((n : ℕ) → agg_name columns (make n) ≡ word ++ name_at columns n) → (other ≡ Some agg → agg_name columns agg ≡ text)
     → (rest : Option (List ℕ)) → behind word text ≡ rest → agg_or rest (λ name. option_map make (column_number columns name)) other ≡ Some agg → agg_name columns agg ≡ text
 by_word columns make word text agg other named more None is given = more given

@@ -83,7 +83,7 @@ kept-more f g xs i x old new h is o n =
 pub kept-end : {Z A B : Type 0} (f : A → Option B) (g : Z → A) (xs : List Z) (i : ℕ) (all : List B) → length xs ≤ i → all ≡ filter_map f (map g (take i xs)) → all ≡ filter_map f (map g xs)
 kept-end f g xs i all h is = is ∙ ap (λ xs. filter_map f (map g xs)) (take_all i xs h)
 
--- the same behind what stood before
+-- the same after what stood before
 pub kept-after : {Z A B : Type 0} (f : A → Option B) (g : Z → A) (xs : List Z) (i : ℕ) (x : Z) (start old new : List B) → i < length xs → x ≡ get_or xs i x → old ≡ start ++ filter_map f (map g (take i xs)) → new ≡ old ++ filter_map f (g x ∷ [])
     → new ≡ start ++ filter_map f (map g (take (i + 1) xs))
 kept-after f g xs i x start old new h is o n =

@@ -8,11 +8,11 @@ use Rattle.amber_rows.specs.declared.column.Column.{Column}
 use Rattle.amber_rows.specs.declared.column.ColKind.{ColKind}
 use Rattle.amber_flow.specs.Columns.{column_number}
 
--- what stands behind a word at the front of a text
+-- what follows a word at the front of a text
 abbrev pub behind : List ℕ → List ℕ → Option (List ℕ)
 behind word text = if starts_with nat_eq text word then Some (drop (length word) text) else None
 
--- `count`, or one of three words with what stands behind it
+-- `count`, or one of three words with what follows it
 abbrev pub is_agg_text : List ℕ → Bool
 is_agg_text text = bytes_eq text (codes "count") || (is_some (behind (codes "sum:") text) || (is_some (behind (codes "min:") text) || is_some (behind (codes "max:") text)))
 

@@ -10,13 +10,13 @@ use Rattle.amber_flow.specs.declared.error.FlowErr.{FlowErr}
 use Rattle.amber_flow.specs.declared.error.FlowErr.TheVariants.{Bad, NoMemory}
 use Rattle.amber_flow.specs.declared.error.FlowWhy.TheVariants as why
 
--- the value that was meant; `Json` of the whole where none was; or nothing, for want of memory
+-- the value that was meant; `Json` of the whole where none was; or nothing, where memory ran out
 abbrev pub AnswersTree : Result Value FlowErr → Option Data → Type 0
 AnswersTree (Ok tree) meant = meant ≡ Some (view tree)
 AnswersTree (Err (Bad op reason)) meant = (op ≡ 0) × (reason ≡ why.Json) × (meant ≡ None)
 AnswersTree (Err NoMemory) meant = ⊤
 
--- the workflow that was meant; its first reason and the operator at fault; or nothing, for want of memory
+-- the workflow that was meant; its first reason and the operator at fault; or nothing, where memory ran out
 abbrev pub AnswersFlow : Result (List Operator) FlowErr → Result (List Operator) Fault → Type 0
 AnswersFlow (Ok flow) meant = meant ≡ Ok flow
 AnswersFlow (Err (Bad op reason)) meant = meant ≡ Err (fault_at op reason)

@@ -48,7 +48,7 @@ worker_limit = 16
 abbrev pub most_workers : Kind → ℕ
 most_workers kind = if is_sink_kind kind then 1 else worker_limit
 
--- the number of workers, where an operator has at most so many: one, where it is not written
+-- the number of workers, where an operator has at most a given number: one, where it is not written
 abbrev pub workers_from : ℕ → Option Data → Option ℕ
 workers_from most None = Some 1
 workers_from most (Some tree) = option_and_then (λ n. if nat_le 1 n && nat_le n most then Some n else None) (option_and_then as_u64 (as_number tree))

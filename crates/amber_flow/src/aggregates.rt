@@ -1,3 +1,5 @@
+//! Reads the aggregates of a group from texts. Rests on `columns`; gives `Agg` of `amber_rows`.
+
 ghost use Rattle.std.specs.Prelude.{◌≡◌, ◌++◌, ◌≤◌, IfOk, OnOk, is_some, length, map, option_map};
 ghost use Rattle.std.specs.List.{filter_map, list_all};
 ghost use Rattle.amber_rows.specs.Columns.{agg_kind};
@@ -8,7 +10,7 @@ use crate::columns::{find_column, kind_of_column};
 use amber_rows::{Agg, ColKind, Column, Text};
 use std::alloc::{AllocError, Global};
 
-/// What stands behind a word at the front of a text.
+/// What follows a word at the front of a text.
 fn strip<'t>(word: &str, text: &'t str) -> Option<&'t str>
     ensures { option_map (λ rest. rest.now) result ≡ behind word.now text.now }
 {
@@ -115,7 +117,7 @@ fn column_of_agg(
     }))
 }
 
-/// Puts the columns of the aggregates that texts mean behind the others.
+/// Appends the columns of the aggregates that texts mean.
 pub fn add_agg_columns(
     alloc: Global,
     made: &mut Vec<Column>,

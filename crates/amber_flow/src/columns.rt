@@ -1,3 +1,5 @@
+//! Reads a scan's columns, and finds columns by name or number. Over `Column` of `amber_rows`.
+
 ghost use Rattle.std.specs.Prelude.{◌≡◌, ◌++◌, OnOk, ◌+◌, ◌^◌, ◌≤◌, ◌<◌, true, bytes_eq, length, map, option_map, position, IfOk, IfSome, MatchResult, Ok, Err};
 ghost use Rattle.std.specs.List.{filter_map, list_all};
 ghost use Rattle.serde_json.specs.View.{view};
@@ -122,7 +124,7 @@ pub fn kind_of_column(columns: &[Column], number: u32) -> Option<ColKind>
     }
 }
 
-/// Puts copies of columns behind the others.
+/// Appends copies of columns.
 pub fn add_columns(made: &mut Vec<Column>, columns: &[Column]) -> Result<(), AllocError>
     ensures { OnOk result (made.new.items ≡ made.old.items ++ columns.now) }
 {
@@ -132,7 +134,7 @@ pub fn add_columns(made: &mut Vec<Column>, columns: &[Column]) -> Result<(), All
     Ok(())
 }
 
-/// Puts copies of the columns with these names behind the others.
+/// Appends copies of the columns with these names.
 pub fn add_named(
     made: &mut Vec<Column>,
     columns: &[Column],

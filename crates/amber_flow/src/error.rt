@@ -1,3 +1,5 @@
+//! Why bytes are no workflow, with the word of each reason.
+
 ghost use Rattle.std.specs.Prelude.{◌≡◌, Some};
 ghost use Rattle.amber_flow.specs.Words.{flow_reason_word};
 

@@ -1,3 +1,5 @@
+//! Reads a filter. Rests on `inputs` and `columns`.
+
 ghost use Rattle.std.specs.Prelude.{◌≡◌, ◌<◌, ◌≤◌, All, IfOk, IfSome, false, length, true};
 ghost use Rattle.serde_json.specs.View.{view};
 ghost use Rattle.amber_rows.specs.Columns.{IsCondOn, kind_of};

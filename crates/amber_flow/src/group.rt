@@ -1,3 +1,5 @@
+//! Reads a group. Rests on `inputs`, `columns` and `aggregates`.
+
 ghost use Rattle.std.specs.Prelude.{◌≡◌, ◌++◌, ◌<◌, ◌≤◌, All, IfOk, List, false, is_some, length, map, option_map, true};
 ghost use Rattle.std.specs.List.{filter_map, list_all};
 ghost use Rattle.serde_json.specs.View.{view};

@@ -1,3 +1,5 @@
+//! Reads what every operator has: its id, its kind and the number of its workers. Rests on `names`.
+
 ghost use Rattle.std.specs.Prelude.{◌≡◌, ◌<◌, ◌≤◌, true, false, IfOk, IfSome, length, option_map};
 ghost use Rattle.serde_json.specs.View.{view};
 ghost use Rattle.amber_rows.specs.Columns.{is_among, is_id};
@@ -47,7 +49,7 @@ fn most_of(kind: Kind) -> u64
     if kind.is_sink() { 1 } else { WORKER_LIMIT }
 }
 
-/// How many workers a value means, where there may be so many.
+/// How many workers a value means, where that is 1 to `most`.
 fn read_workers(most: u64, tree: Option<&Value>) -> Option<u32>
     requires some { 0 < most }
     requires few { most ≤ 16 }

@@ -1,3 +1,5 @@
+//! The earlier operators from which an operator reads. Over `Operator` of `amber_rows`.
+
 ghost use Rattle.std.specs.Prelude.{◌≡◌, ◌<◌, ◌≤◌, All, IfSome, Some, length};
 ghost use Rattle.amber_rows.specs.Columns.{HasInput};
 ghost use Rattle.amber_flow.specs.Inputs.{IsNarrow, operator_columns, operator_number};

@@ -1,3 +1,5 @@
+//! Reads a join. Rests on `inputs` and `columns`.
+
 ghost use Rattle.std.specs.Prelude.{◌≡◌, ◌++◌, ◌<◌, ◌≤◌, All, IfOk, OnOk, false, is_some, length, map, true};
 ghost use Rattle.std.specs.List.{filter_map, list_all};
 ghost use Rattle.serde_json.specs.View.{view};

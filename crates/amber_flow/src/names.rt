@@ -1,3 +1,5 @@
+//! The words of a workflow: kinds, signs, ids and names of columns.
+
 ghost use Rattle.std.specs.Prelude.{◌≡◌};
 ghost use Rattle.std.specs.List.{list_all};
 ghost use Rattle.amber_rows.specs.Columns.{is_column_name, is_id, is_id_byte, is_letter};

@@ -1,3 +1,5 @@
+//! Reads one operator. Rests on `head` and `parts`.
+
 ghost use Rattle.std.specs.Prelude.{All, true, ◌≡◌, ◌<◌, length, IfOk};
 ghost use Rattle.serde_json.specs.View.{view};
 ghost use Rattle.amber_rows.specs.FlowRules.{IsNext};

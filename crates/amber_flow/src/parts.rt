@@ -1,3 +1,5 @@
+//! Reads what an operator does and the columns that it gives. Rests on the reader of each kind.
+
 ghost use Rattle.std.specs.Prelude.{◌≡◌, ◌<◌, All, IfOk, length, true};
 ghost use Rattle.serde_json.specs.View.{view};
 ghost use Rattle.amber_rows.specs.Columns.{AreColumns};

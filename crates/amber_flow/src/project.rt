@@ -1,3 +1,5 @@
+//! Reads a projection. Rests on `inputs` and `columns`.
+
 ghost use Rattle.std.specs.Prelude.{◌≡◌, ◌<◌, ◌≤◌, All, IfOk, false, length, map, option_map, true};
 ghost use Rattle.std.specs.List.{filter_map};
 ghost use Rattle.serde_json.specs.View.{view};

@@ -1,3 +1,5 @@
+//! Reads a whole workflow from bytes. Rests on `operator`, and on `readers` for what all must meet together.
+
 ghost use Rattle.std.specs.Prelude.{◌≡◌, ◌==◌, ◌<◌, ◌≤◌, ◌⊎◌, [], true, length, map, MatchResult, IfOk, Ok, Err};
 ghost use Rattle.serde_json.specs.View.{view};
 ghost use Rattle.amber_rows.specs.FlowRules.{AreNext, ends_in_sink};
@@ -82,7 +84,7 @@ fn make_flow(operators: Vec<Operator>) -> Result<Flow, Fault>
     Ok(Flow::new(operators))
 }
 
-/// Whether a workflow may have so many operators.
+/// Whether a workflow may have this number of operators.
 fn may_be_flow(count: usize) -> bool
     ensures { result ≡ is_flow_length count }
 {

@@ -1,3 +1,5 @@
+//! Counts the workers and the readers of operators. Over `Operator` of `amber_rows`.
+
 ghost use Rattle.std.specs.Prelude.{◌≡◌, ◌==◌, ◌<◌, ◌≤◌, ℕ, length, sum_by, count_by, IfNone};
 ghost use Rattle.amber_rows.specs.FlowRules.{reader_count};
 ghost use Rattle.amber_rows.specs.Kinds.{inputs_of};

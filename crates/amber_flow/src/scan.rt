@@ -1,3 +1,5 @@
+//! Reads a scan. Rests on `columns`.
+
 ghost use Rattle.std.specs.Prelude.{◌≡◌, IfOk, List, false, true};
 ghost use Rattle.serde_json.specs.View.{view};
 ghost use Rattle.amber_rows.specs.declared.flow.Operator.{Operator as OneOperator};

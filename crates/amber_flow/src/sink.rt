@@ -1,3 +1,5 @@
+//! Reads a sink. Rests on `inputs`.
+
 ghost use Rattle.std.specs.Prelude.{◌≡◌, ◌<◌, All, IfOk, length, true};
 ghost use Rattle.serde_json.specs.View.{view};
 ghost use Rattle.amber_rows.specs.Kinds.{is_sink, IsKind};

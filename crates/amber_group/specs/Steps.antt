@@ -50,7 +50,7 @@ with_best row change (Max column best) = Max column (first_of_both change best)
 abbrev pub running_after : List Value → Running → Running
 running_after row running = with_best row (change_of row running) running
 
--- ---- how large the numbers can be after so many rows
+-- ---- how large the numbers can be after a given number of rows
 
 abbrev pub IsSumWithin : ℕ → ℤ → Type 0
 IsSumWithin rows total = (total ≤ℤ pos (rows * 2 ^ 63)) × (pos 0 ≤ℤ (total +ℤ pos (rows * 2 ^ 63)))

@@ -1,3 +1,5 @@
+//! The rows that groups give at the end. Over `Groups` and `Running`.
+
 ghost use Rattle.std.specs.Prelude.{◌≡◌, ◌++◌, ◌∷◌, [], IfOk, OnOk, option_map};
 ghost use Rattle.amber_group.specs.Finished.{refused_of, finished_rows, aggregate_values};
 
@@ -34,7 +36,7 @@ fn with_values(
     Ok(Some(cells))
 }
 
-// Puts the row of a group behind the others, or its key behind those that have none.
+// Appends the row of a group to `rows`, or its key to `refused` where it has none.
 pub(crate) fn add_group(
     alloc: Global,
     key: &Row,

@@ -1,4 +1,4 @@
-//! The groups: what is kept of the rows of each key. A row is taken into the group of its key, or into a new one.
+//! The groups: what is kept of the rows of each key. Over `KeyTable` of `amber_keys` and `Totals`.
 
 ghost use Rattle.std.specs.Prelude.{◌≡◌, ◌^◌, ◌<◌, ◌++◌, ◌∷◌, [], ℕ, None, Some, IsSome, OnErr, OnOk, length};
 ghost use Rattle.std.specs.Map.{lookup};
@@ -52,8 +52,9 @@ impl Groups {
         self.table.len()
     }
 
-    // Takes in a row with this key: the groups of some rows become those of these rows and this one. What is in
-    // `changes` before does not matter; `room` gets the cells of a key that is known, in whose room another can be made.
+    // Takes in a row with this key: the groups of some rows become those of these rows and this one. What is
+    // in `changes` before does not matter; `room` gets the cells of a key that is known, in whose room
+    // another can be made.
     pub(crate) fn take_in(
         &mut self,
         alloc: Global,

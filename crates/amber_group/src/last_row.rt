@@ -17,7 +17,7 @@ use std::alloc::{AllocError, Global};
 use std::collections::VecDeque;
 
 impl Groups {
-    // Takes a row with this key into the groups, as `take_in` does, and puts the rows of all groups behind others.
+    // Takes in a row with this key, as `take_in` does, and appends the rows of all groups to `out`.
     pub(crate) fn take_last(
         &mut self,
         alloc: Global,
@@ -48,7 +48,7 @@ impl Groups {
         }
     }
 
-    // Keeps these totals for a key that has a group, and puts the rows of all groups behind others.
+    // Keeps these totals for a key that has a group, and appends the rows of all groups to `out`.
     fn change(
         &mut self,
         alloc: Global,
@@ -70,7 +70,7 @@ impl Groups {
         Ok(())
     }
 
-    // Puts the rows of the groups behind others.
+    // Appends the rows of the groups to `out`.
     fn append_finished(&self, alloc: Global, out: &mut VecDeque<Row>) -> Result<(), AllocError>
         ensures ok { OnOk result (out.new.items ≡ out.old.items ++ finished_rows self.now) }
         ensures err { OnErr result (out.new.items ≡ out.old.items) }
@@ -79,7 +79,7 @@ impl Groups {
         out.append(&mut VecDeque::from_vec(rows))
     }
 
-    // Keeps these totals for a key that has no group, and puts the rows of all groups behind others.
+    // Keeps these totals for a key that has no group, and appends the rows of all groups to `out`.
     fn begin_last(
         &mut self,
         alloc: Global,

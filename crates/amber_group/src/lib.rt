@@ -1,14 +1,15 @@
 //! The state of a group: what a worker keeps of the rows that it was fed, and the rows that it gives at the end.
 //!
-//! A group takes one row after the other and keeps, for each key, a number or a cell for each aggregate. In the
-//! end it gives a row for each key, in the order in which the keys came first: the key, and then its aggregates. A
-//! sum is exact however its parts come: 128 bits hold the sum of fewer than 2^40 numbers of 64 bits, and only the
-//! final sum is tested. A group whose final sum 64 bits do not hold has no row; its key is told apart.
+//! A group takes one row after the other and keeps, for each key, a number or a cell for each aggregate. In
+//! the end it gives a row for each key, in the order in which the keys came first: the key, and then its
+//! aggregates. A sum is exact however its parts come: 128 bits hold the sum of fewer than 2^40 numbers of 64
+//! bits, and only the final sum is tested. A group whose final sum 64 bits do not hold has no row; its key is
+//! given separately.
 //!
-//! The rows themselves are not kept. So the contracts say what a state stands for: `IsFedWith` ties it to a list of
-//! rows. A new state stands for no row, each row that is fed makes it stand for one row more, and what it gives is
-//! what the list functions of `amber_rows` make of the rows for which it stands. Where memory runs out, the state
-//! is as before.
+//! The rows themselves are not kept. So the contracts say what a state stands for: `IsFedWith` ties it to a
+//! list of rows. A new state stands for no row, each row that is fed makes it stand for one more row, and
+//! what it gives is what the list functions of `amber_rows` make of the rows for which it stands. Where
+//! memory runs out, the state is as before.
 #![tactic(auto)]
 
 mod finish;

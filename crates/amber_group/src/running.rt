@@ -1,3 +1,5 @@
+//! What is kept of the rows of a group for one aggregate. Over `Row` and `Value` of `amber_rows`.
+
 ghost use Rattle.std.specs.Prelude.{◌≡◌, ◌+◌, ◌+ℤ◌, ◌^◌, ◌<◌, [], IfOk, ℕ, option_map};
 ghost use Rattle.std.specs.Ordering.{is_gt, is_lt};
 ghost use Rattle.amber_rows.specs.Lists.{nth};
@@ -72,7 +74,7 @@ impl Running {
         }
     }
 
-    /// Takes in a row more, whose new best cell this is if it has one.
+    /// Takes in one more row, whose new best cell this is if it has one.
     #[tactic(auto, unfolding(crate::specs::Steps::with_best, crate::specs::Steps::IsWithin))]
     pub fn settle(&mut self, row: &Row, change: Option<Value>)
         requires { (rows : ℕ) × (rows < 2 ^ 40) × IsWithin rows self.old }

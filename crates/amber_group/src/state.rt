@@ -1,3 +1,5 @@
+//! The state of a group, which takes in rows. Rests on `Groups`, and `Key` of `amber_keys`.
+
 ghost use Rattle.std.specs.Prelude.{◌≡◌, ◌^◌, ◌<◌, ◌++◌, [], List, IfOk, OnErr, OnOk, length};
 ghost use Rattle.amber_rows.specs.Operators.{first_keys, refused_keys};
 ghost use Rattle.amber_rows.specs.declared.value.Value.{Value as Cell};
@@ -53,8 +55,8 @@ impl Model for GroupState {
 }
 
 impl GroupState {
-    /// The state of a group by these columns with these aggregates, which was fed no row. Columns are numbered
-    /// from 1.
+    /// The state of a group by these columns with these aggregates, which was fed no row. Columns are
+    /// numbered from 1.
     pub fn new(alloc: Global, keys: Cols, aggs: Aggs) -> Self
         ensures keys { result.keys ≡ keys }
         ensures aggs { result.aggs ≡ aggs }
@@ -91,7 +93,7 @@ impl GroupState {
         Ok(())
     }
 
-    /// Takes in a row, as `feed` does, and puts the rows of all groups behind those in `out`. For want of memory all is
+    /// Takes in a row, as `feed` does, and appends the rows of all groups to `out`. If memory runs out all is
     /// as before.
     pub fn feed_last(&mut self, row: &Row, out: &mut VecDeque<Row>) -> Result<(), AllocError>
         requires { self.old.fed < 2 ^ 40 }
@@ -108,9 +110,9 @@ impl GroupState {
         Ok(())
     }
 
-    /// A row for each key of the rows that it was fed: the key, and then its aggregates. A key with a sum that 64
-    /// bits do not hold, or with an aggregate of a column that none of its rows has, stands in `refused` instead.
-    /// Keys stand in the order in which they came first.
+    /// A row for each key of the rows that it was fed: the key, and then its aggregates. A key with a sum
+    /// that 64 bits do not hold, or with an aggregate of a column that none of its rows has, stands in
+    /// `refused` instead. Keys stand in the order in which they came first.
     pub fn finish(&self, alloc: Global) -> Result<Grouped, AllocError>
         ensures rows { IfOk result (λ groups. AreRowsOf self.now groups.rows) }
         ensures refused { IfOk result

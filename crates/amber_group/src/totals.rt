@@ -1,3 +1,5 @@
+//! What is kept of the rows of a group for all its aggregates. Rests on `Running`.
+
 ghost use Rattle.std.specs.Prelude.{◌≡◌, ◌+◌, ◌^◌, ◌<◌, [], ℕ, IfOk, OnErr, OnOk, map};
 ghost use Rattle.amber_group.specs.Running.{running_of};
 ghost use Rattle.amber_group.specs.Steps.{AreWithin, change_of, running_after};
@@ -81,7 +83,8 @@ impl Totals {
         Ok(totals)
     }
 
-    // Takes in a row more. Its new best cells are made in `changes` first, whose content before does not matter.
+    // Takes in one more row. Its new best cells are made in `changes` first, whose content
+    // before does not matter.
     pub(crate) fn add(
         &mut self,
         row: &Row,
@@ -151,7 +154,7 @@ fn find_changes(
     Ok(())
 }
 
-// Takes in a row more, whose new best cells these are.
+// Takes in one more row, whose new best cells these are.
 fn settle_all(runnings: &mut [Running], row: &Row, changes: &mut Vec<Option<Value>>)
     requires changes { changes.old.items ≡ map (change_of row.now) runnings.old }
     requires within { (rows : ℕ) × (rows < 2 ^ 40) × AreWithin rows runnings.old }

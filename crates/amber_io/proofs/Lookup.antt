@@ -36,7 +36,7 @@ lacks-push name [] one none other = rw other refl
 lacks-push name (file ∷ files) one none other =
     lacks-cons name files (files ++ one ∷ []) file (tied name file.0) refl none (λ less. lacks-push name files one less other)
 
--- ---- what is found behind files of other names
+-- ---- what is found after files of other names
 
 pub tied-same : (name : List ℕ) → tied name name ≡ true
 tied-same name = (eq_by_cmp_equiv nat_list_cmp_total).refl name
@@ -104,7 +104,7 @@ files_of-pushed name bytes files none = from_entries_push nat_list_cmp_total (sl
 abbrev Held : Type 0
 Held = String Global × Vec ℕ Global
 
--- the files up to one that is held, and those behind it
+-- the files up to one that is held, and those after it
 held-split : (items : List Held) (i : ℕ) (e : Held) → i < length items → e ≡ get_or items i e
     → map entry_bytes items ≡ map entry_bytes (take i items) ++ entry_bytes e ∷ map entry_bytes (drop (i + 1) items)
 held-split items i e h is =

@@ -1,4 +1,4 @@
--- Told files that change.
+-- Known files that change.
 use Rattle.std.proofs.Common.{◌≡◌, refl, ap, sym, ◌∙◌, ℕ, cond, List, [], ◌++◌, Option, None, Some, IsSome}
 use Rattle.std.specs.Cmp.Lexicographic.{nat_list_cmp_total}
 use Rattle.std.specs.FinMap.{get, get-insert, insert, same_map, slice_cmp-IsAntisymmetric, nat_cmp-IsAntisymmetric}
@@ -17,7 +17,7 @@ insert-insert files name a b =
 get-same : (files : Named) (name a : List ℕ) → get (insert files name a) name ≡ Some a
 get-same files name a = get-insert nat_list_cmp_total files name a name ∙ ap (λ b. cond b (Some a) (get files name)) (tied-same name)
 
--- bytes that are written behind a file's first ones make it as if all were written at once
+-- bytes that are written after a file's first ones make it as if all were written at once
 pub with_more-with_file : (told : Option Named) (name a b : List ℕ) → with_more (with_file told name a) name b ≡ with_file told name (a ++ b)
 unfolding with_file with_more
 with_more-with_file None name a b = refl

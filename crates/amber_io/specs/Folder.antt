@@ -1,4 +1,4 @@
--- The files of a folder, where it tells them.
+-- The files of a folder, where they are known.
 use Rattle.std.specs.Prelude.{◌≡◌, ℕ, List, [], ◌++◌, ◌⊎◌, take, Option, None, Some, IsSome, option_map, Result, Ok, Err, ⊤}
 use Rattle.std.specs.Ordering.{nat_cmp}
 use Rattle.std.specs.Cmp.Lexicographic.{slice_cmp}
@@ -14,22 +14,22 @@ Named = finmap.FinMap (slice_cmp nat_cmp) (List ℕ)
 abbrev pub files_of : List (List ℕ × List ℕ) → Named
 files_of entries = finmap.from_entries entries
 
--- a fact about the files, where they are told
+-- a fact about the files, where they are known
 abbrev pub Told : Option Named → (Named → Type 0) → Type 0
 Told None P = ⊤
 Told (Some files) P = P files
 
--- the files are told, and there is none of this name
+-- the files are known, and there is none of this name
 abbrev pub Lacks : Option Named → List ℕ → Type 0
 Lacks None name = ⊥
 Lacks (Some files) name = finmap.get files name ≡ None
 
--- where the files are told, there is one of this name
+-- where the files are known, there is one of this name
 abbrev pub IsThere : Option Named → List ℕ → Type 0
 IsThere None name = ⊤
 IsThere (Some files) name = IsSome (finmap.get files name)
 
--- where the files are told, that of this name begins with these bytes, and they are its first `most`, or all where it has fewer
+-- where the files are known, that of this name begins with these bytes, and they are its first `most`, or all where it has fewer
 abbrev pub Gives : Option Named → List ℕ → ℕ → List ℕ → Type 0
 Gives None name most bytes = ⊤
 Gives (Some files) name most bytes = (whole : List ℕ) × (finmap.get files name ≡ Some whole) × (bytes ≡ take most whole)
@@ -48,7 +48,7 @@ abbrev pub grown : Named → List ℕ → Option (List ℕ) → List ℕ → Nam
 grown files name None more = files
 grown files name (Some bytes) more = finmap.insert files name (bytes ++ more)
 
--- more bytes behind the end of the file of this name, where there is one, and all others stay
+-- more bytes at the end of the file of this name, where there is one, and all others stay
 unfoldable pub with_more : Option Named → List ℕ → List ℕ → Option Named
 with_more told name more = option_map (λ files. grown files name (finmap.get files name) more) told
 
@@ -67,7 +67,7 @@ pub record Piece : Type 0 where
   pub name : List ℕ
   pub bytes : List ℕ
 
--- the piece stands behind the old end of its file, or nothing for want of memory, or a front part at a failure
+-- the piece follows the old end of its file, or nothing where memory ran out, or a front part at a failure
 abbrev pub Extends : {A : Type 0} → Result A IoErr → Option Named → Option Named → Piece → Type 0
 Extends (Ok x) old new piece = new ≡ with_more old piece.name piece.bytes
 Extends (Err NoMemory) old new piece = new ≡ old

@@ -8,7 +8,7 @@ use Rattle.amber_io.specs.declared.error.IoErr.TheVariants.{Failed, NoMemory}
 abbrev pub Begins : Option (List ℕ) → Option (List ℕ) → List ℕ → Type 0
 Begins old new piece = (part : List ℕ) × (rest : List ℕ) × (part ++ rest ≡ piece) × Appends old new part
 
--- the whole piece was appended, or nothing for want of memory, or a front part at a failure
+-- the whole piece was appended, or nothing where memory ran out, or a front part at a failure
 abbrev pub LeavesPiece : {A : Type 0} → Result A IoErr → Option (List ℕ) → Option (List ℕ) → List ℕ → Type 0
 LeavesPiece (Ok x) old new piece = Appends old new piece
 LeavesPiece (Err NoMemory) old new piece = Keeps old new

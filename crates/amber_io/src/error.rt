@@ -1,3 +1,5 @@
+//! Why a call of a folder or a sink failed.
+
 ghost use Rattle.std.specs.Prelude.{Some};
 ghost use Rattle.amber_io.specs.ErrorText.{error_text};
 

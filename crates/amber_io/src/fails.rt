@@ -1,3 +1,5 @@
+//! Which calls of a folder or a sink in memory fail.
+
 ghost use Rattle.std.specs.Prelude.{◌≡◌, ◌==◌, take};
 ghost use Rattle.std.specs.List.{list_any};
 

@@ -1,3 +1,5 @@
+//! The trait of a folder of named files. Its errors are `IoErr`.
+
 ghost use Rattle.std.specs.Prelude.{◌≡◌, ℕ, ◌≤◌, Option, Some, IsErr, IfOk, vec_len};
 ghost use Rattle.amber_io.specs.Counts.{HasCause};
 ghost use Rattle.amber_io.specs.Folder.{Named, Lacks, Gives, Creates, Extends, IsThere};
@@ -7,7 +9,7 @@ use std::alloc::Global;
 
 /// A folder of files, each under a name. Two different names mean two different files.
 pub trait Folder {
-    // What each file holds, where the folder tells it.
+    // What each file holds, where that is known.
     ghost files: { Self → Option Named };
 
     // How many loads failed, and how many writes. Neither falls, and each stands still at `u64::MAX`.
@@ -20,7 +22,7 @@ pub trait Folder {
     /// # Errors
     ///
     /// `NoMemory` may come at any load. `Failed` comes only where `load_faults` rose in this call, or the
-    /// folder tells its files and has none of this name; that absence leaves the count as it was.
+    /// folder's files are known and none has this name; that absence leaves the count as it was.
     fn load(&mut self, alloc: Global, name: &str, most: u64) -> Result<Vec<u8>, IoErr>
         ensures same { files self.new ≡ files self.old }
         ensures gives { IfOk result (λ bytes. Gives (files self.old) name.now most bytes.items) }
@@ -42,12 +44,12 @@ pub trait Folder {
         ensures cause { HasCause result ⊥ (write_faults self.old) (write_faults self.new) }
         ensures loads { load_faults self.new ≡ load_faults self.old };
 
-    /// Writes a piece behind the end of a file, which has to be there. All other files stay.
+    /// Appends a piece to a file, which has to be there. All other files stay.
     ///
     /// # Errors
     ///
     /// After `NoMemory` the file is as before. `Failed` comes only where `write_faults` rose in this call;
-    /// then a front part of the piece stands behind the old end, perhaps nothing or all of it.
+    /// then a front part of the piece follows the old end, perhaps nothing or all of it.
     fn append(&mut self, name: &str, bytes: &[u8]) -> Result<(), IoErr>
         requires { IsThere (files self.old) name.now }
         ensures extends { Extends result (files self.old) (files self.new)

@@ -1,3 +1,5 @@
+//! The folder in memory. Over `NamedFiles`; it fails as `Fails` says.
+
 ghost use Rattle.std.specs.Prelude.{◌≡◌, ℕ, ◌≤◌, Option, Some, IsErr, IfOk, take, vec_len, option_map};
 ghost use Rattle.std.specs.FinMap as finmap;
 ghost use Rattle.amber_io.specs.Counts.{HasCause, next_number};
@@ -12,7 +14,7 @@ use crate::folder::Folder;
 use crate::named_files::NamedFiles;
 use std::alloc::Global;
 
-/// A folder in memory, which tells its files and fails where its plan says so.
+/// A folder in memory, whose files are known and which fails where its plan says so.
 pub struct MemFolder {
     files: NamedFiles,
     fails: Fails,

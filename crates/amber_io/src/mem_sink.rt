@@ -1,3 +1,5 @@
+//! The sink in memory. It fails as `Fails` says.
+
 ghost use Rattle.std.specs.Prelude.{◌≡◌, ◌++◌, [], Some, IfOk, take};
 ghost use Rattle.amber_io.specs.Counts.{HasCause, next_number};
 ghost use Rattle.amber_io.specs.Sink.{LeavesPiece};
@@ -9,7 +11,7 @@ use crate::fails::{Fails, first_bytes};
 use crate::sink::Sink;
 use std::alloc::Global;
 
-/// A sink in memory, which tells what was written and fails where its plan says so.
+/// A sink in memory, which shows what was written and fails where its plan says so.
 pub struct MemSink {
     written: Vec<u8>,
     fails: Fails,

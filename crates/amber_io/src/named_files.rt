@@ -1,3 +1,5 @@
+//! A list of files with their names.
+
 ghost use Rattle.std.specs.Prelude.{◌≡◌, [], map, MatchOption, OnErr, OnOk, option_map};
 ghost use Rattle.std.specs.FinMap as finmap;
 ghost use Rattle.amber_io.specs.Folder.{grown, files_of};
@@ -63,7 +65,7 @@ impl NamedFiles {
         }
     }
 
-    // Makes the first file of this name empty, or puts an empty one behind all others.
+    // Makes the first file of this name empty, or appends an empty one.
     pub(crate) fn make_empty(&mut self, alloc: Global, name: &str) -> Result<(), AllocError>
         ensures ok { OnOk result (files_of self.new
             ≡ finmap.insert (files_of self.old) name.now []) }
@@ -79,7 +81,7 @@ impl NamedFiles {
         Ok(())
     }
 
-    // Puts more bytes behind the first file of this name, where there is one.
+    // Appends bytes to the first file of this name, where there is one.
     pub(crate) fn grow(&mut self, name: &str, more: &[u8]) -> Result<(), AllocError>
         ensures ok { OnOk result (files_of self.new
             ≡ grown (files_of self.old) name.now

@@ -1,3 +1,5 @@
+//! The folder and the sink of the system. Over the files and the standard output of `std::rt`.
+
 ghost use Rattle.std.specs.Prelude.{◌≡◌, ◌≢◌, ◌≤◌, Option, None, IfOk, IsErr, vec_len};
 ghost use Rattle.amber_io.specs.Counts.{HasCause};
 ghost use Rattle.amber_io.specs.Folder.{Named, Lacks, Gives, Creates, Extends, IsThere};
@@ -30,7 +32,7 @@ impl FileId {
     }
 }
 
-/// The files of the system, by their paths. It tells nothing of what they hold. A file that it has loaded it
+/// The files of the system, by their paths. What they hold is not known. A file that it has loaded it
 /// never makes empty, also where another path or a link leads to it.
 #[derive(Drop)]
 pub struct RealFolder<'r, R> {
@@ -74,8 +76,8 @@ fn read_file<R: Files>(
     Ok(bytes)
 }
 
-// Makes a file or empties one, unless it is one of those that were loaded. What the path leads to is asked of the
-// opened file, before anything is cut off.
+// Makes a file or empties one, unless it is one of those that were loaded. What the path leads to is asked of
+// the opened file, before anything is cut off.
 fn create_file<R: Files>(rt: &R, name: &str, loaded: &[FileId]) -> io::Result<()> {
     let mut options = OpenOptions::new();
     options.write(true);
@@ -127,8 +129,8 @@ impl<R: Files> Folder for RealFolder<'_, R> {
         }
     }
 
-    /// As the trait says; each failure is counted. A file that was loaded stays as it is, and the create fails.
-    /// The file may have been emptied when memory runs out, so that is a failure too.
+    /// As the trait says; each failure is counted. A file that was loaded stays as it is, and the create
+    /// fails. The file may have been emptied when memory runs out, so that is a failure too.
     #[tactic(auto, unfolding(crate::specs::Folder::with_file))]
     fn create(&mut self, name: &str) -> Result<(), IoErr>
         ensures creates { Creates result None None name.now }
@@ -168,7 +170,7 @@ impl<R: Files> Folder for RealFolder<'_, R> {
     }
 }
 
-/// The standard output. It tells nothing of what was written.
+/// The standard output. What was written is not known.
 #[derive(Drop)]
 pub struct RealSink<'r, R> {
     rt: &'r R,

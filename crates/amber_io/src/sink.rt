@@ -1,3 +1,5 @@
+//! The trait of a sink of bytes. Its errors are `IoErr`.
+
 ghost use Rattle.std.specs.Prelude.{ℕ, List, Option};
 ghost use Rattle.amber_io.specs.Counts.{HasCause};
 ghost use Rattle.amber_io.specs.Sink.{LeavesPiece};
@@ -6,7 +8,7 @@ use crate::error::IoErr;
 
 /// Where output goes, piece after piece.
 pub trait Sink {
-    // All that was written so far, where the sink tells it.
+    // All that was written so far, where that is known.
     ghost written: { Self → Option (List ℕ) };
 
     // How many puts failed. It never falls, and stands still at `u64::MAX`.

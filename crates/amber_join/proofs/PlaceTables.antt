@@ -36,7 +36,7 @@ one_place : {A : Type 0} (test : A → Bool) (n : ℕ) (y : A) (t : Bool) → te
 one_place test n y true e = let same : n ≡ n + 0 = omega arith in ap (λ k. k ∷ []) same
 one_place test n y false e = refl
 
--- one more stands behind all others
+-- one more follows all others
 pub places-push : {A : Type 0} (test : A → Bool) (n : ℕ) (xs : List A) (y : A) → places_from test n (xs ++ y ∷ []) ≡ places_from test n xs ++ cond (test y) ((n + length xs) ∷ []) []
 unfolding places_from
 places-push test n [] y = one_place test n y (test y) refl

@@ -1,3 +1,5 @@
+//! The matches of a probe row. Over `Places`.
+
 ghost use Rattle.std.specs.Prelude.{◌≡◌, ◌++◌, ◌∷◌, [], IfOk, OnOk, map, slice_get};
 ghost use Rattle.std.specs.List.{filter_map};
 
@@ -15,7 +17,7 @@ fn beside(alloc: Global, probe: &Row, build: &Row) -> Result<Row, AllocError>
     Ok(Row::new(cells))
 }
 
-/// Puts a probe row before the build row at a place behind the other matches.
+/// Appends the match of a probe row and the build row at this place.
 fn add_match(
     alloc: Global,
     probe: &Row,

@@ -1,3 +1,5 @@
+//! Where the build rows with a key are. Over `KeyTable` of `amber_keys`.
+
 ghost use Rattle.std.specs.Prelude.{◌≡◌, ◌^◌, ◌-◌, ◌++◌, ◌∷◌, [], ℕ, List, OnErr, OnOk, length, min};
 ghost use Rattle.amber_rows.specs.Operators.{pick_cells};
 ghost use Rattle.amber_rows.specs.declared.value.Value.{Value as Cell};
@@ -7,8 +9,8 @@ use amber_keys::{Key, KeyTable};
 use std::alloc::{AllocError, Global};
 use std::marker::Model;
 
-/// Places of build rows in the order in which they came, seen as a list. There is one at least. Most keys have one row,
-/// so the first place stands beside the key and not elsewhere in memory.
+/// Places of build rows in the order in which they came, seen as a list. There is one at least. Most keys
+/// have one row, so the first place stands beside the key and not elsewhere in memory.
 pub struct Places {
     first: usize,
     more: Vec<usize>,
@@ -29,7 +31,7 @@ impl Model for Places {
 }
 
 impl Places {
-    /// Puts a place behind the others.
+    /// Appends a place.
     fn add(&mut self, place: usize) -> Result<(), AllocError>
         ensures ok { OnOk result (self.new ≡ self.old ++ place ∷ []) }
         ensures same { OnErr result (self.new ≡ self.old) }
@@ -64,8 +66,8 @@ impl Clone for Places {
     }
 }
 
-/// Notes in a table where the row that comes next stands, which has this key. So a table of some rows becomes that
-/// of these rows and the next one.
+/// Notes in a table where the row that comes next stands, which has this key. So a table of some rows becomes
+/// that of these rows and the next one.
 pub fn note(
     alloc: Global,
     table: &mut KeyTable<Places>,

@@ -1,3 +1,5 @@
+//! The state of a join, which keeps build rows and takes probe rows. Rests on `places` and `matches`.
+
 ghost use Rattle.std.specs.Prelude.{◌≡◌, ◌++◌, ◌∷◌, [], IfErr, IfOk, OnErr, OnOk, false, length, true};
 ghost use Rattle.amber_rows.specs.Operators.{first_keys, matches_of};
 
@@ -8,8 +10,8 @@ use amber_rows::{Cols, Row, Rows};
 use std::alloc::{AllocError, Global};
 use std::marker::Model;
 
-/// What a join keeps: the columns by which the rows of both sides are compared, the build rows in the order in
-/// which they came, and whether these are all. The state is seen as just these.
+/// What a join keeps: the columns by which the rows of both sides are compared, the build rows in the order
+/// in which they came, and whether these are all. The state is seen as just these.
 pub struct JoinState {
     alloc: Global,
     build_keys: Cols,
@@ -70,7 +72,7 @@ impl JoinState {
         }
     }
 
-    /// Keeps a build row. It gives the row back for want of memory alone.
+    /// Keeps a build row. It gives the row back only where memory runs out.
     pub fn build(&mut self, row: Row) -> Result<(), Row>
         requires { self.old.sealed ≡ false }
         ensures ok { OnOk result (self.new ≡ record self.old { rows = self.old.rows ++ row ∷ [] }) }
@@ -99,8 +101,8 @@ impl JoinState {
         self.sealed = true;
     }
 
-    /// The probe row followed by each build row whose keys equal its own, in the order in which the build rows
-    /// came. No row where no key is equal.
+    /// The probe row followed by each build row whose keys equal its own, in the order in which the build
+    /// rows came. No row where no key is equal.
     pub fn probe(&self, alloc: Global, row: &Row) -> Result<Rows, AllocError>
         requires { self.now.sealed ≡ true }
         ensures { IfOk result

@@ -31,7 +31,7 @@ leg_text_of leg =
     ∙ ap (λ (text : List ℕ). flat_map line_text (flat_map part_lines leg.parts) ++ text) (append-nil (line_text (line.Close leg.close)))
     ∙ ap (λ (text : List ℕ). text ++ line_text (line.Close leg.close)) (parts_text leg.parts)
 
--- the words behind the first have a space before them
+-- the words after the first have a space before them
 join-spaced : (word : List ℕ) (words : List (List ℕ)) → join_with_byte 32 (word ∷ words) ≡ word ++ flat_map after_space words
 join-spaced word [] = sym (append-nil word)
 join-spaced word (next ∷ words) = ap (λ (text : List ℕ). word ++ (32 ∷ text)) (join-spaced next words)

@@ -49,7 +49,7 @@ whole-open all rest line behind whole total lines shorter inside stays e =
     ∙ later-open (closes line) whole (length all - length rest) line (cut_back (lines_of behind)) stays
     ∙ ap (λ (n : ℕ). later whole n (cut_back (lines_of behind))) (place-behind (length all) (length rest) (length line) (length behind) shorter inside)
 
--- behind the first line
+-- after the first line
 pub whole-first : (all line behind : List ℕ) → lines_of all ≡ line ∷ lines_of behind → length all ≡ length line + (length behind + 1)
     → length (whole_items all) ≡ later (length all - length behind) (length all - length behind) (cut_back (lines_of behind))
 unfolding whole_items whole_lines

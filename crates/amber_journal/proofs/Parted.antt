@@ -1,4 +1,4 @@
--- A text has a first word, so behind a space there is one more.
+-- A text has a first word, so after a space there is one more.
 use Rattle.std.proofs.Common.{◌≡◌, ◌==◌, ℕ, Bool, true, false, cond, List, [], ◌∷◌, None, refl, sym, ap}
 use Rattle.std.specs.List.{onto_first}
 use Rattle.amber_log.specs.ReadWords.{line_by}

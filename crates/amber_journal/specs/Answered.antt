@@ -6,7 +6,7 @@ use Rattle.amber_log.specs.declared.log.Log.{Log}
 use Rattle.amber_journal.specs.declared.read.LogErr.{LogErr}
 use Rattle.amber_journal.specs.declared.read.LogErr.TheVariants.{NoMemory, Text}
 
--- the log that was found, or the number of the first bad line; or nothing, for want of memory
+-- the log that was found, or the number of the first bad line; or nothing, where memory ran out
 abbrev pub GivesLog : Result Log LogErr → Result Log ℕ → Type 0
 GivesLog (Ok log) found = found ≡ Ok log
 GivesLog (Err (Text line)) found = found ≡ Err line

@@ -6,7 +6,7 @@ use Rattle.std.specs.List.{slice_split}
 abbrev pub words : List ℕ → List (List ℕ)
 words bytes = slice_split (λ b. b == 32) bytes
 
--- the words behind a space, if there is one
+-- the words after a space, if there is one
 abbrev pub words_after : Option (List ℕ) → List (List ℕ)
 words_after None = []
 words_after (Some rest) = words rest

@@ -1,4 +1,5 @@
-//! The commands of a log, word by word.
+//! The commands of a log, word by word. Rests on `splitting`, `numbers` and `constants`.
+
 ghost use Rattle.std.specs.Prelude.{◌≡◌, ◌∷◌, [], None, option_copied, IfOk, MatchOption};
 ghost use Rattle.amber_log.specs.ReadWords.{command_in};
 ghost use Rattle.amber_log.specs.Operands.{condition_in, value_in, nothing_in, one_word, row_count_in, worker_in};
@@ -100,7 +101,7 @@ fn condition(alloc: Global, rest: Option<&[u8]>) -> Result<Option<Cond>, AllocEr
     }
 }
 
-// The command of this name at this operator, and the words behind it.
+// The command of this name at this operator, and the words after it.
 #[tactic(auto, unfolding(amber_log::specs::Commands::command_named))]
 fn command_named(
     alloc: Global,
@@ -132,7 +133,7 @@ fn command_named(
     }
 }
 
-/// The command of the words behind `do`: its name, its operator and what it says beside.
+/// The command of the words after `do`: its name, its operator and what it says beside.
 #[tactic(auto, unfolding(amber_log::specs::ReadWords::command_in))]
 pub fn command(alloc: Global, rest: Option<&[u8]>) -> Result<Option<Command>, AllocError>
     ensures { IfOk result (λ made. made

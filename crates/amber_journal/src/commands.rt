@@ -1,4 +1,5 @@
-//! The lines of commands.
+//! Writes the lines of commands. Over `Effect` of `amber_log`.
+
 ghost use Rattle.std.specs.Prelude.{◌≡◌, ◌∷◌, ◌++◌, OnOk};
 ghost use Rattle.std.specs.List.{flat_map};
 ghost use Rattle.amber_log.specs.Grammar.{IsCommand};

@@ -1,4 +1,5 @@
 //! The signs and constants of a log's commands.
+
 ghost use Rattle.std.specs.Prelude.{◌≡◌, IfOk};
 ghost use Rattle.amber_log.specs.Operands.{comparison_of, constant_of, hex_text};
 

@@ -1,4 +1,5 @@
-//! The lines of legs.
+//! Writes the lines of legs. Rests on `lines`; over `Leg` of `amber_log`.
+
 ghost use Rattle.std.specs.Prelude.{◌≡◌, ◌++◌, OnOk};
 ghost use Rattle.std.specs.List.{flat_map};
 ghost use Rattle.amber_journal.specs.Written.{entry_text, leg_text, part_text};
@@ -35,7 +36,7 @@ fn push_part(out: &mut Vec<u8>, part: &Part) -> Result<(), AllocError>
     Ok(())
 }
 
-/// The lines of a leg behind the one that opens it, and at last the one that ends it.
+/// The lines of a leg after the one that opens it, and at last the one that ends it.
 pub fn push_leg(out: &mut Vec<u8>, leg: &Leg) -> Result<(), AllocError>
     ensures { OnOk result (out.new.items ≡ out.old.items ++ leg_text leg.now) }
 {

@@ -1,4 +1,5 @@
-//! Lines that are a fixed beginning and some numbers.
+//! Writes lines that are a fixed beginning and some numbers.
+
 ghost use Rattle.std.specs.Prelude.{◌≡◌, [], ◌∷◌, ◌++◌, OnOk, decimal};
 
 use itoa::Buffer;

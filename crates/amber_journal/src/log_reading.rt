@@ -1,4 +1,5 @@
-//! What is read of a log with one more line.
+//! What is read of a log with one more line. Over `Reading` and `Line` of `amber_log`.
+
 ghost use Rattle.std.specs.Prelude.{◌≡◌, ◌++◌, ◌∷◌, [], length, IfOk, Some, false, MatchOption, ℕ, Ok, Err};
 ghost use Rattle.amber_log.specs.ReadLines.{with_leg, finish, part_of, start, step, step_at, step_inside, step_opened, step_outside};
 ghost use Rattle.amber_log.specs.Grammar.{is_go};
@@ -9,7 +10,7 @@ ghost use Rattle.amber_journal.specs.ReadBack.{reading_at};
 use amber_log::{Close, Entries, Entry, Item, Items, Leg, Line, Log, Part, Parts, Place, Reading};
 use std::alloc::{AllocError, Global};
 
-/// Behind the head.
+/// After the head.
 pub fn start(alloc: Global, line: Line) -> Option<Reading>
     ensures { result ≡ start line }
 {
@@ -35,7 +36,7 @@ fn reading_at(batch: u32, items: Items, place: Place) -> Reading
     }
 }
 
-/// Behind an item: a command, or the start of a leg.
+/// After an item: a command, or the start of a leg.
 fn step_outside(batch: u32, mut items: Items, line: Line) -> Result<Option<Reading>, AllocError>
     ensures { IfOk result (λ next. next
         ≡ step_outside (reading_at batch items place.Outside) line) }
@@ -52,7 +53,7 @@ fn step_outside(batch: u32, mut items: Items, line: Line) -> Result<Option<Readi
     Ok(Some(reading_at(batch, items, place)))
 }
 
-/// Behind the end of a leg of these parts.
+/// After the end of a leg of these parts.
 fn with_leg(batch: u32, mut items: Items, end: bool, leg: Leg) -> Result<Reading, AllocError>
     ensures { IfOk result (λ next. next
         ≡ with_leg (reading_at batch items place.Outside) end leg.parts leg.close) }
@@ -63,7 +64,7 @@ fn with_leg(batch: u32, mut items: Items, end: bool, leg: Leg) -> Result<Reading
     Ok(reading_at(batch, items, place))
 }
 
-/// Behind the line of a worker, whose part has no entry yet.
+/// After the line of a worker, whose part has no entry yet.
 fn begin_part(alloc: Global, end: bool, parts: Parts, worker: u32) -> Place
     ensures { result ≡ place.Inside end parts worker [] false }
 {
@@ -76,7 +77,7 @@ fn begin_part(alloc: Global, end: bool, parts: Parts, worker: u32) -> Place
     }
 }
 
-/// Behind the start of a leg: a worker's part begins, or the leg ends.
+/// After the start of a leg: a worker's part begins, or the leg ends.
 fn step_opened(
     alloc: Global,
     batch: u32,
@@ -145,7 +146,7 @@ struct OpenPart {
     gone: bool,
 }
 
-/// Behind one more entry of a worker's part.
+/// After one more entry of a worker's part.
 fn step_entry(
     batch: u32,
     items: Items,
@@ -171,7 +172,7 @@ fn step_entry(
     Ok(Some(reading_at(batch, items, place)))
 }
 
-/// Behind a line of the part at hand: one more entry, the part of a worker with a greater number, or the leg's end.
+/// After a line of the part at hand: one more entry, a part of a worker of greater number, or the end.
 fn step_inside(
     alloc: Global,
     batch: u32,

@@ -1,11 +1,12 @@
 //! The numbers of a log's lines.
+
 ghost use Rattle.std.specs.Prelude.{◌≡◌, ◌+◌, ◌^◌, ◌≤◌, IfSome};
 ghost use Rattle.amber_log.specs.Operands.{number, signed_number};
 
 use itoa::Buffer;
 use std::str;
 
-/// The number of at most `most` that these digits are. Written otherwise than it would be written here, it is none.
+/// The number of at most `most` that these digits are; none where a log would write it otherwise.
 pub fn number(digits: &[u8], most: u64) -> Option<u64>
     ensures value { result ≡ number (most + 1) digits.now }
     ensures small { IfSome result (λ n. n ≤ most) }

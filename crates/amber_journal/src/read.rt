@@ -1,4 +1,5 @@
-//! A log's file, read back.
+//! A log's file, read back. Rests on `whole_prefix`, `splitting`, `words` and `log_reading`.
+
 ghost use Rattle.std.specs.Prelude.{◌≡◌, ℕ, IfOk, Ok, Err, option_and_then};
 ghost use Rattle.amber_log.specs.ReadAs.{IsReadAs, lines_of};
 ghost use Rattle.amber_log.specs.ReadLines.{read_lines, start, step};
@@ -17,7 +18,7 @@ use std::alloc::{AllocError, Global};
 /// Why a log's file was not read.
 #[derive(Drop)]
 pub enum LogErr {
-    /// The whole items are no log's text. `line` is the number of the first line that cannot stand there, from 1.
+    /// The whole items are no log's text. `line` is the first line that cannot stand there, counted from 1.
     Text { line: u64 },
     /// Memory ran out.
     NoMemory,
@@ -31,7 +32,7 @@ impl From<AllocError> for LogErr {
     }
 }
 
-/// Behind the first line, where it is a head.
+/// After the first line, where it is a head.
 fn first(alloc: Global, bytes: &[u8]) -> Result<Option<Reading>, AllocError>
     ensures { IfOk result (λ next. next ≡ option_and_then start (parse bytes.now)) }
 {
@@ -41,7 +42,7 @@ fn first(alloc: Global, bytes: &[u8]) -> Result<Option<Reading>, AllocError>
     }
 }
 
-/// Behind one more line, where it may stand there.
+/// After one more line, where it may stand there.
 fn next(alloc: Global, reading: Reading, bytes: &[u8]) -> Result<Option<Reading>, AllocError>
     ensures { IfOk result (λ next. next ≡ option_and_then (step reading) (parse bytes.now)) }
 {
@@ -78,8 +79,8 @@ fn read_lines(alloc: Global, bytes: &[u8]) -> Result<Log, LogErr>
     }
 }
 
-/// The log whose text the whole items of a file are. Where not even the first line is whole it is the empty log, with
-/// batches of 400 rows. Each result but `NoMemory` comes exactly where its meaning holds.
+/// The log whose text the whole items of a file are. Where not even the first line is whole it is the empty
+/// log, with batches of 400 rows. Each result but `NoMemory` comes exactly where its meaning holds.
 pub fn read_log(alloc: Global, bytes: &[u8]) -> Result<Log, LogErr>
     ensures found { IfOk result (λ log. IsReadAs bytes.now log) }
     ensures bad { IfText result (λ line. IsBadLineOf bytes.now line) }

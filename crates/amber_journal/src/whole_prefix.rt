@@ -1,4 +1,5 @@
-//! How much of a log's file is whole.
+//! How much of a log's file is whole. Rests on `splitting`.
+
 ghost use Rattle.std.specs.Prelude.{◌≡◌, ◌≤◌, length};
 ghost use Rattle.amber_log.specs.ReadAs.{closes, whole_items};
 
@@ -12,8 +13,8 @@ fn closes(line: &[u8]) -> bool
     line == b"cut".as_slice() || line == b"long".as_slice() || line.starts_with(b"do ")
 }
 
-/// How many bytes of a log's file are read: the most that are none, or end with the first line or with a line that
-/// ends an item. What stands behind them was torn. It takes no memory.
+/// How many bytes of a log's file are read: the most that are none, or end with the first line or with a line
+/// that ends an item. What follows them was torn. It takes no memory.
 pub fn whole_items(bytes: &[u8]) -> usize
     ensures value { result ≡ length (whole_items bytes.now) }
     ensures inside { result ≤ length bytes.now }

@@ -1,4 +1,5 @@
-//! The lines of a log, by the number of their words.
+//! The lines of a log, by the number of their words. Rests on `splitting` and `command_lines`.
+
 ghost use Rattle.std.specs.Prelude.{◌≡◌, ◌^◌, IfOk, option_and_then, option_copied};
 ghost use Rattle.amber_log.specs.ReadWords.{head_line, line_by, line_one, line_three, line_two, moving, parse, with_two};
 ghost use Rattle.amber_log.specs.Operands.{above_zero, number};
@@ -59,7 +60,7 @@ fn line_of_two(word: &[u8], a: &[u8]) -> Option<Line>
     }
 }
 
-/// A batch is taken of a sender.
+/// A batch is taken from a sender.
 fn take(sender: &[u8], batch: &[u8]) -> Option<Line>
     ensures { result ≡ with_two (λ sender batch. line.Entry (entry.Take sender batch)) (2 ^ 32)
         (2 ^ 64) sender.now batch.now }

@@ -1,4 +1,5 @@
-//! The head of a log, and its items.
+//! Writes the head of a log, and its items. Rests on `commands` and `legs`.
+
 ghost use Rattle.std.specs.Prelude.{◌≡◌, [], ◌∷◌, ◌++◌, IfOk, OnOk};
 ghost use Rattle.amber_log.specs.Grammar.{IsBatch, IsCommand, IsItem};
 ghost use Rattle.amber_log.specs.LogText.{head_text, item_text};
@@ -53,7 +54,7 @@ pub fn write_item(alloc: Global, item: &Item) -> Result<Vec<u8>, AllocError>
     Ok(out)
 }
 
-/// The text of the item that a command makes which runs no leg: the same as of the item, without one.
+/// The log line of a command that runs no leg, without making its item first.
 #[tactic(auto, using(crate::proofs::ItemText::text_of_command))]
 pub fn write_command(alloc: Global, command: &Command) -> Result<Vec<u8>, AllocError>
     requires { IsCommand command.now }

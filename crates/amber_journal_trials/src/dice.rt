@@ -1,4 +1,5 @@
-// Random numbers by a linear congruential generator, the same at each run.
+//! Random numbers by a linear congruential generator, the same at each run.
+
 ghost use Rattle.std.specs.Prelude.{◌<◌};
 
 #[derive(Drop)]

@@ -1,4 +1,4 @@
-// The worked example of `docs/FORMATS.md`, and texts that have every line of a log.
+//! The worked example of `docs/FORMATS.md`, and texts that have every line of a log.
 
 use amber_journal::{LogErr, read_log};
 use std::io;

@@ -1,8 +1,9 @@
-//! `amber_journal_trials`: reads back logs that were cut at each byte, and logs of which one byte was changed.
+//! `amber_journal_trials`: reads back logs that were cut at each byte, or of which one byte was changed.
 //!
-//! Whatever is read must be the log whose text the whole items are: written again, it gives these bytes. Most logs are
-//! made of random lines by a generator with a fixed seed; some are written, and have every line of a log. The last lines print what the worked example of
-//! `docs/FORMATS.md` is read as, cut behind its line 11 and inside its line 12, and with a leading zero.
+//! Whatever is read must be the log whose text the whole items are: written again, it gives these bytes. Most
+//! logs are made of random lines by a generator with a fixed seed; some are written, and have every line of a
+//! log. The last lines print what the worked example of `docs/FORMATS.md` is read as, cut after its line 11
+//! and inside its line 12, and with a leading zero.
 #![tactic(auto)]
 
 mod dice;

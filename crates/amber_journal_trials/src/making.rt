@@ -1,4 +1,4 @@
-// Texts of logs, made of random lines.
+//! Texts of logs, made of random lines. Rests on `Dice`.
 
 use crate::dice::Dice;
 use std::alloc::{AllocError, Global};

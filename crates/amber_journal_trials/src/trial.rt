@@ -1,4 +1,5 @@
-// What is read of a text, written again.
+//! What is read of a text, written again. Over `read_log` and `write_item` of `amber_journal`.
+
 ghost use Rattle.amber_log.specs.Grammar.{IsLog};
 
 use amber_journal::{LogErr, read_log, whole_items, write_head, write_item};

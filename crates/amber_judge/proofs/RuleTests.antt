@@ -26,7 +26,7 @@ so_if : (b c : Bool) → (b ≡ true → c ≡ true) → (not b || c) ≡ true
 so_if true c f = f refl
 so_if false c f = refl
 
--- four tests that all hold, and what is tested behind them
+-- four tests that all hold, and what is tested after them
 four_parts : (a b c d rest : Bool) → (a && (b && (c && (d && rest)))) ≡ true
     → (a ≡ true) × (b ≡ true) × (c ≡ true) × (d ≡ true) × (rest ≡ true)
 four_parts a b c d rest e =

@@ -1,4 +1,5 @@
-//! Laws of the tests. Each function does nothing; its contract is the law.
+//! Laws of the tests. Each function does nothing; its contract is the law, stated in `specs/TestLaws.antt`.
+
 ghost use Rattle.amber_judge.specs.TestLaws.{LogsAreTested, RulesAreTested};
 
 /// For each entry of a journal a test says whether its rule holds, exactly.
@@ -7,7 +8,7 @@ pub fn rules_are_tested()
 {}
 
 /// A test says whether items lead on from a state, each by its rule: it is true exactly where they do. So the first
-/// item that cannot follow can be told by computing.
+/// item that cannot follow can be found by computing.
 pub fn logs_are_tested()
     ensures { LogsAreTested }
 {}

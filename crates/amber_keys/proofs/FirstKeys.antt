@@ -1,4 +1,4 @@
--- The keys of rows, each where it stands first, as rows are added behind the others.
+-- The keys of rows, each where it stands first, as rows are appended.
 use Rattle.std.proofs.Common.{◌≡◌, ℕ, ◌||◌, Bool, true, false, cond, not, List, [], ◌∷◌, ◌++◌, filter, refl, sym, ap, ◌∙◌}
 use Rattle.std.specs.List.{list_any}
 use Rattle.std.proofs.lemmas.List.{append-nil}

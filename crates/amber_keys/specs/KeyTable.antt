@@ -5,7 +5,7 @@ use Rattle.std.specs.Map.{keys_of}
 pub use Rattle.indexmap.specs.IndexMap.{set_value_at}
 use Rattle.amber_rows.specs.declared.value.Value.{Value}
 
--- each key beside its value, in the order in which the keys were added, and how many keys more can be added without memory
+-- each key beside its value, in the order in which the keys were added, and how many more keys can be added without memory
 pub record Table (V : Type 0) : Type 0 where
   pub entries : List (List Value × V)
   pub room : ℕ

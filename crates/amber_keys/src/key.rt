@@ -1,3 +1,5 @@
+//! A key: the cells of a row in some columns, compared and hashed as one. Over `Row` of `amber_rows`.
+
 ghost use Rattle.std.specs.Prelude.{◌≡◌, IfOk, fold};
 ghost use Rattle.std.specs.Ordering.{eq_by_cmp};
 ghost use Rattle.std.specs.Cmp.{eq_by_cmp_equiv, partial_equiv_from_equiv};
@@ -32,8 +34,8 @@ impl Model for Key {
 }
 
 impl Key {
-    /// The cells that a row has in these columns, in this order. Columns are numbered from 1; one that the row
-    /// does not have gives no cell.
+    /// The cells that a row has in these columns, in this order. Columns are numbered from 1; one that the
+    /// row does not have gives no cell.
     pub fn of(alloc: Global, row: &Row, columns: &Cols) -> Result<Self, AllocError>
         ensures { IfOk result (λ key. key ≡ pick_cells columns.now row.now) }
     {

@@ -1,4 +1,4 @@
-//! A table of keys, each with a value.
+//! A table of keys, each with a value. Over `Key`; rests on `indexmap`.
 
 ghost use Rattle.std.specs.Prelude.{◌≡◌, ◌+◌, ◌<◌, ◌≤◌, ◌++◌, ◌∷◌, [], ◌↔◌, List, None, Some, IfNone, IfSome, IsOk, IsSome, OnErr, OnOk, length, slice_get};
 ghost use Rattle.std.specs.Borrow.{sem};
@@ -16,8 +16,8 @@ use indexmap::map::Iter;
 use std::alloc::{AllocError, Global};
 use std::marker::Model;
 
-/// Keys in the order in which they were added, each with a value. It is seen as the list of these pairs, and how many keys more
-/// can be added without memory.
+/// Keys in the order in which they were added, each with a value. It is seen as the list of these pairs, and
+/// how many more keys can be added without memory.
 pub struct KeyTable<V> {
     map: IndexMap<Key, V>,
 }
@@ -96,7 +96,7 @@ impl<V> KeyTable<V> {
         self.map.iter()
     }
 
-    /// Makes room for so many keys more. For want of memory all is as before.
+    /// Makes room for `more` further keys. If memory runs out all is as before.
     pub fn reserve(&mut self, more: usize) -> Result<(), AllocError>
         ensures entries { self.new.entries ≡ self.old.entries }
         ensures ok { OnOk result (more ≤ self.new.room) }
@@ -106,7 +106,7 @@ impl<V> KeyTable<V> {
         self.map.reserve(more)
     }
 
-    /// Adds a key that is not there, behind the others. For want of memory, which is not asked for where there is room, the
+    /// Appends a key that is not there. Memory is asked for only where there is no room; if it runs out the
     /// table is as before.
     pub fn add(&mut self, key: Key, value: V) -> Result<(), AllocError>
     where
@@ -123,7 +123,7 @@ impl<V> KeyTable<V> {
         }
     }
 
-    /// Takes the key that was added last back, with its value; nothing where there is none. Its room is kept.
+    /// Takes back the key that was added last, with its value; nothing where there is none. Its room is kept.
     pub fn take_last(&mut self) -> Option<(Key, V)>
         ensures entries { self.old.entries ≡ self.new.entries ++ option_to_list result }
         ensures found { IsSome result ↔ (0 < length self.old.entries) }

@@ -124,7 +124,7 @@ closed-count : (query : Query) (state : State) (closed : Close) (op : ℕ) (coun
 closed-count query state close.Cut op counting e = cut-count query.flow state op counting e
 closed-count query state close.Long op counting e = e
 
--- behind the beginning of a leg to the end no count is armed
+-- after the beginning of a leg to the end no count is armed
 cleared-count : (arms : List Arms) (i : ℕ) (counting : Counting) (P : Type 0) → (arms_from (map without_arms arms) i).count ≡ Some counting → P
 unfolding arms_from
 cleared-count [] i counting P e = no-some None counting P refl e
@@ -177,7 +177,7 @@ counting-on query done state next one op counting h e on = record {
   on = go-on-trans (crew_of query.flow) (state_after query h.armed.before) state next h.on on;
 }
 
--- an item that leaves each count that stands behind it
+-- an item that leaves each count that stands after it
 kept-counting : (query : Query) (done : List Item) (state next : State) (one : Item) → GoOn (crew_of query.flow) state next
     → ((op : ℕ) (counting : Counting) → (arms_at next op).count ≡ Some counting → Leaves state next one op counting) → AreCounting query done state → AreCounting query (done ++ one ∷ []) next
 kept-counting query done state next one on leaves h op counting e =

@@ -48,7 +48,7 @@ module _ {B : Type 0} (test : B → Bool) (f : ℕ → List B) (op : ℕ) (other
   none-before zero less = refl
   none-before (suc n) less = one-more n ∙ rw (none-before n (omega arith), others (suc n) (λ e. omega arith)) refl
 
-  -- of numbers up to one that is this or comes behind it, those of this one are kept
+  -- of numbers up to one that is this or comes after it, those of this one are kept
   own-kept : (n : ℕ) → 0 < op → op ≤ n → filter test (flat_map f (map suc (numbers_below n))) ≡ filter test (f op)
   own-kept zero some few = absurd (omega arith)
   own-kept (suc n) some few =

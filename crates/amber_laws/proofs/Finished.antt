@@ -57,7 +57,7 @@ for_join (what.Join build probe build_keys probe_keys) A B f h = f h
 for_join (what.Group input keys aggs) A B f h = tt
 for_join (what.Sink input) A B f h = tt
 
--- no row of a join's build side stands behind one of its probe side
+-- no row of a join's build side stands after one of its probe side
 abbrev pub AreBuildFirst : Task → List Arrival → Type 0
 AreBuildFirst task [] = Unit {0}
 AreBuildFirst task (one ∷ more) = (is_builder task one.from ≡ false → list_all (λ (other : Arrival). not (is_builder task other.from)) more ≡ true) × AreBuildFirst task more

@@ -20,7 +20,7 @@ use Rattle.amber_meaning.proofs.Orderly.{IsOrderly, fed-more, have_ended-more, m
 abbrev is_other : Task → Taken → Bool
 is_other task t = not (is_builder task t.from)
 
--- no batch of a join's build side stands behind one of its probe side
+-- no batch of a join's build side stands after one of its probe side
 abbrev pub IsBuildFirst : Task → List Taken → Type 0
 IsBuildFirst task [] = Unit {0}
 IsBuildFirst task (t ∷ more) = (is_builder task t.from ≡ false → list_all (λ other. not (is_builder task other.from)) more ≡ true) × IsBuildFirst task more

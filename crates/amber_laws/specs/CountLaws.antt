@@ -20,7 +20,7 @@ use Rattle.amber_meaning.specs.State.{Counting, State, arms_at, begin_leg, count
 
 -- ---- one leg of a log
 
--- a log with a leg up to a stop behind these items, and whatever follows it
+-- a log with a leg up to a stop after these items, and whatever follows it
 abbrev pub log_with_run : ℕ → List Item → Leg → List Item → Log
 log_with_run batch done leg later = record { batch = batch; items = done ++ item.Run leg ∷ later }
 
@@ -77,12 +77,12 @@ sets_count op (item.Do command) = action_sets_count op (action_of command)
 sets_count op (item.Run leg) = false
 sets_count op (item.End leg) = false
 
--- it arms an operator's count, for so many rows
+-- it arms an operator's count, for this many rows
 abbrev pub ArmsCount : ℕ → ℕ → Action → Type 0
 ArmsCount op target (action.Leg to_end) = ⊥
 ArmsCount op target (action.AtRest effect) = (effect.op ≡ op) × (effect.arming.count ≡ change.Put target)
 
--- the last of these items that arms an operator's count or takes it back arms it, for so many rows
+-- the last of these items that arms an operator's count or takes it back arms it, for this many rows
 pub record WasArmed (done : List Item) (op target : ℕ) : Type 0 where
   pub before : List Item
   pub command : Command
@@ -91,7 +91,7 @@ pub record WasArmed (done : List Item) (op target : ℕ) : Type 0 where
   pub arms : ArmsCount op target (action_of command)
   pub last : list_any (sets_count op) behind ≡ false
 
--- a count that is armed in this state, which comes behind these items, was armed by one of them, and has counted the rows that its
+-- a count that is armed in this state, which comes after these items, was armed by one of them, and has counted the rows that its
 -- operator has emitted since
 abbrev pub CountsSinceArmed : Query → List Item → State → Type 0
 CountsSinceArmed query done state = (op : ℕ) (counting : Counting) → (arms_at state op).count ≡ Some counting

@@ -15,7 +15,7 @@ KeepsTotal query state = (steps_in state ≤ step_total query) × ((steps_in sta
 abbrev pub SchedulesTakeOneTotal : Type 0
 SchedulesTakeOneTotal = (query : Query) (log : Log) → IsFlow query.flow → IsUnaltered log.items → (legal : IsLegal query log) → KeepsTotal query legal.after
 
--- and within a leg that is still open behind such a log
+-- and within a leg that is still open after such a log
 abbrev pub OpenLegsTakeOneTotal : Type 0
 OpenLegsTakeOneTotal = (query : Query) (log : Log) (to_end : Bool) (parts : List Part)
     → IsFlow query.flow → IsUnaltered log.items → (leg : IsOpen query log to_end parts) → KeepsTotal query leg.now

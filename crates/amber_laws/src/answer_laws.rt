@@ -1,4 +1,6 @@
-//! What a run answers does not depend on its schedule. Each function does nothing; its contract is the law.
+//! What a run answers does not depend on its schedule. Each function does nothing; its contract is the law,
+//! stated in `specs/AnswerLaws.antt`.
+
 ghost use Rattle.amber_laws.specs.AnswerLaws.{EndsReplyTheAnswer, SchedulesHaveOneAnswer, WorkersChangeNoAnswer};
 
 /// A run whose log sets no constant and drops no row, and whose last leg has come to the end, has the answer of the

@@ -1,9 +1,11 @@
-//! A count stops a run exactly at its target. Each function does nothing; its contract is the law.
+//! A count stops a run exactly at its target. Each function does nothing; its contract is the law, stated in
+//! `specs/CountLaws.antt`.
+
 ghost use Rattle.amber_laws.specs.CountLaws.{CountsCountSinceArmed, CountsStopAtTheirTarget};
 
 /// Whatever the order in which the workers moved: where a leg up to a stop is closed no count has counted more rows than it
 /// asks for. The leg's stops have one at an operator's count exactly where that count is armed and has counted all of its
-/// rows, and it tells their number.
+/// rows, and it says how many they are.
 pub fn counts_stop_at_their_target()
     ensures { CountsStopAtTheirTarget }
 {}

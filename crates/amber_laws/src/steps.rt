@@ -1,4 +1,6 @@
-//! How many steps a run makes does not depend on its schedule. Each function does nothing; its contract is the law.
+//! How many steps a run makes does not depend on its schedule. Each function does nothing; its contract is
+//! the law, stated in `specs/StepLaws.antt` and `specs/DealtLaws.antt`.
+
 ghost use Rattle.amber_laws.specs.DealtLaws.{DealtRowsAreTheOperators, TakenRowsComeIn, TotalIsByOperator};
 ghost use Rattle.amber_laws.specs.StepLaws.{OpenLegsTakeOneTotal, SchedulesTakeOneTotal};
 

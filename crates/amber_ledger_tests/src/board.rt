@@ -1,4 +1,5 @@
-// The ledger: what is granted, claimed and counted, also by workers side by side.
+//! The ledger: what is granted, claimed and counted, also by workers side by side. Tests `amber_board`.
+
 ghost use Rattle.std.specs.Prelude.{◌≡◌, All, length};
 ghost use Rattle.amber_board.specs.Seats.{IsChiefOf, IsSeatOf, chief_view, work_view, board_workers};
 

@@ -1,4 +1,5 @@
-// Five units for two workers, divided round by round.
+//! Five units for two workers, divided round by round. Tests `amber_principal`.
+
 ghost use Rattle.std.specs.Prelude.{◌≡◌, All, drop};
 
 use crate::seats::{all_empty, claim_and_count};

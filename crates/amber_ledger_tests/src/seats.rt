@@ -1,10 +1,11 @@
-// What the tests do at the seats of a board.
+//! What the tests do at the seats of a board.
+
 ghost use Rattle.std.specs.Prelude.{◌≡◌, ◌-◌, ◌≤◌, All, IsTrue};
 ghost use Rattle.amber_board.specs.Seats.{IsSeatOf, work_view};
 
 use amber_board::{Board, WorkSeat};
 
-/// Counts so many units of the hand.
+/// Counts `times` units of the hand.
 pub fn count_times(board: &Board, seat: &mut WorkSeat, times: u64)
     requires own { IsSeatOf board.now seat.old }
     requires has { times ≤ (work_view seat.old).hand }

@@ -1,4 +1,4 @@
--- The test of an entry, and what the state behind it is.
+-- The test of an entry, and what the state after it is.
 use Rattle.std.proofs.Common.{◌≡◌, ℕ, zero, suc, ◌+◌, ◌<◌, List, [], ◌∷◌, length, get_or, Option, Some, None, is_some, true, refl, sym, ap, ◌∙◌, arith}
 use Rattle.std.proofs.lemmas.Bool.{and_from, and_parts, eq-eqb, false≢true, ne_eqb}
 use Rattle.amber_meaning.specs.Replay.{batch_for}
@@ -73,7 +73,7 @@ entries_are_tested query now worker made = (
   λ h. may-enter query now worker made h.0 h.1 (offered-from (offers_in query now worker) (position_at now.positions worker) h.0 made h.2),
 )
 
--- ---- the state behind
+-- ---- the state after it
 
 changed-length : (p : Position) (number place : ℕ) (positions : List Position) → length (changed_from (λ old. p) number place positions) ≡ length positions
 changed-length p number place [] = refl
@@ -91,7 +91,7 @@ changed-else p number place other [] h = refl
 changed-else p number place zero (x ∷ positions) h = rw (ne_eqb place number (λ e. h (omega arith))) refl
 changed-else p number place (suc other) (x ∷ positions) h = changed-else p number (suc place) other positions (λ e. h (omega arith))
 
--- the worker stands behind its entry, the others where they stood
+-- the worker stands after its entry, the others where they stood
 pub placed-here : (worker : ℕ) (p : Position) (state : State) → worker < length state.positions → position_at (with_position worker p state).positions worker ≡ p
 placed-here worker p state less =
     position-get_or (with_position worker p state).positions worker ∙ changed-here p (worker + 1) 1 worker state.positions (omega arith) less

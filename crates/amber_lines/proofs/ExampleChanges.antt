@@ -70,7 +70,7 @@ another_batch_size : judged_text (query_of (kept_from 0) 399) example ≡ Ok (So
 unfolding reading_on_literals judging_on_literals
 another_batch_size = refl
 
--- a query that may make so many steps; the example makes 30
+-- a query that may make this many steps; the example makes 30
 abbrev within : ℕ → Query
 within most = record query { most = most }
 

@@ -101,7 +101,7 @@ no_count_is_passed = refl
 abbrev too_early : List (List ℕ)
 too_early = with_line 2 (codes "do pause 2 4") with_a_pause
 
--- a query that may make so many steps; this leg makes 18
+-- a query that may make this many steps; this leg makes 18
 abbrev within : ℕ → Query
 within most = record query { most = most }
 

@@ -1,4 +1,4 @@
--- Which stops are kept behind the example's items.
+-- Which stops are kept after the example's items.
 use Rattle.std.proofs.Common.{◌≡◌, [], ◌∷◌, take, refl}
 use Rattle.amber_meaning.specs.declared.view.Stop.TheVariants as stop
 use Rattle.amber_meaning.proofs.ExampleCases.{counted_log, states_on_literals}

@@ -124,7 +124,7 @@ next_entries_enter query log to_end before worker done made leg text may few =
 
 -- ---- the lines of a part
 
--- where judging goes on behind a leg's parts
+-- where judging goes on after a leg's parts
 pub record GoesOn (query : Query) (log : Log) (to_end : Bool) (parts : List Part) (more : List Line) (last : Progress) : Type 0 where
   pub now : State
   pub worker : ℕ
@@ -212,7 +212,7 @@ parts-open query log to_end before (one ∷ rest) more last now other known text
 abbrev pub with_item : Log → Item → Log
 with_item log one = record { batch = log.batch; items = log.items ++ one ∷ [] }
 
--- where judging goes on behind a log
+-- where judging goes on after a log
 pub record GoesBehind (query : Query) (log : Log) (more : List Line) (last : Progress) : Type 0 where
   pub after : State
   pub legal : LegalAt query log after
@@ -316,7 +316,7 @@ head-legal : (query : Query) (batch : ℕ) → IsBatch batch → batch ≡ query
 unfolding AreItems Reaches
 head-legal query batch is same = (record { text = record { batch = is; items = tt }; batch = same; after = start_of query.flow; reached = refl }, refl)
 
--- a whole log's lines, and what stands behind them
+-- a whole log's lines, and what follows them
 pub log-legal : (query : Query) (log : Log) (more : List Line) (last : Progress) → IsLog log → judge_all query Fresh (log_lines log ++ more) ≡ Some last
     → GoesBehind query log more last
 unfolding judge_all

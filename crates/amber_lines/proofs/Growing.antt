@@ -198,7 +198,7 @@ taken-offered role orders offer p q entry.Resume sender h there begins = rw h.2 
 taken-offered role orders offer p q entry.Hold sender h there begins = rw h.2 begins
 taken-offered role orders offer p q entry.Finish sender h there begins = rw h.2 begins
 
--- behind an entry more everything that was taken is offered
+-- after an entry more everything that was taken is offered
 grown-offered : (query : Query) (next : NextEntry) → 0 < query.batch_size → AreOffered query next.now.positions
     → IsBounded (role_in query next.worker) (position_at next.now.positions next.worker) → IsNextEntry query next → AreOffered query next.after.positions
 unfolding AreOffered batches_for role_of

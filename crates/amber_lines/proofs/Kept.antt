@@ -1,4 +1,4 @@
--- The stops that are kept behind a leg.
+-- The stops that are kept after a leg.
 use Rattle.std.proofs.Common.{◌≡◌, List, [], ◌∷◌, ◌++◌, not, Bool, true, false, refl, sym, ap, ◌∙◌}
 use Rattle.std.specs.List.{list_all}
 use Rattle.std.proofs.lemmas.Bool.{false≢true}

@@ -154,7 +154,7 @@ entries-empty worker other rest = by (cases_eq other worker)
     by (inl same) = subst (λ (w : ℕ). entries_of (part worker [] ∷ rest) w ≡ entries_of rest w) (sym same) (entries-first worker [] rest)
     by (inr apart) = entries-skip worker other [] rest apart
 
--- where judging goes on behind lines of a leg
+-- where judging goes on after lines of a leg
 record LeadsTo (query : Query) (to_end : Bool) (after : State) (left : List Part) (from : Progress) (lines more : List Line) : Type 0 where
   now : State
   worker : ℕ
@@ -280,7 +280,7 @@ start-legal : (query : Query) (log : Log) → IsLegal query log → LegalAt quer
 unfolding AreItems Reaches
 start-legal query log legal = (record { text = record { batch = legal.text.batch; items = tt }; batch = legal.batch; after = start_of query.flow; reached = refl }, refl)
 
--- the lines of a legal log, and what stands behind them
+-- the lines of a legal log, and what stands after them
 pub log-judged : (query : Query) (log : Log) (more : List Line) → SendersFirst query.flow → (legal : IsLegal query log)
     → judge_all query Fresh (log_lines log ++ more) ≡ judge_all query (Between legal.after) more
 unfolding judge_all
@@ -294,7 +294,7 @@ unfolding judge_all
 opening-judged query false state more = refl
 opening-judged query true state more = refl
 
--- the lines of a log and of a leg behind it that goes on
+-- the lines of a log and of a leg after it that goes on
 pub open-judged : (query : Query) (log : Log) (to_end : Bool) (parts : List Part) (more : List Line) → SendersFirst query.flow → (leg : IsOpen query log to_end parts)
     → (worker : ℕ) × (judge_all query Fresh (open_lines log to_end parts ++ more) ≡ judge_all query (Within to_end leg.now worker) more)
 open-judged query log to_end parts more first leg =

@@ -1,4 +1,4 @@
--- The stops that are kept behind a leg: those with which it ended, before its end took any away.
+-- The stops that are kept after a leg: those with which it ended, before its end took any away.
 use Rattle.std.specs.Prelude.{◌≡◌, List, [], ◌∷◌, ◌++◌, not, Bool, true, false}
 use Rattle.std.specs.List.{list_all}
 use Rattle.amber_log.specs.declared.leg.Close.{Close}
@@ -25,7 +25,7 @@ unfoldable pub stops_along : Query → State → List Stop → List Item → Lis
 stops_along query state kept [] = kept
 stops_along query state kept (one ∷ more) = stops_along query (after_item query state one) (stops_left query state kept one) more
 
--- the stops that are kept behind items: those of the last leg, none before the first
+-- the stops that are kept after items: those of the last leg, none before the first
 unfoldable pub kept_stops : Query → List Item → List Stop
 kept_stops query items = stops_along query (start_of query.flow) [] items
 
@@ -49,7 +49,7 @@ abbrev pub leg_of : Bool → List Part → Close → Item
 leg_of false parts closed = item.Run (record { parts = parts; close = closed })
 leg_of true parts closed = item.End (record { parts = parts; close = closed })
 
--- behind a leg of a legal log they are the stops of the state that its workers reached
+-- after a leg of a legal log they are the stops of the state that its workers reached
 abbrev pub LegsKeepTheirStops : Type 0
 LegsKeepTheirStops = (query : Query) (log : Log) (to_end : Bool) (parts : List Part) (closed : Close) (reached : State)
     → SendersFirst query.flow → (legal : IsLegal query log) → IsWorked query (leg_start to_end legal.after) parts reached

@@ -22,7 +22,7 @@ use Rattle.amber_judge.specs.RuleTests.{may_move}
 use Rattle.amber_meaning.specs.State.{State, after_command, position_at, start_of, steps_in}
 use Rattle.amber_lines.specs.Moving.{orders_in}
 
--- how far a log was judged: no line yet, behind an item, or inside a leg, to the end or not, in the part of a worker
+-- how far a log was judged: no line yet, after an item, or inside a leg, to the end or not, in the part of a worker
 pub data Progress : Type 0 where
   Fresh : Progress
   Between : State → Progress
@@ -39,14 +39,14 @@ unfoldable pub may_enter : Query → State → ℕ → Entry → Bool
 may_enter query now worker made =
     may_move (assignment_in query now worker) (position_at now.positions worker) made && is_offered (offers_in query now worker) made
 
--- where the worker stands behind it
+-- where the worker stands after it
 unfoldable pub position_behind : Query → State → ℕ → Entry → Position
 position_behind query now worker made = position_after (orders_in query now worker) (batch_for (offers_in query now worker) made) made (position_at now.positions worker)
 
 abbrev pub with_position : ℕ → Position → State → State
 with_position worker p state = record state { positions = changed_at (λ old. p) (worker + 1) state.positions }
 
--- the state behind it
+-- the state after it
 abbrev pub state_behind : Query → State → ℕ → Entry → State
 state_behind query now worker made = with_position worker (position_behind query now worker made) now
 
@@ -67,7 +67,7 @@ abbrev pub judge_close : Query → Bool → State → Close → Option Progress
 judge_close query false now closed = when (may_close_run query now closed) (Between (after_close query now closed))
 judge_close query true now closed = when (may_close_end query now closed) (Between now)
 
--- a line behind an item: a command that fits the workflow, or the start of a leg
+-- a line after an item: a command that fits the workflow, or the start of a leg
 abbrev pub judge_between : Query → State → Line → Option Progress
 judge_between query state (line.Do command) = when (fits_of query.flow command) (Between (after_command query.flow command state))
 judge_between query state line.Run = Some (Within false (leg_start false state) 0)
@@ -123,7 +123,7 @@ abbrev pub leg_line : Bool → Line
 leg_line false = line.Run
 leg_line true = line.End
 
--- the lines of a log and of a leg behind it that goes on
+-- the lines of a log and of a leg after it that goes on
 abbrev pub open_lines : Log → Bool → List Part → List Line
 open_lines log to_end parts = log_lines log ++ leg_line to_end ∷ flat_map part_lines parts
 

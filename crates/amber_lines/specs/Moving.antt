@@ -25,7 +25,7 @@ pub record HaveMoved (query : Query) (before : State) (parts : List Part) (after
   pub moved : (worker : ℕ) → worker < crew_of query.flow
       → Leads (assignment_in query before worker) (position_at before.positions worker) (entries_of parts worker) (position_at after.positions worker)
 
--- a legal log and behind it a leg that is not closed yet, whose workers moved; whether what they took was there is not asked
+-- a legal log and after it a leg that is not closed yet, whose workers moved; whether what they took was there is not asked
 pub record IsUnderway (query : Query) (log : Log) (to_end : Bool) (parts : List Part) : Type 0 where
   pub legal : IsLegal query log
   pub more : ends_over false log.items ≡ false

@@ -1,4 +1,6 @@
-//! Logs judged line by line. Each function does nothing; its contract is the law.
+//! Logs judged line by line. Each function does nothing; its contract is the law, stated in
+//! `specs/LineLaws.antt`.
+
 ghost use Rattle.amber_lines.specs.LineLaws.{BeginningsHaveFronts, EntriesAreTested, FirstEntriesEnter, IllegalLinesAreFirst, LegalLogsBegin, NextEntriesEnter, OpenLegsAreJudged, PartsAreBegun, WholeLogsAreJudged};
 
 /// The test of an entry is true exactly where the worker's rule allows it and the batch that it takes is there.
@@ -21,7 +23,7 @@ pub fn whole_logs_are_judged()
     ensures { WholeLogsAreJudged }
 {}
 
-/// A leg behind a legal log is open exactly where its lines so far are a legal beginning.
+/// A leg after a legal log is open exactly where its lines so far are a legal beginning.
 pub fn open_legs_are_judged()
     ensures { OpenLegsAreJudged }
 {}

@@ -1,4 +1,5 @@
-//! Legs that go on. Each function does nothing; its contract is the law.
+//! Legs that go on. Each function does nothing; its contract is the law, stated in `specs/MovingLaws.antt`.
+
 ghost use Rattle.amber_lines.specs.MovingLaws.{GoesJoin, OpenIsMovingAndOffering, OpenLegsGrow, WorkIsMovingAndOffering};
 
 /// A leg was worked exactly where each worker moved by its rules and what was taken was offered.

@@ -93,7 +93,7 @@ room-sent r waiting has less = record {
       omega (arith, free, more);
 }
 
--- room for so many rows and the end
+-- room for this many rows and the end
 pub room-more : (r : Room) (room capacity spares slots batches : ℕ) → HasRoom r → r.waiting + (batches + 1) ≤ slots → r.slots ≤ slots → r.capacity ≤ capacity → r.spares ≤ spares
     → 0 < batches → batches ≤ spares + 1 → r.held + (room - 1) ≤ r.batch_size * batches → 0 < room
     → (capacity < r.batch_size → r.held + (room - 1) ≤ capacity)

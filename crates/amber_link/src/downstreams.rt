@@ -1,4 +1,4 @@
-//! The workers to which one worker sends, each with its end of the link.
+//! The workers to which one worker sends, each with its end of the link. Rests on `Out` of `ends`.
 
 ghost use Rattle.std.specs.Prelude.{◌≡◌, ◌==◌, ◌+◌, ◌^◌, ◌<◌, ◌≤◌, ℕ, Bool, All, true, false, length, map, slice_index_or, take, IfNone, IfSome, OnErr, OnOk};
 ghost use Rattle.std.specs.List.{list_any};

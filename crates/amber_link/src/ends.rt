@@ -1,4 +1,5 @@
-//! The two ends of one link: what waits of a sender, what goes through the ring, what waits for a receiver.
+//! The two ends of one link: what waits to be sent, what goes through the ring, what waits to be taken. Rests
+//! on `Outbox` of `outbox`, and on the ring of `rtrb`.
 
 ghost use Rattle.std.specs.Prelude.{◌≡◌, ◌==◌, ◌+◌, ◌^◌, ◌<◌, ◌≤◌, [], ◌∷◌, ◌++◌, drop, false, true, not, IfErr, IfNone, IfOk, IsOk, IsSome, OnErr, OnOk, length, option_to_list};
 ghost use Rattle.rtrb.specs.Ring.{known_free, known_items, received, sent};
@@ -47,7 +48,7 @@ pub enum Sent {
     Kept,
 }
 
-/// A link whose batches have so many rows, 1 to 65,536.
+/// A link whose batches have `batch_size` rows, 1 to 65,536.
 pub fn link(alloc: Global, batch_size: u32) -> Result<(Out, In), AllocError>
     requires some { 0 < batch_size }
     requires few { batch_size ≤ 65536 }
@@ -72,7 +73,7 @@ pub fn link(alloc: Global, batch_size: u32) -> Result<(Out, In), AllocError>
 }
 
 impl Out {
-    /// Makes room, so that so many pushes and an end after them are not refused.
+    /// Makes room, so that `rows` pushes and an end after them are not refused.
     pub fn reserve(&mut self, rows: u64) -> Result<(), AllocError>
         requires open { self.old.kept.ended ≡ false }
         ensures ring { self.new.ring ≡ self.old.ring }
@@ -108,7 +109,7 @@ impl Out {
         self.kept.end_reserved();
     }
 
-    /// Pushes a row. It comes back for want of memory.
+    /// Pushes a row. It comes back where memory runs out.
     pub fn push(&mut self, row: Row) -> Result<(), Row>
         requires few { self.old.kept.made < 2 ^ 40 }
         requires open { self.old.kept.ended ≡ false }

@@ -5,12 +5,13 @@
 //! where there are none. Of an `In` batches are taken, in their order: those in its inbox, then those in the ring. `settle`
 //! moves all that was made into the inbox, for whoever holds both ends.
 //!
-//! The batches that were taken, those in the inbox, in the ring and in the outbox, one after the other, are the pieces of
-//! the rows that were pushed. After `reserve` as many pushes, and an end, want no memory. Where memory runs out, nothing is
-//! lost or out of order.
+//! The batches that were taken, those in the inbox, in the ring and in the outbox, one after the other, are
+//! the pieces of the rows that were pushed. After `reserve` as many pushes, and an end, need no memory. Where
+//! memory runs out, nothing is lost or out of order.
 //!
-//! A worker holds its ends as `Sender`s and `Receiver`s. A sender of the probe side of a join gives a batch only once the
-//! last batches of all of the build side were taken.
+//! A worker keeps an `Upstream` of each worker that sends to it, and a `Downstream` of each to which it
+//! sends. An `Upstream` of the probe side of a join gives a batch only once the last batches of all of the
+//! build side were taken.
 #![tactic(auto)]
 
 pub mod downstreams;

@@ -1,4 +1,5 @@
-//! What waits of a sender: rows that are cut into batches, and batches that wait to be sent.
+//! The outbox of a link: rows that are pushed become batches, which wait to be sent. Rests on `Batch` of
+//! `amber_rows`.
 
 ghost use Rattle.std.specs.Prelude.{◌≡◌, ◌+◌, ◌*◌, ◌^◌, ◌<◌, ◌≤◌, [], ◌∷◌, ◌++◌, false, not, IfOk, IsOk, OnErr, OnOk, length, vec_capacity, vec_len, min, is_some, option_to_list};
 ghost use Rattle.std.specs.VecDeque.{deque_capacity, deque_len};
@@ -12,10 +13,10 @@ use std::collections::VecDeque;
 use std::marker::Model;
 use std::mem;
 
-// So many rows stand in no memory.
+// No memory holds as many rows as this.
 const MOST_ROWS: u64 = 1 << 40;
 
-// How many batches so many rows fill at most, those that are left among them.
+// How many batches this many rows fill at most, with one for those that are left.
 fn batches_for(batch_size: u64, rows: u64) -> u64
     requires some { 0 < batch_size }
     requires few { rows < 2 ^ 48 }
@@ -30,7 +31,7 @@ fn batches_for(batch_size: u64, rows: u64) -> u64
     }
 }
 
-// Makes as many empty lists of rows spare.
+// Makes empty lists of rows, so that `wanted` of them are spare.
 fn reserve_spares(
     alloc: Global,
     spare: &mut Vec<Vec<Row>>,
@@ -77,7 +78,7 @@ fn cut(waiting: &mut VecDeque<Batch>, partial: &mut Vec<Row>, next: Vec<Row>, se
     waiting.push_back_reserved(Batch { seq, rows, last });
 }
 
-/// What a worker keeps of one to which it sends.
+/// The rows and batches of one receiver that were not sent yet.
 pub struct Outbox {
     alloc: Global,
     batch_size: u32,
@@ -173,7 +174,7 @@ impl Outbox {
         self.waiting.len()
     }
 
-    /// Makes room for so many rows and the end.
+    /// Makes room for `rows` rows and the end.
     pub(crate) fn reserve(&mut self, rows: u64) -> Result<(), AllocError>
         ensures only { self.new ≡ record self.old { room = self.new.room } }
         ensures more { self.old.room ≤ self.new.room }
@@ -200,7 +201,7 @@ impl Outbox {
         Ok(())
     }
 
-    /// Puts a row behind the others, for which there is room; a full batch waits to be sent.
+    /// Appends a row, for which there is room; a full batch waits to be sent.
     pub(crate) fn push_reserved(&mut self, row: Row)
         requires room { 1 < self.old.room }
         requires few { self.old.made < 2 ^ 40 }

@@ -1,4 +1,4 @@
-//! What goes from the receivers of one worker to the senders of another.
+//! Moves batches from a `Downstream` of one worker to an `Upstream` of another. Rests on `settle` of `ends`.
 
 ghost use Rattle.std.specs.Prelude.{All, ◌≡◌, ◌<◌, ◌≤◌, ℕ, Bool, is_ok, length, map, slice_index_or};
 ghost use Rattle.amber_link.specs.Links.{AreLinked};

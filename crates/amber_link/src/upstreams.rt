@@ -1,4 +1,4 @@
-//! The workers that send to one worker, each with its end of the link.
+//! The workers that send to one worker, each with its end of the link. Rests on `In` of `ends`.
 
 ghost use Rattle.std.specs.Prelude.{◌≡◌, ◌≢◌, ◌==◌, ◌+◌, ◌^◌, ◌<◌, ◌≤◌, ◌∷◌, [], ℕ, All, true, false, length, slice_index_or, take, IfNone, IfSome};
 ghost use Rattle.std.specs.List.{list_any};
@@ -31,7 +31,7 @@ impl Drop for Upstream {
     }
 }
 
-/// A batch that was taken, its sender, whether that is of the build side, and its number.
+/// A batch that was taken, its sender, whether that is of the build side, and its `seq`.
 #[derive(Drop)]
 pub struct Found {
     pub from: u32,
@@ -127,8 +127,8 @@ pub fn have_ended(ins: &[Upstream]) -> bool
     ins.iter().all(|one| one.ended)
 }
 
-/// The place of a sender of whom a batch may be taken, where the build side has ended or not. Nothing is taken, but more
-/// batches may be known than before.
+/// The place of a sender from which a batch may be taken, where the build side has ended or not. Nothing is
+/// taken, but more batches may be known than before.
 pub fn ready_place(ins: &mut [Upstream], built: bool) -> Option<usize>
     ensures looked { AreLooked ins.old ins.new }
     ensures none { IfNone result (list_any (may_come built) ins.new ≡ false) }

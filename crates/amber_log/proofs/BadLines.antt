@@ -42,7 +42,7 @@ unfolding cut_back
 LastCloses-cut_back [] = tt
 LastCloses-cut_back (bytes ∷ lines) = LastCloses-keep (closes bytes) bytes (cut_back lines) refl (LastCloses-cut_back lines)
 
--- behind the first of these lines, where it is the last: it ends an item
+-- after the first of these lines, where it is the last: it ends an item
 LastCloses-first : (bytes : List ℕ) (lines : List (List ℕ)) → LastCloses (bytes ∷ lines) → lines ≡ [] → closes bytes ≡ true
 LastCloses-first bytes [] h none = h
 LastCloses-first bytes (next ∷ lines) h none = cc
@@ -97,7 +97,7 @@ follows_begin before reading f =
       whole = ap (λ (l : List (List ℕ)). l ++ map spell ends.more) (sym f.lines) ∙ sym (map-append {A = Line} spell (lines_read reading) ends.more) ∙ ap (map spell) ends.whole;
     }
 
--- whether a line can stand behind what was read
+-- whether a line can stand after what was read
 stepped : Reading → List ℕ → Option Reading
 stepped reading bytes = option_and_then (step reading) (parse bytes)
 

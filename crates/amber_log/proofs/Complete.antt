@@ -78,7 +78,7 @@ opened batch items end = record { batch = batch; items = items; place = place.Op
 abbrev pub behind : ℕ → List Item → Bool → Reading
 behind batch items over = record { batch = batch; items = items; place = behind_item over }
 
--- behind a leg
+-- after a leg
 abbrev pub behind_leg : ℕ → List Item → Bool → List Part → Close → Reading
 behind_leg batch items end parts close = with_leg (opened batch items end) end parts close
 

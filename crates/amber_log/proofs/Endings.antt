@@ -45,7 +45,7 @@ add reading next one adds ends =
 abbrev here : ℕ → List Item → Place → Reading
 here batch items place = record { batch = batch; items = items; place = place }
 
--- behind an item a log may end
+-- after an item a log may end
 at_rest : (batch : ℕ) (items : List Item) (over : Bool) → IsReading (here batch items (behind_item over)) → CanEnd (here batch items (behind_item over))
 at_rest batch items false r =
     record { log = record { batch = batch; items = items }; text = record { batch = r.batch; items = r.items }; more = []; whole = append-nil (lines_read (here batch items place.Outside)) }
@@ -131,7 +131,7 @@ head_stays : (batch : ℕ) → closes (spell (line.Head batch)) ≡ false
 unfolding closes
 head_stays batch = refl
 
--- behind a line that ends an item no leg is open
+-- after a line that ends an item no leg is open
 pub closing_rests : (reading : Reading) (one : Line) → closes (spell one) ≡ true → IfSome (step reading one) Rests
 unfolding step
 closing_rests reading (line.Head batch) h = absurd (false≢true (sym (head_stays batch) ∙ h))

@@ -23,7 +23,7 @@ lacks_more byte (b ∷ bytes) (suc place) inside h apart =
 pub all_lacks : (byte : ℕ) (bytes : List ℕ) (place : ℕ) → length bytes ≤ place → lacks byte (take place bytes) ≡ true → lacks byte bytes ≡ true
 all_lacks byte bytes place over h = ap (lacks byte) (sym (take_all place bytes over)) ∙ h
 
--- what is behind a place, taken as long as it is
+-- what is after a place, taken as long as it is
 pub behind-all : (bytes : List ℕ) (place : ℕ) → drop (place + 1) bytes ≡ take (length bytes - (place + 1)) (drop (place + 1) bytes)
 behind-all bytes place = sym (take_all (length bytes - (place + 1)) (drop (place + 1) bytes) (rw (length-drop (place + 1) bytes) (omega arith)))
 

@@ -198,7 +198,7 @@ next_line-front : (feed : Bool) (byte : ℕ) (xs more ys : List (List ℕ)) → 
 next_line-front true byte xs more ys e = (more, ap (λ (lines : List (List ℕ)). [] ∷ lines) e)
 next_line-front false byte xs more ys e = onto_line-front byte xs more ys e
 
--- what stands behind a text changes none of its lines
+-- what follows a text changes none of its lines
 pub lines_of-front : (bytes rest : List ℕ) → (more : List (List ℕ)) × (lines_of bytes ++ more ≡ lines_of (bytes ++ rest))
 unfolding lines_of
 lines_of-front [] rest = (lines_of rest, refl)
@@ -216,7 +216,7 @@ next_line-text : (feed : Bool) (byte : ℕ) (xs : List (List ℕ)) (bytes tail :
 next_line-text true byte xs bytes tail h e = (tail, ap (λ (b : ℕ). b ∷ bytes) (h refl) ∙ ap (λ (more : List ℕ). 10 ∷ more) e)
 next_line-text false byte xs bytes tail h e = onto_line-text byte xs bytes tail e
 
--- a text is its lines, and a torn one behind them
+-- a text is its lines, and a torn one after them
 pub unlines-lines_of : (bytes : List ℕ) → (tail : List ℕ) × (bytes ≡ unlines (lines_of bytes) ++ tail)
 unfolding lines_of
 unlines-lines_of [] = ([], refl)

@@ -81,7 +81,7 @@ item_lines-leg : (end : Bool) (leg : Leg) → item_lines (leg_item end leg) ≡ 
 item_lines-leg false leg = refl
 item_lines-leg true leg = refl
 
--- the lines behind a leg of these parts
+-- the lines after a leg of these parts
 lines_read-with_leg : (batch : ℕ) (items : List Item) (place : Place) (end : Bool) (parts : List Part) (close : Close)
     → lines_read (with_leg (at batch items place) end parts close)
     ≡ line.Head batch ∷ ((flat_map item_lines items ++ opening end ∷ flat_map part_lines parts) ++ line.Close close ∷ [])
@@ -301,7 +301,7 @@ step-is reading one r h = step_at-is reading.batch reading.items reading.place o
 
 -- ---- reading
 
--- the log has these lines behind those that were read
+-- the log has these lines after those that were read
 pub record IsLogOf (reading : Reading) (lines : List (List ℕ)) (log : Log) : Type 0 where
   pub legal : IsLog log
   pub fed : List Line

@@ -158,7 +158,7 @@ nil_left : {A : Type 0} (xs ys : List A) → xs ++ ys ≡ [] → xs ≡ []
 nil_left [] ys e = refl
 nil_left (x ∷ xs) ys e = cc
 
--- a beginning of an item's text behind a log changes nothing, or is the whole item
+-- a beginning of an item's text after a log changes nothing, or is the whole item
 torn_item : (log : Log) (one : Item) (bytes rest : List ℕ) → IsLog log → IsItem one → bytes ++ rest ≡ item_text one
     → IsReadAs (log_text log ++ bytes) log ⊎ (bytes ≡ item_text one)
 torn_item log one bytes rest h i whole =

@@ -1,4 +1,4 @@
--- What each command does. Those that are done at rest stand each in a file of its own; here alone they are told apart.
+-- What each command does. Those that are done at rest stand each in a file of its own; they are told apart only here.
 pub mod Clear
 pub mod Count
 pub mod Drop
@@ -38,7 +38,7 @@ action_of (command.Lose op worker) = AtRest (lose op worker)
 
 -- ---- in a log
 
--- the command of this name at this operator, and the words behind it
+-- the command of this name at this operator, and the words after it
 unfoldable pub command_named : List ℕ → ℕ → List (List ℕ) → Option Command
 command_named name op words =
     if bytes_eq name (codes "pause") then option_map (λ n. command.Pause op n) (row_count_in words)

@@ -124,7 +124,7 @@ abbrev pub is_long : Close → Bool
 is_long close.Cut = false
 is_long close.Long = true
 
--- whether no item may follow: behind a leg to the end, and behind one that was too long
+-- whether no item may follow: after a leg to the end, and after one that was too long
 abbrev pub is_last : Item → Bool
 is_last (item.Do command) = false
 is_last (item.Run leg) = is_long leg.close

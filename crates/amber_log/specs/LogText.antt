@@ -10,7 +10,7 @@ use Rattle.amber_log.specs.declared.log.Log.{Log}
 use Rattle.amber_log.specs.declared.line.Line.{Line}
 use Rattle.amber_log.specs.declared.line.Line.TheVariants as line
 
--- lines of bytes, each with a line feed behind it
+-- lines of bytes, each with a line feed after it
 abbrev pub unlines : List (List ℕ) → List ℕ
 unlines lines = flat_map (λ bytes. bytes ++ 10 ∷ []) lines
 

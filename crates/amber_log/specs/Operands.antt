@@ -61,7 +61,7 @@ comparison_of word =
     else if bytes_eq word (codes ">=") then Some cmp.Ge
     else None
 
--- ---- what stands behind a command's operator
+-- ---- what follows a command's operator
 
 -- no word
 abbrev pub nothing_in : List (List ℕ) → Option (Unit {0})

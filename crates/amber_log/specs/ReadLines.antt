@@ -28,12 +28,12 @@ abbrev pub behind_item : Bool → Place
 behind_item false = place.Outside
 behind_item true = place.Over
 
--- the reader behind a leg of these parts
+-- the reader after a leg of these parts
 abbrev pub with_leg : Reading → Bool → List Part → Close → Reading
 with_leg reading end parts close =
     record { batch = reading.batch; items = reading.items ++ leg_item end (record { parts = parts; close = close }) ∷ []; place = behind_item (end || is_long close) }
 
--- a line behind an item: a command, or the start of a leg
+-- a line after an item: a command, or the start of a leg
 abbrev pub step_outside : Reading → Line → Option Reading
 step_outside reading (line.Head batch) = None
 step_outside reading (line.Do command) = Some (record { batch = reading.batch; items = reading.items ++ item.Do command ∷ []; place = place.Outside })
@@ -43,7 +43,7 @@ step_outside reading (line.Worker worker) = None
 step_outside reading (line.Entry entry) = None
 step_outside reading (line.Close close) = None
 
--- a line behind the start of a leg: a worker's part begins, or the leg ends
+-- a line after the start of a leg: a worker's part begins, or the leg ends
 abbrev pub step_opened : Reading → Bool → Line → Option Reading
 step_opened reading end (line.Head batch) = None
 step_opened reading end (line.Do command) = None
@@ -81,7 +81,7 @@ step_at reading (place.Inside end parts worker entries gone) one = step_inside r
 unfoldable pub step : Reading → Line → Option Reading
 step reading one = step_at reading reading.place one
 
--- behind a head
+-- after a head
 abbrev pub start : Line → Option Reading
 start (line.Head batch) = Some (record { batch = batch; items = []; place = place.Outside })
 start (line.Do command) = None

@@ -44,7 +44,7 @@ abbrev pub action_words : Action → List (List ℕ)
 action_words (Leg to_end) = []
 action_words (AtRest effect) = effect.name ∷ decimal effect.op ∷ argument_words effect.argument
 
--- a command's words behind `do`
+-- a command's words after `do`
 abbrev pub command_words : Command → List (List ℕ)
 command_words command = action_words (action_of command)
 

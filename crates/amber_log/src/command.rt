@@ -91,7 +91,7 @@ impl Clone for Command {
 }
 
 impl Command {
-    /// What a command does. Here alone commands are told apart.
+    /// What a command does. Commands are told apart only here.
     pub fn action(&self) -> Action<'_>
         ensures { result ≡ action_of self.now }
     {

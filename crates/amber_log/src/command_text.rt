@@ -1,4 +1,5 @@
-//! Which commands have a text.
+//! Which commands have a text. Over `Command`.
+
 ghost use Rattle.std.specs.Prelude.{◌≡◌, ◌<◌, ◌^◌, true};
 ghost use Rattle.std.specs.Str.{is_utf8};
 ghost use Rattle.amber_rows.specs.Number.{fits_i64};

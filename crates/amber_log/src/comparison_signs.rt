@@ -1,4 +1,5 @@
-// The signs of comparisons, as they stand in logs, scripts and replies.
+//! The signs of comparisons, as they stand in logs, scripts and replies. Over `Cmp` of `amber_rows`.
+
 ghost use Rattle.std.specs.Prelude.{◌≡◌};
 ghost use Rattle.amber_log.specs.Words.{sign_of};
 

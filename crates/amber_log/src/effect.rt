@@ -1,4 +1,5 @@
-//! What there is to say of a command that is done at rest.
+//! What there is to say of a command that is done at rest. Rests on `Lent` for what it borrows.
+
 ghost use Rattle.std.specs.Prelude.{◌≡◌};
 ghost use Rattle.amber_log.specs.Effect.{is_built, is_nobody, is_put};
 

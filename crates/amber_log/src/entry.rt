@@ -1,3 +1,5 @@
+//! The steps of a worker in a leg, as plain data.
+
 ghost use Rattle.std.specs.Prelude.{◌≡◌};
 
 use std::marker::Model;

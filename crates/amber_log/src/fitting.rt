@@ -1,4 +1,4 @@
-//! Which commands a workflow takes.
+//! Which commands a workflow takes. Over `Command`, and `Flow` of `amber_rows`.
 
 ghost use Rattle.std.specs.Prelude.{◌≡◌};
 ghost use Rattle.amber_rows.specs.Lists.{nth};
@@ -99,8 +99,8 @@ fn fits_at(flow: &Flow, op: u32, argument: &Argument<'_>) -> bool
     }
 }
 
-/// Whether a workflow takes a command: the operator, its worker and its column are there, the operator is of a kind
-/// that takes it, and numbers of rows are 1 to 2^40.
+/// Whether a workflow takes a command: the operator, its worker and its column are there, the operator is of
+/// a kind that takes it, and numbers of rows are 1 to 2^40.
 #[tactic(auto, unfolding(crate::specs::Fits::fits_of))]
 pub fn fits(flow: &Flow, command: &Command) -> bool
     ensures { result ≡ fits_of flow.now command.now }

@@ -1,4 +1,5 @@
 //! Laws of the log's text. Each function does nothing; its contract is the law.
+
 ghost use Rattle.amber_log.specs.Laws.{EachHasItsText, FrontsAreRead, NoItemBeginsAnother, ReadsWhatStands};
 ghost use Rattle.amber_log.specs.TextLaws.{FailsAtFirstBadLine, TextsReadBack, WholeItemsAreLongest};
 
@@ -22,14 +23,15 @@ pub fn each_has_its_text()
     ensures { EachHasItsText }
 {}
 
-/// Reading a file fails exactly where a line of its whole items cannot stand: the lines before it begin the lines of
-/// some log, and with it they begin those of none. The number that it fails with is that line's, from 1.
+/// Reading a file fails exactly where a line of its whole items cannot stand: the lines before it begin the
+/// lines of some log, and with it they begin those of none. The number that it fails with is that line's,
+/// from 1.
 pub fn fails_at_first_bad_line()
     ensures { FailsAtFirstBadLine }
 {}
 
-/// What is read of a file is its longest beginning that is empty or ends with the first line, or with a line that
-/// ends an item.
+/// What is read of a file is its longest beginning that is empty or ends with the first line, or with a line
+/// that ends an item.
 pub fn whole_items_are_longest()
     ensures { WholeItemsAreLongest }
 {}

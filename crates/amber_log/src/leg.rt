@@ -1,3 +1,5 @@
+//! Legs: what each worker did, and how the leg ended. Rests on `Entries`.
+
 ghost use Rattle.std.specs.Prelude.{◌≡◌};
 
 use crate::entry::Entries;

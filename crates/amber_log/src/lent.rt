@@ -1,4 +1,5 @@
 //! What is lent, seen as the thing itself.
+
 ghost use Rattle.std.specs.Prelude.{◌≡◌, map};
 
 use std::marker::Model;

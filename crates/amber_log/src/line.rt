@@ -1,3 +1,5 @@
+//! The lines of a log's text. Rests on `Command`, `Entry` and `Close`.
+
 use crate::command::Command;
 use crate::entry::Entry;
 use crate::leg::Close;

@@ -1,3 +1,5 @@
+//! A log and its items. Rests on `Command` and `Leg`.
+
 ghost use Rattle.std.specs.Prelude.{◌≡◌, ◌++◌, ◌∷◌, [], OnErr, OnOk};
 
 use crate::command::Command;
@@ -60,7 +62,7 @@ impl Items {
         self.inner.as_slice()
     }
 
-    /// Puts an item behind the others.
+    /// Appends an item.
     pub fn push(&mut self, item: Item) -> Result<(), AllocError>
         ensures ok { OnOk result (self.new ≡ self.old ++ item ∷ []) }
         ensures err { OnErr result (self.new ≡ self.old) }

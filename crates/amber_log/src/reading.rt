@@ -1,3 +1,5 @@
+//! What was read of a log's text, and where its reader stands. Rests on `Items`, `Parts` and `Entries`.
+
 use crate::entry::Entries;
 use crate::leg::Parts;
 use crate::log::Items;
@@ -5,15 +7,15 @@ use crate::log::Items;
 /// Where a reader of a log's text stands.
 #[derive(Drop)]
 pub enum Place {
-    /// Behind the head or an item, and another item may follow.
+    /// After the head or an item, and another item may follow.
     Outside,
-    /// Behind the last item.
+    /// After the last item.
     Over,
-    /// Behind the line that opens a leg, whether or not to the end of the workflow.
+    /// After the line that opens a leg, whether or not to the end of the workflow.
     Opened {
         end: bool,
     },
-    /// Inside a worker's part of a leg, behind the parts of other workers and some entries of its own;
+    /// Inside a worker's part of a leg, after the parts of other workers and some entries of its own;
     /// `gone` says whether the last of these takes or emits rows.
     Inside {
         end: bool,

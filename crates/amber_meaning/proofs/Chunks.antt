@@ -56,7 +56,7 @@ pieces batch_size stream (suc n) =
 full-rows : (batch_size : ℕ) (stream : List (List Value)) (n : ℕ) → flat_map batch_rows (map (full_batch batch_size stream) (numbers_below n)) ≡ take (n * batch_size) stream
 full-rows batch_size stream n = flat_map-map batch_rows (full_batch batch_size stream) (numbers_below n) ∙ pieces batch_size stream n
 
--- what is left behind the full batches
+-- what is left after the full batches
 abbrev left_of : ℕ → List (List Value) → List (List Value)
 left_of batch_size stream = drop (length stream / batch_size * batch_size) stream
 
@@ -123,7 +123,7 @@ front-whole batch_size stream ended xs more some e marked =
     by true all = record { over = refl; rows = ap (flat_map batch_rows) all ∙ chunks-whole batch_size stream some; count = ap length all ∙ chunks-count batch_size stream true }
     by false all = absurd (false≢true (sym (chunks-unended batch_size stream) ∙ sym (ap (list_any is_marked) all) ∙ marked))
 
--- never more than one behind the full ones
+-- never more than one after the full ones
 pub front-count : (batch_size : ℕ) (stream : List (List Value)) (ended : Bool) (xs more : List Batch) → xs ++ more ≡ chunks_of batch_size stream ended
     → length xs ≤ length stream / batch_size + 1
 front-count batch_size stream ended xs more e =

@@ -132,7 +132,7 @@ with_prices =
 abbrev pub priced_query : Query
 priced_query = record { flow = with_prices; records = typed three ∷ typed five ∷ [] ∷ [] ∷ []; batch_size = 400; most = 1000 }
 
--- over the five orders, with batches of so many rows
+-- over the five orders, with batches of this many rows
 abbrev pub query_of : List Operator → ℕ → Query
 query_of flow batch_size = record { flow = flow; records = typed five ∷ [] ∷ [] ∷ []; batch_size = batch_size; most = 1000 }
 
@@ -141,8 +141,8 @@ query_of flow batch_size = record { flow = flow; records = typed five ∷ [] ∷
 abbrev pub part : ℕ → List Entry → Part
 part worker entries = record { worker = worker; entries = entries }
 
--- a run that a count stops after three rows, and then the rest; the filter's worker takes this batch, claims so many units, and emits
--- so many rows in the first leg and in the second; the sink's emits so many; the last leg is closed so; this operator is inspected
+-- a run that a count stops after three rows, and then the rest; the filter's worker takes this batch, claims this many units, and emits
+-- this many rows in the first leg and in the second; the sink's emits this many; the last leg is closed like this; this operator is inspected
 abbrev pub log_with : ℕ → ℕ → ℕ → ℕ → ℕ → Close → ℕ → List Item
 log_with number units first second kept last shown =
     item.Do (command.Count 2 3)

@@ -39,7 +39,7 @@ records = Ok (pair (codes "nut") 1) ∷ Err fault.Width ∷ Err (fault.Int 1) �
 abbrev query : Query
 query = record { flow = flow; records = records ∷ [] ∷ [] ∷ []; batch_size = 400; most = 1000 }
 
--- so many records taken
+-- this many records taken
 abbrev scanning : ℕ → Position
 scanning rows = record origin { constants = replicate rows [] }
 
@@ -51,7 +51,7 @@ grouping key over = record origin {
   finished = over;
 }
 
--- the scan's first worker has taken two records, the second so many; the group's workers have both taken all, and one has finished
+-- the scan's first worker has taken two records, the second this many; the group's workers have both taken all, and one has finished
 abbrev state : ℕ → State
 state second = record {
   arms = no_arms ∷ no_arms ∷ no_arms ∷ [];

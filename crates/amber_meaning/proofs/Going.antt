@@ -12,7 +12,7 @@ use Rattle.amber_meaning.specs.Rules.{MayGo, Orders, assigned, is_watched, pass_
 use Rattle.amber_meaning.specs.Task.{Role}
 use Rattle.amber_meaning.proofs.Orderly.{product-later}
 
--- ---- the position behind both
+-- ---- the position after both
 
 hand-both : (counted : Bool) (hand outs others : ℕ)
     → (if counted then (if counted then hand - outs else hand) - others else (if counted then hand - outs else hand)) ≡ (if counted then hand - (outs + others) else hand)

@@ -1,4 +1,4 @@
--- Entries behind entries.
+-- Entries after entries.
 use Rattle.std.proofs.Common.{List, [], ◌∷◌, ◌++◌, false, refl}
 use Rattle.amber_rows.specs.declared.batch.Batch.{Batch}
 use Rattle.amber_log.specs.declared.entry.Entry.{Entry}

@@ -23,7 +23,7 @@ pub slice_get-seam : {A : Type 0} (xs : List A) (y : A) (ys : List A) → slice_
 slice_get-seam [] y ys = refl
 slice_get-seam (x ∷ xs) y ys = slice_get-seam xs y ys
 
--- what stands behind a beginning
+-- what follows a beginning
 pub nth-behind : {A : Type 0} (xs ys : List A) (y : A) (n : ℕ) → n ≡ length xs → IsPrefix (xs ++ y ∷ []) ys → nth ys (n + 1) ≡ Some y
 nth-behind xs ys y n e b =
     nth-next ys n ∙ rw (e, ← b.1, append_assoc xs (y ∷ []) b.0) (slice_get-seam xs y b.0)

@@ -69,7 +69,7 @@ next-past [] (suc n) h = refl
 next-past (x ∷ files) zero h = absurd (omega arith)
 next-past (x ∷ files) (suc n) h = next-past files n (omega arith)
 
--- the records of an operator are those of the file that is next behind the operators before it
+-- the records of an operator are those of the file that is next after the operators before it
 pub records-here : (files : Files) (flow : List Operator) (i : ℕ) (o : Operator) → i < length flow → o ≡ get_or flow i o
     → get_or (records_of files flow) i [] ≡ records_at o.what o.schema (first_list (files_left files (take i flow)))
 unfolding records_of files_left
@@ -251,7 +251,7 @@ nth-here xs i x h e =
     let less : i + 1 - 1 ≡ i = omega arith in
     rw (no, less) (slice_get-get_or xs i x h ∙ ap Some (sym e))
 
--- an operator may stand behind those before it
+-- an operator may stand after those before it
 pub next-here : (flow : List Operator) → IsFlow flow → (i : ℕ) (o : Operator) → i < length flow → o ≡ get_or flow i o → IsNext (take i flow) o
 next-here flow ok i o h e =
     let next = AreNext-at [] flow i o h ok.operators in

@@ -21,7 +21,7 @@ abbrev pub IsMarkedLast : List Batch → Type 0
 IsMarkedLast [] = Unit {0}
 IsMarkedLast (batch ∷ more) = (batch.last ≡ true → more ≡ []) × IsMarkedLast more
 
--- nothing stands behind a marked batch
+-- nothing follows a marked batch
 pub marked-ends : (xs ys : List Batch) → IsMarkedLast (xs ++ ys) → list_any (λ batch. batch.last) xs ≡ true → ys ≡ []
 marked-ends [] ys h e = absurd (false≢true e)
 marked-ends (x ∷ []) ys h e = by (or_cases x.last _ e)

@@ -13,7 +13,7 @@ walk-more f both xs i x old new h e o n =
 pub walk-end : {X Y : Type 0} (f : List X → List Y) (xs : List X) (i : ℕ) (all : List Y) → length xs ≤ i → all ≡ f (take i xs) → all ≡ f xs
 walk-end f xs i all h e = e ∙ ap f (take_all i xs h)
 
--- the same behind what stood before
+-- the same after what stood before
 pub walk-after : {X Y : Type 0} (f : List X → List Y) → ((xs ys : List X) → f (xs ++ ys) ≡ f xs ++ f ys)
     → (xs : List X) (i : ℕ) (x : X) (start old new : List Y) → i < length xs → x ≡ get_or xs i x → old ≡ start ++ f (take i xs) → new ≡ old ++ f (x ∷ []) → new ≡ start ++ f (take (i + 1) xs)
 walk-after f both xs i x start old new h e o n =

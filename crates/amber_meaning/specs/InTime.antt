@@ -9,7 +9,7 @@ use Rattle.amber_meaning.specs.Replay.{after_item, after_leg}
 use Rattle.amber_meaning.specs.State.{State, arms_at, begin_leg, emitted_by}
 
 -- a leg that began in this state stops in time: where a stop stood already nobody has done anything; and where a pause is armed, its
--- operator has emitted at the close as many rows as the pause asks for at most, or as before, and so many more a worker
+-- operator has emitted at the close as many rows as the pause asks for at most, or as before, and `late` more a worker
 pub record StopsInTime (query : Query) (late : ℕ) (start : State) (parts : List Part) : Type 0 where
   pub at_once : stops_in query start ≢ [] → parts ≡ []
   pub pauses : (op n : ℕ) → (arms_at start op).pause ≡ Some n

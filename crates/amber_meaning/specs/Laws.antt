@@ -39,7 +39,7 @@ pub record IsResting (query : Query) (state : State) : Type 0 where
 abbrev pub LegalLogsRest : Type 0
 LegalLogsRest = (query : Query) (log : Log) → (legal : IsLegal query log) → IsResting query legal.after
 
--- a leg may be opened behind a legal log, where one may follow
+-- a leg may be opened after a legal log, where one may follow
 abbrev pub LegsOpen : Type 0
 LegsOpen = (query : Query) (log : Log) (to_end : Bool) → (legal : IsLegal query log) → ends_over false log.items ≡ false
     → (leg : IsOpen query log to_end []) × (leg.now ≡ leg_start to_end legal.after)

@@ -132,7 +132,7 @@ pub record IsLegal (query : Query) (log : Log) : Type 0 where
 abbrev pub leg_start : Bool → State → State
 leg_start to_end state = if to_end then begin_last_leg state else begin_leg state
 
--- a legal log that more may follow, and behind it a leg that is not closed yet, with what the workers did so far
+-- a legal log that more may follow, and after it a leg that is not closed yet, with what the workers did so far
 pub record IsOpen (query : Query) (log : Log) (to_end : Bool) (parts : List Part) : Type 0 where
   pub legal : IsLegal query log
   pub more : ends_over false log.items ≡ false

@@ -20,7 +20,7 @@ use Rattle.amber_meaning.specs.declared.answer.PlainErr.TheVariants as plain_err
 unfoldable pub scan_count : List Operator → ℕ
 scan_count flow = count_by (λ operator. is_scan operator.what) flow
 
--- the files that an operator leaves to those behind it
+-- the files that an operator leaves to those after it
 abbrev pub files_after : What → List (List ℕ) → List (List ℕ)
 files_after kind files = if is_scan kind then later_of files else files
 
@@ -71,7 +71,7 @@ answer_of flow files = answer_from flow (records_of files flow)
 unfoldable pub row_total : List Operator → List (List ℕ) → ℕ
 row_total flow files = sum_by length (outputs (records_of files flow) [] flow)
 
--- what `plain` answers, where so many rows may be: the sequential answer; else the first scan with another header, or that there are
+-- what `plain` answers, where this many rows may be: the sequential answer; else the first scan with another header, or that there are
 -- more rows
 abbrev pub IsPlain : Result Answer PlainErr → List Operator → List (List ℕ) → ℕ → Type 0
 IsPlain (Ok answer) flow files most = (wrong_header 1 files flow ≡ None) × (row_total flow files ≤ most) × (answer ≡ answer_of flow files)

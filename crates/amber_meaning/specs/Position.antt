@@ -68,7 +68,7 @@ have_ended senders taken = list_all (has_last taken) senders
 
 -- ---- what was produced
 
--- all batches of all senders were taken, and so many rows of them that none is left
+-- all batches of all senders were taken, and no row of them is left
 abbrev pub is_complete : Role → List Taken → ℕ → Bool
 is_complete role taken rows = have_ended role.senders taken && (rows == length (all_arrivals role taken))
 

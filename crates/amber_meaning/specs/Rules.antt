@@ -33,7 +33,7 @@ pub record IsFree (p : Position) : Type 0 where
   pub loose : p.restraint.held ≡ false
   pub unfinished : p.finished ≡ false
 
--- the rows that the worker has produced once it took so many more under the orders
+-- the rows that the worker has produced once it took this many more under the orders
 abbrev pub product_with : Role → Orders → Position → ℕ → List (List Value)
 product_with role orders p rows = product role p.taken (p.constants ++ replicate rows orders.constants)
 
@@ -138,7 +138,7 @@ abbrev pub with_offered : ℕ → Option Batch → Position → Position
 with_offered from None p = p
 with_offered from (Some batch) p = with_batch from batch p
 
--- so many rows were emitted: under a count each has used a unit of the hand, and the row that was waved on is gone
+-- this many rows were emitted: under a count each has used a unit of the hand, and the row that was waved on is gone
 abbrev pub restraint_used : Bool → ℕ → Restraint → Restraint
 restraint_used counted outs r = record r { hand = if counted then r.hand - outs else r.hand; waved = r.waved && (outs == 0) }
 

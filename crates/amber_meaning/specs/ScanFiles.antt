@@ -9,7 +9,7 @@ use Rattle.amber_rows.specs.declared.flow.Operator.{Operator}
 use Rattle.amber_meaning.specs.Plain.{files_after}
 use Rattle.amber_rows.specs.Kinds.{is_scan}
 
--- the files that these operators leave to those behind them
+-- the files that these operators leave to those after them
 unfoldable pub files_left : List (List ℕ) → List Operator → List (List ℕ)
 files_left files [] = files
 files_left files (operator ∷ more) = files_left (files_after operator.what files) more

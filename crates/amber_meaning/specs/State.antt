@@ -59,7 +59,7 @@ crew_at flow state op = map (position_at state.positions) (workers_of flow op)
 unfoldable pub emitted_by : List Operator → State → ℕ → ℕ
 emitted_by flow state op = sum_by (λ p. emitted_count p.outcomes) (crew_at flow state op)
 
--- how many rows a worker has emitted since so many were gone
+-- how many rows a worker has emitted since this many were gone
 abbrev pub emitted_since : ℕ → Position → ℕ
 emitted_since base p = emitted_count (drop base p.outcomes)
 
@@ -116,13 +116,13 @@ abbrev pub put_constant : Option Value → List Value → List Value
 put_constant None before = before
 put_constant (Some value) before = value ∷ []
 
--- a change of a count: what is put counts from where so many rows of each of the operator's workers are gone
+-- a change of a count: what is put counts from where this many rows of each of the operator's workers are gone
 abbrev pub counting_from : List ℕ → Change ℕ → Change Counting
 counting_from gone change.Keep = change.Keep
 counting_from gone change.TakeBack = change.TakeBack
 counting_from gone (change.Put n) = change.Put (record { target = n; base = gone })
 
--- what is in force at an operator afterwards, of whose workers so many rows are gone
+-- what is in force at an operator afterwards, of whose workers this many rows are gone
 abbrev pub arms_changed : Arming → List ℕ → Arms → Arms
 arms_changed arming gone arms = record {
   pause = put arming.pause arms.pause;
@@ -148,7 +148,7 @@ abbrev pub without_row : List Operator → ℕ → Option ℕ → List Position 
 without_row flow op None positions = positions
 without_row flow op (Some worker) positions = changed_at without_held (worker_at flow op worker + 1) positions
 
--- a leg changes nothing here: what its workers do comes behind it
+-- a leg changes nothing here: what its workers do comes after it
 abbrev pub after_action : List Operator → Action → State → State
 after_action flow (action.Leg to_end) state = state
 after_action flow (action.AtRest effect) state = record {

@@ -68,7 +68,7 @@ words_line [] = 10 ∷ []
 words_line (word ∷ []) = word ++ 10 ∷ []
 words_line (word ∷ next ∷ more) = word ++ after_blank (words_line (next ∷ more))
 
--- words with blanks between them, and behind one more blank what ends the line
+-- words with blanks between them, and after one more blank what ends the line
 unfoldable pub words_before : List (List ℕ) → List ℕ → List ℕ
 words_before [] end = end
 words_before (word ∷ more) end = word ++ after_blank (words_before more end)

@@ -1,4 +1,5 @@
-// What a query answers, and why it may have no answer.
+//! What a query answers, and why it may have no answer. Over rows, columns and faults of `amber_rows`.
+
 ghost use Rattle.std.specs.Prelude.{◌≡◌};
 ghost use Rattle.amber_meaning.specs.declared.answer.PlainErr.TheVariants as plain_err;
 

@@ -1,4 +1,6 @@
-//! Laws of legal logs. Each function does nothing; its contract is the law.
+//! Laws of legal logs. Each function does nothing; its contract is the law, stated in `specs/Laws.antt` and
+//! `specs/Given.antt`.
+
 ghost use Rattle.amber_meaning.specs.Given.{FinishedOperatorsRefuse, KeysMayBeSorted, OneWorkerRefusesAlone};
 ghost use Rattle.amber_meaning.specs.Laws.{EndsClose, FlowsSendForward, FrontsAreLegal, ItemsHaveOneState, LegalLogsGrow, LegalLogsHaveOneState, LegalLogsRest, LegsHaveOneState, LegsOpen, RunsClose, TranscriptsGrow};
 
@@ -39,7 +41,7 @@ pub fn legal_logs_have_one_state()
 {}
 
 /// The transcript of a log with an item more is that of the log, and then the reply to the item in the state
-/// behind the log.
+/// after the log.
 pub fn transcripts_grow()
     ensures { TranscriptsGrow }
 {}
@@ -50,8 +52,8 @@ pub fn legal_logs_rest()
     ensures { LegalLogsRest }
 {}
 
-/// A leg may be opened behind a legal log that an item may follow. Nobody has worked yet, and the workers stand as the
-/// leg begins: pauses are over, and held rows may go.
+/// A leg may be opened after a legal log that an item may follow. Nobody has worked yet, and the workers
+/// stand as the leg begins: pauses are over, and held rows may go.
 pub fn legs_open()
     ensures { LegsOpen }
 {}

@@ -1,4 +1,6 @@
-// The files of the scans, which stand in the order of the operators.
+//! The files of the scans, which stand in the order of the operators. Over `Flow` and `Files` of
+//! `amber_rows`.
+
 ghost use Rattle.std.specs.Prelude.{◌≡◌, ◌≤◌, count_by, length, take};
 ghost use Rattle.amber_rows.specs.Kinds.{is_scan};
 ghost use Rattle.amber_rows.specs.Lists.{first_list};
@@ -16,7 +18,7 @@ fn scans_in(operators: &[Operator]) -> usize
         .count()
 }
 
-/// The file that is next behind so many operators: that of the next scan.
+/// The file that is next after the first `before` operators: that of the next scan.
 pub fn file_behind<'a>(flow: &Flow, files: &'a Files, before: usize) -> &'a [u8]
     requires { before ≤ length flow.now }
     ensures { result.now ≡ first_list (files_left files.now (take before flow.now)) }

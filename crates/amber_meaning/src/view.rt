@@ -1,3 +1,5 @@
+//! Why a run has stopped, and what its operators and workers show. Over rows and conditions of `amber_rows`.
+
 ghost use Rattle.std.specs.Prelude.{◌≡◌};
 
 use amber_rows::{Cond, Row, Value};

@@ -1,3 +1,5 @@
+//! The state of a filter. Over `Cond` of `amber_rows`.
+
 ghost use Rattle.std.specs.Prelude.{◌≡◌, IfOk, if◌then◌else◌};
 ghost use Rattle.amber_rows.specs.Cond.{holds_of};
 
@@ -52,7 +54,8 @@ impl FilterState {
         holds(&self.cond, row)
     }
 
-    /// Puts a value in place of the condition's constant. No row is passed by one of another kind than the condition's column.
+    /// Puts a value in place of the condition's constant. No row is passed by one of another kind than the
+    /// condition's column.
     pub fn set(&mut self, value: Value)
         ensures { self.new ≡ record self.old { constant = value } }
     {

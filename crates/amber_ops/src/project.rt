@@ -1,3 +1,5 @@
+//! The state of a projection. Over `Cols` of `amber_rows`.
+
 ghost use Rattle.std.specs.Prelude.{◌≡◌, IfOk};
 ghost use Rattle.amber_rows.specs.Operators.{pick_cells};
 

@@ -1,3 +1,5 @@
+//! The state of a sink. Over `Rows` of `amber_rows`, and its `sort`.
+
 ghost use Rattle.std.specs.Prelude.{◌≡◌, ◌++◌, ◌∷◌, [], IfErr, IfOk, OnErr, OnOk};
 ghost use Rattle.amber_rows.specs.Order.{sort_rows};
 
@@ -35,7 +37,7 @@ impl SinkState {
         }
     }
 
-    /// Keeps a row. It gives the row back for want of memory alone.
+    /// Keeps a row. It gives the row back only where memory runs out.
     pub fn feed(&mut self, row: Row) -> Result<(), Row>
         ensures ok { OnOk result (self.new ≡ self.old ++ row ∷ []) }
         ensures err { IfErr result (λ back. back ≡ row) }

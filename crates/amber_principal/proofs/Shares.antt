@@ -37,7 +37,7 @@ get_or-replicate zero i = refl
 get_or-replicate (suc n) zero = refl
 get_or-replicate (suc n) (suc i) = get_or-replicate n i
 
--- the shares of the workers before this place stand, and none behind it
+-- the shares of the workers before this place stand, and none after it
 pub record Agrees (full shares : List ℕ) (place : ℕ) : Type 0 where
   pub long : length shares ≡ length full
   pub before : (i : ℕ) → i < place → get_or shares i 0 ≡ get_or full i 0

@@ -70,7 +70,7 @@ record Divided (left each later : ℕ) (all done xs : List Need) : Type 0 where
   whole : later + least left (count_by is_starved done) + least left (count_by is_starved all + count_by is_able done)
       ≡ each * sharer_count xs + least left (count_by is_starved all) + least left (sharer_count all)
 
--- a worker that shares or not: what the shares behind it add up to, with it and without
+-- a worker that shares or not: what the shares after it add up to, with it and without
 record Turn (left each share : ℕ) (all done : List Need) (x : Need) : Type 0 where
   one : share + least left (count_by is_starved done) + least left (count_by is_starved all + count_by is_able done)
       ≡ each * (unit_if (is_starved x) + unit_if (is_able x)) + least left (count_by is_starved (done ++ x ∷ [])) + least left (count_by is_starved all + count_by is_able (done ++ x ∷ []))

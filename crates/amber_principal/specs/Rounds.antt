@@ -13,18 +13,18 @@ use Rattle.amber_principal.specs.declared.rounds.Seen.TheVariants as seen
 
 -- Steps stand with the last one first, as the chief's view has them.
 
--- behind these steps each worker below n was watched, in order
+-- after these steps each worker below n was watched, in order
 unfoldable pub watches_after : List Step → ℕ → List Step
 watches_after steps zero = steps
 watches_after steps (suc n) = Watch n ∷ watches_after steps n
 
--- behind these steps the allotment of each worker below n that is not starved was swept, in order
+-- after these steps the allotment of each worker below n that is not starved was swept, in order
 unfoldable pub sweeps_after : List Need → List Step → ℕ → List Step
 sweeps_after needs steps zero = steps
 sweeps_after needs steps (suc n) =
     if is_starved (slice_index_or needs n need.Absent) then sweeps_after needs steps n else Sweep n ∷ sweeps_after needs steps n
 
--- behind these steps each worker below n was granted its share, in order, where that is not 0
+-- after these steps each worker below n was granted its share, in order, where that is not 0
 unfoldable pub grants_after : List ℕ → List Step → ℕ → List Step
 grants_after shares steps zero = steps
 grants_after shares steps (suc n) =
@@ -35,7 +35,7 @@ abbrev pub divides : Seen → List Need → Bool
 divides seen.Hit needs = false
 divides seen.Open needs = list_any is_starved needs
 
--- the steps of a round that found so many units unassigned or unclaimed
+-- the steps of a round that found this many units unassigned or unclaimed
 abbrev pub round_steps : ℕ → List Need → Seen → ℕ → List Step → List Step
 round_steps workers needs found rest steps =
     if divides found needs

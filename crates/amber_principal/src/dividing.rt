@@ -1,4 +1,5 @@
-// How units are divided among those who need some.
+//! How units are divided among those who need some.
+
 ghost use Rattle.std.specs.Prelude.{◌≡◌, ◌<◌, ◌^◌, ◌+◌, count_by};
 ghost use Rattle.amber_principal.specs.Shares.{is_able, is_starved, shares_of};
 ghost use Rattle.amber_principal.specs.Turns.{after_share, next_share};
@@ -102,9 +103,9 @@ fn shares_among(rest: u64, needs: &[Need; PLACES], starved: u64, able: u64) -> [
     shares
 }
 
-/// Divides so many units among the workers that are starved or able, evenly. What is left over goes one each to the
-/// starved ones in order, then to the able ones in order. The others get none, and where nobody is starved or able
-/// no unit is given.
+/// Divides `rest` units among the workers that are starved or able, evenly. What is left over goes one each
+/// to the starved ones in order, then to the able ones in order. The others get none, and where nobody is
+/// starved or able no unit is given.
 pub fn divide(rest: u64, needs: &[Need; PLACES]) -> [u64; PLACES]
     ensures { result ≡ shares_of rest needs.now }
 {

@@ -1,4 +1,6 @@
-// One round of the principal: watching, and dividing where somebody is starved.
+//! One round of the principal: watching, and dividing where somebody is starved. Rests on `divide`, and on
+//! `ChiefSeat` of `amber_board`.
+
 ghost use Rattle.std.specs.Prelude.{◌≡◌, ◌≤◌, ◌-◌, if◌then◌else◌, ◌<◌, ◌==◌, ◌↔◌, [], ◌∷◌, All, drop, false, map, not, replicate, slice_index_or, sum};
 ghost use Rattle.std.specs.List.{list_any};
 ghost use Rattle.amber_board.specs.Ledger.{IsExact};
@@ -90,7 +92,7 @@ fn recall(seat: &mut ChiefSeat, board: &Board, needs: &[Need; PLACES], workers: 
     }
 }
 
-// Grants a worker so many units of those in hand, where that is not 0.
+// Grants a worker its share of the units in hand, where that is not 0.
 fn grant_share(seat: &mut ChiefSeat, board: &Board, worker: u32, share: u64)
     requires own { IsChiefOf board.now seat.old }
     requires worker { worker < board_workers board.now }
@@ -158,7 +160,7 @@ fn idle(seen: Seen) -> Order
 }
 
 impl Principal {
-    /// The principal of an operator with so many workers.
+    /// The principal of an operator with this many workers.
     pub fn new(workers: u32) -> Self
         ensures { result ≡ workers }
     {

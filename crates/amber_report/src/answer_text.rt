@@ -1,4 +1,5 @@
-//! The text of a query's answer.
+//! The text of a query's answer. Over `Answer` of `amber_meaning`.
+
 ghost use Rattle.std.specs.Prelude.{◌≡◌, [], ◌∷◌, ◌++◌, codes, length, IfOk, OnOk};
 ghost use Rattle.std.specs.List.{flat_map};
 ghost use Rattle.std.specs.Fmt.{decimal};

@@ -1,4 +1,5 @@
-//! Conditions as words of a line.
+//! Conditions as words of a line. Over `Cond` of `amber_rows`.
+
 ghost use Rattle.std.specs.Prelude.{◌≡◌, ◌++◌, OnOk};
 ghost use Rattle.std.specs.List.{flat_map};
 ghost use Rattle.amber_rows.specs.Columns.{columns_at};

@@ -1,4 +1,5 @@
-//! What an operator shows of its workers and of what is armed for it.
+//! What an operator shows of its workers and of what is armed for it. Over `Inspected` of `amber_meaning`.
+
 ghost use Rattle.std.specs.Prelude.{◌≡◌, ◌+◌, [], ◌∷◌, ◌++◌, codes, decimal, IfOk, OnOk};
 ghost use Rattle.std.specs.List.{flat_map};
 ghost use Rattle.amber_rows.specs.Lists.{nth};
@@ -185,8 +186,8 @@ fn push_views(alloc: Global, text: &mut Vec<u8>, views: &Views) -> Result<(), Al
     Ok(())
 }
 
-/// The reply to a command to inspect an operator: which it is; a filter's constant; what is armed; a line for each worker,
-/// and behind it the first of its pending rows.
+/// The reply to a command to inspect an operator: which it is; a filter's constant; what is armed; a line for
+/// each worker, and after it the first of its pending rows.
 #[tactic(auto, unfolding(amber_meaning::specs::Texts::inspected_text))]
 pub fn inspect_lines(alloc: Global, flow: &Flow, seen: &Inspected) -> Result<Bytes, AllocError>
     ensures { IfOk result (λ text. text ≡ inspected_text flow.now seen.now) }

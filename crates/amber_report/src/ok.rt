@@ -1,4 +1,5 @@
-//! The replies to commands that were done at once.
+//! The replies to commands that were done at once. Over `Effect` of `amber_log`.
+
 ghost use Rattle.std.specs.Prelude.{◌≡◌, [], ◌∷◌, ◌++◌, codes, decimal, map, option_copied, IfOk, OnOk};
 ghost use Rattle.std.specs.List.{flat_map};
 ghost use Rattle.amber_log.specs.declared.effect.Action.TheVariants as action;
@@ -129,8 +130,8 @@ fn push_reply(
     }
 }
 
-/// The reply to a command that was done at once: `ok` and the command as a script has it. To a drop it is `ok` and the row
-/// that was dropped, or `none` where nobody was held.
+/// The reply to a command that was done at once: `ok` and the command as a script has it. To a drop it is
+/// `ok` and the row that was dropped, or `none` where nobody was held.
 pub fn ok_line(
     alloc: Global,
     flow: &Flow,

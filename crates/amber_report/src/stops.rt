@@ -1,4 +1,5 @@
-//! Why a run has stopped, a line each.
+//! Why a run has stopped, a line each. Over `Stops` of `amber_meaning`.
+
 ghost use Rattle.std.specs.Prelude.{◌≡◌, ◌++◌, IfOk, OnOk};
 ghost use Rattle.std.specs.List.{flat_map};
 ghost use Rattle.amber_meaning.specs.Texts.{stop_text, stops_text};

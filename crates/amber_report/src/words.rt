@@ -1,4 +1,5 @@
-//! Words and numbers behind a text.
+//! Words and numbers appended to a text.
+
 ghost use Rattle.std.specs.Prelude.{◌≡◌, [], ◌∷◌, ◌++◌, OnOk, decimal};
 ghost use Rattle.std.specs.List.{flat_map, list_all};
 ghost use Rattle.amber_meaning.specs.Texts.{after_blank, escaped_byte, id_at, is_bare, is_bare_byte, value_word, word_of};

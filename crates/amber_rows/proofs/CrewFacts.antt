@@ -21,7 +21,7 @@ op-here flow i left operator h e lt =
     let there : drop i flow ≡ operator ∷ drop (suc i) flow = drop-cons flow i operator h ∙ ap (λ o. o ∷ drop (suc i) flow) (sym e) in
     rw (there, lt-ltb left operator.workers lt) refl
 
--- the worker is none of it, but one of those behind it
+-- the worker is none of it, but one of those after it
 pub op-later : (flow : List Operator) (i left : ℕ) (operator : Operator) → i < length flow → operator ≡ get_or flow i operator → operator.workers ≤ left
     → op_of (drop i flow) left ≡ suc (op_of (drop (i + 1) flow) (left - operator.workers))
 unfolding op_of

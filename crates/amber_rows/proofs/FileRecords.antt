@@ -1,4 +1,4 @@
--- The records that a reader has read are the first ones of its file, and the typed records are those behind the header.
+-- The records that a reader has read are the first ones of its file, and the typed records are those after the header.
 use Rattle.std.proofs.Common.{◌≡◌, ◌<◌, ◌+◌, ◌⊎◌, ℕ, zero, suc, List, [], ◌∷◌, ◌++◌, length, map, Some, None, inl, inr, refl, arith}
 use Rattle.std.proofs.lemmas.Bool.{cases_Bool}
 use Rattle.std.proofs.lemmas.List.{append-nil}
@@ -85,7 +85,7 @@ pub typed-none : (columns : List Column) (file : List ℕ) → file_records file
 unfolding typed_records
 typed-none columns file e = rw e refl
 
--- all records behind the header
+-- all records after the header
 pub typed-all : (columns : List Column) (file : List ℕ) (header : List (List ℕ)) (done : List (List (List ℕ))) → file_records file ≡ header ∷ done
     → typed_records columns file ≡ map (row_of columns) done
 unfolding typed_records

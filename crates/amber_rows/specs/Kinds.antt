@@ -1,4 +1,4 @@
--- What is so of each kind of operator. Whoever asks for one of these facts asks here.
+-- What holds of each kind of operator. These facts are defined here only.
 use Rattle.std.specs.Prelude.{◌≡◌, ℕ, ◌<◌, ◌≤◌, ◌==◌, List, [], ◌∷◌, ◌++◌, length, map, Option, Some, None, Bool, true, false, if◌then◌else◌}
 use Rattle.std.specs.List.{list_all}
 use Rattle.amber_rows.specs.Columns.{AreIn, HasInput, IsCondOn, IsEarlier, agg_kind, agg_name, column_kinds, columns_at, is_column_name, kinds_at, names_at, names_of}

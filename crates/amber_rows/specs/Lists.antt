@@ -36,7 +36,7 @@ abbrev pub first_of : {A : Type 0} → List A → Option A
 first_of [] = None
 first_of (x ∷ xs) = Some x
 
--- the elements behind the first
+-- the elements after the first
 abbrev pub later_of : {A : Type 0} → List A → List A
 later_of [] = []
 later_of (x ∷ xs) = xs

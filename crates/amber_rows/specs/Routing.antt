@@ -23,6 +23,6 @@ fnv_step hash byte = (bit_xor hash byte * 1099511628211) % 2 ^ 64
 unfoldable pub fnv_of : List ℕ → ℕ
 fnv_of bytes = fold fnv_step 14695981039346656037 bytes
 
--- the worker of so many that a key goes to
+-- of this number of workers, the one that a key goes to
 unfoldable pub route_of : List ℕ → ℕ → ℕ
 route_of key workers = fnv_of key % workers

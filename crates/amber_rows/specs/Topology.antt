@@ -59,7 +59,7 @@ kind_at (Some operator) = operator.what
 abbrev pub what_at : List Operator → ℕ → What
 what_at flow op = kind_at (nth flow op)
 
--- the worker of this many that follows the sender with this place
+-- of the workers of the reader, the one that follows this sender
 unfoldable pub follower_of : List Operator → ℕ → ℕ
 follower_of flow sender =
     let op = op_of flow sender in

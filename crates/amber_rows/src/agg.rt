@@ -1,3 +1,5 @@
+//! The aggregates of a group, as plain data. What they give of rows is defined in `specs/Operators.antt`.
+
 ghost use Rattle.std.specs.Prelude.{◌≡◌, IfOk, length};
 
 use std::alloc::AllocError;

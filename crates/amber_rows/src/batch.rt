@@ -1,6 +1,8 @@
+//! Batches: rows that travel together from one worker to another. Rests on `Rows`.
+
 use crate::row::Rows;
 
-/// A piece of the rows that one worker sends to another: its number among them, from 0, and whether it is the last.
+/// Rows that one worker sends to another in one piece: its number `seq`, from 0, and whether it is the last.
 #[derive(Drop)]
 pub struct Batch {
     pub seq: u64,

@@ -1,3 +1,5 @@
+//! Columns: their kinds, schemas, and lists of column numbers. Rests on `Text` and `Value`.
+
 ghost use Rattle.std.specs.Prelude.{◌≡◌, IfOk, length};
 ghost use Rattle.amber_rows.specs.Columns.{kind_of};
 ghost use Rattle.amber_rows.specs.Suits.{same_kind};

@@ -1,3 +1,5 @@
+//! Conditions on one column of a row. Rests on `Row` and the order of `Value`.
+
 ghost use Rattle.std.specs.Prelude.{◌≡◌};
 ghost use Rattle.amber_rows.specs.Cond.{holds_of, meets};
 

@@ -1,3 +1,6 @@
+//! Workflows: operators in order, and the files of their scans.
+//! Rests on `Schema`, `Cond`, `Aggs` and the texts of `text`.
+
 ghost use Rattle.std.specs.Prelude.{◌≡◌, length, option_map};
 ghost use Rattle.amber_rows.specs.Lists.{nth};
 ghost use Rattle.amber_rows.specs.FlowRules.{IsFlow};
@@ -8,7 +11,7 @@ use crate::cond::Cond;
 use crate::text::{Bytes, Text};
 use std::marker::Model;
 
-/// What an operator does with the rows of its input. An input is an operator's number; they are numbered from 1.
+/// What an operator does with the rows of its input. An input is an operator's number, from 1.
 pub enum What {
     /// Gives the typed records of a file.
     Scan {

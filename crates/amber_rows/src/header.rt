@@ -1,3 +1,5 @@
+//! Whether a scan's file begins with its columns' names. Over `RecordReader` and `Schema`.
+
 ghost use Rattle.std.specs.Prelude.{◌≡◌, IfOk, bytes_eq};
 ghost use Rattle.std.specs.Cmp.Lexicographic.{pointwise};
 ghost use Rattle.csv.specs.Records.{fields_of};

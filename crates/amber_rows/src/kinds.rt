@@ -1,4 +1,5 @@
-// What is so of each kind of operator.
+//! What holds of each kind of operator. Over `What`.
+
 ghost use Rattle.std.specs.Prelude.{◌≡◌, option_map};
 ghost use Rattle.amber_rows.specs.Topology.{reads};
 ghost use Rattle.amber_rows.specs.Kinds.{build_input, is_keyed, is_scan, is_sink, main_input, settable_cond};

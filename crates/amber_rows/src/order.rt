@@ -1,3 +1,5 @@
+//! The order of rows, and sorting by it. Rests on `Ord` of `Row`.
+
 ghost use Rattle.std.specs.Prelude.{◌≡◌};
 ghost use Rattle.amber_rows.specs.Order.{row_cmp, sort_rows};
 

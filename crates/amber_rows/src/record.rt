@@ -1,3 +1,5 @@
+//! A record of a scan's file as a typed row, or its fault. Over `ByteRecord` of `csv` and `Schema`.
+
 ghost use Rattle.std.specs.Prelude.{◌≡◌, ◌^◌, ◌<◌, length, IfOk, IfSome, Some};
 ghost use Rattle.csv.specs.Records.{fields_of};
 ghost use Rattle.amber_rows.specs.Number.{read_int_of};
@@ -25,7 +27,7 @@ pub enum RowFault {
 // The largest number that is read digit by digit, before the last digit.
 const MOST_READ: u64 = 100_000_000_000_000_000;
 
-// The number that digits alone are, of which there are few. Nothing is said where it finds none.
+// The number that a few digits alone are. The contract says nothing where it finds none.
 fn few_digits(bytes: &[u8]) -> Option<i64>
     ensures { IfSome result (λ number. Some number ≡ read_int_of bytes.now) }
 {

@@ -1,3 +1,5 @@
+//! The reader of the records of a scan's file. Rests on the reader of `csv`.
+
 ghost use Rattle.std.specs.Prelude.{◌≡◌, [], ◌∷◌, ◌++◌, true, false, IfOk, List, ℕ};
 ghost use Rattle.csv.specs.Records.{fields_of};
 ghost use Rattle.amber_rows.specs.Reading.{HasRead};
@@ -47,8 +49,8 @@ impl<'a> RecordReader<'a> {
             → (later : List (List (List ℕ)))
             × (file_records bytes ≡ done ++ fields_of fields.new ∷ later)) }
     {
-        // Bytes in memory never fail to be read, and a record may have any number of fields. So what an
-        // error can mean here is want of memory alone.
+        // Bytes in memory never fail to be read, and a record may have any number of fields. So an error here
+        // means only that memory ran out.
         let Ok(found) = self.reader.read_byte_record(fields) else {
             return Err(AllocError);
         };

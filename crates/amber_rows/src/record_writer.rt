@@ -1,3 +1,5 @@
+//! Rows and the names of columns as CSV text. Over `Row` and `Schema`; rests on the writer of `csv`.
+
 ghost use Rattle.std.specs.Prelude.{◌≡◌, [], ◌∷◌, ◌++◌, IfOk, OnOk, List, map, ℕ};
 ghost use Rattle.csv.specs.Records.{fields_of, partial_of};
 ghost use Rattle.amber_rows.specs.Columns.{names_of};
@@ -14,14 +16,14 @@ use std::alloc::{AllocError, Global};
 // How many rows are looked at together before they are written.
 const AHEAD: usize = 32;
 
-// A writer of records behind a text.
+// A writer that appends records to a text.
 fn open_text(text: Vec<u8>) -> Writer<Vec<u8>>
     ensures { HasWritten text.items result }
 {
     WriterBuilder::new().flexible(true).from_writer(text)
 }
 
-// Writes one record behind what was written. A `Vec` refuses bytes for want of memory alone, and so does the
+// Writes one record after what was written. A `Vec` refuses bytes only where memory runs out, and so does the
 // writer, since records may differ in length.
 fn write_fields(writer: &mut Writer<Vec<u8>>, fields: &ByteRecord) -> Result<(), AllocError>
     ensures { OnOk result ((text : List ℕ) → HasWritten text writer.old
@@ -111,8 +113,8 @@ fn near_bytes(rows: &[Row]) -> Option<usize> {
     Some(total)
 }
 
-// Makes the record that of the row at this place. In their order the rows' cells and texts lie anywhere in
-// memory, so each row would wait for them. Looking at those of the next rows together lets these waits overlap.
+// Makes the record that of the row at this place. Sorted rows have their cells and texts anywhere in memory,
+// so each row would wait for them. Looking at those of the next rows together lets these waits overlap.
 fn fill_near(
     fields: &mut ByteRecord,
     rows: &[Row],
@@ -132,7 +134,7 @@ fn fill_near(
     fill(fields, row)
 }
 
-// A text with one record behind it.
+// A text with one record appended.
 fn append_fields(text: Vec<u8>, fields: &ByteRecord) -> Result<Vec<u8>, AllocError>
     ensures { IfOk result
         (λ longer. longer.items ≡ text.items ++ fields_text_of (fields_of fields.now)) }
@@ -152,7 +154,7 @@ pub fn row_text(alloc: Global, row: &Row) -> Result<Vec<u8>, AllocError>
     append_fields(Vec::new(alloc), &fields)
 }
 
-/// A text with the records of these rows behind it, in their order.
+/// A text with the records of these rows appended, in their order.
 pub fn append_rows(alloc: Global, text: Vec<u8>, rows: &[Row]) -> Result<Vec<u8>, AllocError>
     ensures { IfOk result (λ longer. longer.items ≡ text.items ++ rows_text_of rows.now) }
 {
@@ -165,7 +167,7 @@ pub fn append_rows(alloc: Global, text: Vec<u8>, rows: &[Row]) -> Result<Vec<u8>
     close_text(writer)
 }
 
-/// A text with the record of the columns' names behind it.
+/// A text with the record of the columns' names appended.
 pub fn append_names(alloc: Global, text: Vec<u8>, schema: &Schema) -> Result<Vec<u8>, AllocError>
     ensures { IfOk result
         (λ longer. longer.items ≡ text.items ++ fields_text_of (names_of schema.now)) }

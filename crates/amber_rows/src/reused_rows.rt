@@ -1,4 +1,5 @@
-// Rows made in the room of rows that are done with.
+//! Rows made in the room of rows that are done with. Rests on `Row`, and on `record` for the typing.
+
 ghost use Rattle.std.specs.Prelude.{◌≡◌, ◌^◌, ◌<◌, length, IfOk};
 ghost use Rattle.csv.specs.Records.{fields_of};
 ghost use Rattle.amber_rows.specs.Operators.{pick_cells};
@@ -67,8 +68,8 @@ fn retype(
     Ok(Ok(Row::new(cells)))
 }
 
-/// The same as `type_record`, in the room of cells that are done with: where there is one for each column, a text
-/// takes no memory that fits where a text was. What the cells are does not matter.
+/// The same as `type_record`, in the room of cells that are done with: where there is one for each column, a
+/// text takes no memory that fits where a text was. What the cells are does not matter.
 pub fn type_over(
     alloc: Global,
     room: Vec<Value>,
@@ -84,8 +85,8 @@ pub fn type_over(
     retype(alloc, room, fields, schema)
 }
 
-/// The same as `Row::pick`, in the room of cells that are done with: where there is one for each column, a text takes
-/// no memory that fits where a text was. What the cells are does not matter.
+/// The same as `Row::pick`, in the room of cells that are done with: where there is one for each column, a
+/// text takes no memory that fits where a text was. What the cells are does not matter.
 pub fn pick_over(
     alloc: Global,
     mut room: Vec<Value>,

@@ -1,4 +1,4 @@
-//! Which worker gets a row, where rows with equal keys go to one worker.
+//! Which worker gets a row, where rows with equal keys go to one worker. Over `Row` and `Cols`.
 
 ghost use Rattle.std.specs.Prelude.{◌≡◌, ◌<◌, ◌++◌, ◌∷◌, [], IfOk, OnOk, fold};
 ghost use Rattle.std.specs.List.{filter_map, flat_map};
@@ -16,7 +16,7 @@ const FNV_OFFSET: u64 = 14_695_981_039_346_656_037;
 
 const FNV_PRIME: u64 = 1_099_511_628_211;
 
-// Puts the bytes of a cell behind the others.
+// Appends the bytes of a cell.
 fn append_piece(bytes: &mut Vec<u8>, cell: &Value) -> Result<(), AllocError>
     ensures { OnOk result (bytes.new.items ≡ bytes.old.items ++ key_piece cell.now) }
 {
@@ -37,7 +37,7 @@ fn append_piece(bytes: &mut Vec<u8>, cell: &Value) -> Result<(), AllocError>
     Ok(())
 }
 
-// Puts the bytes of the cell of a column behind the others, if there is one.
+// Appends the bytes of the cell of a column, if there is one.
 fn append_column(bytes: &mut Vec<u8>, row: &Row, column: u32) -> Result<(), AllocError>
     ensures { OnOk result (bytes.new.items
         ≡ bytes.old.items ++ flat_map key_piece (filter_map (nth row.now) (column ∷ []))) }
@@ -48,8 +48,8 @@ fn append_column(bytes: &mut Vec<u8>, row: &Row, column: u32) -> Result<(), Allo
     }
 }
 
-/// The bytes of a row's key: those of the cells of these columns, one after the other. Where two keys are told apart by
-/// their kinds or their texts, so are their bytes.
+/// The bytes of a row's key: those of the cells of these columns, one after the other. Keys that differ in a
+/// kind or a text differ in their bytes.
 pub fn key_bytes(alloc: Global, row: &Row, keys: &Cols) -> Result<Vec<u8>, AllocError>
     ensures { IfOk result (λ bytes. bytes.items ≡ key_bytes_of keys.now row.now) }
 {
@@ -61,14 +61,14 @@ pub fn key_bytes(alloc: Global, row: &Row, keys: &Cols) -> Result<Vec<u8>, Alloc
     Ok(bytes)
 }
 
-// The hash with a byte more.
+// The hash with one more byte.
 fn hash_byte(hash: u64, byte: u8) -> u64
     ensures { result ≡ fnv_step hash byte }
 {
     (hash ^ u64::from(byte)).wrapping_mul(FNV_PRIME)
 }
 
-// The hash with these bytes more.
+// The hash with these bytes added.
 fn hash_bytes(before: u64, bytes: &[u8]) -> u64
     ensures { result ≡ fold fnv_step before bytes.now }
 {
@@ -79,7 +79,7 @@ fn hash_bytes(before: u64, bytes: &[u8]) -> u64
     hash
 }
 
-// The hash with the bytes of a cell more.
+// The hash with the bytes of a cell added.
 fn hash_piece(hash: u64, cell: &Value) -> u64
     ensures { result ≡ fold fnv_step hash (key_piece cell.now) }
 {
@@ -98,7 +98,7 @@ fn hash_piece(hash: u64, cell: &Value) -> u64
     }
 }
 
-// The hash with the bytes of the cell of a column more, if there is one.
+// The hash with the bytes of the cell of a column added, if there is one.
 fn hash_column(hash: u64, row: &Row, column: u32) -> u64
     ensures { result
         ≡ fold fnv_step hash (flat_map key_piece (filter_map (nth row.now) (column ∷ []))) }
@@ -109,7 +109,7 @@ fn hash_column(hash: u64, row: &Row, column: u32) -> u64
     }
 }
 
-/// The worker, of so many, to which a key with these bytes goes.
+/// Of this number of workers, the one to which a key with these bytes goes.
 pub fn route(key: &[u8], workers: u32) -> u32
     requires { 0 < workers }
     ensures { result ≡ route_of key.now workers }
@@ -117,7 +117,8 @@ pub fn route(key: &[u8], workers: u32) -> u32
     (hash_bytes(FNV_OFFSET, key) % u64::from(workers)) as u32
 }
 
-/// The worker, of so many, to which a row goes by its key in these columns. The bytes of the key are not kept.
+/// Of this number of workers, the one to which a row goes by its key in these columns. The bytes of the key
+/// are not kept.
 pub fn route_row(row: &Row, keys: &Cols, workers: u32) -> u32
     requires { 0 < workers }
     ensures { result ≡ route_of (key_bytes_of keys.now row.now) workers }

@@ -1,3 +1,5 @@
+//! A row, and a list of rows. Rests on `Value`; comparisons rest on `sort_key` where it decides.
+
 ghost use Rattle.std.specs.Prelude.{◌≡◌, ◌==◌, ◌++◌, ◌∷◌, [], IfOk, OnOk, length, option_map, true};
 ghost use Rattle.std.specs.declared.cmp.Ordering.TheVariants.{Equal};
 ghost use Rattle.std.specs.List.{filter_map};
@@ -89,7 +91,7 @@ impl Row {
         self.inner.get(column as usize - 1)
     }
 
-    // Puts the cell of a column behind the others, if there is one.
+    // Appends the cell of a column, if there is one.
     fn add_cell(&self, column: u32, cells: &mut Vec<Value>) -> Result<(), AllocError>
         ensures { OnOk result (cells.new.items
             ≡ cells.old.items ++ filter_map (nth self.now) (column ∷ [])) }
@@ -101,7 +103,8 @@ impl Row {
         Ok(())
     }
 
-    /// A row of the cells of these columns, in the order of `columns`. A column that the row does not have gives no cell.
+    /// A row of the cells of these columns, in the order of `columns`. A column that the row does not have
+    /// gives no cell.
     pub fn pick(&self, alloc: Global, columns: &Cols) -> Result<Self, AllocError>
         ensures { IfOk result (λ row. row ≡ pick_cells columns.now self.now) }
     {
@@ -125,7 +128,7 @@ impl Clone for Row {
     }
 }
 
-// Whether the sort keys alone tell that two rows are one and the same number. No cell is looked at.
+// Whether the sort keys alone show that two rows are one and the same number. No cell is looked at.
 fn are_one_number(a: &Row, b: &Row) -> bool
     ensures { result ≡ true → row_cmp a.now b.now ≡ Equal }
 {

@@ -1,3 +1,5 @@
+//! Whether a row fits columns. Over `Row` and `Schema`.
+
 ghost use Rattle.std.specs.Prelude.{◌≡◌};
 ghost use Rattle.amber_rows.specs.Suits.{suits_of};
 

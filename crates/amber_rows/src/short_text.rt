@@ -5,7 +5,7 @@ ghost use Rattle.std.specs.Prelude.{◌≡◌, ◌≤◌, ◌↔◌, IfSome, IsS
 use std::marker::Model;
 use std::str;
 
-// So many bytes a short text has at most. With the number of them they leave room for a tag in 16 bytes.
+// The most bytes of a short text. With their count they leave room for a tag in 16 bytes.
 const MOST: usize = 14;
 
 /// A text of at most 14 bytes, which lie in the value itself, seen as the list of its UTF-8 bytes.

@@ -1,3 +1,5 @@
+//! Sort keys: one number for a row that settles most comparisons. Over the row's cells.
+
 ghost use Rattle.std.specs.Prelude.{◌≡◌, ◌^◌, ◌<◌, slice_index};
 ghost use Rattle.amber_rows.specs.SortKey as key;
 ghost use Rattle.amber_rows.specs.SortKey.{key_tells_number};

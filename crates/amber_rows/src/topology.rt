@@ -1,3 +1,5 @@
+//! The workers of a workflow by their numbers, and which of them send to which. Over `Flow`.
+
 ghost use Rattle.std.specs.Prelude.{◌≡◌, ◌+◌, ◌<◌, ◌≤◌, ◌++◌, ◌∷◌, [], if◌then◌else◌, IfNone, IfOk, IfSome, OnOk, length};
 ghost use Rattle.amber_rows.specs.Topology as crew;
 ghost use Rattle.amber_rows.specs.Topology.{crew_of, first_worker_of, follower_of, op_of, reader_of, receivers_of, senders_of, what_at, worker_count};
@@ -15,7 +17,7 @@ fn workers_in(operators: &[Operator]) -> u32
     operators.iter().map(|operator| operator.workers).sum()
 }
 
-// Puts a number behind the others, if it is wanted.
+// Appends a number, if it is wanted.
 fn push_if(numbers: &mut Vec<u32>, number: u32, wanted: bool) -> Result<(), AllocError>
     ensures { OnOk result (numbers.new.items
         ≡ numbers.old.items ++ (if wanted then number ∷ [] else [])) }
@@ -35,7 +37,7 @@ impl Flow {
         workers_in(self.get())
     }
 
-    /// The running number of an operator's first worker. Workers are numbered from 0, those of operator 1 first.
+    /// The running number of an operator's first worker. Workers count from 0, those of operator 1 first.
     pub fn first_worker(&self, op: u32) -> u32
         requires some { 0 < op }
         requires there { op ≤ length self.now }

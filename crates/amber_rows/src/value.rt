@@ -1,3 +1,5 @@
+//! The cell of a row: a number or a text. Rests on `Text`.
+
 ghost use Rattle.std.specs.Prelude.{◌≡◌, OnOk, Some};
 ghost use Rattle.amber_rows.specs.RowText.{value_text};
 ghost use Rattle.amber_rows.specs.declared.value.Value.TheVariants as value;

@@ -30,7 +30,7 @@ with_numbers-append n (x ∷ xs) ys =
     let same : n + 1 + length xs ≡ n + suc (length xs) = omega arith in
     rw (with_numbers-append (n + 1) xs ys, same) refl
 
--- one record more, behind the others
+-- one record more, after the others
 pub with_numbers-push : (xs : Typed) (x : Result (List Value) RowFault) (number : ℕ) → number ≡ length xs + 1
     → with_numbers scanned_record 1 (xs ++ x ∷ []) ≡ with_numbers scanned_record 1 xs ++ record { number = number; what = x } ∷ []
 unfolding with_numbers
@@ -107,7 +107,7 @@ dealt-more workers columns done fields shares new one turn d n t at h is =
     let grown : with_numbers scanned_record 1 (map (row_of columns) (done ++ fields ∷ [])) ≡ with_numbers scanned_record 1 old ++ one ∷ [] = ap (λ xs. with_numbers scanned_record 1 xs) all ∙ with_numbers-push old one.what one.number place in
     rw grown (AreDealt-more workers (with_numbers scanned_record 1 old) shares new one turn d at h is)
 
--- all records of a file behind its header
+-- all records of a file after its header
 pub dealt-all : (workers : ℕ) (columns : List Column) (file : List ℕ) (header : Fields) (done : List Fields) (shares : Shares) → AreDealt workers (with_numbers scanned_record 1 (map (row_of columns) done)) shares
     → file_records file ≡ header ∷ done → (worker : ℕ) → worker < workers → get_or shares worker [] ≡ share_of scanned_number workers worker (with_numbers scanned_record 1 (typed_records columns file))
 dealt-all workers columns file header done shares d e worker h =

@@ -1,3 +1,6 @@
+//! Reads a file once and deals its records to workers. Over `Share` of `share`, and `RecordReader` of
+//! `amber_rows`.
+
 ghost use Rattle.std.specs.Prelude.{◌≡◌, ◌<◌, ◌≤◌, ◌^◌, ◌++◌, ◌∷◌, [], List, ℕ, false, true, length, replicate, vec_len, slice_index_or, slice_set, IfOk, IfErr, OnOk};
 ghost use Rattle.csv.specs.Records.{fields_of};
 ghost use Rattle.amber_rows.specs.Reading.{HasRead};
@@ -64,7 +67,7 @@ fn empty_shares(alloc: Global, workers: u32) -> Result<Vec<Share>, AllocError>
     Ok(shares)
 }
 
-// Types a record and puts it behind the others of the worker whose turn it is.
+// Types a record and appends it to the share of the worker whose turn it is.
 fn give(
     alloc: Global,
     shares: &mut [Share],

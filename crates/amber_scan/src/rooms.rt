@@ -1,3 +1,5 @@
+//! Room in which the rows of a share are typed. Over `Value` of `amber_rows`.
+
 use amber_rows::Value;
 use std::alloc::{AllocError, Global};
 use std::collections::VecDeque;
@@ -25,7 +27,7 @@ impl Rooms {
         }
     }
 
-    /// The room of one row of so many columns.
+    /// The room of one row of this many columns.
     pub fn take(&mut self, alloc: Global, columns: usize) -> Result<Vec<Value>, AllocError> {
         match self.rooms.pop_front() {
             Some(room) => Ok(room),
@@ -46,7 +48,7 @@ impl Rooms {
     }
 }
 
-// A cell for each of so many columns.
+// A cell for each of this many columns.
 fn blank(alloc: Global, columns: usize) -> Result<Vec<Value>, AllocError> {
     let mut cells = Vec::with_capacity(alloc, columns)?;
     for _ in 0..columns {

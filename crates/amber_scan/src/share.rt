@@ -1,3 +1,6 @@
+//! The records of a scan that one worker takes. Rests on `Rooms` of `rooms`, and `type_record` of
+//! `amber_rows`.
+
 ghost use Rattle.std.specs.Prelude.{◌≡◌, ◌<◌, ◌^◌, [], ◌∷◌, ◌++◌, length, IfOk, MatchOption, OnOk};
 ghost use Rattle.csv.specs.Records.{fields_of};
 ghost use Rattle.amber_rows.specs.Record.{row_of};
@@ -10,7 +13,7 @@ use std::alloc::{AllocError, Global};
 use std::collections::VecDeque;
 use std::marker::Model;
 
-/// A record of a scan's file: its number, from 1 behind the header, and its row or why it is none.
+/// A record of a scan's file: its number, from 1 after the header, and its row or why it is none.
 #[derive(Drop)]
 pub struct Scanned {
     pub number: u64,
@@ -73,7 +76,7 @@ impl Share {
         }
     }
 
-    // Types a record by these columns, and puts it with its number behind the others.
+    // Types a record by these columns, and appends it with its number.
     pub(crate) fn add(
         &mut self,
         alloc: Global,

@@ -24,7 +24,7 @@ is_at [] place inside = absurd (omega (arith, inside))
 is_at (operator ∷ flow) zero inside = refl
 is_at (operator ∷ flow) (suc place) inside = is_at flow place (omega (arith, inside))
 
--- the operator at a place has the number behind it
+-- the operator at a place has the number after it
 pub is_found : (flow : List Operator) (place : ℕ) → place < length flow → is_there (nth flow (place + 1)) ≡ true
 is_found flow place inside =
     let no : (place + 1 == 0) ≡ false = ne_eqb (place + 1) 0 (omega arith) in

@@ -5,7 +5,7 @@ use Rattle.amber_script.specs.Script.{BadLine, script_lines}
 use Rattle.amber_script.specs.declared.error.ScriptErr.{ScriptErr}
 use Rattle.amber_script.specs.declared.error.ScriptErr.TheVariants.{Bad, NoMemory}
 
--- the commands that were meant; the first bad line and its first reason; or nothing, for want of memory
+-- the commands that were meant; the first bad line and its first reason; or nothing, where memory ran out
 abbrev pub AnswersScript : Result (List Command) ScriptErr → Result (List Command) BadLine → Type 0
 AnswersScript (Ok commands) meant = meant ≡ Ok commands
 AnswersScript (Err (Bad line why)) meant = meant ≡ Err (record { line = line; why = why })
@@ -18,7 +18,7 @@ abbrev pub after : List Command → Result (List Command) BadLine → Result (Li
 after commands (Ok more) = Ok (commands ++ more)
 after commands (Err bad) = Err bad
 
--- reading one line either leads from what a script means with it to what it means behind it, or refuses the script
+-- reading one line either leads from what a script means with it to what it means after it, or refuses the script
 abbrev pub LeadsBehind : Result (Unit {0}) ScriptErr → Result (List Command) BadLine → Result (List Command) BadLine → Type 0
 LeadsBehind (Ok _) meant behind = meant ≡ behind
 LeadsBehind (Err (Bad line why)) meant behind = meant ≡ Err (record { line = line; why = why })

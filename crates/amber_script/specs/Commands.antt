@@ -54,7 +54,7 @@ abbrev pub script_constant : ColKind → List ℕ → Result Value ScriptWhy
 script_constant kind.Int word = ok_or (option_map (λ n. value.Int n) (read_int_of word)) why.Mismatch
 script_constant kind.Text word = Ok (value.Text word)
 
--- ---- what stands behind a command's word
+-- ---- what follows a command's word
 
 -- no word
 abbrev pub nothing_behind : List (List ℕ) → Result (Unit {0}) ScriptWhy
@@ -92,7 +92,7 @@ of_two read (id ∷ word ∷ next ∷ more) = Err why.Word
 
 -- ---- commands
 
--- the command of this word and those behind it, where runs do it: a line for each
+-- the command of this word and those after it, where runs do it: a line for each
 unfoldable pub command_by : List Operator → List ℕ → List (List ℕ) → Result Command ScriptWhy
 command_by flow name words =
     if bytes_eq name (codes "run") then nothing_behind words >>= (λ none. Ok command.Run)

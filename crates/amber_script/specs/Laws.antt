@@ -12,7 +12,7 @@ escape_of byte =
     else if byte == 13 then 92 ∷ 114 ∷ []
     else byte ∷ []
 
--- a text in quotes, behind a space
+-- a text in quotes, after a space
 abbrev pub quotation_of : List ℕ → List ℕ
 quotation_of text = 32 ∷ 34 ∷ (flat_map escape_of text ++ 34 ∷ [])
 

@@ -8,7 +8,7 @@ use Rattle.amber_script.specs.declared.place.Place.TheVariants.{Between, Bare, Q
 use Rattle.amber_script.specs.declared.place.Turn.{Turn}
 use Rattle.amber_script.specs.declared.place.Turn.TheVariants.{Go, Add, End, Wrong}
 
--- the words of the rest behind such a byte
+-- the words of the rest after such a byte
 abbrev pub words_behind : Turn → List ℕ → Option (List (List ℕ))
 words_behind (Go place) rest = words_from place rest
 words_behind (Add byte place) rest = option_map (onto_first byte) (words_from place rest)
@@ -46,7 +46,7 @@ words_with lexer rest = with_words lexer.words.items lexer.begun.items (words_fr
 abbrev pub IsClear : Lexer → Type 0
 IsClear lexer = is_between lexer.place ≡ true → lexer.begun.items ≡ []
 
--- a byte that may stand there is read; behind another there are no words
+-- a byte that may stand there is read; after another there are no words
 abbrev pub Reads : Bool → ℕ → Lexer → Lexer → Type 0
 Reads true byte before behind = (rest : List ℕ) → words_with before (byte ∷ rest) ≡ words_with behind rest
 Reads false byte before behind = (rest : List ℕ) → words_with before (byte ∷ rest) ≡ None

@@ -8,7 +8,7 @@ use Rattle.amber_script.specs.declared.place.Place.TheVariants.{Between, Bare, Q
 abbrev pub is_blank : ℕ → Bool
 is_blank byte = (byte == 32) || (byte == 9)
 
--- what stands for itself or for another byte behind a backslash: a quote, a backslash, a line feed as `n`, a carriage return as `r`
+-- what stands for itself or for another byte after a backslash: a quote, a backslash, a line feed as `n`, a carriage return as `r`
 abbrev pub byte_of_escape : ℕ → Option ℕ
 byte_of_escape byte =
     if byte == 34 then Some 34
@@ -17,8 +17,8 @@ byte_of_escape byte =
     else if byte == 114 then Some 13
     else None
 
--- the words of a line's rest, which begins between words, inside a bare or a quoted word, behind a backslash, or
--- behind the quote that closes a word; of a word that has begun, what is left. None where a quote or a backslash
+-- the words of a line's rest, which begins between words, inside a bare or a quoted word, after a backslash, or
+-- after the quote that closes a word; of a word that has begun, what is left. None where a quote or a backslash
 -- stands wrong
 unfoldable pub words_from : Place → List ℕ → Option (List (List ℕ))
 words_from Between [] = Some []

@@ -1,4 +1,5 @@
-//! The command that a line's words mean.
+//! The command that a line's words mean. Rests on `operators` and `numbers`; gives `Command` of `amber_log`.
+
 ghost use Rattle.std.specs.Prelude.{◌≡◌, IfOk, true};
 ghost use Rattle.amber_rows.specs.Lists.{nth};
 ghost use Rattle.amber_log.specs.Fits.{fits_at, fits_of};
@@ -98,7 +99,7 @@ fn constant(flow: &Flow, words: &[Text]) -> Result<Result<(u32, Value), ScriptWh
     }
 }
 
-// The command of this word and those behind it, where runs do it.
+// The command of this word and those after it, where runs do it.
 #[tactic(auto, unfolding(crate::specs::Commands::command_by, amber_log::specs::Fits::fits_of))]
 fn command_by(
     flow: &Flow,

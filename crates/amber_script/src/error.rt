@@ -1,4 +1,5 @@
 //! Why a script is refused.
+
 ghost use Rattle.std.specs.Prelude.{◌≡◌, Some, codes};
 ghost use Rattle.amber_script.specs.Reasons.{script_reason_word};
 

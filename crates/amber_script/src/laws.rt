@@ -1,4 +1,5 @@
 //! Laws of the words of a line. Each function does nothing; its contract is the law.
+
 ghost use Rattle.amber_script.specs.Laws.{QuotesReadBack, WordsStandBetweenBlanks};
 
 /// Texts in quotes, with their escapes, are read as the words that they are.

@@ -1,4 +1,5 @@
-//! The words of a line.
+//! The words of a line. Rests on `place`.
+
 ghost use Rattle.std.specs.Prelude.{◌≡◌, ◌∷◌, ◌++◌, [], IfOk, OnOk, option_map, true};
 ghost use Rattle.amber_script.specs.Commands.{texts_of};
 ghost use Rattle.amber_script.specs.Lexing.{IsClear, Reads, words_with};

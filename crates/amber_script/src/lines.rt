@@ -1,4 +1,5 @@
 //! The lines of a text, one after the other.
+
 ghost use Rattle.std.specs.Prelude.{◌≡◌, ◌+◌, ◌∷◌, ◌==◌, [], length, IfSome, MatchOption};
 ghost use Rattle.std.specs.List.{slice_split};
 ghost use Rattle.std.specs.Str.Lines.{strip_carriage_return};
@@ -6,7 +7,7 @@ ghost use Rattle.amber_script.specs.Script.{script_lines, says};
 
 use crate::place::is_blank;
 
-/// The first line, without its line feed, and what stands behind the feed, if there is one.
+/// The first line, without its line feed, and what follows the feed, if there is one.
 #[tactic(auto, using(crate::proofs::Pieces::first_line, crate::proofs::Pieces::one_line, amber_log::proofs::Pieces::lacks_more))]
 pub fn next_line(bytes: &[u8]) -> (&[u8], Option<&[u8]>)
     ensures line { MatchOption result.1

@@ -1,4 +1,5 @@
 //! Numbers that words are.
+
 ghost use Rattle.std.specs.Prelude.{◌≡◌, ◌<◌, ◌≤◌, IfSome};
 ghost use Rattle.amber_script.specs.Numbers.{number_up_to, number_where};
 

@@ -1,4 +1,5 @@
-//! Operators and constants that a command names.
+//! The operators and constants that a command names. Over `Flow` of `amber_rows`.
+
 ghost use Rattle.std.specs.Prelude.{◌≡◌, ◌<◌, bytes_eq, length, position, true, IfOk, IfSome};
 ghost use Rattle.amber_rows.specs.Lists.{nth};
 ghost use Rattle.amber_rows.specs.Columns.{column_kind_at, kind_of};

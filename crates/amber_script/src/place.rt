@@ -1,4 +1,5 @@
 //! Where in a line a byte stands, and what it does there.
+
 ghost use Rattle.std.specs.Prelude.{◌≡◌, ◌∷◌, ℕ, List};
 ghost use Rattle.amber_script.specs.Lexing.{KeepsClear, words_behind};
 ghost use Rattle.amber_script.specs.Words.{is_blank, byte_of_escape, words_from};
@@ -12,9 +13,9 @@ pub enum Place {
     Bare,
     /// Between a word's quotes.
     Quoted,
-    /// Between a word's quotes, behind a backslash.
+    /// Between a word's quotes, after a backslash.
     Escape,
-    /// Behind the quote that closes a word.
+    /// After the quote that closes a word.
     Closed,
 }
 
@@ -38,7 +39,7 @@ pub fn is_blank(byte: u8) -> bool
     byte == b' ' || byte == b'\t'
 }
 
-// The byte that stands for itself or another behind a backslash.
+// The byte that stands for itself or another after a backslash.
 fn byte_of_escape(byte: u8) -> Option<u8>
     ensures { result ≡ byte_of_escape byte }
 {

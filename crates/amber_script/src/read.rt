@@ -1,4 +1,5 @@
-//! Reads a script, line by line.
+//! Reads a script, line by line. Rests on `lines`, `lexer` and `commands`.
+
 ghost use Rattle.std.specs.Prelude.{◌≡◌, ◌+◌, ◌∷◌, List, ℕ, IfOk, true};
 ghost use Rattle.std.specs.List.{list_all};
 ghost use Rattle.amber_log.specs.Fits.{fits_of};
@@ -67,8 +68,8 @@ fn add_line(
     }
 }
 
-/// Reads a script: a command a line. The definition `script_of` in `specs/` says which commands the bytes mean for
-/// a workflow, or which is the first bad line and why.
+/// Reads a script: a command a line. The definition `script_of` in `specs/` says which commands the bytes
+/// mean for a workflow, or which is the first bad line and why.
 #[tactic(auto, unfolding(crate::specs::Script::script_of), using(crate::proofs::Leading::after_none))]
 pub fn read_script(alloc: Global, bytes: &[u8], flow: &Flow) -> Result<Commands, ScriptErr>
     ensures answer { AnswersScript result (script_of bytes.now flow.now) }

@@ -1,4 +1,5 @@
-// A workflow that is read.
+//! A workflow that is read. Tests `amber_flow`.
+
 use crate::expected::{expect_bytes, expect_text};
 use amber_flow::{FlowErr, FlowWhy, read_flow};
 use amber_rows::{Flow, NoMemory, append_names};

@@ -1,8 +1,9 @@
-// What a folder gives and keeps, whichever folder it is.
+//! What a folder gives and keeps, whichever folder it is. For the tests of `memory` and `real`.
+
 use amber_io::{Folder, IoErr};
 use std::alloc::{AllocError, Global};
 
-// Puts the first bytes of a file behind a text, or that they could not be loaded; and a `;`.
+// Appends to a text the first bytes of a file, or that they could not be loaded; and a `;`.
 fn append_loaded<F: Folder>(
     alloc: Global,
     text: &mut String,
@@ -19,7 +20,7 @@ fn append_loaded<F: Folder>(
     text.push_str(";")
 }
 
-/// What these loads give one after the other: each is of a file's first bytes, at most so many.
+/// What these loads give one after the other: each is of a file's first bytes, at most a given number.
 pub fn loaded<F: Folder>(
     alloc: Global,
     folder: &mut F,

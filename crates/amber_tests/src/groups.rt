@@ -1,4 +1,5 @@
-// The states of groups.
+//! The states of groups. Tests `amber_group`.
+
 use crate::expected::expect_rows;
 use crate::written::{cols, row, rows};
 use amber_group::GroupState;
@@ -13,7 +14,7 @@ struct Case {
     keys: &'static [u32],
     aggs: &'static [Agg],
     fed: &'static str,
-    // The row that it is fed behind these.
+    // The row that it is fed after these.
     last: &'static str,
     rows: &'static str,
     refused: &'static str,

@@ -1,4 +1,5 @@
-// The states of joins.
+//! The states of joins. Tests `amber_join`.
+
 ghost use Rattle.std.specs.Prelude.{◌≡◌, false, true, IfOk};
 
 use crate::expected::expect_text;

@@ -1,4 +1,5 @@
-// Keys of rows, and tables of them.
+//! Keys of rows, and tables of them. Tests `amber_keys`.
+
 use crate::expected::expect_text;
 use crate::written::{cols, row, row_text};
 use amber_keys::{Key, KeyTable};
@@ -45,7 +46,7 @@ fn rows_with_equal_cells_in_the_columns_have_one_key(rt: HostRuntime) -> Result<
     expect_text(row_text(alloc, key.row())?, "-2 'nut ")
 }
 
-// Puts a value beside a key: in the place of the one before, or behind the others.
+// Puts a value beside a key: in the place of the one before, or after the others.
 fn put(table: &mut KeyTable<u64>, key: Key, value: u64) -> Result<(), NoMemory> {
     match table.place_of(&key) {
         Some(place) => {

@@ -1,4 +1,6 @@
-// A folder and a sink in memory. What they do where a call fails is shown by the cases of `amber_cases`.
+//! A folder and a sink in memory, of `amber_io`. What they do where a call fails is shown by the cases of
+//! `amber_cases`.
+
 use crate::expected::expect_text;
 use crate::folders::loaded;
 use amber_io::{Fails, Folder, IoErr, MemFolder, MemSink, NamedFiles, Numbers, Sink};

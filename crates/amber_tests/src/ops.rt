@@ -1,4 +1,5 @@
-// The states of filters, projections and sinks.
+//! The states of filters, projections and sinks. Tests `amber_ops`.
+
 use crate::expected::{expect_rows, expect_text};
 use crate::written::{cols, row, row_text, rows, rows_text};
 use amber_ops::{FilterState, NoMemory, ProjectState, SinkState};

@@ -1,4 +1,6 @@
-// The call `plain` by itself: how many rows all operators may give, which the top call never limits below 2^40.
+//! The call `plain` of `amber_plain` by itself: how many rows all operators may give, which the top call
+//! never limits below 2^40.
+
 ghost use Rattle.std.specs.Prelude.{◌≡◌};
 ghost use Rattle.amber_meaning.specs.Plain.{scan_count};
 

@@ -1,4 +1,5 @@
-// The system's files and its standard output.
+//! The system's files and its standard output. Tests `RealFolder` and `RealSink` of `amber_io`.
+
 use crate::expected::expect_text;
 use crate::folders::loaded;
 use amber_io::{Folder, IoErr, RealFolder, RealSink, Sink};
@@ -12,7 +13,8 @@ fn temporary<R: Env + AllocGlobal>(rt: &R, name: &str) -> io::Result<String> {
     Ok(env::temp_dir(rt)?.join(rt.alloc(), name)?.into_string())
 }
 
-// What a folder loads of the front of a file, what once the file is removed, and whether it then puts nothing behind it.
+// What a folder loads of the front of a file, what once the file is removed, and whether it then appends
+// nothing to it.
 fn fronts<R: Env + Files + AllocGlobal + Clone + Drop>(rt: &R) -> io::Result<String> {
     let path = temporary(rt, "amber_io_real_front")?;
     fs::write(rt, &path, "pausable")?;

@@ -1,4 +1,5 @@
-// Records of files: read, typed and written.
+//! Records of files: read, typed and written. Tests `amber_rows`.
+
 use crate::expected::{expect_bytes, expect_text};
 use crate::written::{append_typed, row, rows, two_columns};
 use amber_rows::{
@@ -31,7 +32,7 @@ fn a_record_without_a_field_has_another_width(rt: HostRuntime) -> Result<(), Fai
     expect_text(typed(alloc, &[b"-12", b"\xC3\xA9"])?, "-12 'é ")
 }
 
-// The names of the columns and rows, behind a text.
+// Appends the names of the columns, and rows, to a text.
 fn table(alloc: Global, rows: &[Row]) -> Result<Vec<u8>, NoMemory> {
     let schema = two_columns(alloc)?;
     let before = Vec::from_slice(alloc, b"# ")?;
@@ -55,7 +56,7 @@ fn a_row_is_written(rt: HostRuntime) -> Result<(), Fail> {
     expect_bytes(alloc, &text, "-1,\"a,b\"\n")
 }
 
-// The fields of a record, with a `;` behind each.
+// The fields of a record, with a `;` after each.
 fn append_record(text: &mut Vec<u8>, fields: &ByteRecord) -> Result<(), NoMemory> {
     for field in fields {
         text.extend_from_slice(field)?;
@@ -64,7 +65,7 @@ fn append_record(text: &mut Vec<u8>, fields: &ByteRecord) -> Result<(), NoMemory
     text.extend_from_slice(b"/")
 }
 
-// The fields of the records of a file, with a `/` behind each record.
+// The fields of the records of a file, with a `/` after each record.
 fn records(alloc: Global, file: &[u8]) -> Result<Vec<u8>, NoMemory> {
     let mut text = Vec::new(alloc);
     let mut fields = ByteRecord::new(alloc);

@@ -1,4 +1,5 @@
-// The texts of replies, each call once.
+//! The texts of replies, each call once. Tests `amber_report`.
+
 use crate::expected::expect_bytes;
 use crate::written::{row, rows, two_columns};
 use amber_flow::read_flow;

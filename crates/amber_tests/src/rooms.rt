@@ -1,4 +1,5 @@
-// Rows and keys made in the room of others.
+//! Rows and keys made in the room of others. Tests `amber_rows` and `amber_keys`.
+
 use crate::expected::expect_text;
 use crate::written::{append_row, append_typed, cols, row, row_text, two_columns};
 use amber_keys::Key;

@@ -1,4 +1,5 @@
-// Which worker gets a row, and who sends to whom.
+//! Which worker gets a row, and who sends to whom. Tests `amber_rows`.
+
 ghost use Rattle.std.specs.Prelude.{◌<◌};
 ghost use Rattle.amber_rows.specs.Topology.{crew_of};
 

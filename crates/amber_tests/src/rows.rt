@@ -1,4 +1,5 @@
-// Rows, their order, and what they are made of.
+//! Rows, their order, and what they are made of. Tests `amber_rows`.
+
 use crate::expected::{expect_rows, expect_text};
 use crate::written::{cell, cols, row, row_text, rows, two_columns};
 use amber_rows::{

@@ -1,4 +1,5 @@
-// Scans dealt to workers.
+//! Scans dealt to workers. Tests `amber_scan`.
+
 ghost use Rattle.std.specs.Prelude.{◌≤◌};
 
 use crate::expected::expect_text;
@@ -31,7 +32,7 @@ fn taken(alloc: Global, share: &mut Share) -> Result<String, NoMemory> {
     Ok(text)
 }
 
-// All that is left of these shares, with a `|` behind each.
+// All that is left of these shares, with a `|` after each.
 fn append_shares(alloc: Global, text: &mut String, shares: Vec<Share>) -> Result<(), NoMemory> {
     for mut share in shares {
         text.push_str(&taken(alloc, &mut share)?)?;

@@ -1,4 +1,5 @@
-// A script that is read, and one whose third line is bad.
+//! A script that is read, and one whose third line is bad. Tests `amber_script`.
+
 use crate::expected::expect_text;
 use amber_flow::read_flow;
 use amber_log::{Command, Commands};

@@ -1,10 +1,11 @@
-// Rows and columns as the tables write them.
+//! Rows and columns as the tables of the tests write them.
+
 ghost use Rattle.std.specs.Prelude.{◌≡◌, length, IfOk};
 
 use amber_rows::{ColKind, Cols, Column, NoMemory, Row, RowFault, Schema, Text, Value};
 use std::alloc::Global;
 
-/// A cell: a number, or else a text, which may stand behind a `'`.
+/// A cell: a number, or else a text, which may stand after a `'`.
 pub fn cell(alloc: Global, written: &str) -> Result<Value, NoMemory> {
     if let Ok(number) = written.parse::<i64>() {
         return Ok(Value::Int(number));
@@ -22,7 +23,7 @@ pub fn row(alloc: Global, written: &str) -> Result<Row, NoMemory> {
     Ok(Row::new(cells))
 }
 
-/// Rows, with a `/` behind each but perhaps the last.
+/// Rows, with a `/` after each but perhaps the last.
 pub fn rows(alloc: Global, written: &str) -> Result<Vec<Row>, NoMemory> {
     let mut all = Vec::new(alloc);
     for one in written.split_terminator('/') {
@@ -31,7 +32,7 @@ pub fn rows(alloc: Global, written: &str) -> Result<Vec<Row>, NoMemory> {
     Ok(all)
 }
 
-/// Puts a row behind a text: each cell with a blank behind it, and a text behind a `'`.
+/// Appends a row to a text: each cell with a blank after it, and a text after a `'`.
 pub fn append_row(alloc: Global, text: &mut String, row: &Row) -> Result<(), NoMemory> {
     for cell in row.get() {
         let mark = if matches!(cell, Value::Text(_)) {
@@ -44,7 +45,7 @@ pub fn append_row(alloc: Global, text: &mut String, row: &Row) -> Result<(), NoM
     Ok(())
 }
 
-/// Rows as such a text, with a `/` and a blank behind each.
+/// Rows as such a text, with a `/` and a blank after each.
 pub fn rows_text(alloc: Global, rows: &[Row]) -> Result<String, NoMemory> {
     let mut text = String::new(alloc);
     for row in rows {
@@ -61,7 +62,7 @@ pub fn row_text(alloc: Global, row: &Row) -> Result<String, NoMemory> {
     Ok(text)
 }
 
-/// Puts a row behind a text, or its fault.
+/// Appends a row to a text, or its fault.
 pub fn append_typed(
     alloc: Global,
     text: &mut String,

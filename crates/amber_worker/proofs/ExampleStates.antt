@@ -66,7 +66,7 @@ pub record Ends : Type 0 where
 abbrev from : In → Upstream
 from link = record { from = 0; builds = false; taken = 1; ended = true; link = link }
 
--- with nothing watched and no unit
+-- with no condition in force and no unit
 abbrev free : Ends → WorkerState
 free e = record empty_worker_state {
   op = 2;

@@ -157,7 +157,7 @@ faulty_is_answered = refl
 abbrev pub batch_of_five : Batch
 batch_of_five = record { seq = 0; rows = cell 3 ∷ cell 1 ∷ cell 2 ∷ cell 5 ∷ cell 0 ∷ []; last = true }
 
--- the batch was taken, so many of its rows, and so many rows were emitted
+-- the batch was taken, this many of its rows, and this many rows were emitted
 abbrev place : ℕ → ℕ → Position
 place rows outs = record origin { taken = record { from = 0; batch = batch_of_five } ∷ []; constants = replicate rows (cell 2); outcomes = replicate outs true }
 
@@ -191,7 +191,7 @@ view_at_the_end = refl
 abbrev threes : ℕ → List (List Value)
 threes count = replicate count (cell 3)
 
--- the filter may write this down where the scan has made the batches of so many rows of these threes
+-- the filter may write this down where the scan has made the batches of this many rows of these threes
 abbrev may_write : ℕ → ℕ → List Entry → Bool
 may_write batch_size count entries =
     may_lead (λ sender. chunks_of batch_size (threes count) true) (assigned (role_in (query five 400) 1) (record { constants = cell 2; when = None; counted = false })) origin entries
@@ -200,7 +200,7 @@ in_one_batch : may_write 400 400 (t 0 0 ∷ g 400 400 ∷ t 0 1 ∷ f ∷ []) �
 unfolding logs_on_literals
 in_one_batch = refl
 
--- so many batches of one row from the one with this number on, each taken and its row passed on; then the last, with none
+-- this many batches of one row from the one with this number on, each taken and its row passed on; then the last, with none
 abbrev one_by_one : ℕ → ℕ → List Entry
 one_by_one number zero = t 0 number ∷ f ∷ []
 one_by_one number (suc count) = t 0 number ∷ g 1 1 ∷ one_by_one (number + 1) count

@@ -158,7 +158,7 @@ pub closing-same : (over : Bool) (kind : What) (task : Task) (arrivals all : Lis
 closing-same true kind task arrivals all same = ap (λ l. closing_rows kind (filter_map (suiting task) l)) (same refl)
 closing-same false kind task arrivals all same = refl
 
--- nothing more can come behind this row
+-- nothing more can come after this row
 over-is : (context : Context) (w : WorkerState) (p : Position) (one : Arrival) (later : List Arrival) (now : OperatorState) (last : List (List Value))
     → TakesOne context w p one later now last → (eqb (length w.rest) 1 && have_all_ended w.ins) ≡ is_complete context.placement.role p.taken (length p.constants + 1)
 over-is context w p one later now last takes =

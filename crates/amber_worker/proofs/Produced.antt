@@ -21,7 +21,7 @@ take-suc zero (x ∷ xs) y ys e = cc
 take-suc (suc n) [] y ys e = cc
 take-suc (suc n) (x ∷ xs) y ys e = ap (λ l. x ∷ l) (take-suc n xs y ys e)
 
--- what is left behind the first of what is left
+-- what is left after the first of what is left
 pub left-next : {A : Type 0} (n : ℕ) (xs : List A) (y : A) (ys : List A) → drop n xs ≡ y ∷ ys → drop (n + 1) xs ≡ ys
 left-next n xs y ys e = rw add-one (left-suc n xs y ys e)
 
@@ -36,7 +36,7 @@ left-within n xs y ys e = let lengths = ap length e in omega (arith, length-drop
 pub left-nothing : {A : Type 0} (n : ℕ) (xs : List A) → drop n xs ≡ [] → length xs ≤ n
 left-nothing n xs e = let lengths = ap length e in omega (arith, length-drop n xs)
 
--- what stands behind a list is what is left of both from its end on
+-- what follows a list is what is left of both from its end on
 pub left-behind : {A : Type 0} (n : ℕ) (xs ys : List A) → n ≡ length xs → drop n (xs ++ ys) ≡ ys
 left-behind n xs ys e = rw e (by xs)
   where

@@ -14,7 +14,7 @@ pub record CountsUp (old new : WorkerState) : Type 0 where
   pub batches : old.batches ≤ new.batches
   pub rows : new.taken + new.emitted ≤ old.taken + old.emitted + 1
 
--- behind a look the end was reached: no count has changed
+-- after a look the end was reached: no count has changed
 module _ (old new : WorkerState) (finishes : FinishesAt old new) where
   same-taken : new.taken ≡ old.taken
   same-taken = ap (λ (w : WorkerState). w.taken) finishes.finishes.after ∙ ap (λ (w : WorkerState). w.taken) finishes.looked.only

@@ -203,7 +203,7 @@ open-before context w p one batch ins last shows takes =
     ap (λ b. b && eqb (length p.constants) (length (all_arrivals context.placement.role p.taken)))
     (sym (all-ended context.placement.role.senders context.base.had p.taken w.ins shows.ins) ∙ ap have_all_ended so.found ∙ unended-there so.front so.back one so.unended)
 
--- nothing more can come behind this batch
+-- nothing more can come after this batch
 over-is : (context : Context) (w : WorkerState) (p : Position) (one : Upstream) (batch : Batch) (ins : List Upstream) (last : List (List Value))
     → Shows context w p → TakesOne w one batch ins last
     → (eqb (length batch.rows) 0 && have_all_ended ins) ≡ is_complete context.placement.role (p.taken ++ as_taken one.from batch ∷ []) (length p.constants)

@@ -26,7 +26,7 @@ use Rattle.amber_worker.proofs.Moves.{HasUnit, IsWorking, Keeps-row_taken, lets_
 use Rattle.amber_worker.proofs.KeptPosition.{Keeps-refl, Keeps-then}
 use Rattle.amber_worker.proofs.Takes.{Keeps-batch_taken, Keeps-looked}
 
--- no condition is watched, nothing holds it back or lets it on, and no entry speaks of very many rows
+-- no condition is in force, nothing holds it back or lets it on, and no entry speaks of very many rows
 pub record IsCalm (w : WorkerState) : Type 0 where
   pub unwatched : w.when ≡ None
   pub restraint : w.restraint ≡ no_restraint
@@ -51,7 +51,7 @@ nothing (x ∷ xs) h = absurd (false≢true (sym h))
 no-unit : (w : WorkerState) → HasUnit false w
 no-unit w e = absurd (false≢true e)
 
--- where no condition is watched each row is let by
+-- where no condition is in force each row is let by
 unwatched-by : (w : WorkerState) (row : List Value) → w.when ≡ None → lets_by w row ≡ true
 unwatched-by w row e = ap (λ when. w.restraint.waved || not (is_watched when row)) e ∙ by w.restraint.waved
   where

@@ -54,7 +54,7 @@ IsInOrder operator_state.Sink building taken ins = Unit {0}
 abbrev pub no_flags : Flags
 no_flags = record { held = false; waved = false; paused = false }
 
--- what holds a worker back that has so many units in hand and these flags
+-- what holds a worker back that has this many units in hand and these flags
 abbrev pub restraint_of : ℕ → Flags → Restraint
 restraint_of hand flags = record { hand = hand; held = flags.held; waved = flags.waved; paused = flags.paused }
 

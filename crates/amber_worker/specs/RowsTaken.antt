@@ -24,7 +24,7 @@ pub record Taking (A : Type 0) : Type 0 where
   pub left : List A
   pub gains : Gains
 
--- a record was taken of a share: what it gives is behind what was there
+-- a record was taken of a share: what it gives is after what was there
 pub record GainsRecord (op : ℕ) (columns : List Column) (old new : Taking Scanned) : Type 0 where
   pub one : Scanned
   pub first : old.left ≡ one ∷ new.left

@@ -137,7 +137,7 @@ held_back_of fate.Kept row = row ∷ []
 
 -- ---- the journal
 
--- rows more, behind an entry
+-- rows more, after an entry
 abbrev pub gone_on : Entry → ℕ → ℕ → List Entry
 gone_on (entry.Take sender batch) rows outs = entry.Take sender batch ∷ entry.Go rows outs ∷ []
 gone_on (entry.Go before given) rows outs = entry.Go (before + rows) (given + outs) ∷ []
@@ -276,7 +276,7 @@ abbrev pub AreKeysOf : Bool → OperatorState → List (List Value) → Type 0
 AreKeysOf true d keys = IsRefused d keys
 AreKeysOf false d keys = keys ≡ []
 
--- keys such as these stand behind what was refused before, in their order
+-- keys such as these stand after what was refused before, in their order
 pub record AreKeysBehind (op : ℕ) (before : List Refusal) (Keys : List (List Value) → Type 0) (after : List Refusal) : Type 0 where
   pub keys : List (List Value)
   pub are : Keys keys

@@ -16,7 +16,7 @@ pub record IsNextTurn (old : WorkerState) (turn : Turn) : Type 0 where
   pub looked : AreLooked old.ins found
   pub is : turn ≡ next_turn (record old { ins = found })
 
--- the end was reached, behind a look
+-- the end was reached, after a look
 pub record FinishesAt (old new : WorkerState) : Type 0 where
   pub unfinished : old.finished ≡ false
   pub between : WorkerState

@@ -39,7 +39,7 @@ pub record WorkerState : Type 0 where
   -- what it keeps for the answer
   pub refused : List Refusal
   pub kept : List (List Value)
-  -- the condition that is watched
+  -- the condition in force
   pub when : Option Cond
   -- what holds it back, or lets it on
   pub restraint : Restraint

@@ -1,4 +1,4 @@
-//! The flags that hold a worker back, or let it on.
+//! The flags that hold a worker back, or let it on: held, waved on, paused.
 
 ghost use Rattle.std.specs.Prelude.{◌≡◌, ℕ};
 ghost use Rattle.amber_meaning.specs.State.{restraint_released};

@@ -1,3 +1,5 @@
+//! What a worker gives for the answer. Rests on `OperatorState`, and on `Refusals` of `amber_meaning`.
+
 ghost use Rattle.std.specs.Prelude.{◌≡◌, ◌++◌, map, IfOk, OnOk};
 ghost use Rattle.amber_rows.specs.Order.{sort_rows};
 ghost use Rattle.amber_worker.specs.Steps.{AreKeysOf, IsRefused};
@@ -32,7 +34,7 @@ fn refused_keys(alloc: Global, operator_state: &OperatorState) -> Result<Vec<Row
     }
 }
 
-// Puts the refused keys of a group behind what was refused before.
+// Appends the refused keys of a group to what was refused before.
 fn add_keys(op: u32, keys: Vec<Row>, refused: &mut Vec<Refusal>) -> Result<(), AllocError>
     ensures { OnOk result (refused.new.items
         ≡ refused.old.items ++ map (Refusal.Group op) keys.items) }
@@ -57,7 +59,7 @@ pub(crate) fn final_keys(
     refused_keys(alloc, operator_state)
 }
 
-// What was refused, the keys behind the records, and the rows, both in the order of rows.
+// What was refused, the keys after the records, and the rows, both in the order of rows.
 pub(crate) fn given_of(
     op: u32,
     mut keys: Vec<Row>,

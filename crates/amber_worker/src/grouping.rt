@@ -1,4 +1,4 @@
-//! How a group takes rows, and what it gives at the end.
+//! How a group takes rows, and what it gives at the end. Rests on `GroupState` of `amber_group`.
 
 ghost use Rattle.std.specs.Prelude.{◌≡◌, ◌^◌, ◌<◌, Ok, true, IfOk, OnErr, OnOk};
 ghost use Rattle.amber_meaning.specs.Task.{row_in};
@@ -51,7 +51,7 @@ fn add_groups(state: &GroupState, pending: &mut VecDeque<Row>) -> Result<(), All
     pending.append(&mut last)
 }
 
-// Feeds the last row, if it suits: the rows of the groups are pending. Want of memory changes nothing.
+// Feeds the last row, if it suits: the rows of the groups are pending. If memory runs out nothing changes.
 fn feed_last(
     state: &mut GroupState,
     columns: &Schema,

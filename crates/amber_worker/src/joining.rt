@@ -1,4 +1,4 @@
-//! How a join takes rows.
+//! How a join takes rows. Rests on `JoinState` of `amber_join`.
 
 ghost use Rattle.std.specs.Prelude.{◌≡◌, not, true, false, OnErr, OnOk};
 ghost use Rattle.amber_link.specs.Links.{has_some};

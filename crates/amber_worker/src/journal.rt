@@ -1,11 +1,13 @@
+//! How rows that were taken and emitted are noted in a journal. Over `Entry` of `amber_log`.
+
 ghost use Rattle.std.specs.Prelude.{◌≡◌, ◌+◌, ◌^◌, ◌<◌, ◌≤◌, ◌++◌, All, vec_capacity, vec_len};
 ghost use Rattle.amber_worker.specs.Fields.{rows_moved};
 ghost use Rattle.amber_worker.specs.Steps.{gone_on, with_go};
 
 use amber_log::Entry;
 
-// Puts an entry behind the others, and then rows that were taken and emitted, in that entry where
-// it speaks of rows.
+// Appends an entry, and then rows that were taken and emitted, in that entry where it speaks of
+// rows.
 fn go_on(journal: &mut Vec<Entry>, last: Entry, rows: u64, outs: u64)
     requires room { vec_len journal.old + 2 ≤ vec_capacity journal.old }
     requires few { rows_moved last + rows + outs < 2 ^ 64 }

@@ -3,7 +3,7 @@
 //! A worker takes the batches that its senders have made for it, or the records of its share, and
 //! the rows of these one after the other; what a row yields is pending, and goes row by row into
 //! the link of the receiver to which it is routed. It writes down what it does in a journal. In
-//! each step what may want memory comes first and changes nothing that is seen.
+//! each step what needs memory comes first and changes nothing that is seen.
 //!
 //! A worker of a join takes all batches of its build side before the first of its probe side. One
 //! of a group makes the rows of its groups pending in the very step that takes the last row, or an

@@ -1,4 +1,4 @@
-//! What a worker does with its links.
+//! What a worker does with its links. Rests on `Route`, and on `Downstream` and `Upstream` of `amber_link`.
 
 ghost use Rattle.std.specs.Prelude.{All, ◌≡◌, ◌==◌, ◌+◌, ◌^◌, ◌<◌, ◌≤◌, ℕ, Bool, false, true, is_ok, map, OnErr, OnOk};
 ghost use Rattle.std.specs.List.{list_any};

@@ -1,4 +1,5 @@
-//! What a new worker is given of its workflow.
+//! What a new worker is given of its workflow: its task and the ends of its links. Over `Flow` of
+//! `amber_rows`.
 
 ghost use Rattle.std.specs.Prelude.{◌≡◌, ◌<◌, ◌≤◌, List, All, true, false, length, map, slice_index_or, IfOk, IfNone, IfSome};
 ghost use Rattle.amber_rows.specs.Topology.{crew_of, op_of, receiver_of, receivers_of, senders_of, what_at};

@@ -1,3 +1,5 @@
+//! What a worker keeps for its operator. Rests on the states of `amber_ops`, `amber_join` and `amber_group`.
+
 use amber_group::GroupState;
 use amber_join::JoinState;
 use amber_ops::{FilterState, ProjectState};

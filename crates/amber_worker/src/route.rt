@@ -1,12 +1,12 @@
-//! To which of its receivers a worker gives a row.
+//! To which of its receivers a worker gives a row. Rests on `route_row` of `amber_rows`.
 
 ghost use Rattle.std.specs.Prelude.{◌≡◌, ◌+◌, ◌^◌, ◌<◌, ◌≤◌};
 ghost use Rattle.amber_worker.specs.Links.{IsSoundRoute, number_to};
 
 use amber_rows::{Cols, Row, route_row};
 
-/// To whom the rows of a worker go: all to one worker, or by their keys to so many from the first
-/// one on.
+/// To whom the rows of a worker go: all to one worker, or by their keys to `workers` workers from
+/// the first one on.
 pub enum Route {
     One(u32),
     ByKeys {

@@ -1,4 +1,4 @@
-//! What commands change of what a worker does.
+//! What commands change of what a worker does: the constant of a filter. Over `OperatorState`.
 
 ghost use Rattle.std.specs.Prelude.{◌≡◌};
 ghost use Rattle.amber_worker.specs.Changes.{with_value};

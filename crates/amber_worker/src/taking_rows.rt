@@ -1,4 +1,4 @@
-//! How a worker takes rows and batches.
+//! How a worker takes rows and batches. Rests on `joining` and `grouping`, and on `Share` of `amber_scan`.
 
 ghost use Rattle.std.specs.Prelude.{◌≡◌, ◌==◌, ◌&&◌, [], if◌then◌else◌, ◌+◌, ◌<◌, ◌++◌, Ok, Some, is_some, true, false, not, length, vec_capacity, vec_len, IfOk, IfSome, OnErr, OnOk};
 ghost use Rattle.std.specs.VecDeque.{deque_capacity, deque_len};

@@ -1,3 +1,5 @@
+//! What one call of `turn` of a worker comes to.
+
 /// What a turn of a worker came to.
 #[derive(Clone, Copy, PartialEq, Eq)]
 pub enum Turn {

@@ -1,4 +1,5 @@
-//! The parts of what a worker shows.
+//! The parts of what a worker shows. Over `Flags`, `OperatorState` and `Gains`; they are put together in
+//! `views`.
 
 ghost use Rattle.std.specs.Prelude.{◌≡◌, IfOk, if◌then◌else◌, length};
 ghost use Rattle.amber_rows.specs.Lists.{first_of};

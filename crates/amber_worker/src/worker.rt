@@ -1,4 +1,5 @@
-//! A worker: what it keeps, how it is made, and what it tells of itself.
+//! A worker: what it keeps, how it is made, and what it says of itself. Its steps, links and views stand in
+//! the modules below it.
 
 ghost use Rattle.std.specs.Prelude.{All, false, true, IfNone, IfSome, is_some, map, length, nat_lt, slice_index_or, IfOk, ◌≡◌, ◌^◌, ◌<◌, ◌≤◌, ◌==◌, []};
 ghost use Rattle.std.specs.List.{list_any};
@@ -31,7 +32,7 @@ use std::alloc::{AllocError, Global};
 use std::marker::Model;
 use std::mem;
 
-// So many steps a worker makes at most.
+// How many steps a worker makes at most.
 const MOST_STEPS: u64 = 1 << 40;
 
 /// A worker at rest or in a leg, seen as a `WorkerState`.

@@ -1,4 +1,4 @@
--- A count: a run stops once the operator has emitted so many rows more, and not one beyond.
+-- A count: a run stops once the operator has emitted `n` rows more, and not one beyond.
 use Rattle.std.specs.Prelude.{ℕ, [], ◌∷◌, codes}
 use Rattle.amber_log.specs.Effect.{Effect, done_at, no_change}
 use Rattle.amber_log.specs.Effect.{Rows}

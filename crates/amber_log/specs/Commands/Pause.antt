@@ -1,4 +1,4 @@
--- A pause: a run stops once the operator has emitted so many rows since the start.
+-- A pause: a run stops once the operator has emitted `n` rows since the start.
 use Rattle.std.specs.Prelude.{ℕ, [], ◌∷◌, codes}
 use Rattle.amber_log.specs.Effect.{Effect, done_at, no_change}
 use Rattle.amber_log.specs.Effect.{Rows}

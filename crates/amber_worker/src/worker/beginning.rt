@@ -1,4 +1,4 @@
-//! A worker before it has done anything.
+//! A worker before it has done anything. Rests on `WorkerTask` and `WorkerEnds` of `new_worker`.
 
 ghost use Rattle.std.specs.Prelude.{◌≡◌};
 ghost use Rattle.amber_worker.specs.Fields.{AreFew};

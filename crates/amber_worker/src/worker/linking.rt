@@ -1,4 +1,4 @@
-//! What goes from one worker to another, for whoever holds both.
+//! What goes from one worker to another, for whoever holds both. Rests on `settle_into` of `links`.
 
 ghost use Rattle.std.specs.Prelude.{true, is_ok, OnOk, ◌≡◌, ◌==◌};
 ghost use Rattle.std.specs.List.{list_any};
@@ -32,8 +32,8 @@ fn pass_batches(from: &mut Worker, to: &mut Worker) -> Result<(), AllocError>
     )
 }
 
-/// Moves the batches that a worker has made for another one into the other's inbox, behind those
-/// that wait there. Want of memory loses none.
+/// Moves the batches that a worker has made for another one into the other's inbox, after those
+/// that wait there. If memory runs out none is lost.
 pub fn settle_workers(from: &mut Worker, to: &mut Worker) -> Result<(), AllocError>
     requires sends { list_any (λ one. one.to == to.old.number) from.old.outs ≡ true }
     requires receives { list_any (λ one. one.from == from.old.number) to.old.ins ≡ true }

@@ -1,4 +1,5 @@
-//! The steps that a worker makes, and the turn that makes one of them.
+//! The steps that a worker makes, and the turn that makes one of them. Rests on `taking_rows`, `links` and
+//! `journal`.
 
 ghost use Rattle.std.specs.Prelude.{false, true, IfNone, IfSome, MatchBool, length, slice_index_or, IfOk, OnErr, OnOk, ◌≡◌, ◌≢◌, ◌^◌, ◌<◌, ℕ};
 ghost use Rattle.amber_link.specs.Links.{has_some};
@@ -79,7 +80,7 @@ impl Worker {
         Ok(())
     }
 
-    // The place of a sender of whom a batch may be taken. Nothing is taken, but more batches may be
+    // The place of a sender from which a batch may be taken. Nothing is taken, but more batches may be
     // known than before.
     fn ready(&mut self) -> Option<usize>
         ensures looked { IsLookedAt self.old self.new }
@@ -124,7 +125,7 @@ impl Worker {
         Ok(())
     }
 
-    // Takes a batch of a sender of whom one may be taken, and says whether one was known.
+    // Takes a batch of a sender from which one may be taken, and says whether one was known.
     fn take_batch(&mut self) -> Result<bool, AllocError>
         requires few { steps_made self.old < 2 ^ 40 }
         requires none { has_some self.old.pending ≡ false }
@@ -159,7 +160,7 @@ impl Worker {
         Ok(true)
     }
 
-    /// Makes one step, if there is one to make. The journal says which. Want of memory leaves all
+    /// Makes one step, if there is one to make. The journal says which. If memory runs out all is
     /// as before, but for batches that were seen in a ring.
     pub fn turn(&mut self) -> Result<Turn, AllocError>
         requires { steps_made self.old < 2 ^ 40 }

@@ -1,4 +1,4 @@
-//! What a worker shows, and what it gives for the answer.
+//! What a worker shows, and what it gives for the answer. Rests on `view_parts` and `given`.
 
 ghost use Rattle.std.specs.Prelude.{IfOk, ◌≡◌};
 ghost use Rattle.amber_rows.specs.Order.{sort_rows};

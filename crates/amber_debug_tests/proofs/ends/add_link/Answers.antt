@@ -1,4 +1,4 @@
--- The ends of a new link stand behind the others.
+-- The ends of a new link stand after the others.
 use Rattle.std.proofs.Common.{All, refl, subst, sym}
 use Rattle.std.proofs.lemmas.List.Elements.{All-push}
 use Rattle.amber_worker.specs.Made.{IsFreshIn, IsFreshOut}

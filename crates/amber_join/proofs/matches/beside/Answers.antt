@@ -1,4 +1,4 @@
--- The cells of one behind those of the other.
+-- The cells of one after those of the other.
 use Rattle.std.proofs.Common.{◌∙◌, ◌++◌}
 use Rattle.amber_keys.proofs.Answers.{appended}
 use Rattle.amber_join.proofs.matches.beside.Goals as goal

@@ -1,4 +1,4 @@
--- What is read so far and the lines behind it make the log of all lines.
+-- What is read so far and the lines after it make the log of all lines.
 use Rattle.std.proofs.Common.{◌≡◌, ◌≤◌, ◌+◌, length}
 use Rattle.amber_log.specs.ReadAs.{lines_of}
 use Rattle.amber_log.specs.ReadLines.{read_lines, read_on}

@@ -1,4 +1,4 @@
--- The definition's reading, as the laws tell it.
+-- The definition's reading, as the laws state it.
 use Rattle.std.proofs.Common.{ℕ, Result, subst}
 use Rattle.amber_log.specs.declared.log.Log.{Log}
 use Rattle.amber_journal.specs.Answered.{GivesLog}

@@ -1,4 +1,4 @@
--- Behind the loop the whole text has no such byte.
+-- After the loop the whole text has no such byte.
 use Rattle.amber_log.proofs.Pieces.{all_lacks}
 use Rattle.amber_journal.proofs.Pieces.{no_line}
 use Rattle.amber_journal.proofs.splitting.next_line.Goals as goal

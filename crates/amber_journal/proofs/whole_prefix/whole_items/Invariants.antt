@@ -1,4 +1,4 @@
--- What is whole up to here, and what of the lines behind is kept.
+-- What is whole up to here, and what of the lines after is kept.
 use Rattle.std.proofs.Common.{◌≡◌, ◌≤◌, ◌-◌, length}
 use Rattle.amber_log.specs.ReadAs.{cut_back, lines_of, whole_items}
 use Rattle.amber_journal.proofs.Kept.{later}

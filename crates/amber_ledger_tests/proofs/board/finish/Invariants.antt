@@ -1,4 +1,4 @@
--- Behind each worker that has counted all, no unit is in hand.
+-- After each worker that has counted all, no unit is in hand.
 use Rattle.std.proofs.Common.{◌≡◌, ℕ, ◌<◌, All, slice_index_or}
 use Rattle.amber_board.specs.declared.types.WorkSeat.{WorkSeat}
 use Rattle.amber_board.specs.Seats.{IsSeatOf, work_view}

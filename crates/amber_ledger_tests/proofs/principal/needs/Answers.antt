@@ -1,4 +1,4 @@
--- Behind two workers nobody is there.
+-- After two workers nobody is there.
 use Rattle.amber_principal.specs.declared.dividing.Need.TheVariants as need
 use Rattle.amber_ledger_tests.proofs.Absent.{all_same}
 use Rattle.amber_ledger_tests.proofs.principal.needs.Goals as goal

@@ -1,4 +1,4 @@
--- The shares before this place stand, and so many starved and able ones came.
+-- The shares before this place stand, and this many starved and able ones came.
 use Rattle.std.proofs.Common.{◌≡◌, ◌+◌, count_by, take}
 use Rattle.amber_principal.specs.Shares.{is_able, is_starved, shares_of}
 use Rattle.amber_principal.proofs.Shares.{Agrees}

@@ -1,4 +1,4 @@
--- What is told and what is left are all views.
+-- What is printed and what is left are all views.
 use Rattle.std.proofs.Common.{◌≡◌, ◌++◌, drop}
 use Rattle.amber_meaning.specs.Texts.{views_text}
 use Rattle.amber_report.proofs.inspect.push_views.Given as goal

@@ -1,4 +1,4 @@
--- The words so far are told.
+-- The words so far are printed.
 use Rattle.std.proofs.Common.{◌≡◌, ◌++◌, map, take}
 use Rattle.std.specs.List.{flat_map}
 use Rattle.amber_meaning.specs.Texts.{after_blank}

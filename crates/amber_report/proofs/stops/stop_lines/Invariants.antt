@@ -1,4 +1,4 @@
--- The stops so far are told.
+-- The stops so far are printed.
 use Rattle.std.proofs.Common.{◌≡◌, take}
 use Rattle.std.specs.List.{flat_map}
 use Rattle.amber_meaning.specs.Texts.{stop_text}

@@ -1,4 +1,4 @@
--- One more record stands behind the text.
+-- One more record follows the text.
 use Rattle.std.proofs.Common.{◌≢◌}
 use Rattle.csv.specs.declared.writer.QuoteStyle.TheVariants as style
 use Rattle.csv.specs.Records.{fields_of}

@@ -1,4 +1,4 @@
--- So many empty shares were made.
+-- This many empty shares were made.
 use Rattle.std.proofs.Common.{◌≡◌, [], replicate}
 use Rattle.amber_scan.proofs.dealing.empty_shares.Given as goal
 

@@ -1,4 +1,4 @@
--- The last line, and none behind it.
+-- The last line, and none after it.
 use Rattle.std.proofs.Common.{◌≡◌, ◌+◌, ℕ, List, [], ◌∷◌, Ok, refl, ap, sym, ◌∙◌}
 use Rattle.amber_script.specs.Answers.{after, lines_left}
 use Rattle.amber_script.specs.Script.{commands_from}

@@ -1,4 +1,4 @@
--- A failed append has put the first bytes of its piece behind the file's end.
+-- A failed append has put the first bytes of its piece at the file's end.
 use Rattle.std.proofs.Common.{drop, rules}
 use Rattle.amber_io.proofs.Pieces.{front_part}
 use Rattle.amber_io.proofs.Told.{more_told}

@@ -1,4 +1,4 @@
--- The file at the place of a name is empty, or an empty one stands behind the others.
+-- The file at the place of a name is empty, or an empty one follows the others.
 use Rattle.amber_io.proofs.Lookup.{files_of-appended, files_of-emptied}
 use Rattle.amber_io.proofs.named_files.NamedFiles.make_empty.Goals as goal
 

@@ -1,4 +1,4 @@
--- Each step of the look-up leaves one name more behind.
+-- Each step of the look-up passes one more name.
 use Rattle.std.proofs.Common.{◌∙◌, ap, nat_eq}
 use Rattle.std.specs.Cmp.Lexicographic.{pointwise}
 use Rattle.amber_io.proofs.Lookup.{lacks-next, place-at}

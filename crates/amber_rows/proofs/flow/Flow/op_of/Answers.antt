@@ -1,4 +1,4 @@
--- The worker is of the next operator, or of one behind it.
+-- The worker is of the next operator, or of one after it.
 use Rattle.std.proofs.Common.{◌≡◌, ◌∙◌, ap, arith, drop, []}
 use Rattle.std.proofs.lemmas.List.{drop_all}
 use Rattle.amber_rows.specs.Topology.{op_of}

@@ -1,4 +1,4 @@
--- The next operator reads, or it does not and the reader stands behind it.
+-- The next operator reads, or it does not and the reader comes after it.
 use Rattle.std.proofs.Common.{◌≡◌, ◌∙◌, ◌+◌, ap, sym, drop, []}
 use Rattle.std.proofs.lemmas.List.{drop_all}
 use Rattle.amber_rows.specs.Topology.{reader_from, reader_of}

@@ -1,4 +1,4 @@
--- The worker is one of so many from the first on.
+-- The worker is one of this many from the first on.
 use Rattle.std.proofs.Common.{arith}
 use Rattle.amber_rows.specs.Routing.{route_of}
 use Rattle.amber_worker.proofs.route.Route.number_to.Goals as goal

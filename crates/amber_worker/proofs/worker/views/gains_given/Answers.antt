@@ -1,4 +1,4 @@
--- The keys stand behind.
+-- The keys stand at the end.
 use Rattle.std.proofs.lemmas.Result.{IfOk-weaker}
 use Rattle.amber_worker.proofs.worker.views.gains_given.Goals as goal
 
