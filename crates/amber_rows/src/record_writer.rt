@@ -104,17 +104,29 @@ fn first_bytes(row: &Row) -> usize {
     total
 }
 
-// The first bytes of the texts of rows, added up, if a `usize` holds the sum.
-fn near_bytes(rows: &[Row]) -> Option<usize> {
+// The first bytes of the texts of rows, added up, or `usize::MAX` where that is less.
+fn near_bytes(rows: &[Row]) -> usize {
     let mut total: usize = 0;
     for row in rows {
-        total = total.checked_add(first_bytes(row))?;
+        total = total.saturating_add(first_bytes(row));
     }
-    Some(total)
+    total
 }
 
-// Makes the record that of the row at this place. Sorted rows have their cells and texts anywhere in memory,
-// so each row would wait for them. Looking at those of the next rows together lets these waits overlap.
+// Looks at the rows that come next, from time to time. In their order the rows' cells and texts lie anywhere in
+// memory, so each row would wait for them. Looking at those of several rows together lets these waits overlap. The
+// sum is of no use, but a caller has to ask for it, since reads that nobody asks for are left out of the program.
+fn look_ahead(rows: &[Row], place: usize) -> usize {
+    if place % AHEAD != 0 {
+        return 0;
+    }
+    let (_, later) = rows.split_at(place.min(rows.len()));
+    let (near, _) = later.split_at(AHEAD.min(later.len()));
+    near_bytes(near)
+}
+
+// Makes the record that of the row at this place, and looks ahead. No memory holds rows whose sum is that large; the
+// record would be made twice, which is the same.
 fn fill_near(
     fields: &mut ByteRecord,
     rows: &[Row],
@@ -123,13 +135,8 @@ fn fill_near(
 ) -> Result<(), AllocError>
     ensures { OnOk result (fields_of fields.new ≡ map value_text row.now) }
 {
-    if place % AHEAD == 0 {
-        let (_, later) = rows.split_at(place.min(rows.len()));
-        let (near, _) = later.split_at(AHEAD.min(later.len()));
-        // Their texts are in memory, so the sum is never refused.
-        if near_bytes(near).is_none() {
-            return Err(AllocError);
-        }
+    if look_ahead(rows, place) == usize::MAX {
+        fill(fields, row)?;
     }
     fill(fields, row)
 }

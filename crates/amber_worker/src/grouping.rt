@@ -90,23 +90,19 @@ fn feed_next(
     feed(state, columns, row)
 }
 
-// The first cells of rows that are numbers, and their last ones, counted.
-fn outer_numbers(rows: &VecDeque<Row>) -> Option<usize> {
+// How many of the first and last cells of the next rows are numbers. The rows of one worker of several lie apart in
+// memory, so each would wait for its cells; looking at those of several rows together, from time to time, lets these
+// waits overlap. The sum is of no use, but a caller has to ask for it, since reads that nobody asks for are left out of
+// the program.
+fn look_ahead(rows: &VecDeque<Row>) -> usize {
+    if rows.len() % AHEAD != 0 {
+        return 0;
+    }
     let mut total: usize = 0;
     for row in rows.iter().take(AHEAD) {
-        total = total.checked_add(outer_numbers_of(row))?;
+        total = total.saturating_add(outer_numbers_of(row));
     }
-    Some(total)
-}
-
-// Looks at the next rows from time to time. The rows of one worker of several lie apart in memory, so each would wait
-// for its cells. Looking at those of the next rows together lets these waits overlap.
-fn read_ahead(rows: &VecDeque<Row>) -> Result<(), AllocError> {
-    // There are few rows, so the sum is never refused.
-    if rows.len() % AHEAD == 0 && outer_numbers(rows).is_none() {
-        return Err(AllocError);
-    }
-    Ok(())
+    total
 }
 
 // Takes the first of these rows, the last one where nothing more can come.
@@ -126,7 +122,10 @@ pub(crate) fn take_grouped(
     ensures state_on_err { OnErr result (state.new ≡ state.old) }
     ensures pending_on_err { OnErr result (pending.new.items ≡ pending.old.items) }
 {
-    read_ahead(rows)?;
+    if look_ahead(rows) == usize::MAX {
+        // There are never so many; room for a row more changes nothing.
+        pending.reserve(1)?;
+    }
     let Some(next) = rows.front() else {
         unreachable!()
     };
