@@ -6,11 +6,13 @@
 #![tactic(auto)]
 
 pub mod answer;
+pub mod headers;
 pub mod laws;
 pub mod scan_files;
 pub mod view;
 
 pub use answer::{Answer, PlainErr, Refusal, Refusals};
-pub use scan_files::file_behind;
+pub use headers::wrong_header;
+pub use scan_files::file_after;
 pub use std::alloc::AllocError as NoMemory;
 pub use view::{Counted, Extra, Inspected, Stand, Stop, Stops, Views, WorkerView};

@@ -19,7 +19,7 @@ fn scans_in(operators: &[Operator]) -> usize
 }
 
 /// The file that is next after the first `before` operators: that of the next scan.
-pub fn file_behind<'a>(flow: &Flow, files: &'a Files, before: usize) -> &'a [u8]
+pub fn file_after<'a>(flow: &Flow, files: &'a Files, before: usize) -> &'a [u8]
     requires { before ≤ length flow.now }
     ensures { result.now ≡ first_list (files_left files.now (take before flow.now)) }
 {

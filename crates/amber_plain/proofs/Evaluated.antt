@@ -1,5 +1,5 @@
 -- The operators of a workflow, evaluated one after the other: what is unread for each until it is read.
-use Rattle.std.proofs.Common.{◌≡◌, ℕ, ◌+◌, ◌-◌, ◌<◌, ◌≤◌, List, [], ◌∷◌, ◌++◌, length, get_or, take, drop, count_by, sum_by, Option, Some, None, Err, inl, inr, refl, sym, ap, ◌∙◌, arith, eqb}
+use Rattle.std.proofs.Common.{◌≡◌, ℕ, ◌+◌, ◌-◌, ◌<◌, ◌≤◌, List, [], ◌∷◌, ◌++◌, length, get_or, take, drop, count_by, sum_by, Option, Some, None, inl, inr, refl, sym, ap, ◌∙◌, arith, eqb}
 use Rattle.std.specs.List.{flat_map}
 use Rattle.std.proofs.lemmas.Bool.{cases_eq, cases_lt}
 use Rattle.std.proofs.lemmas.List.{append-nil, length-map, length-set, length-take, length_push, take-append-drop, take_all, take_more}
@@ -10,11 +10,11 @@ use Rattle.amber_rows.specs.Kinds.{inputs_of}
 use Rattle.amber_rows.proofs.FlowFacts.{reader_count-append}
 use Rattle.amber_rows.specs.Lists.{list_at, nth}
 use Rattle.amber_rows.specs.declared.flow.Operator.{Operator}
-use Rattle.amber_meaning.specs.Plain.{IsPlain, answer_from, answer_of, outputs, records_of, refusals, row_total, wrong_header}
+use Rattle.amber_meaning.specs.Plain.{answer_from, answer_of, outputs, records_of, refusals}
 use Rattle.amber_meaning.specs.Kinds.{refused_by, rows_of}
 use Rattle.amber_meaning.specs.declared.answer.Answer.{Answer}
-use Rattle.amber_meaning.specs.declared.answer.PlainErr.{PlainErr}
-use Rattle.amber_meaning.specs.declared.answer.PlainErr.TheVariants as plain_err
+use Rattle.amber_plain.specs.declared.limit.LimitErr.{LimitErr}
+use Rattle.amber_plain.specs.declared.limit.LimitErr.TheVariants as limit_err
 use Rattle.amber_meaning.specs.declared.answer.Refusal.{Refusal}
 use Rattle.amber_meaning.proofs.Operators.{Lists, length-outputs, list_at-is, next-here, nth-here, rows-before, rows-here}
 use Rattle.amber_plain.specs.Holding.{FallsShort}
@@ -227,7 +227,7 @@ last-rows flow ok records i waiting told left most e v =
     let some : 0 < length flow = omega (arith, ok.some) in
     sym (list_at-lists records waiting (length flow)) ∙ v.whole (length flow) some (omega (arith, e)) (v.unread (length flow) (omega (arith, e)) some)
 
--- nothing is left behind the last one
+-- nothing is left after the last one
 last-gone : (flow : List Operator) → IsFlow flow → (records : Records) (i : ℕ) (waiting : List Waiting) (told : List (List Refusal)) (left most : ℕ) → i ≡ length flow
     → Evaluated flow records i waiting told left most → (op : ℕ) → HasOne (without waiting (length flow)) op → unread_at (without waiting (length flow)) op ≡ nothing_unread
 last-gone flow ok records i waiting told left most e v op there =
@@ -275,9 +275,7 @@ pub answer-is : (flow : List Operator) (files : List (List ℕ)) (answer : Answe
 unfolding answer_of answer_from
 answer-is flow files answer a b c = let same : ◌≡◌ {A = Answer} (record { refused = answer.refused; columns = answer.columns; rows = answer.rows }) (answer_of flow files) = rw (a, b, c) refl in same
 
--- why there is no answer, where rows fell short
-pub short-plain : (why : PlainErr) (flow : List Operator) (files : List (List ℕ)) (most left count : ℕ) → wrong_header 1 files flow ≡ None → FallsShort why left count
-    → (left < count → most < row_total flow files) → IsPlain (Err why) flow files most
-short-plain (plain_err.Header op) flow files most left count w h more = absurd h
-short-plain plain_err.Long flow files most left count w h more = (w, more h)
-short-plain plain_err.NoMemory flow files most left count w h more = tt
+-- where rows fell short since too many came, there are more than may be
+pub short-long : (why : LimitErr) (left count most total : ℕ) → FallsShort why left count → (left < count → most < total) → why ≡ limit_err.Long → most < total
+short-long limit_err.Long left count most total h more is = more h
+short-long limit_err.NoMemory left count most total h more is = cc

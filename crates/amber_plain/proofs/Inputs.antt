@@ -1,4 +1,4 @@
--- What an operator that stands behind others reads: each of its inputs once, and nothing else.
+-- What an operator that stands after others reads: each of its inputs once, and nothing else.
 use Rattle.std.proofs.Common.{◌≡◌, ◌≢◌, ℕ, ◌<◌, ◌≤◌, Bool, true, false, cond, eqb, List, length, count_by, filter, Option, Some, None, Result, inl, inr, refl, sym, ap, ◌∙◌, arith, eq-eqb}
 use Rattle.std.proofs.lemmas.Bool.{cases_eq, eqb-true, ne_eqb}
 use Rattle.amber_rows.specs.Cond.{holds_of}
@@ -43,7 +43,7 @@ reads_same input op e = rw (eq-eqb input op (sym e)) refl
 pub reads_other : (input op : ℕ) → ones (eqb input op) ≡ 0 → op ≢ input
 reads_other input op h e = let own = reads_same input op e in absurd (omega (arith, own))
 
--- ---- the inputs of an operator that stands behind others
+-- ---- the inputs of an operator that stands after others
 
 pub earlier : (before : List Operator) (kind : What) (columns : List Column) → IsKind before kind columns → (op : ℕ) → 0 < read_count kind op → (0 < op) × (op ≤ length before)
 earlier before (what.Scan file) columns k op h = absurd (omega arith)

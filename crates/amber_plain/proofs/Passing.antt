@@ -8,8 +8,8 @@ use Rattle.amber_rows.specs.Operators.{join_result, matches_of, pick_cells, proj
 use Rattle.amber_rows.specs.declared.value.Value.{Value}
 use Rattle.amber_rows.specs.declared.cond.Cond.{Cond}
 use Rattle.amber_join.specs.Join.{Join}
-use Rattle.amber_meaning.specs.declared.answer.PlainErr.{PlainErr}
-use Rattle.amber_meaning.specs.declared.answer.PlainErr.TheVariants as plain_err
+use Rattle.amber_plain.specs.declared.limit.LimitErr.{LimitErr}
+use Rattle.amber_plain.specs.declared.limit.LimitErr.TheVariants as limit_err
 use Rattle.amber_plain.specs.Holding.{FallsShort, Spends, Takes}
 use Rattle.amber_plain.specs.Stages.{count_through, rows_after, rows_through}
 use Rattle.amber_plain.specs.declared.holder.Holder.{Holder}
@@ -64,7 +64,7 @@ count_through-none (one ∷ later) =
 
 -- ---- one row
 
--- what a stage makes of one row, and what comes out behind the others
+-- what a stage makes of one row, and what comes out after the others
 pub record IsStage (stages later : List Stage) (row : Row) (made : Rows) : Type 0 where
   pub rows : rows_through stages (row ∷ []) ≡ rows_through later made
   pub count : count_through stages (row ∷ []) ≡ 1 + count_through later made
@@ -87,7 +87,7 @@ probed join later row =
     let all = append-nil (matches_of join.build_keys join.probe_keys join.rows row) in
     record { rows = ap (rows_through later) all; count = ap (λ rows. 1 + count_through later rows) all }
 
--- ---- what stands behind the stages
+-- ---- what stands after the stages
 
 pub Takes-none : (holder : Holder) → Takes holder holder []
 Takes-none holder by before h = let e : before ++ [] ≡ before = append-nil before in rw e h
@@ -95,7 +95,7 @@ Takes-none holder by before h = let e : before ++ [] ≡ before = append-nil bef
 pub Takes-more : (a b c : Holder) (xs ys : Rows) → Takes a b xs → Takes b c ys → Takes a c (xs ++ ys)
 Takes-more a b c xs ys f g by before h = rw (← append_assoc before xs ys) (g by (before ++ xs) (f by before h))
 
-pub passed : {A : Type 0} (r : Result A PlainErr) (a b : Holder) (stages later : List Stage) (row : Row) (made : Rows) → IsStage stages later row made
+pub passed : {A : Type 0} (r : Result A LimitErr) (a b : Holder) (stages later : List Stage) (row : Row) (made : Rows) → IsStage stages later row made
     → OnOk r (Takes a b (rows_through later made)) → OnOk r (Takes a b (rows_through stages (row ∷ [])))
 passed r a b stages later row made s h = rw s.rows h
 
@@ -107,24 +107,21 @@ count_some [] row = omega arith
 count_some (one ∷ later) row = omega arith
 
 -- one row was counted, and then these
-pub spent : {A : Type 0} (r : Result A PlainErr) (stages later : List Stage) (row : Row) (made : Rows) (old mid new : ℕ) → IsStage stages later row made → old ≡ mid + 1
+pub spent : {A : Type 0} (r : Result A LimitErr) (stages later : List Stage) (row : Row) (made : Rows) (old mid new : ℕ) → IsStage stages later row made → old ≡ mid + 1
     → Spends r mid new (count_through later made) → Spends r old new (count_through stages (row ∷ []))
 spent (Ok x) stages later row made old mid new s e h = omega (arith, s.count)
-spent (Err (plain_err.Header op)) stages later row made old mid new s e h = h
-spent (Err plain_err.Long) stages later row made old mid new s e h = omega (arith, s.count)
-spent (Err plain_err.NoMemory) stages later row made old mid new s e h = tt
+spent (Err limit_err.Long) stages later row made old mid new s e h = omega (arith, s.count)
+spent (Err limit_err.NoMemory) stages later row made old mid new s e h = tt
 
 -- where rows fall short of some, they do of more
-pub short_of_more : (why : PlainErr) (left count more : ℕ) → FallsShort why left count → count ≤ more → FallsShort why left more
-short_of_more (plain_err.Header op) left count more h some = h
-short_of_more plain_err.Long left count more h some = omega (arith, some)
-short_of_more plain_err.NoMemory left count more h some = tt
+pub short_of_more : (why : LimitErr) (left count more : ℕ) → FallsShort why left count → count ≤ more → FallsShort why left more
+short_of_more limit_err.Long left count more h some = omega (arith, some)
+short_of_more limit_err.NoMemory left count more h some = tt
 
 -- some rows were counted, and then it stopped within these
-pub short_behind : (why : PlainErr) (old mid before count all : ℕ) → old ≡ mid + before → FallsShort why mid count → before + count ≤ all → FallsShort why old all
-short_behind (plain_err.Header op) old mid before count all e h some = h
-short_behind plain_err.Long old mid before count all e h some = omega (arith, some)
-short_behind plain_err.NoMemory old mid before count all e h some = tt
+pub short_after : (why : LimitErr) (old mid before count all : ℕ) → old ≡ mid + before → FallsShort why mid count → before + count ≤ all → FallsShort why old all
+short_after limit_err.Long old mid before count all e h some = omega (arith, some)
+short_after limit_err.NoMemory old mid before count all e h some = tt
 
 -- those before a row, and the row itself, are no more than all
 pub count_within : (stages : List Stage) (all xs ys : Rows) (row : Row) → all ≡ xs ++ row ∷ ys → count_through stages xs + count_through stages (row ∷ []) ≤ count_through stages all

@@ -12,11 +12,11 @@ use Rattle.amber_rows.specs.declared.record.RowFault.{RowFault}
 use Rattle.amber_rows.specs.declared.record_reader.RecordReader.{RecordReader}
 use Rattle.amber_meaning.specs.Refused.{refused_records}
 use Rattle.amber_meaning.specs.declared.answer.Refusal.{Refusal}
-use Rattle.amber_meaning.specs.declared.answer.PlainErr.{PlainErr}
+use Rattle.amber_plain.specs.declared.limit.LimitErr.{LimitErr}
 use Rattle.amber_plain.specs.Holding.{FallsShort, Fills}
 use Rattle.amber_plain.specs.Stages.{count_through}
 use Rattle.amber_plain.specs.declared.chain.Chain.{Chain}
-use Rattle.amber_plain.proofs.Passing.{Takes-more, Takes-none, count_through-append, count_through-none, rows_through-append, rows_through-none, short_behind}
+use Rattle.amber_plain.proofs.Passing.{Takes-more, Takes-none, count_through-append, count_through-none, rows_through-append, rows_through-none, short_after}
 
 abbrev Rows : Type 0
 Rows = List (List Value)
@@ -114,7 +114,7 @@ gathers-nothing op columns file chain refused e n =
 
 -- the rows fell short within a record
 pub gathers-short : (op : ℕ) (columns : List Column) (file : List ℕ) (header : Fields) (done : List Fields) (fields : Fields) (later : List Fields) (old mid : Chain) (refused : List Refusal)
-    (typed : Result (List Value) RowFault) (why : PlainErr) → Gathers op columns done old mid refused → file_records file ≡ header ∷ (done ++ fields ∷ later) → typed ≡ row_of columns fields
+    (typed : Result (List Value) RowFault) (why : LimitErr) → Gathers op columns done old mid refused → file_records file ≡ header ∷ (done ++ fields ∷ later) → typed ≡ row_of columns fields
     → FallsShort why mid.left (count_through mid.stages.items (filter_map ok_of (typed ∷ [])))
     → FallsShort why old.left (count_through old.stages.items (filter_map ok_of (typed_records columns file)))
 gathers-short op columns file header done fields later old mid refused typed why g e t h =
@@ -126,4 +126,4 @@ gathers-short op columns file header done fields later old mid refused typed why
     ap (count_through stages) (rows_in-append columns done (fields ∷ later)) ∙ count_through-append stages (rows_in columns done) (rows_in columns (fields ∷ later)) in
     let more : count_through stages (rows_in columns (fields ∷ later)) ≡ count_through stages (rows_in columns (fields ∷ [])) + count_through stages (rows_in columns later) =
     ap (count_through stages) rest ∙ count_through-append stages (rows_in columns (fields ∷ [])) (rows_in columns later) in
-    rw (typed-all columns file header (done ++ fields ∷ later) e) (short_behind why old.left mid.left _ _ _ g.spent here (omega (arith, all, more)))
+    rw (typed-all columns file header (done ++ fields ∷ later) e) (short_after why old.left mid.left _ _ _ g.spent here (omega (arith, all, more)))

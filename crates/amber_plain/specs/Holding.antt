@@ -1,10 +1,10 @@
--- What stands behind the last stage, and how many rows may come.
+-- What stands after the last stage, and how many rows may come.
 use Rattle.std.specs.Prelude.{◌≡◌, ℕ, ◌+◌, ◌<◌, ⊤, List, ◌++◌, Option, Some, None, Result, Ok, Err}
 use Rattle.amber_rows.specs.declared.value.Value.{Value}
 use Rattle.amber_rows.specs.declared.agg.Agg.{Agg}
 use Rattle.amber_group.specs.Group.{IsFedWith}
-use Rattle.amber_meaning.specs.declared.answer.PlainErr.{PlainErr}
-use Rattle.amber_meaning.specs.declared.answer.PlainErr.TheVariants as plain_err
+use Rattle.amber_plain.specs.declared.limit.LimitErr.{LimitErr}
+use Rattle.amber_plain.specs.declared.limit.LimitErr.TheVariants as limit_err
 use Rattle.amber_plain.specs.Stages.{rows_through}
 use Rattle.amber_plain.specs.declared.chain.Chain.{Chain}
 use Rattle.amber_plain.specs.declared.holder.Holder.{Holder}
@@ -17,18 +17,17 @@ Holds (holder.Rows kept) (Some by) rows = ⊥
 Holds (holder.Group state) None rows = ⊥
 Holds (holder.Group state) (Some by) rows = (state.keys ≡ by.0) × (state.aggs ≡ by.1) × IsFedWith state rows
 
--- these rows were put behind those that it had
+-- these rows were appended to those that it had
 abbrev pub Takes : Holder → Holder → List (List Value) → Type 0
 Takes old new rows = (by : Option (List ℕ × List Agg)) (before : List (List Value)) → Holds old by before → Holds new by (before ++ rows)
 
 -- why no more rows came: there were more than might come, or memory ran out
-abbrev pub FallsShort : PlainErr → ℕ → ℕ → Type 0
-FallsShort (plain_err.Header op) left count = ⊥
-FallsShort plain_err.Long left count = left < count
-FallsShort plain_err.NoMemory left count = ⊤
+abbrev pub FallsShort : LimitErr → ℕ → ℕ → Type 0
+FallsShort limit_err.Long left count = left < count
+FallsShort limit_err.NoMemory left count = ⊤
 
 -- so many rows came, of as many as might
-abbrev pub Spends : {A : Type 0} → Result A PlainErr → ℕ → ℕ → ℕ → Type 0
+abbrev pub Spends : {A : Type 0} → Result A LimitErr → ℕ → ℕ → ℕ → Type 0
 Spends (Ok x) old new count = old ≡ new + count
 Spends (Err why) old new count = FallsShort why old count
 

@@ -12,12 +12,12 @@ rows_after (stage.Filter cond) rows = filter (holds_of cond) rows
 rows_after (stage.Project columns) rows = project_result columns rows
 rows_after (stage.Probe join) rows = join_result join.build_keys join.probe_keys join.rows rows
 
--- the rows that come out behind all of these stages
+-- the rows that come out after all of these stages
 unfoldable pub rows_through : List Stage → List (List Value) → List (List Value)
 rows_through [] rows = rows
 rows_through (stage ∷ later) rows = rows_through later (rows_after stage rows)
 
--- how many rows there are, before the first stage and behind each
+-- how many rows there are, before the first stage and after each
 unfoldable pub count_through : List Stage → List (List Value) → ℕ
 count_through [] rows = length rows
 count_through (stage ∷ later) rows = length rows + count_through later (rows_after stage rows)

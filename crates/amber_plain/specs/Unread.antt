@@ -16,7 +16,7 @@ use Rattle.amber_plain.specs.declared.stage.Stage.{Stage}
 abbrev pub Records : Type 0
 Records = List (List (Result (List Value) RowFault))
 
--- a source, and the stages behind it
+-- a source, and the stages after it
 pub record Waiting : Type 0 where
   pub source : Source
   pub stages : List Stage
@@ -29,7 +29,7 @@ abbrev pub source_rows : Records → Source → List (List Value)
 source_rows records (source.Rows rows) = rows
 source_rows records (source.Scan op) = filter_map ok_of (list_at records op)
 
--- the rows that will come out behind the stages
+-- the rows that will come out after the stages
 abbrev pub unread_rows : Records → Waiting → List (List Value)
 unread_rows records unread = rows_through unread.stages (source_rows records unread.source)
 

@@ -1,21 +1,23 @@
-// The answer of a query.
-ghost use Rattle.std.specs.Prelude.{◌≡◌, ◌<◌, ◌++◌, ◌∷◌, [], length, IfOk, OnOk};
+//! The answer of a query. Over `evaluate` of `evaluator`, `gathered` of `drain`, and `wrong_header` of
+//! `amber_meaning`.
+
+ghost use Rattle.std.specs.Prelude.{◌≡◌, ◌<◌, ◌≤◌, ◌++◌, ◌∷◌, [], length, None, IfErr, IfOk, OnOk};
 ghost use Rattle.std.specs.List.{flat_map};
 ghost use Rattle.amber_rows.specs.Columns.{columns_at};
-ghost use Rattle.amber_meaning.specs.Plain.{IsPlain, records_of, scan_count};
+ghost use Rattle.amber_meaning.specs.Plain.{IsPlain, answer_of, records_of, row_total, scan_count, wrong_header};
 ghost use Rattle.amber_plain.specs.Holding.{Spends};
 ghost use Rattle.amber_plain.specs.Unread.{HasInputs, unread_count};
 ghost use Rattle.amber_plain.specs.Steps.{others_of, unread_of, read_for, refused_now, told_by};
 
 use crate::drain::{Tally, gathered};
 use crate::evaluator::{Evaluated, evaluate};
-use crate::header::wrong_header;
+use crate::limit::LimitErr;
 use crate::unread::{Unread, take};
-use amber_meaning::{Answer, PlainErr, Refusals};
+use amber_meaning::{Answer, PlainErr, Refusals, wrong_header};
 use amber_rows::{Files, Flow, Row, Rows, What};
 use std::alloc::{AllocError, Global};
 
-// Puts what is unread for an operator, and what it refused, behind the others.
+// Appends what is unread for an operator, and what it refused, to those of the others.
 fn keep(new: Evaluated, waiting: &mut Vec<Unread>, tally: &mut Tally) -> Result<(), AllocError>
     ensures waiting { OnOk result (waiting.new.items ≡ waiting.old.items ++ new.unread ∷ []) }
     ensures told { OnOk result (tally.new.told.items ≡ tally.old.told.items ++ new.refused ∷ []) }
@@ -36,7 +38,7 @@ fn step(
     kind: &What,
     waiting: &mut Vec<Unread>,
     tally: &mut Tally,
-) -> Result<(), PlainErr>
+) -> Result<(), LimitErr>
     requires { HasInputs waiting.old.items kind.now }
     ensures waiting { OnOk result (waiting.new.items ≡ others_of kind.now waiting.old.items
         ++ unread_of (records_of files.now flow.now) op kind.now waiting.old.items ∷ []) }
@@ -86,19 +88,29 @@ fn answer(
     })
 }
 
-/// The sequential answer of a workflow over the files of its scans, where its operators give no more than `most`
-/// rows together.
+/// The sequential answer of a workflow over the files of its scans, each of which is known to begin with the
+/// names of its columns.
 ///
-/// The operators are evaluated one after the other. The rows of a scan, filter, projection or join wait until they are
-/// kept as a list or fed to a group; then they are read once, and each goes on by itself through all that waits.
-pub fn plain(alloc: Global, flow: &Flow, files: &Files, most: u64) -> Result<Answer, PlainErr>
-    requires { length files.now ≡ scan_count flow.now }
-    ensures { IsPlain result flow.now files.now most }
+/// The operators are evaluated one after the other. The rows of a scan, filter, projection or join wait until
+/// they are kept as a list or fed to a group; then they are read once, and each goes on by itself through all
+/// that waits.
+///
+/// # Errors
+///
+/// `Long` where the operators give more than `most` rows together.
+pub fn plain_checked(
+    alloc: Global,
+    flow: &Flow,
+    files: &Files,
+    most: u64,
+) -> Result<Answer, LimitErr>
+    requires one_each { length files.now ≡ scan_count flow.now }
+    requires headers { wrong_header 1 files.now flow.now ≡ None }
+    ensures answer { IfOk result (λ answer. answer ≡ answer_of flow.now files.now) }
+    ensures few { IfOk result (λ _. row_total flow.now files.now ≤ most) }
+    ensures long { IfErr result
+        (λ why. why ≡ LimitErr.Long → most < row_total flow.now files.now) }
 {
-    let wrong = wrong_header(alloc, flow, files)?;
-    if let Some(op) = wrong {
-        return Err(PlainErr::Header(op));
-    }
     let mut waiting = Vec::new(alloc);
     let mut tally = Tally {
         told: Vec::new(alloc),
@@ -121,4 +133,25 @@ pub fn plain(alloc: Global, flow: &Flow, files: &Files, most: u64) -> Result<Ans
     let rows = gathered(alloc, flow, files, last, &mut tally)?;
     let answer = answer(alloc, flow, tally.told, rows)?;
     Ok(answer)
+}
+
+/// The sequential answer of a workflow over the files of its scans, where its operators give no more than
+/// `most` rows together: `plain_checked`, after each file was looked at.
+///
+/// # Errors
+///
+/// `Header` with the first scan whose file does not begin with the names of its columns, and `Long` where
+/// there are more rows.
+pub fn plain(alloc: Global, flow: &Flow, files: &Files, most: u64) -> Result<Answer, PlainErr>
+    requires { length files.now ≡ scan_count flow.now }
+    ensures { IsPlain result flow.now files.now most }
+{
+    if let Some(op) = wrong_header(alloc, flow, files)? {
+        return Err(PlainErr::Header(op));
+    }
+    match plain_checked(alloc, flow, files, most) {
+        Ok(answer) => Ok(answer),
+        Err(LimitErr::Long) => Err(PlainErr::Long),
+        Err(LimitErr::NoMemory) => Err(PlainErr::NoMemory),
+    }
 }

@@ -1,15 +1,16 @@
-// The way of a row through stages.
+//! The way of a row through stages. Over `Stage`, and `Holder`, which takes what comes out.
+
 ghost use Rattle.std.specs.Prelude.{◌≡◌, ◌∷◌, [], OnOk};
 ghost use Rattle.amber_plain.specs.Holding.{Fills, Spends, Takes};
 ghost use Rattle.amber_plain.specs.Stages.{count_through, rows_through};
 
 use crate::holder::Holder;
+use crate::limit::LimitErr;
 use crate::stage::Stage;
-use amber_meaning::PlainErr;
 use amber_rows::{Row, holds};
 use std::alloc::Global;
 
-/// Stages, what stands behind the last of them, and how many rows may still come.
+/// Stages, what stands after the last of them, and how many rows may still come.
 #[derive(Drop)]
 pub struct Chain {
     pub stages: Vec<Stage>,
@@ -19,7 +20,7 @@ pub struct Chain {
 
 impl Chain {
     /// Sends a row through the stages. What is left of it does not matter.
-    pub fn send(&mut self, alloc: Global, row: &mut Row) -> Result<(), PlainErr>
+    pub fn send(&mut self, alloc: Global, row: &mut Row) -> Result<(), LimitErr>
         ensures moved { OnOk result (Fills self.old self.new (row.old ∷ [])) }
         ensures left { Spends result self.old.left self.new.left
             (count_through self.old.stages.items (row.old ∷ [])) }
@@ -33,7 +34,7 @@ impl Chain {
     }
 
     /// Sends each of these rows, one after the other.
-    pub fn send_all(&mut self, alloc: Global, rows: Vec<Row>) -> Result<(), PlainErr>
+    pub fn send_all(&mut self, alloc: Global, rows: Vec<Row>) -> Result<(), LimitErr>
         ensures moved { OnOk result (Fills self.old self.new rows.items) }
         ensures left { Spends result self.old.left self.new.left
             (count_through self.old.stages.items rows.items) }
@@ -48,17 +49,17 @@ impl Chain {
 }
 
 // Counts a row.
-fn spend(left: &mut u64) -> Result<(), PlainErr>
+fn spend(left: &mut u64) -> Result<(), LimitErr>
     ensures { Spends result left.old left.new 1 }
 {
     if *left == 0 {
-        return Err(PlainErr::Long);
+        return Err(LimitErr::Long);
     }
     *left -= 1;
     Ok(())
 }
 
-/// Counts a row and sends it through stages to what stands behind them.
+/// Counts a row and sends it through stages to what stands after them.
 #[cycle(pass)]
 fn pass(
     alloc: Global,
@@ -66,7 +67,7 @@ fn pass(
     stages: &[Stage],
     holder: &mut Holder,
     left: &mut u64,
-) -> Result<(), PlainErr>
+) -> Result<(), LimitErr>
     ensures taken { OnOk result (Takes holder.old holder.new
         (rows_through stages.now (row.old ∷ []))) }
     ensures left { Spends result left.old left.new (count_through stages.now (row.old ∷ [])) }
@@ -102,7 +103,7 @@ fn pass_all(
     stages: &[Stage],
     holder: &mut Holder,
     left: &mut u64,
-) -> Result<(), PlainErr>
+) -> Result<(), LimitErr>
     ensures taken { OnOk result (Takes holder.old holder.new
         (rows_through stages.now rows.items)) }
     ensures left { Spends result left.old left.new (count_through stages.now rows.items) }

@@ -1,4 +1,5 @@
-// Reading what is unread to its end.
+//! Reading what is unread to its end. Over `Chain` of `chain`, and `scan` for the files.
+
 ghost use Rattle.std.specs.Prelude.{◌≡◌, ◌<◌, ◌^◌, ◌-◌, length, option_map, slice_set, IfOk, IfSome, OnOk};
 ghost use Rattle.std.specs.List.{filter_map};
 ghost use Rattle.amber_rows.specs.Lists.{list_at, nth};
@@ -14,11 +15,12 @@ ghost use Rattle.amber_plain.specs.Steps.{told_by};
 use crate::chain::Chain;
 use crate::grouping::empty_group;
 use crate::holder::Holder;
+use crate::limit::LimitErr;
 use crate::scan::scan;
 use crate::stage::Source;
 use crate::unread::Unread;
 use amber_group::Grouped;
-use amber_meaning::{PlainErr, Refusal, Refusals, file_behind};
+use amber_meaning::{Refusal, Refusals, file_after};
 use amber_rows::{Aggs, Cols, Files, Flow, Operator, Row, Rows};
 use std::alloc::Global;
 
@@ -48,7 +50,7 @@ fn read_scan(
     files: &Files,
     op: u32,
     chain: &mut Chain,
-) -> Result<Vec<Refusal>, PlainErr>
+) -> Result<Vec<Refusal>, LimitErr>
     ensures moved { OnOk result (Fills chain.old chain.new (filter_map ok_of
         (list_at (records_of files.now flow.now) op))) }
     ensures left { Spends result chain.old.left chain.new.left
@@ -63,7 +65,7 @@ fn read_scan(
     if !operator.what.is_scan() {
         return Ok(Vec::new(alloc));
     }
-    let file = file_behind(flow, files, op as usize - 1);
+    let file = file_after(flow, files, op as usize - 1);
     scan(alloc, op, &operator.schema, file, chain)
 }
 
@@ -85,7 +87,7 @@ fn read(
     source: Source,
     chain: &mut Chain,
     told: &mut Vec<Refusals>,
-) -> Result<(), PlainErr>
+) -> Result<(), LimitErr>
     ensures moved { OnOk result (Fills chain.old chain.new
         (source_rows (records_of files.now flow.now) source)) }
     ensures left { Spends result chain.old.left chain.new.left
@@ -112,7 +114,7 @@ pub fn drain(
     unread: Unread,
     holder: Holder,
     tally: &mut Tally,
-) -> Result<Holder, PlainErr>
+) -> Result<Holder, LimitErr>
     ensures taken { IfOk result (λ new. Takes holder new
         (unread_rows (records_of files.now flow.now) unread)) }
     ensures left { Spends result tally.old.left tally.new.left
@@ -133,13 +135,13 @@ pub fn drain(
 }
 
 // Rows that stand in a list, counted.
-fn counted(rows: Rows, left: &mut u64) -> Result<Vec<Row>, PlainErr>
+fn counted(rows: Rows, left: &mut u64) -> Result<Vec<Row>, LimitErr>
     ensures rows { IfOk result (λ all. all.items ≡ rows) }
     ensures left { Spends result left.old left.new (length rows) }
 {
     let count = rows.len() as u64;
     if count > *left {
-        return Err(PlainErr::Long);
+        return Err(LimitErr::Long);
     }
     *left -= count;
     Ok(rows.into_inner())
@@ -152,7 +154,7 @@ pub fn gathered(
     files: &Files,
     unread: Unread,
     tally: &mut Tally,
-) -> Result<Vec<Row>, PlainErr>
+) -> Result<Vec<Row>, LimitErr>
     ensures rows { IfOk result (λ rows. rows.items
         ≡ unread_rows (records_of files.now flow.now) unread) }
     ensures left { Spends result tally.old.left tally.new.left
@@ -181,7 +183,7 @@ pub fn grouped(
     keys: &Cols,
     aggs: &Aggs,
     tally: &mut Tally,
-) -> Result<Grouped, PlainErr>
+) -> Result<Grouped, LimitErr>
     ensures rows { IfOk result (λ groups. groups.rows ≡ group_result keys.now aggs.now
         (unread_rows (records_of files.now flow.now) unread)) }
     ensures refused { IfOk result (λ groups. groups.refused ≡ refused_keys keys.now aggs.now

@@ -1,11 +1,12 @@
-// An operator of a workflow, evaluated.
+//! An operator of a workflow, evaluated: what is unread for it. Over `gathered` and `grouped` of `drain`.
+
 ghost use Rattle.std.specs.Prelude.{◌≡◌, ◌++◌, ◌∷◌, [], map, true, IfErr, IfOk, OnOk};
 ghost use Rattle.amber_rows.specs.Operators.{group_result, refused_keys};
 ghost use Rattle.amber_rows.specs.Order.{sort_rows};
 ghost use Rattle.amber_meaning.specs.Plain.{records_of};
 ghost use Rattle.amber_meaning.specs.Refused.{refused_groups};
 ghost use Rattle.amber_meaning.specs.declared.answer.Refusal.TheVariants as refusal;
-ghost use Rattle.amber_meaning.specs.declared.answer.PlainErr.TheVariants as plain_err;
+ghost use Rattle.amber_plain.specs.declared.limit.LimitErr.TheVariants as limit_err;
 ghost use Rattle.amber_plain.specs.Holding.{Spends};
 ghost use Rattle.amber_plain.specs.Unread.{HasInputs, HasOne, unread_at, unread_count, unread_rows, without};
 ghost use Rattle.amber_plain.specs.Steps.{others_of, evaluated_of, read_for, through, told_by};
@@ -14,10 +15,11 @@ ghost use Rattle.amber_plain.specs.declared.stage.Stage.TheVariants as stage;
 
 use crate::drain::{Tally, gathered, grouped};
 use crate::joining::Built;
+use crate::limit::LimitErr;
 use crate::stage::{Source, Stage};
 use crate::unread::{Unread, take};
 use amber_group::Grouped;
-use amber_meaning::{PlainErr, Refusal, Refusals};
+use amber_meaning::{Refusal, Refusals};
 use amber_rows::{Cols, Files, Flow, Row, Rows, What, sort};
 use std::alloc::{AllocError, Global};
 
@@ -39,17 +41,17 @@ fn unrefused(alloc: Global, unread: Unread) -> Evaluated
 }
 
 // What is unread of an input, with one stage more. Nothing is refused at once.
-fn behind(
+fn with_stage(
     alloc: Global,
     waiting: &mut Vec<Unread>,
     input: u32,
     stage: Stage,
-) -> Result<Evaluated, PlainErr>
+) -> Result<Evaluated, LimitErr>
     requires { HasOne waiting.old.items input }
     ensures new { IfOk result (λ new. new
         ≡ record { unread = through (unread_at waiting.old.items input) stage; refused = [] }) }
     ensures others { OnOk result (waiting.new.items ≡ without waiting.old.items input) }
-    ensures memory { IfErr result (λ why. why ≡ plain_err.NoMemory) }
+    ensures memory { IfErr result (λ why. why ≡ limit_err.NoMemory) }
 {
     let unread = take(alloc, waiting, input).through(stage)?;
     Ok(unrefused(alloc, unread))
@@ -67,12 +69,12 @@ fn refuse_groups(alloc: Global, op: u32, keys: Vec<Row>) -> Result<Refusals, All
 }
 
 // The rows of groups as a source. The keys that have none are refused, in the order of rows.
-fn from_groups(alloc: Global, op: u32, groups: Grouped) -> Result<Evaluated, PlainErr>
+fn from_groups(alloc: Global, op: u32, groups: Grouped) -> Result<Evaluated, LimitErr>
     ensures new { IfOk result (λ new. new ≡ record {
       unread = record { source = source.Rows groups.rows; stages = [] };
       refused = refused_groups op groups.refused;
     }) }
-    ensures memory { IfErr result (λ why. why ≡ plain_err.NoMemory) }
+    ensures memory { IfErr result (λ why. why ≡ limit_err.NoMemory) }
 {
     let Grouped {
         rows,
@@ -94,7 +96,7 @@ fn sorted(
     files: &Files,
     unread: Unread,
     tally: &mut Tally,
-) -> Result<Evaluated, PlainErr>
+) -> Result<Evaluated, LimitErr>
     ensures new { IfOk result (λ new. new ≡ record {
       unread = record {
         source = source.Rows (sort_rows (unread_rows (records_of files.now flow.now) unread));
@@ -121,7 +123,7 @@ fn built(
     keys: (&Cols, &Cols),
     unread: Unread,
     tally: &mut Tally,
-) -> Result<Built, PlainErr>
+) -> Result<Built, LimitErr>
     ensures built { IfOk result (λ built. built ≡ record {
       build_keys = keys.entry.0.now;
       probe_keys = keys.entry.1.now;
@@ -147,7 +149,7 @@ pub fn evaluate(
     kind: &What,
     waiting: &mut Vec<Unread>,
     tally: &mut Tally,
-) -> Result<Evaluated, PlainErr>
+) -> Result<Evaluated, LimitErr>
     requires { HasInputs waiting.old.items kind.now }
     ensures new { IfOk result (λ new. new
         ≡ evaluated_of (records_of files.now flow.now) op kind.now waiting.old.items) }
@@ -159,8 +161,8 @@ pub fn evaluate(
 {
     match kind {
         What::Scan { .. } => Ok(unrefused(alloc, Unread::new(alloc, Source::Scan(op)))),
-        What::Filter { input, cond } => behind(alloc, waiting, *input, Stage::test(cond)?),
-        What::Project { input, from } => behind(alloc, waiting, *input, Stage::pick(from)?),
+        What::Filter { input, cond } => with_stage(alloc, waiting, *input, Stage::test(cond)?),
+        What::Project { input, from } => with_stage(alloc, waiting, *input, Stage::pick(from)?),
         What::Join {
             build,
             probe,
@@ -169,7 +171,7 @@ pub fn evaluate(
         } => {
             let build = take(alloc, waiting, *build);
             let built = built(alloc, flow, files, (build_keys, probe_keys), build, tally)?;
-            behind(alloc, waiting, *probe, Stage::Probe(built))
+            with_stage(alloc, waiting, *probe, Stage::Probe(built))
         }
         What::Group { input, keys, aggs } => {
             let unread = take(alloc, waiting, *input);

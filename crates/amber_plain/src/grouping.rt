@@ -1,4 +1,5 @@
-// The state of a group, which is fed row by row.
+//! The state of a group, which is fed row by row. Over `GroupState` of `amber_group`.
+
 ghost use Rattle.std.specs.Prelude.{◌≡◌, ◌++◌, ◌∷◌, [], IfOk, List, OnOk};
 ghost use Rattle.amber_rows.specs.declared.value.Value.{Value as Cell};
 ghost use Rattle.amber_group.specs.Group.{IsFedWith};
@@ -18,7 +19,7 @@ pub fn empty_group(alloc: Global, keys: &Cols, aggs: &Aggs) -> Result<GroupState
     Ok(GroupState::new(alloc, keys, aggs))
 }
 
-/// Feeds a group a row. More rows than it counts are as want of memory.
+/// Feeds a group a row. More rows than it counts are as running out of memory.
 pub fn add_row(state: &mut GroupState, row: &Row) -> Result<(), AllocError>
     ensures ok { OnOk result ((rows : List (List Cell)) → IsFedWith state.old rows
         → IsFedWith state.new (rows ++ row.now ∷ [])) }

@@ -1,4 +1,5 @@
-// What stands behind the last stage.
+//! What stands after the last stage: a list, or a group, which keeps the rows that come.
+
 ghost use Rattle.std.specs.Prelude.{◌≡◌, ◌∷◌, [], OnOk};
 ghost use Rattle.amber_plain.specs.Holding.{Takes};
 

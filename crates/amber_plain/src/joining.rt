@@ -1,4 +1,5 @@
-// A join whose build rows are all there.
+//! A join whose build rows are all there. Over `JoinState` of `amber_join`.
+
 ghost use Rattle.std.specs.Prelude.{◌≡◌, [], IfOk, OnOk, false, true};
 ghost use Rattle.amber_rows.specs.Operators.{matches_of};
 

@@ -1,4 +1,6 @@
-// The records of a scan's file, sent through a chain one by one.
+//! The records of a scan's file, sent through a chain one by one. Over `Chain`, and `RecordReader` of
+//! `amber_rows`.
+
 ghost use Rattle.std.specs.Prelude.{◌≡◌, ◌<◌, ◌^◌, ◌++◌, ◌∷◌, [], List, ℕ, length, IfOk, OnOk};
 ghost use Rattle.std.specs.List.{filter_map};
 ghost use Rattle.amber_rows.specs.Reading.{HasRead};
@@ -8,12 +10,13 @@ ghost use Rattle.amber_plain.specs.Holding.{Fills, Spends};
 ghost use Rattle.amber_plain.specs.Stages.{count_through};
 
 use crate::chain::Chain;
-use amber_meaning::{PlainErr, Refusal};
+use crate::limit::LimitErr;
+use amber_meaning::Refusal;
 use amber_rows::{RecordReader, Row, RowFault, Schema, Value, type_over};
 use csv::ByteRecord;
 use std::alloc::{AllocError, Global};
 
-// Puts a refusal behind the others.
+// Appends a refusal to the others.
 fn refuse(refusal: Refusal, refused: &mut Vec<Refusal>) -> Result<(), AllocError>
     ensures { OnOk result (refused.new.items ≡ refused.old.items ++ refusal ∷ []) }
 {
@@ -21,8 +24,8 @@ fn refuse(refusal: Refusal, refused: &mut Vec<Refusal>) -> Result<(), AllocError
     Ok(())
 }
 
-/// Sends a record with this number through a chain, or puts it behind what was refused. It gives the room back that
-/// the next record may be typed in.
+/// Sends a record with this number through a chain, or appends it to what was refused. It gives the room back
+/// that the next record may be typed in.
 #[tactic(auto, unfolding(amber_meaning::specs::Refused::refused_records))]
 fn add_record(
     alloc: Global,
@@ -31,7 +34,7 @@ fn add_record(
     typed: Result<Row, RowFault>,
     chain: &mut Chain,
     refused: &mut Vec<Refusal>,
-) -> Result<Vec<Value>, PlainErr>
+) -> Result<Vec<Value>, LimitErr>
     ensures moved { OnOk result (Fills chain.old chain.new (filter_map ok_of (typed ∷ []))) }
     ensures left { Spends result chain.old.left chain.new.left
         (count_through chain.old.stages.items (filter_map ok_of (typed ∷ []))) }
@@ -50,8 +53,8 @@ fn add_record(
     }
 }
 
-// Sends the rows of the records that are to be read through a chain. Those that are no rows are refused, in order. The
-// first record is the header.
+// Sends the rows of the records that are to be read through a chain. Those that are no rows are refused, in
+// order. The first record is the header.
 fn read_records(
     alloc: Global,
     op: u32,
@@ -59,7 +62,7 @@ fn read_records(
     reader: &mut RecordReader,
     fields: &mut ByteRecord,
     chain: &mut Chain,
-) -> Result<Vec<Refusal>, PlainErr>
+) -> Result<Vec<Refusal>, LimitErr>
     requires { length schema.now < 2 ^ 32 }
     ensures moved { (file : List ℕ) → HasRead file reader.old []
         → OnOk result (Fills chain.old chain.new
@@ -86,7 +89,7 @@ fn read_records(
         room = add_record(alloc, op, number, typed, chain, &mut refused)?;
     }
     // No memory holds as many records as that.
-    Err(PlainErr::NoMemory)
+    Err(LimitErr::NoMemory)
 }
 
 /// Sends the rows of a scan's file through a chain. The records that are no rows are refused, in order.
@@ -96,7 +99,7 @@ pub fn scan(
     schema: &Schema,
     file: &[u8],
     chain: &mut Chain,
-) -> Result<Vec<Refusal>, PlainErr>
+) -> Result<Vec<Refusal>, LimitErr>
     requires { length schema.now < 2 ^ 32 }
     ensures moved { OnOk result (Fills chain.old chain.new
         (filter_map ok_of (typed_records schema.now file.now))) }

@@ -1,4 +1,5 @@
-// Where the rows of an operator come from, and through what they pass.
+//! Where the rows of an operator come from, and through what they pass. Over `Built` of `joining`.
+
 ghost use Rattle.std.specs.Prelude.{◌≡◌, IfOk};
 ghost use Rattle.amber_plain.specs.declared.stage.Stage.TheVariants as stage;
 

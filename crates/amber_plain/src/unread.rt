@@ -1,4 +1,5 @@
-// The rows of an operator that nobody has read yet.
+//! The rows of an operator that nobody has read yet. Over `Source` and `Stage`.
+
 ghost use Rattle.std.specs.Prelude.{◌≡◌, ◌++◌, ◌∷◌, [], IfErr, IfOk};
 ghost use Rattle.amber_plain.specs.Unread.{HasOne, nothing_unread, unread_at, without};
 ghost use Rattle.amber_plain.specs.declared.stage.Source.TheVariants as source;

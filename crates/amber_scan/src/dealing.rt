@@ -10,7 +10,7 @@ ghost use Rattle.amber_scan.specs.Shares.{scanned_number, scanned_record, scanne
 ghost use Rattle.amber_scan.specs.declared.dealing.ScanErr.TheVariants as scan_err;
 
 use crate::share::Share;
-use amber_rows::{RecordReader, Schema, are_names};
+use amber_rows::{RecordReader, Schema, has_header};
 use csv::ByteRecord;
 use std::alloc::{AllocError, Global};
 
@@ -31,28 +31,19 @@ impl From<AllocError> for ScanErr {
     }
 }
 
-// A reader of a file that has read its header, which is that of these columns.
-fn open_behind_header<'a>(
+// A reader of a file that has read the header with which it begins.
+fn open_after_header<'a>(
     alloc: Global,
     bytes: &'a [u8],
     schema: &Schema,
-) -> Result<RecordReader<'a>, ScanErr>
-    ensures read { IfOk result (λ reader. (header : List (List ℕ))
+) -> Result<RecordReader<'a>, AllocError>
+    requires { has_header schema.now bytes.now ≡ true }
+    ensures { IfOk result (λ reader. (header : List (List ℕ))
         × HasRead bytes.now reader (header ∷ [])) }
-    ensures headed { IfOk result (λ _. has_header schema.now bytes.now ≡ true) }
-    ensures header { IfErr result
-        (λ why. why ≡ ScanErr.Header → has_header schema.now bytes.now ≡ false) }
 {
     let mut reader = RecordReader::open(alloc, bytes);
     let mut fields = ByteRecord::new(alloc);
-    let found = reader.next(&mut fields)?;
-    if !found {
-        return Err(ScanErr::Header);
-    }
-    let right = are_names(&fields, schema);
-    if !right {
-        return Err(ScanErr::Header);
-    }
+    let _found = reader.next(&mut fields)?;
     Ok(reader)
 }
 
@@ -88,6 +79,36 @@ fn give(
     shares[turn as usize].add(alloc, number, fields, schema)
 }
 
+/// Deals the records of a file, as `deal` does, of which it is known that it begins with the names of its columns.
+pub fn deal_checked(
+    alloc: Global,
+    bytes: &[u8],
+    schema: &Schema,
+    workers: u32,
+) -> Result<Vec<Share>, AllocError>
+    requires some { 1 ≤ workers }
+    requires few { workers ≤ 16 }
+    requires columns { length schema.now < 2 ^ 32 }
+    requires header { has_header schema.now bytes.now ≡ true }
+    ensures one_each { IfOk result (λ shares. vec_len shares ≡ workers) }
+    ensures shares { IfOk result (λ shares. (worker : ℕ) → worker < workers
+        → slice_index_or shares.items worker []
+        ≡ share_of scanned_number workers worker (scanned_records schema.now bytes.now)) }
+{
+    let mut reader = open_after_header(alloc, bytes, schema)?;
+    let mut fields = ByteRecord::new(alloc);
+    let mut shares = empty_shares(alloc, workers)?;
+    'records: for number in 1..u64::MAX {
+        let more = reader.next(&mut fields)?;
+        if !more {
+            return Ok(shares);
+        }
+        give(alloc, &mut shares, number, &fields, schema)?;
+    }
+    // No memory holds as many records as that.
+    Err(AllocError)
+}
+
 /// Reads a file once and deals its records to 1 to 16 workers: of W workers, worker w, from 0, gets the records
 /// w + 1, w + 1 + W, and so on, each as its row or its fault.
 ///
@@ -110,16 +131,9 @@ pub fn deal(
     ensures header { IfErr result
         (λ why. why ≡ ScanErr.Header → has_header schema.now bytes.now ≡ false) }
 {
-    let mut reader = open_behind_header(alloc, bytes, schema)?;
-    let mut fields = ByteRecord::new(alloc);
-    let mut shares = empty_shares(alloc, workers)?;
-    'records: for number in 1..u64::MAX {
-        let more = reader.next(&mut fields)?;
-        if !more {
-            return Ok(shares);
-        }
-        give(alloc, &mut shares, number, &fields, schema)?;
+    let headed = has_header(alloc, schema, bytes)?;
+    if !headed {
+        return Err(ScanErr::Header);
     }
-    // No memory holds as many records as that.
-    Err(ScanErr::NoMemory)
+    Ok(deal_checked(alloc, bytes, schema, workers)?)
 }

@@ -12,6 +12,6 @@ mod dealing;
 mod rooms;
 pub mod share;
 
-pub use dealing::{ScanErr, deal};
+pub use dealing::{ScanErr, deal, deal_checked};
 pub use share::{Scanned, Share};
 pub use std::alloc::AllocError as NoMemory;

@@ -3,7 +3,7 @@ use Rattle.std.proofs.Common.{◌≡◌, ◌∷◌, ◌++◌, [], Err, append_as
 use Rattle.std.proofs.lemmas.List.{nil_from_length}
 use Rattle.amber_plain.specs.Stages.{count_through, rows_through}
 use Rattle.amber_plain.specs.declared.stage.Stage.TheVariants as stage
-use Rattle.amber_plain.proofs.Passing.{Takes-more, Takes-none, count_some, count_through-append, count_through-none, count_within, dropped, kept, passed, picked, probed, rows_through-append, rows_through-none, short_behind, short_of_more, spent}
+use Rattle.amber_plain.proofs.Passing.{Takes-more, Takes-none, count_some, count_through-append, count_through-none, count_within, dropped, kept, passed, picked, probed, rows_through-append, rows_through-none, short_after, short_of_more, spent}
 use Rattle.amber_plain.proofs.chain.+pass.Goals as goal
 
 pub pass-returns-in_err-spend-clause-left : goal.pass-returns-in_err-spend-clause-left
@@ -93,7 +93,7 @@ pass_all-returns-in_err-pass-clause-left t c =
     let e : c.from_residual.result ≡ Err c.in_err-pass.field-0.0 = search rules in
     let here : c.loop-row.row-iterator.rest.items ≡ c.in-Some.row ∷ c.next.new.self.rest.items = search rules in
     let split = sym c.loop-row.invariant.whole ∙ ap (λ rest. c.loop-row.yielded ++ rest) here in
-    rw e (short_behind c.in_err-pass.field-0.0 c.args.left.now c.loop-row.left _ _ _ c.loop-row.invariant.spent c.in_err-pass.ensures.left
+    rw e (short_after c.in_err-pass.field-0.0 c.args.left.now c.loop-row.left _ _ _ c.loop-row.invariant.spent c.in_err-pass.ensures.left
     (count_within c.args.stages.now c.args.rows.items c.loop-row.yielded c.next.new.self.rest.items c.in-Some.row split))
 
 pub pass_all-loop-row-preserved : goal.pass_all-loop-row-preserved

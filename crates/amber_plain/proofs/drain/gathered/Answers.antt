@@ -1,4 +1,4 @@
--- Rows that stand in a list, behind which no stage is left, are as they are. Else the holder is a list as before, and had no row.
+-- Rows that stand in a list, after which no stage is left, are as they are. Else the holder is a list as before, and had no row.
 use Rattle.std.proofs.Common.{[], None}
 use Rattle.amber_plain.specs.Stages.{count_through, rows_through}
 use Rattle.amber_plain.proofs.drain.gathered.Goals as goal

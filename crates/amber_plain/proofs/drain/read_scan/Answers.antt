@@ -41,14 +41,14 @@ returns-then-not-is_scan-clause-refused c =
 pub returns-clause-moved : goal.returns-clause-moved
 returns-clause-moved c =
     let records = records-some c.args.files.now c.args.flow.now c.args.op c.in-Some.operator.now (sym c.in-Some.ensures.operator) in
-    rw (records, sym c.is_scan.ensures ∙ c.if-not-is_scan.false, ← c.file_behind-file.ensures) c.scan.ensures.moved
+    rw (records, sym c.is_scan.ensures ∙ c.if-not-is_scan.false, ← c.file_after-file.ensures) c.scan.ensures.moved
 
 pub returns-clause-left : goal.returns-clause-left
 returns-clause-left c =
     let records = records-some c.args.files.now c.args.flow.now c.args.op c.in-Some.operator.now (sym c.in-Some.ensures.operator) in
-    rw (records, sym c.is_scan.ensures ∙ c.if-not-is_scan.false, ← c.file_behind-file.ensures) c.scan.ensures.left
+    rw (records, sym c.is_scan.ensures ∙ c.if-not-is_scan.false, ← c.file_after-file.ensures) c.scan.ensures.left
 
 pub returns-clause-refused : goal.returns-clause-refused
 returns-clause-refused c =
     let records = records-some c.args.files.now c.args.flow.now c.args.op c.in-Some.operator.now (sym c.in-Some.ensures.operator) in
-    rw (records, sym c.is_scan.ensures ∙ c.if-not-is_scan.false, ← c.file_behind-file.ensures) c.scan.ensures.refused
+    rw (records, sym c.is_scan.ensures ∙ c.if-not-is_scan.false, ← c.file_after-file.ensures) c.scan.ensures.refused

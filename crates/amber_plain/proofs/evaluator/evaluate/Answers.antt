@@ -4,8 +4,8 @@ use Rattle.std.proofs.lemmas.Result.{IfOk-from_err, err_from_is_err_and}
 use Rattle.amber_plain.proofs.Passing.{count_through-none}
 use Rattle.amber_join.specs.Join.{Join}
 use Rattle.amber_meaning.specs.Plain.{records_of}
-use Rattle.amber_meaning.specs.declared.answer.PlainErr.{PlainErr}
-use Rattle.amber_meaning.specs.declared.answer.PlainErr.TheVariants as plain_err
+use Rattle.amber_plain.specs.declared.limit.LimitErr.{LimitErr}
+use Rattle.amber_plain.specs.declared.limit.LimitErr.TheVariants as limit_err
 use Rattle.amber_plain.specs.Holding.{Spends}
 use Rattle.amber_plain.specs.Unread.{Waiting, unread_at, unread_count, unread_rows}
 use Rattle.amber_plain.specs.Steps.{others_of, read_for, told_by}
@@ -18,7 +18,7 @@ ok-so (Ok x) P h = h
 ok-so (Err e) P h = tt
 
 -- so many rows came, or memory ran out
-spends-so : {T : Type 0} (r : Result T PlainErr) (old new count : ℕ) → IfErr r (λ why. why ≡ plain_err.NoMemory) → old ≡ new + count → Spends r old new count
+spends-so : {T : Type 0} (r : Result T LimitErr) (old new count : ℕ) → IfErr r (λ why. why ≡ limit_err.NoMemory) → old ≡ new + count → Spends r old new count
 spends-so (Ok x) old new count short e = e
 spends-so (Err why) old new count short e = rw short tt
 
@@ -54,17 +54,17 @@ returns-in_err-groups-in-Group c =
     let p = err_from_is_err_and c.from_residual-in_err-groups-in-Group.result e.1 in
     record { new = IfOk-from_err _ _ e.0; others = IfOk-from_err _ _ e.0; told = IfOk-from_err _ _ e.0; left = rw (p.1, p.2, c.in-Group.is, ← c.take-unread.ensures.taken) c.in_err-groups-in-Group.ensures.left }
 
-pub behind-requires : goal.behind-requires
-behind-requires c = (rw c.in-Filter.is at c.requires).1
+pub with_stage-requires : goal.with_stage-requires
+with_stage-requires c = (rw c.in-Filter.is at c.requires).1
 
-pub behind-requires-in-Project : goal.behind-requires-in-Project
-behind-requires-in-Project c = (rw c.in-Project.is at c.requires).1
+pub with_stage-requires-in-Project : goal.with_stage-requires-in-Project
+with_stage-requires-in-Project c = (rw c.in-Project.is at c.requires).1
 
 pub take-build-requires : goal.take-build-requires
 take-build-requires c = (rw c.in-Join.is at c.requires).0
 
-pub behind-requires-in-Join : goal.behind-requires-in-Join
-behind-requires-in-Join c = rw c.take-build.ensures.others (probe-there c.args.waiting.now.items c.in-Join.build c.in-Join.probe (rw c.in-Join.is at c.requires).1)
+pub with_stage-requires-in-Join : goal.with_stage-requires-in-Join
+with_stage-requires-in-Join c = rw c.take-build.ensures.others (probe-there c.args.waiting.now.items c.in-Join.build c.in-Join.probe (rw c.in-Join.is at c.requires).1)
 
 pub take-unread-requires : goal.take-unread-requires
 take-unread-requires c = (rw c.in-Group.is at c.requires).1
@@ -82,18 +82,18 @@ returns-in-Sink c = record {
 
 pub returns-in_ok-test-in-Filter : goal.returns-in_ok-test-in-Filter
 returns-in_ok-test-in-Filter c = record {
-  new = rw c.in-Filter.is (rw c.in_ok-test-in-Filter.ensures at c.behind.ensures.new);
-  others = rw c.in-Filter.is c.behind.ensures.others;
-  told = rw c.in-Filter.is (ok-so c.behind.result _ refl);
-  left = rw c.in-Filter.is (spends-so c.behind.result _ _ _ c.behind.ensures.memory (omega (arith, count_through-none [])));
+  new = rw c.in-Filter.is (rw c.in_ok-test-in-Filter.ensures at c.with_stage.ensures.new);
+  others = rw c.in-Filter.is c.with_stage.ensures.others;
+  told = rw c.in-Filter.is (ok-so c.with_stage.result _ refl);
+  left = rw c.in-Filter.is (spends-so c.with_stage.result _ _ _ c.with_stage.ensures.memory (omega (arith, count_through-none [])));
 }
 
 pub returns-in_ok-pick-in-Project : goal.returns-in_ok-pick-in-Project
 returns-in_ok-pick-in-Project c = record {
-  new = rw c.in-Project.is (rw c.in_ok-pick-in-Project.ensures at c.behind-in-Project.ensures.new);
-  others = rw c.in-Project.is c.behind-in-Project.ensures.others;
-  told = rw c.in-Project.is (ok-so c.behind-in-Project.result _ refl);
-  left = rw c.in-Project.is (spends-so c.behind-in-Project.result _ _ _ c.behind-in-Project.ensures.memory (omega (arith, count_through-none [])));
+  new = rw c.in-Project.is (rw c.in_ok-pick-in-Project.ensures at c.with_stage-in-Project.ensures.new);
+  others = rw c.in-Project.is c.with_stage-in-Project.ensures.others;
+  told = rw c.in-Project.is (ok-so c.with_stage-in-Project.result _ refl);
+  left = rw c.in-Project.is (spends-so c.with_stage-in-Project.result _ _ _ c.with_stage-in-Project.ensures.memory (omega (arith, count_through-none [])));
 }
 
 pub returns-in_ok-built-in-Join : goal.returns-in_ok-built-in-Join
@@ -107,11 +107,11 @@ returns-in_ok-built-in-Join c = record {
       let probed : unread_at c.take-build.new.waiting.items probe ≡ unread_at waiting probe =
       ap (λ others. unread_at others probe) c.take-build.ensures.others ∙ taken-other waiting build probe h.1.0 h.0.0 (λ e. h.2 (sym e)) in
       let built : c.in_ok-built-in-Join.built ≡ with (unread_at waiting build) = c.in_ok-built-in-Join.ensures.built ∙ ap with c.take-build.ensures.taken in
-      rw c.in-Join.is (rw (probed, built) at c.behind-in-Join.ensures.new);
-  others = rw c.in-Join.is (rw c.take-build.ensures.others at c.behind-in-Join.ensures.others);
-  told = rw c.in-Join.is (ok-so c.behind-in-Join.result _
+      rw c.in-Join.is (rw (probed, built) at c.with_stage-in-Join.ensures.new);
+  others = rw c.in-Join.is (rw c.take-build.ensures.others at c.with_stage-in-Join.ensures.others);
+  told = rw c.in-Join.is (ok-so c.with_stage-in-Join.result _
       (c.in_ok-built-in-Join.ensures.told ∙ ap (λ (u : Waiting). told_by (records_of c.args.files.now c.args.flow.now) c.args.tally.now.told.items u.source) c.take-build.ensures.taken));
-  left = rw c.in-Join.is (spends-so c.behind-in-Join.result _ _ _ c.behind-in-Join.ensures.memory
+  left = rw c.in-Join.is (spends-so c.with_stage-in-Join.result _ _ _ c.with_stage-in-Join.ensures.memory
       (c.in_ok-built-in-Join.ensures.left ∙ ap (λ (u : Waiting). c.built.new.tally.left + unread_count (records_of c.args.files.now c.args.flow.now) u) c.take-build.ensures.taken));
 }
 

@@ -6,13 +6,13 @@ use Rattle.amber_rows.specs.Record.{row_of}
 use Rattle.amber_rows.specs.Shares.{turn_of}
 use Rattle.amber_scan.specs.Shares.{scanned_record}
 use Rattle.amber_scan.proofs.Dealt.{AreDealt-none, dealt-all, dealt-more}
-use Rattle.amber_scan.proofs.dealing.deal.Goals as goal
+use Rattle.amber_scan.proofs.dealing.deal_checked.Goals as goal
 
 pub records-init : goal.records-init
 records-init c = record {
-  header = c.in_ok-reader.ensures.read.0;
+  header = c.in_ok-reader.ensures.0;
   done = [];
-  read = c.in_ok-reader.ensures.read.1;
+  read = c.in_ok-reader.ensures.1;
   counted = refl;
   dealt = AreDealt-none c.args.workers c.in_ok-shares.shares.items c.in_ok-shares.ensures;
 }

@@ -3,7 +3,7 @@ use Rattle.std.proofs.Common.{◌≡◌, ◌<◌, ◌≤◌, true, false, length
 use Rattle.amber_meaning.specs.Plain.{wrong_header}
 use Rattle.amber_meaning.specs.ScanFiles.{files_left}
 use Rattle.amber_meaning.proofs.Operators.{wrong_header-more, wrong_header-here, wrong_header-end}
-use Rattle.amber_plain.proofs.header.wrong_header.Goals as goal
+use Rattle.amber_meaning.proofs.headers.wrong_header.Goals as goal
 
 pub loop-i-init : goal.loop-i-init
 unfolding files_left
@@ -16,7 +16,7 @@ returns-then-not-headed c =
     let h : c.loop-i.i < length flow = rw c.get-operators.ensures.operators at c.loop-i-test.true in
     let e : o ≡ get_or flow c.loop-i.i o = rw c.get-operators.ensures.operators at c.index-operators-i.is in
     let other : c.in_ok-headed.headed ≡ false = search rules in
-    sym (wrong_header-here c.args.files.now flow c.loop-i.i o _ h e c.loop-i.invariant (rw (← c.file_behind-file.ensures) (sym c.in_ok-headed.ensures ∙ other)))
+    sym (wrong_header-here c.args.files.now flow c.loop-i.i o _ h e c.loop-i.invariant (rw (← c.file_after-file.ensures) (sym c.in_ok-headed.ensures ∙ other)))
 
 pub loop-i-preserved : goal.loop-i-preserved
 loop-i-preserved c =
@@ -25,7 +25,7 @@ loop-i-preserved c =
     let h : c.loop-i.i < length flow = rw c.get-operators.ensures.operators at c.loop-i-test.true in
     let e : o ≡ get_or flow c.loop-i.i o = rw c.get-operators.ensures.operators at c.index-operators-i.is in
     let same : c.in_ok-headed.headed ≡ true = search rules in
-    wrong_header-more c.args.files.now flow c.loop-i.i o _ h e c.loop-i.invariant (rw (← c.file_behind-file.ensures) (sym c.in_ok-headed.ensures ∙ same))
+    wrong_header-more c.args.files.now flow c.loop-i.i o _ h e c.loop-i.invariant (rw (← c.file_after-file.ensures) (sym c.in_ok-headed.ensures ∙ same))
 
 pub returns : goal.returns
 returns c =

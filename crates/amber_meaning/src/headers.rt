@@ -1,9 +1,10 @@
-// The headers of the scans' files.
+//! The headers of the scans' files. Over `Flow` and `Files` of `amber_rows`, and `file_after`.
+
 ghost use Rattle.std.specs.Prelude.{◌≡◌, IfOk};
 ghost use Rattle.amber_meaning.specs.Plain.{wrong_header};
 ghost use Rattle.amber_meaning.specs.ScanFiles.{is_headed};
 
-use amber_meaning::file_behind;
+use crate::scan_files::file_after;
 use amber_rows::{Files, Flow, Operator, has_header};
 use std::alloc::{AllocError, Global};
 
@@ -24,7 +25,7 @@ pub fn wrong_header(alloc: Global, flow: &Flow, files: &Files) -> Result<Option<
 {
     let operators = flow.get();
     for (i, operator) in operators.iter().enumerate() {
-        let file = file_behind(flow, files, i);
+        let file = file_after(flow, files, i);
         let headed = is_headed(alloc, operator, file)?;
         if !headed {
             return Ok(Some(i as u32 + 1));
