@@ -1,8 +1,7 @@
 -- The records of the scans are dealt, operator by operator.
-use Rattle.std.proofs.Common.{◌≡◌, refl, sym, ap, subst, ◌∙◌, ℕ, zero, suc, ◌+◌, ◌-◌, ◌<◌, ◌≤◌, ◌^◌, List, [], ◌∷◌, ◌++◌, length, take, drop, get_or, set, replicate, Bool, true, false, if◌then◌else◌, inl, inr, Option, Some, None, is_some, Result, sum_by, length-set, get_or-set_other, arith}
+use Rattle.std.proofs.Common.{◌≡◌, refl, sym, ap, subst, ◌∙◌, ℕ, zero, suc, ◌+◌, ◌-◌, ◌<◌, ◌≤◌, ◌^◌, List, [], ◌∷◌, ◌++◌, length, map, take, drop, get_or, replicate, Bool, true, false, if◌then◌else◌, inl, inr, Option, Some, None, is_some, Result, sum_by, arith}
 use Rattle.std.proofs.lemmas.Bool.{cases_lt}
-use Rattle.std.proofs.lemmas.Bool.Decides.{eqb_tells}
-use Rattle.std.proofs.lemmas.List.{get_or-append-add, get_or-replicate, get_or-set_same, get_or_append_left, get_or_push, length-append, length-replicate, length_push, take_more}
+use Rattle.std.proofs.lemmas.List.{get_or-append-add, get_or-map, get_or-replicate, get_or_append_left, length-append, length-map, length-replicate, take_more}
 use Rattle.std.proofs.lemmas.List.Sums.{sum_by-append}
 use Rattle.amber_rows.specs.Topology.{crew_of, first_worker_of, kind_at, op_of, what_at, worker_count, workers_in}
 use Rattle.amber_rows.specs.FlowRules.{IsFlow}
@@ -24,10 +23,7 @@ use Rattle.amber_scan.specs.Shares.{scanned_number, scanned_record, scanned_reco
 use Rattle.amber_scan.specs.declared.share.Scanned.{Scanned}
 use Rattle.amber_worker.specs.AtPosition.{HasShare}
 use Rattle.amber_worker.proofs.Shares.{share-dealt}
-use Rattle.amber_dataflow.specs.Start.{NamesScan}
-use Rattle.amber_dataflow.specs.Start.{AreSharesDealt, NamesOperator, dealt_share, share_of_worker}
-use Rattle.amber_dataflow.specs.declared.error.HomeErr.{HomeErr}
-use Rattle.amber_dataflow.specs.declared.error.HomeErr.TheVariants as home_err
+use Rattle.amber_dataflow.specs.Start.{AreSharesDealt, dealt_share, share_of_worker}
 
 abbrev pub Records : Type 0
 Records = List (List (Result (List Value) RowFault))
@@ -38,79 +34,34 @@ IsDealt flow records worker share = (is_some share ≡ is_scan (what_at flow (op
 
 -- ---- the shares of one operator
 
--- the last of these shares were placed, each at its own place behind the first ones
-pub record ArePlaced (old : List (Option (List Scanned))) (dealt : List (List Scanned)) (first : ℕ) (shares : List (Option (List Scanned))) (left : List (List Scanned)) : Type 0 where
-  pub all : length shares ≡ length old
-  pub few : length left ≤ length dealt
-  pub same : (k : ℕ) → k < length left → get_or left k [] ≡ get_or dealt k []
-  pub before : (k : ℕ) → k < first → share_of_worker shares k ≡ share_of_worker old k
-  pub placed : (place : ℕ) → length left ≤ place → place < length dealt → share_of_worker shares (first + place) ≡ Some (get_or dealt place [])
-
-pub placed-none : (old : List (Option (List Scanned))) (dealt : List (List Scanned)) (first : ℕ) → ArePlaced old dealt first old dealt
-placed-none old dealt first = record {
-  all = refl;
-  few = omega arith;
-  same = λ k less. refl;
-  before = λ k less. refl;
-  placed = λ place above below. absurd (omega arith);
-}
-
-pub placed-more : (old shares : List (Option (List Scanned))) (dealt left rest : List (List Scanned)) (share : List Scanned) (first : ℕ) → first + length dealt ≡ length old
-    → ArePlaced old dealt first shares left → left ≡ rest ++ share ∷ [] → ArePlaced old dealt first (set shares (first + length rest) (Some share)) rest
-placed-more old shares dealt left rest share first room are is =
-    let n = length rest in
-    let long : length left ≡ n + 1 = ap length is ∙ length_push rest share in
-    let few = are.few in
-    let all = are.all in
-    record {
-      all = length-set shares (first + n) (Some share) ∙ all;
-      few = omega arith;
-      same = λ k less. sym (get_or_append_left rest (share ∷ []) [] k less) ∙ ap (λ xs. get_or xs k []) (sym is) ∙ are.same k (omega arith);
-      before = λ k less. get_or-set_other shares (first + n) k (Some share) None (λ e. omega arith) ∙ are.before k less;
-      placed = λ place above below.
-          elim (eqb_tells place n) [
-            | inl here ↦
-                let own : share ≡ get_or dealt n [] = sym (get_or_push rest share [] n refl) ∙ ap (λ xs. get_or xs n []) (sym is) ∙ are.same n (omega arith) in
-                ap (λ k. share_of_worker (set shares (first + n) (Some share)) (first + k)) here.1 ∙ get_or-set_same shares (first + n) (Some share) None (omega arith)
-                ∙ ap Some (own ∙ ap (λ k. get_or dealt k []) (sym here.1))
-            | inr other ↦
-                let ne = other.1 in
-                get_or-set_other shares (first + n) (first + place) (Some share) None (λ e. omega arith) ∙ are.placed place (omega arith) below
-          ];
-    }
-
--- the operator's workers come behind the others, each with its share
-module _ (o : Operator) (file : List ℕ) (old grown : List (Option (List Scanned))) (grown-is : grown ≡ old ++ replicate o.workers None) where
+-- the operator's workers come after the others, each with its share
+module _ (o : Operator) (file : List ℕ) (old : List (Option (List Scanned))) where
   abbrev pub Dealt : List (Option (List Scanned)) → Type 0
   Dealt shares = (length shares ≡ length old + o.workers) × ((k : ℕ) → k < length old → share_of_worker shares k ≡ share_of_worker old k)
       × ((place : ℕ) → place < o.workers → share_of_worker shares (length old + place) ≡ dealt_share o file place)
 
-  pub grown-long : length grown ≡ length old + o.workers
-  grown-long = ap length grown-is ∙ length-append old (replicate o.workers None) ∙ ap (λ n. length old + n) (length-replicate o.workers None)
+  -- so it is where as many shares were appended to the others
+  appended : (more shares : List (Option (List Scanned))) → shares ≡ old ++ more → length more ≡ o.workers
+      → ((place : ℕ) → place < o.workers → get_or more place None ≡ dealt_share o file place) → Dealt shares
+  appended more shares is long each = (
+    ap length is ∙ length-append old more ∙ ap (λ n. length old + n) long,
+    λ k less. ap (λ xs. share_of_worker xs k) is ∙ get_or_append_left old more None k less,
+    λ place less. ap (λ xs. share_of_worker xs (length old + place)) is ∙ get_or-append-add old more place None ∙ each place less,
+  )
 
-  grown-before : (k : ℕ) → k < length old → share_of_worker grown k ≡ share_of_worker old k
-  grown-before k less = ap (λ xs. share_of_worker xs k) grown-is ∙ get_or_append_left old (replicate o.workers None) None k less
-
-  pub dealt-scan : (shares : List (Option (List Scanned))) (dealt : List (List Scanned)) → length dealt ≡ o.workers → length shares ≡ length grown
-      → ((k : ℕ) → k < length old → share_of_worker shares k ≡ share_of_worker grown k)
-      → ((place : ℕ) → place < length dealt → share_of_worker shares (length old + place) ≡ Some (get_or dealt place []))
+  pub dealt-scan : (dealt : List (List Scanned)) (shares : List (Option (List Scanned))) → shares ≡ old ++ map Some dealt → length dealt ≡ o.workers
       → ((place : ℕ) → place < o.workers → get_or dealt place [] ≡ share_of scanned_number o.workers place (scanned_records o.schema file))
       → is_scan o.what ≡ true → Dealt shares
-  dealt-scan shares dealt each all before placed are scan = (
-    all ∙ grown-long,
-    λ k less. before k less ∙ grown-before k less,
-    λ place less. placed place (omega arith) ∙ ap Some (are place less)
-        ∙ ap (λ b. if b then Some (share_of scanned_number o.workers place (scanned_records o.schema file)) else None) (sym scan),
-  )
+  dealt-scan dealt shares is each are scan =
+      appended (map Some dealt) shares is (length-map dealt Some ∙ each)
+      (λ place less. get_or-map Some dealt place [] None (omega arith) ∙ ap Some (are place less)
+      ∙ ap (λ b. if b then Some (share_of scanned_number o.workers place (scanned_records o.schema file)) else None) (sym scan))
 
-  pub dealt-other : is_scan o.what ≡ false → Dealt grown
-  dealt-other scan = (
-    grown-long,
-    grown-before,
-    λ place less. ap (λ xs. share_of_worker xs (length old + place)) grown-is ∙ get_or-append-add old (replicate o.workers None) place None
-        ∙ get_or-replicate o.workers place None None less
-        ∙ ap (λ b. if b then Some (share_of scanned_number o.workers place (scanned_records o.schema file)) else None) (sym scan),
-  )
+  pub dealt-other : (shares : List (Option (List Scanned))) → shares ≡ old ++ replicate o.workers None → is_scan o.what ≡ false → Dealt shares
+  dealt-other shares is scan =
+      appended (replicate o.workers None) shares is (length-replicate o.workers None)
+      (λ place less. get_or-replicate o.workers place None None less
+      ∙ ap (λ b. if b then Some (share_of scanned_number o.workers place (scanned_records o.schema file)) else None) (sym scan))
 
 -- ---- how many workers
 
@@ -137,10 +88,15 @@ module _ (flow : List Operator) (files : List (List ℕ)) (i : ℕ) (o : Operato
   header-more left headed =
       wrong_header-more files flow i o (wrong_header 1 files flow) inside is left (subst (λ f. is_headed o.what o.schema f ≡ true) file_is headed)
 
-  pub header-names : wrong_header 1 files flow ≡ wrong_header (i + 1) (files_left files (take i flow)) (drop i flow) → (error : HomeErr) → NamesOperator error o file (i + 1) → NamesScan error flow files
-  header-names left (home_err.Header named) has =
-      wrong_header-here files flow i o (wrong_header 1 files flow) inside is left (subst (λ f. is_headed o.what o.schema f ≡ false) file_is has.1) ∙ ap Some (sym has.0)
-  header-names left home_err.NoMemory has = tt
+  -- where no header is wrong, this one is right
+  pub header-right : wrong_header 1 files flow ≡ wrong_header (i + 1) (files_left files (take i flow)) (drop i flow) → wrong_header 1 files flow ≡ None → is_headed o.what o.schema file ≡ true
+  header-right left none = by-header (is_headed o.what o.schema file) refl
+    where
+      by-header : (b : Bool) → is_headed o.what o.schema file ≡ b → b ≡ true
+      by-header true e = refl
+      by-header false e =
+          let wrong = wrong_header-here files flow i o (wrong_header 1 files flow) inside is left (subst (λ f. is_headed o.what o.schema f ≡ false) file_is e) in
+          cc
 
   -- ---- the workers of one operator
 
@@ -194,7 +150,7 @@ module _ (flow : List Operator) (files : List (List ℕ)) (i : ℕ) (o : Operato
       ap crew_of (take_more flow i o inside) ∙ crew-append (take i flow) (get_or flow i o)
       ∙ ap (λ (x : Operator). crew_of (take i flow) + x.workers) (sym is)
 
-  -- its workers come behind the others
+  -- its workers come after the others
   pub dealt-more : (old new : List (Option (List Scanned))) → length old ≡ crew_of (take i flow) → length new ≡ length old + o.workers
       → ((k : ℕ) → k < length old → share_of_worker new k ≡ share_of_worker old k) → ((place : ℕ) → place < o.workers → share_of_worker new (length old + place) ≡ dealt_share o file place)
       → ((k : ℕ) → k < crew_of (take i flow) → IsDealt flow (records_of files flow) k (share_of_worker old k))

@@ -1,5 +1,5 @@
 -- The workers of a run that has not begun, and the links between them.
-use Rattle.std.specs.Prelude.{◌≡◌, ℕ, ◌<◌, ◌≤◌, List, [], ◌∷◌, ◌++◌, All, filter, map, length, slice_index_or, is_some, Option, None, Some, Result, Ok, Err, ⊤, if◌then◌else◌, Bool, true, false}
+use Rattle.std.specs.Prelude.{◌≡◌, ℕ, ◌<◌, ◌≤◌, List, [], ◌∷◌, ◌++◌, All, filter, map, length, slice_index_or, is_some, Option, None, Some, Result, if◌then◌else◌, Bool, true, false}
 use Rattle.amber_rows.specs.Topology.{crew_of, op_of, sends_to, what_at}
 use Rattle.amber_rows.specs.Kinds.{is_scan}
 use Rattle.amber_rows.specs.Lists.{numbers_below}
@@ -10,9 +10,7 @@ use Rattle.amber_link.specs.declared.ends.In.{In}
 use Rattle.amber_rows.specs.declared.record.RowFault.{RowFault}
 use Rattle.amber_rows.specs.declared.value.Value.{Value}
 use Rattle.amber_rows.specs.Shares.{share_of}
-use Rattle.amber_meaning.specs.Plain.{wrong_header}
 use Rattle.amber_meaning.specs.Plan.{role_of}
-use Rattle.amber_meaning.specs.ScanFiles.{is_headed}
 use Rattle.amber_scan.specs.Shares.{scanned_number, scanned_records}
 use Rattle.amber_scan.specs.declared.share.Scanned.{Scanned}
 use Rattle.amber_worker.specs.AtPosition.{HasShare}
@@ -20,8 +18,6 @@ use Rattle.amber_worker.specs.Changes.{StandsNew}
 use Rattle.amber_worker.specs.Made.{IsFreshIn, IsFreshOut, end_of, link_of, roomless}
 use Rattle.amber_worker.specs.WorkerState.{WorkerState}
 use Rattle.amber_dataflow.specs.AtWork.{worker_state_at}
-use Rattle.amber_dataflow.specs.declared.error.HomeErr.{HomeErr}
-use Rattle.amber_dataflow.specs.declared.error.HomeErr.TheVariants as home_err
 
 -- the ends of one worker
 abbrev pub ends_at : {A : Type 0} → List (List A) → ℕ → List A
@@ -40,7 +36,7 @@ pub record Sending : Type 0 where
   pub count : ℕ
   pub before : List (List In)
 
--- a receiver was given the other end of its link with the sender, behind those that it held
+-- a receiver was given the other end of its link with the sender, after those that it held
 pub record GivesEnd (sending : Sending) (outs : List Out) (after : List (List In)) (receiver : ℕ) : Type 0 where
   pub into : In
   pub is : ends_at after receiver ≡ ends_at sending.before receiver ++ into ∷ []
@@ -110,16 +106,6 @@ abbrev pub dealt_share : Operator → List ℕ → ℕ → Option (List Scanned)
 dealt_share operator file place =
     if is_scan operator.what then Some (share_of scanned_number operator.workers place (scanned_records operator.schema file)) else None
 
--- an operator is named, a scan whose file does not begin with its columns' names
-abbrev pub NamesOperator : HomeErr → Operator → List ℕ → ℕ → Type 0
-NamesOperator (home_err.Header named) operator file op = (named ≡ op) × (is_headed operator.what operator.schema file ≡ false)
-NamesOperator home_err.NoMemory operator file op = ⊤
-
--- something is made exactly where the operator is no scan, or its file begins with its columns' names; else the operator is named
-abbrev pub HasHeader : {A : Type 0} → Result A HomeErr → Operator → List ℕ → ℕ → Type 0
-HasHeader (Ok made) operator file op = is_headed operator.what operator.schema file ≡ true
-HasHeader (Err error) operator file op = NamesOperator error operator file op
-
 -- each of a scan's workers was given its share of the scan's records, and nobody else was given one
 pub record AreSharesDealt (flow : List Operator) (records : List (List (Result (List Value) RowFault))) (shares : List (Option (List Scanned))) : Type 0 where
   pub all : length shares ≡ crew_of flow
@@ -147,15 +133,3 @@ pub record IsNew (parts : Parts) (worker : ℕ) (made : WorkerState) : Type 0 wh
 pub record AreNew (parts : Parts) (crew : List WorkerState) : Type 0 where
   pub all : length crew ≡ crew_of parts.flow
   pub each : (worker : ℕ) → worker < crew_of parts.flow → IsNew parts worker (worker_state_at crew worker)
-
--- ---- whether they can begin
-
--- the first scan is named whose file does not begin with the names of its columns
-abbrev pub NamesScan : HomeErr → List Operator → List (List ℕ) → Type 0
-NamesScan (home_err.Header op) flow files = wrong_header 1 files flow ≡ Some op
-NamesScan home_err.NoMemory flow files = ⊤
-
--- a run begins only where each scan's file begins with the names of its columns; else the first that does not is named
-abbrev pub BeginsOrNames : {A : Type 0} → Result A HomeErr → List Operator → List (List ℕ) → Type 0
-BeginsOrNames (Ok made) flow files = wrong_header 1 files flow ≡ None
-BeginsOrNames (Err error) flow files = NamesScan error flow files

@@ -1,4 +1,5 @@
-//! What is counted of the workers.
+//! What is counted of the workers: rows, steps, and whether all have finished. Over the calls of `Worker`
+//! that tell it.
 
 ghost use Rattle.std.specs.Prelude.{◌≡◌, ◌^◌, ◌<◌, ◌≤◌, length};
 ghost use Rattle.std.specs.List.{list_all};

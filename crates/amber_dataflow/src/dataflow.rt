@@ -1,22 +1,22 @@
-//! The workers of a run and their workflow: how they begin, what a step does, and what is read of them.
+//! The workers of a run and their workflow: how they begin, what a step does, and what is read of them. Over
+//! the functions of the other files, each of which does one of these for all workers.
 
-ghost use Rattle.std.specs.Prelude.{◌≡◌, ◌^◌, ◌<◌, ◌≤◌, ℕ, IfOk, OnErr, OnOk, false, length, replicate, true};
+ghost use Rattle.std.specs.Prelude.{◌≡◌, ◌^◌, ◌<◌, ◌≤◌, ℕ, IfOk, None, OnErr, OnOk, false, length, replicate, true};
 ghost use Rattle.amber_rows.specs.Topology.{crew_of};
 ghost use Rattle.amber_meaning.specs.Legal.{query_over};
+ghost use Rattle.amber_meaning.specs.Plain.{wrong_header};
 ghost use Rattle.amber_meaning.specs.Position.{origin};
 ghost use Rattle.amber_meaning.specs.State.{start_of};
 ghost use Rattle.amber_dataflow.specs.Dataflow as dataflow;
 ghost use Rattle.amber_dataflow.specs.Dataflow.{AreAllThere, FirstSteps, HaveDoneNothing, IsAnswerOf, IsFirst, ShowAt, StandAt, StepsAt};
 ghost use Rattle.amber_dataflow.specs.Dataflow.{leg_begun, handed_out, leg_parts, step_count, constant_put, without_workers};
-ghost use Rattle.amber_dataflow.specs.Start.{BeginsOrNames};
 
 use crate::counts::{emitted_by, have_finished, steps_of};
-use crate::error::HomeErr;
 use crate::gathering::{gather, gather_all};
 use crate::journals::take_parts;
 use crate::new_workers::start_crew;
 use crate::setting::{begin_all, copies_of, set_workers};
-use crate::stepping::{first_unfinished, step};
+use crate::stepping::{first_unfinished, step_worker};
 use crate::views::views_of;
 use amber_log::Parts;
 use amber_meaning::{Answer, Views};
@@ -26,8 +26,8 @@ use std::alloc::{AllocError, Global};
 use std::marker::Model;
 use std::mem;
 
-/// All workers of a run, with the workflow that they carry out, seen as a `DataflowState`. Operators are numbered from 1, workers
-/// from 0 over all operators.
+/// All workers of a run, with the workflow that they carry out, seen as a `DataflowState`. Operators are
+/// numbered from 1, workers from 0 over all operators.
 #[derive(Drop)]
 pub struct Dataflow {
     flow: Flow,
@@ -46,24 +46,21 @@ impl Model for Dataflow {
 }
 
 impl Dataflow {
-    /// The workers of a workflow over the files of its scans, at the start of a run, with so many rows in a batch, 1 to 65,536.
-    ///
-    /// # Errors
-    ///
-    /// `Header` with the first scan whose file does not begin with the names of its columns.
+    /// The workers of a workflow over the files of its scans, each of which is known to begin with the names
+    /// of its columns, at the start of a run, with this many rows in a batch, 1 to 65,536.
     pub fn new(
         alloc: Global,
         flow: Flow,
         files: &Files,
         batch_size: u32,
-    ) -> Result<Dataflow, HomeErr>
+    ) -> Result<Dataflow, AllocError>
         requires some { 0 < batch_size }
         requires few { batch_size ≤ 65536 }
+        requires headers { wrong_header 1 files.now flow ≡ None }
         ensures flow { IfOk result (λ made. made.flow ≡ flow) }
         ensures start { IfOk result (λ made. (most : ℕ) → StandAt
             (query_over flow files.now batch_size most) (start_of flow) made (λ _. origin)) }
         ensures journals { IfOk result HaveDoneNothing }
-        ensures header { BeginsOrNames result flow files.now }
     {
         let workers = start_crew(alloc, &flow, files, batch_size)?;
         Ok(Dataflow { flow, workers })
@@ -85,8 +82,8 @@ impl Dataflow {
         begin_all(self.workers.as_mut_slice());
     }
 
-    /// One step of a worker, where all before it have finished. What it has made goes on to its receivers. After want of memory no
-    /// worker is left.
+    /// One step of a worker, where all before it have finished. What it has made goes on to its receivers.
+    /// After running out of memory no worker is left.
     pub fn step(&mut self, worker: u32) -> Result<(), AllocError>
         requires workers { AreAllThere self.old }
         requires first { IsFirst self.old worker }
@@ -94,7 +91,7 @@ impl Dataflow {
         ensures steps { OnOk result (StepsAt self.old self.new worker) }
         ensures err { OnErr result (self.new ≡ without_workers self.old) }
     {
-        match step(self.workers.as_mut_slice(), worker as usize) {
+        match step_worker(self.workers.as_mut_slice(), worker as usize) {
             Ok(()) => Ok(()),
             Err(error) => {
                 self.workers.clear();
@@ -103,7 +100,7 @@ impl Dataflow {
         }
     }
 
-    /// One step of the first worker that has not finished. After want of memory no worker is left.
+    /// One step of the first worker that has not finished. After running out of memory no worker is left.
     pub fn step_first(&mut self) -> Result<(), AllocError>
         requires workers { AreAllThere self.old }
         requires unfinished { dataflow.have_all_finished self.old ≡ false }
@@ -115,7 +112,8 @@ impl Dataflow {
         self.step(worker as u32)
     }
 
-    /// Hands out what the workers have done, as the parts of a leg. After want of memory no worker is left.
+    /// Hands out what the workers have done, as the parts of a leg. After running out of memory no worker is
+    /// left.
     pub fn take_parts(&mut self, alloc: Global) -> Result<Parts, AllocError>
         requires { AreAllThere self.old }
         ensures parts { IfOk result (λ parts. parts ≡ leg_parts self.old) }
@@ -141,8 +139,8 @@ impl Dataflow {
         copies_of(alloc, value, self.workers.len())
     }
 
-    /// Puts a value in place of the constant of an operator's workers, for rows that are taken from here on. It takes no memory: the
-    /// copies are those of `copies_of`.
+    /// Puts a value in place of the constant of an operator's workers, for rows that are taken from here on.
+    /// It takes no memory: the copies are those of `copies_of`.
     pub fn set(&mut self, op: u32, value: &Value, copies: Vec<Value>)
         requires copies { copies.items ≡ replicate (length self.old.workers) value.now }
         requires rest { HaveDoneNothing self.old }

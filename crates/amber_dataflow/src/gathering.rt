@@ -1,4 +1,5 @@
-//! The answer of workers that have all finished.
+//! The answer of workers that have all finished. Over `Worker::given` of `amber_worker`, and `compare` of
+//! `amber_rows`.
 
 ghost use Rattle.std.specs.Prelude.{◌≡◌, IfOk, length};
 ghost use Rattle.amber_rows.specs.Columns.{columns_at};

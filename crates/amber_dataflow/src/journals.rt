@@ -1,4 +1,5 @@
-//! The workers hand out what they have done.
+//! The workers hand out what they have done, as the parts of a leg. Over `Worker::take_journal` of
+//! `amber_worker`.
 
 ghost use Rattle.std.specs.Prelude.{◌≡◌, ◌++◌, ◌<◌, ◌^◌, length, map, IfOk, OnOk};
 ghost use Rattle.amber_dataflow.specs.Parts.{part_if_any, parts_from, without_journal};
@@ -7,7 +8,7 @@ use amber_log::{Entries, Part, Parts};
 use amber_worker::Worker;
 use std::alloc::{AllocError, Global};
 
-// Puts a worker's part behind the others, if it has done something.
+// Appends a worker's part to the others, if it has done something.
 fn push_part(parts: &mut Vec<Part>, worker: u32, entries: Entries) -> Result<(), AllocError>
     ensures { OnOk result (parts.new.items ≡ parts.old.items ++ part_if_any worker entries) }
 {

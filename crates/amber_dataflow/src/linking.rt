@@ -1,4 +1,6 @@
-//! The links between the workers of a workflow, before anything went through them.
+//! The links between the workers of a workflow, before anything went through them. Over `link` of
+//! `amber_link`.
+
 ghost use Rattle.std.specs.Prelude.{◌≡◌, ◌∷◌, ◌++◌, ◌<◌, ◌≤◌, [], IfOk, OnOk, length, replicate};
 ghost use Rattle.amber_rows.specs.Topology.{crew_of, sends_to};
 ghost use Rattle.amber_dataflow.specs.Start.{AreEnds, GivesEnds, web_of};
@@ -9,33 +11,33 @@ use std::alloc::{AllocError, Global};
 use std::marker::Model;
 use std::mem;
 
-/// The ends of a worker's links to its receivers, by rising numbers, seen as their list.
+/// The ends of a worker's links, those to its receivers or those with its senders, by the rising numbers of
+/// these workers. They are seen as their list.
 #[derive(Drop)]
-pub(crate) struct Outs {
-    ends: Vec<Out>,
+pub(crate) struct Ends<E: Drop> {
+    ends: Vec<E>,
 }
 
-impl Model for Outs {
+impl<E: Drop> Model for Ends<E> {
     ghost use Rattle.std.specs.Prelude.{List};
-    ghost use Rattle.amber_link.specs.declared.ends.Out.{Out as OneOut};
 
-    ghost Value = { List OneOut };
+    ghost Value = { List E };
 
     ghost view = { λ a. a.ends.items };
 }
 
-impl Outs {
-    /// Of no receivers.
+impl<E: Drop> Ends<E> {
+    /// Of no links.
     pub(crate) fn new(alloc: Global) -> Self
         ensures { result ≡ [] }
     {
-        Outs {
+        Ends {
             ends: Vec::new(alloc),
         }
     }
 
-    /// Puts an end behind the others.
-    pub(crate) fn push(&mut self, end: Out) -> Result<(), AllocError>
+    /// Appends an end to the others.
+    pub(crate) fn push(&mut self, end: E) -> Result<(), AllocError>
         ensures { OnOk result (self.new ≡ self.old ++ end ∷ []) }
     {
         self.ends.push(end)?;
@@ -43,7 +45,7 @@ impl Outs {
     }
 
     /// Hands out the ends, and keeps none.
-    pub(crate) fn take(&mut self, alloc: Global) -> Vec<Out>
+    pub(crate) fn take(&mut self, alloc: Global) -> Vec<E>
         ensures taken { result.items ≡ self.old }
         ensures rest { self.new ≡ [] }
     {
@@ -51,68 +53,26 @@ impl Outs {
     }
 }
 
-/// The ends of a worker's links with its senders, by rising numbers, seen as their list.
-#[derive(Drop)]
-pub(crate) struct Ins {
-    ends: Vec<In>,
-}
-
-impl Model for Ins {
-    ghost use Rattle.std.specs.Prelude.{List};
-    ghost use Rattle.amber_link.specs.declared.ends.In.{In as OneIn};
-
-    ghost Value = { List OneIn };
-
-    ghost view = { λ a. a.ends.items };
-}
-
-impl Ins {
-    /// With no senders.
-    pub(crate) fn new(alloc: Global) -> Self
-        ensures { result ≡ [] }
-    {
-        Ins {
-            ends: Vec::new(alloc),
-        }
-    }
-
-    /// Puts an end behind the others.
-    pub(crate) fn push(&mut self, end: In) -> Result<(), AllocError>
-        ensures { OnOk result (self.new ≡ self.old ++ end ∷ []) }
-    {
-        self.ends.push(end)?;
-        Ok(())
-    }
-
-    /// Hands out the ends, and keeps none.
-    pub(crate) fn take(&mut self, alloc: Global) -> Vec<In>
-        ensures taken { result.items ≡ self.old }
-        ensures rest { self.new ≡ [] }
-    {
-        mem::replace(&mut self.ends, Vec::new(alloc))
-    }
-}
-
-// For so many workers, with no senders yet.
-fn no_ins(alloc: Global, workers: u32) -> Result<Vec<Ins>, AllocError>
+// For this many workers, with no senders yet.
+fn no_ins(alloc: Global, workers: u32) -> Result<Vec<Ends<In>>, AllocError>
     ensures { IfOk result (λ ins. ins.items ≡ replicate workers []) }
 {
     let mut ins = Vec::with_capacity(alloc, workers as usize)?;
     for _ in 0..workers {
-        ins.push(Ins::new(alloc))?;
+        ins.push(Ends::new(alloc))?;
     }
     Ok(ins)
 }
 
-// Links a worker with all of its receivers. Each of these gets its end behind those of earlier
+// Links a worker with all of its receivers. Each of these gets its end after those of earlier
 // senders.
 fn link_sender(
     alloc: Global,
     flow: &Flow,
     sender: u32,
     batch_size: u32,
-    ins: &mut [Ins],
-) -> Result<Outs, AllocError>
+    ins: &mut [Ends<In>],
+) -> Result<Ends<Out>, AllocError>
     requires some { 0 < batch_size }
     requires few { batch_size ≤ 65536 }
     requires there { sender < crew_of flow.now }
@@ -124,7 +84,7 @@ fn link_sender(
       before = ins.old;
     }) outs ins.new) }
 {
-    let mut outs = Outs::new(alloc);
+    let mut outs = Ends::new(alloc);
     'receivers: for receiver in 0..flow.workers() {
         if flow.sends_to(sender, receiver) {
             let (out, into) = link(alloc, batch_size)?;
@@ -141,7 +101,7 @@ pub(crate) fn link_crew(
     alloc: Global,
     flow: &Flow,
     batch_size: u32,
-) -> Result<(Vec<Outs>, Vec<Ins>), AllocError>
+) -> Result<(Vec<Ends<Out>>, Vec<Ends<In>>), AllocError>
     requires some { 0 < batch_size }
     requires few { batch_size ≤ 65536 }
     ensures { IfOk result (λ ends. AreEnds (web_of flow.now batch_size) ends.0.items ends.1.items) }

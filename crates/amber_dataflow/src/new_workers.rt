@@ -1,17 +1,18 @@
-//! The workers of a run that has not begun.
-ghost use Rattle.std.specs.Prelude.{◌≡◌, ◌<◌, ◌≤◌, ℕ, [], IfOk, is_some, length};
+//! The workers of a run that has not begun. Over `deal_all` of `shares`, and `link_crew` of `linking`.
+
+ghost use Rattle.std.specs.Prelude.{◌≡◌, ◌<◌, ◌≤◌, ℕ, [], IfOk, None, is_some, length};
 ghost use Rattle.amber_meaning.specs.Legal.{query_over};
+ghost use Rattle.amber_meaning.specs.Plain.{wrong_header};
 ghost use Rattle.amber_meaning.specs.Position.{origin};
 ghost use Rattle.amber_meaning.specs.State.{start_of};
 ghost use Rattle.amber_dataflow.specs.AtWork.{AreAtWork, worker_state_at};
-ghost use Rattle.amber_dataflow.specs.Start.{BeginsOrNames};
 ghost use Rattle.amber_rows.specs.Topology.{crew_of, op_of, what_at};
 ghost use Rattle.amber_rows.specs.Kinds.{is_scan};
 ghost use Rattle.amber_dataflow.specs.Start.{AreEnds, AreNew, share_of_worker, web_of};
 
-use crate::error::HomeErr;
-use crate::linking::{Ins, Outs, link_crew};
+use crate::linking::{Ends, link_crew};
 use crate::shares::deal_all;
+use amber_link::{In, Out};
 use amber_rows::{Files, Flow};
 use amber_scan::Share;
 use amber_worker::Worker;
@@ -23,8 +24,8 @@ fn make_crew(
     flow: &Flow,
     batch_size: u32,
     mut shares: Vec<Option<Share>>,
-    mut outs: Vec<Outs>,
-    mut ins: Vec<Ins>,
+    mut outs: Vec<Ends<Out>>,
+    mut ins: Vec<Ends<In>>,
 ) -> Result<Vec<Worker>, AllocError>
     requires some { 0 < batch_size }
     requires few { batch_size ≤ 65536 }
@@ -52,25 +53,25 @@ fn make_crew(
     Ok(crew)
 }
 
-// The workers of a workflow over the files of its scans, at the start of a run, in the order of
-// their numbers. `Header` comes with the first scan whose file does not begin with the names of
-// its columns.
+// The workers of a workflow over the files of its scans, which were checked, at the start of a run, in the
+// order of their numbers.
 pub(crate) fn start_crew(
     alloc: Global,
     flow: &Flow,
     files: &Files,
     batch_size: u32,
-) -> Result<Vec<Worker>, HomeErr>
+) -> Result<Vec<Worker>, AllocError>
     requires some { 0 < batch_size }
     requires few { batch_size ≤ 65536 }
-    ensures header { BeginsOrNames result flow.now files.now }
+    requires headers { wrong_header 1 files.now flow.now ≡ None }
     ensures start { IfOk result (λ crew. (most : ℕ) → AreAtWork
-        (query_over flow.now files.now batch_size most) (start_of flow.now) crew.items (λ _. origin)) }
+        (query_over flow.now files.now batch_size most) (start_of flow.now) crew.items
+        (λ _. origin)) }
     ensures journals { IfOk result (λ crew. (worker : ℕ)
         → (worker_state_at crew.items worker).journal ≡ []) }
 {
     let _operators = flow.get();
     let shares = deal_all(alloc, flow, files)?;
     let (outs, ins) = link_crew(alloc, flow, batch_size)?;
-    Ok(make_crew(alloc, flow, batch_size, shares, outs, ins)?)
+    make_crew(alloc, flow, batch_size, shares, outs, ins)
 }

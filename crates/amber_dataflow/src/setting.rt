@@ -1,4 +1,5 @@
-//! Between legs the workers are given another constant, or begin a leg.
+//! Between legs the workers are given another constant, or begin a leg. Over `Worker::set` and
+//! `Worker::begin` of `amber_worker`.
 
 ghost use Rattle.std.specs.Prelude.{◌≡◌, IfOk, length, map, replicate};
 ghost use Rattle.amber_worker.specs.Changes.{at_leg_start};
@@ -8,7 +9,7 @@ use amber_rows::Value;
 use amber_worker::Worker;
 use std::alloc::{AllocError, Global};
 
-/// So many copies of a value.
+/// This many copies of a value.
 pub(crate) fn copies_of(
     alloc: Global,
     value: &Value,

@@ -1,4 +1,5 @@
-//! Moving batches on: what a worker has made goes into the inboxes of those to which it sends.
+//! Moving batches on: what a worker has made goes into the inboxes of those to which it sends. Over
+//! `settle_workers` of `amber_worker`, which does so for two of them.
 
 ghost use Rattle.std.specs.Prelude.{◌≡◌, ◌≢◌, ◌<◌, ◌==◌, ℕ, OnOk, length, slice_index_or, true};
 ghost use Rattle.std.specs.List.{list_any};
@@ -10,7 +11,7 @@ use amber_worker::{Worker, settle_workers};
 use std::alloc::AllocError;
 
 // Moves the batches that a worker has made for another one, to which it sends, into that one's
-// inbox. A receiver stands behind its senders.
+// inbox. A receiver stands after its senders.
 fn pass_on(crew: &mut [Worker], from: usize, to: usize) -> Result<(), AllocError>
     requires crew { IsJoinedCrew crew.old }
     requires there { from < length crew.old }

@@ -1,17 +1,18 @@
-//! The records of all scans, dealt to the workers.
-ghost use Rattle.std.specs.Prelude.{◌≡◌, ◌+◌, ◌++◌, ◌<◌, ◌≤◌, ◌^◌, ℕ, [], Some, None};
-ghost use Rattle.std.specs.Prelude.{IfOk, OnOk, length, replicate, slice_index_or};
-ghost use Rattle.amber_meaning.specs.Plain.{records_of};
-ghost use Rattle.amber_dataflow.specs.Start.{BeginsOrNames};
-ghost use Rattle.amber_dataflow.specs.Start.{AreSharesDealt, HasHeader, dealt_share, share_of_worker};
+//! The records of all scans, dealt to the workers. Over `deal_checked` of `amber_scan`, and `file_after` of
+//! `amber_meaning`.
 
-use crate::error::HomeErr;
-use amber_meaning::file_behind;
+ghost use Rattle.std.specs.Prelude.{◌≡◌, ◌+◌, ◌++◌, ◌<◌, ◌≤◌, ◌^◌, ℕ, Some, None};
+ghost use Rattle.std.specs.Prelude.{IfOk, OnOk, length, map, replicate, true};
+ghost use Rattle.amber_meaning.specs.Plain.{records_of, wrong_header};
+ghost use Rattle.amber_meaning.specs.ScanFiles.{is_headed};
+ghost use Rattle.amber_dataflow.specs.Start.{AreSharesDealt, dealt_share, share_of_worker};
+
+use amber_meaning::file_after;
 use amber_rows::{Files, Flow, Operator};
-use amber_scan::{ScanErr, Share, deal};
+use amber_scan::{Share, deal_checked};
 use std::alloc::{AllocError, Global};
 
-// So many workers more, who are given nothing yet.
+// This many workers more, who are given nothing.
 fn push_none(workers: u32, shares: &mut Vec<Option<Share>>) -> Result<(), AllocError>
     ensures { OnOk result (shares.new.items ≡ shares.old.items ++ replicate workers None) }
 {
@@ -21,35 +22,27 @@ fn push_none(workers: u32, shares: &mut Vec<Option<Share>>) -> Result<(), AllocE
     Ok(())
 }
 
-// Gives these shares to the last workers, in their order.
-fn place_shares(mut dealt: Vec<Share>, first: usize, shares: &mut Vec<Option<Share>>)
-    requires room { first + length dealt.items ≡ length shares.old.items }
-    ensures all { length shares.new.items ≡ length shares.old.items }
-    ensures before { (k : ℕ) → k < first
-        → share_of_worker shares.new.items k ≡ share_of_worker shares.old.items k }
-    ensures placed { (place : ℕ) → place < length dealt.items
-        → share_of_worker shares.new.items (first + place)
-        ≡ Some (slice_index_or dealt.items place []) }
+// As many workers more as there are shares, each of whom is given one, in their order.
+fn push_shares(dealt: Vec<Share>, shares: &mut Vec<Option<Share>>) -> Result<(), AllocError>
+    ensures { OnOk result (shares.new.items ≡ shares.old.items ++ map Some dealt.items) }
 {
-    'dealt: while let Some(share) = dealt.pop() {
-        let place = first + dealt.len();
-        shares[place] = Some(share);
+    for share in dealt {
+        shares.push(Some(share))?;
     }
+    Ok(())
 }
 
-// Gives each worker of an operator, which come behind the others, its share of the file, if it is
-// a scan.
+// Gives each worker of an operator, which come after the others, its share of the file, if it is a scan.
 fn deal_operator(
     alloc: Global,
     operator: &Operator,
-    op: u32,
     file: &[u8],
     shares: &mut Vec<Option<Share>>,
-) -> Result<(), HomeErr>
+) -> Result<(), AllocError>
     requires some { 0 < operator.now.workers }
     requires few { operator.now.workers ≤ 16 }
     requires columns { length operator.now.schema < 2 ^ 32 }
-    ensures header { HasHeader result operator.now file.now op }
+    requires headed { is_headed operator.now.what operator.now.schema file.now ≡ true }
     ensures all { OnOk result
         (length shares.new.items ≡ length shares.old.items + operator.now.workers) }
     ensures before { OnOk result ((k : ℕ) → k < length shares.old.items
@@ -58,43 +51,29 @@ fn deal_operator(
         → share_of_worker shares.new.items (length shares.old.items + place)
         ≡ dealt_share operator.now file.now place) }
 {
-    let first = shares.len();
-    push_none(operator.workers, shares)?;
     if !operator.what.is_scan() {
-        return Ok(());
+        return push_none(operator.workers, shares);
     }
-    match deal(alloc, file, &operator.schema, operator.workers) {
-        Ok(dealt) => {
-            place_shares(dealt, first, shares);
-            Ok(())
-        }
-        Err(ScanErr::Header) => Err(HomeErr::Header(op)),
-        Err(ScanErr::NoMemory) => Err(HomeErr::NoMemory),
-    }
+    let dealt = deal_checked(alloc, file, &operator.schema, operator.workers)?;
+    push_shares(dealt, shares)
 }
 
-// What each worker is given of the files: a scan's its share of the records, nobody else a share.
-// `Header` comes with the first scan whose file does not begin with the names of its columns.
+// What each worker is given of the files, which were checked: a scan's its share of the records, nobody else
+// a share.
 pub(crate) fn deal_all(
     alloc: Global,
     flow: &Flow,
     files: &Files,
-) -> Result<Vec<Option<Share>>, HomeErr>
-    ensures header { BeginsOrNames result flow.now files.now }
-    ensures shares { IfOk result (λ shares.
+) -> Result<Vec<Option<Share>>, AllocError>
+    requires headers { wrong_header 1 files.now flow.now ≡ None }
+    ensures { IfOk result (λ shares.
         AreSharesDealt flow.now (records_of files.now flow.now) shares.items) }
 {
     let operators = flow.get();
     let mut shares = Vec::new(alloc);
     'operators: for before in 0..operators.len() {
-        let file = file_behind(flow, files, before);
-        deal_operator(
-            alloc,
-            &operators[before],
-            before as u32 + 1,
-            file,
-            &mut shares,
-        )?;
+        let file = file_after(flow, files, before);
+        deal_operator(alloc, &operators[before], file, &mut shares)?;
     }
     Ok(shares)
 }

@@ -1,4 +1,5 @@
-//! A step of one worker, behind which its links are settled again.
+//! A step of one worker, after which its links are settled again. Over `Worker::turn` of `amber_worker`, and
+//! `settling`.
 
 ghost use Rattle.std.specs.Prelude.{◌≡◌, ◌+◌, ◌^◌, ◌<◌, ◌≤◌, OnOk, false, length};
 ghost use Rattle.std.specs.List.{list_all};
@@ -12,7 +13,7 @@ use amber_worker::Worker;
 use std::alloc::AllocError;
 
 /// One step of a worker whose senders have all finished. What it has made goes on to its receivers.
-pub(crate) fn step(crew: &mut [Worker], number: usize) -> Result<(), AllocError>
+pub(crate) fn step_worker(crew: &mut [Worker], number: usize) -> Result<(), AllocError>
     requires there { number < length crew.old }
     requires crew { IsCrew crew.old }
     requires first { HaveFinished number crew.old }

@@ -1,4 +1,4 @@
-//! What workers show.
+//! What the workers of an operator show. Over `Worker::view` of `amber_worker`.
 
 ghost use Rattle.std.specs.Prelude.{◌≡◌, ◌<◌, ◌≤◌, IfOk, length};
 ghost use Rattle.amber_rows.specs.Topology.{crew_of, workers_of};

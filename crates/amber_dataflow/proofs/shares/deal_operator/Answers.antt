@@ -1,27 +1,36 @@
--- The shares of a scan are placed behind those of the others.
-use Rattle.std.proofs.Common.{◌≡◌, ◌∙◌, ◌+◌, ◌<◌, ap, sym, subst, length, rules, arith}
-use Rattle.amber_dataflow.specs.Start.{share_of_worker}
-use Rattle.amber_dataflow.proofs.Dealing.{dealt-other, dealt-scan, grown-long}
+-- The shares of a scan are appended to those of the others.
+use Rattle.std.proofs.Common.{◌≡◌, ◌++◌, ◌∙◌, Some, map, sym, true, false}
+use Rattle.std.proofs.lemmas.Result.{on_ok_weaker}
+use Rattle.amber_rows.specs.Kinds.{is_scan}
+use Rattle.amber_dataflow.proofs.Dealing.{dealt-other, dealt-scan}
 use Rattle.amber_dataflow.proofs.shares.deal_operator.Goals as goal
 
-pub place_shares-requires : goal.place_shares-requires
-place_shares-requires c =
-    let first : c.len-first.result ≡ length c.args.shares.now.items = c.len-first.ensures ∙ c.args.shares.now.ok.0 in
-    let each = sym c.in-Ok.dealt.ok.0 ∙ c.in-Ok.ensures.one_each in
-    let long = grown-long c.args.operator.now c.args.file.now c.args.shares.now.items c.push_none.new.shares.items c.in_ok-push_none.ensures in
-    record { room = omega arith }
+pub deal_checked-requires-clause-header : goal.deal_checked-requires-clause-header
+deal_checked-requires-clause-header c =
+    let scan : is_scan c.args.operator.now.what ≡ true = sym c.if-not-is_scan.ensures in rw scan at c.requires.headed
 
 pub returns-then-not-is_scan : goal.returns-then-not-is_scan
 returns-then-not-is_scan c =
-    let done = dealt-other c.args.operator.now c.args.file.now c.args.shares.now.items c.push_none.new.shares.items c.in_ok-push_none.ensures (sym c.if-not-is_scan.ensures) in
-    record { header = search rules; all = done.0; before = done.1; dealt = done.2 }
+    let old = c.args.shares.now.items in
+    let new = c.push_none.new.shares.items in
+    let scan : is_scan c.args.operator.now.what ≡ false = sym c.if-not-is_scan.ensures in
+    let done = dealt-other c.args.operator.now c.args.file.now old new in
+    record {
+      all = on_ok_weaker c.push_none.result (λ is. (done is scan).0) c.push_none.ensures;
+      before = on_ok_weaker c.push_none.result (λ is. (done is scan).1) c.push_none.ensures;
+      dealt = on_ok_weaker c.push_none.result (λ is. (done is scan).2) c.push_none.ensures;
+    }
 
-pub returns-in-Ok : goal.returns-in-Ok
-returns-in-Ok c =
-    let first : c.len-first.result ≡ length c.args.shares.now.items = c.len-first.ensures ∙ c.args.shares.now.ok.0 in
-    let done = dealt-scan c.args.operator.now c.args.file.now c.args.shares.now.items c.push_none.new.shares.items c.in_ok-push_none.ensures
-    c.place_shares.new.shares.items c.in-Ok.dealt.items (sym c.in-Ok.dealt.ok.0 ∙ c.in-Ok.ensures.one_each) c.place_shares.ensures.all
-    (λ k less. c.place_shares.ensures.before k (subst (λ n. k < n) (sym first) less))
-    (λ place less. ap (λ n. share_of_worker c.place_shares.new.shares.items (n + place)) (sym first) ∙ c.place_shares.ensures.placed place less)
-    c.in-Ok.ensures.shares (sym c.if-not-is_scan.ensures) in
-    record { header = search rules; all = done.0; before = done.1; dealt = done.2 }
+pub returns : goal.returns
+returns c =
+    let old = c.args.shares.now.items in
+    let new = c.push_shares.new.shares.items in
+    let scan : is_scan c.args.operator.now.what ≡ true = sym c.if-not-is_scan.ensures in
+    let shared = c.in_ok-dealt.ensures in
+    let each = sym c.in_ok-dealt.dealt.ok.0 ∙ shared.one_each in
+    let done = λ (is : new ≡ old ++ map Some c.in_ok-dealt.dealt.items). dealt-scan c.args.operator.now c.args.file.now old c.in_ok-dealt.dealt.items new is each shared.shares scan in
+    record {
+      all = on_ok_weaker c.push_shares.result (λ is. (done is).0) c.push_shares.ensures;
+      before = on_ok_weaker c.push_shares.result (λ is. (done is).1) c.push_shares.ensures;
+      dealt = on_ok_weaker c.push_shares.result (λ is. (done is).2) c.push_shares.ensures;
+    }

@@ -1,4 +1,4 @@
--- One more is put behind the others.
+-- One more is appended to the others.
 use Rattle.std.proofs.Common.{◌≡◌, ◌∙◌, ◌++◌, ◌∷◌, [], None, ap, append-nil, append_assoc, replicate, sym, arith}
 use Rattle.std.proofs.lemmas.List.{replicate-append-replicate}
 use Rattle.amber_dataflow.proofs.shares.push_none.Goals as goal

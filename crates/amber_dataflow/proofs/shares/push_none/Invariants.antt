@@ -1,4 +1,4 @@
--- So many were put behind the others.
+-- So many were appended to the others.
 use Rattle.std.proofs.Common.{◌≡◌, ◌++◌, None, replicate}
 use Rattle.amber_dataflow.proofs.shares.push_none.Given as goal
 

@@ -8,35 +8,35 @@ use Rattle.amber_dataflow.proofs.Kept.{crew-is, kept-back, none-left, stepped-ba
 use Rattle.amber_dataflow.proofs.Steps.{sum-member}
 use Rattle.amber_dataflow.proofs.dataflow.Dataflow.step.Goals as goal
 
-pub step-requires-clause-there : goal.step-requires-clause-there
-step-requires-clause-there c =
+pub step_worker-requires-clause-there : goal.step_worker-requires-clause-there
+step_worker-requires-clause-there c =
     let i = c.self.inside in
     let d : DataflowState = record { flow = i.flow; workers = i.workers.items } in
     let there : AreAllThere d = subst AreAllThere (sym c.self.view_is) c.requires.workers in
     let inside : c.args.worker < crew_of i.flow = subst (λ (e : DataflowState). c.args.worker < crew_of e.flow) (sym c.self.view_is) c.requires.first.there in
     subst (λ crew. c.args.worker < length crew) (sym c.as_mut_slice.ensures.value) (rw there inside)
 
-pub step-requires-clause-crew : goal.step-requires-clause-crew
-step-requires-clause-crew c =
+pub step_worker-requires-clause-crew : goal.step_worker-requires-clause-crew
+step_worker-requires-clause-crew c =
     let i = c.self.inside in
     let d : DataflowState = record { flow = i.flow; workers = i.workers.items } in
     subst IsCrew (sym c.as_mut_slice.ensures.value) (crew-is d c.self.invariant (subst AreAllThere (sym c.self.view_is) c.requires.workers))
 
-pub step-requires-clause-first : goal.step-requires-clause-first
+pub step_worker-requires-clause-first : goal.step_worker-requires-clause-first
 unfolding has_finished
-step-requires-clause-first c =
+step_worker-requires-clause-first c =
     subst (λ crew. HaveFinished c.args.worker crew) (sym c.as_mut_slice.ensures.value)
     (subst (λ (e : DataflowState). HaveFinished c.args.worker e.workers) (sym c.self.view_is) c.requires.first.first)
 
-pub step-requires-clause-unfinished : goal.step-requires-clause-unfinished
+pub step_worker-requires-clause-unfinished : goal.step_worker-requires-clause-unfinished
 unfolding has_finished
-step-requires-clause-unfinished c =
+step_worker-requires-clause-unfinished c =
     ap (λ crew. (worker_state_at crew c.args.worker).finished) c.as_mut_slice.ensures.value
     ∙ ap (λ (e : DataflowState). (worker_state_at e.workers c.args.worker).finished) c.self.view_is ∙ c.requires.first.unfinished
 
-pub step-requires-clause-few : goal.step-requires-clause-few
+pub step_worker-requires-clause-few : goal.step_worker-requires-clause-few
 unfolding step_count
-step-requires-clause-few c =
+step_worker-requires-clause-few c =
     let few : steps_by c.self.inside.workers.items < 2 ^ 40 = subst (λ (e : DataflowState). steps_by e.workers < 2 ^ 40) (sym c.self.view_is) c.requires.few in
     let one = sum-member c.self.inside.workers.items c.args.worker in
     subst (λ crew. steps_made (worker_state_at crew c.args.worker) < 2 ^ 40) (sym c.as_mut_slice.ensures.value) (omega arith)
@@ -48,7 +48,7 @@ invariant_of-self c =
     let d : DataflowState = record { flow = i.flow; workers = i.workers.items } in
     let few : steps_by i.workers.items < 2 ^ 40 = subst (λ (e : DataflowState). steps_by e.workers < 2 ^ 40) (sym c.self.view_is) c.requires.few in
     let s = c.in-Ok.ensures in
-    kept-back d c.self.invariant c.as_mut_slice.result.now c.step.new.crew i.workers.len c.args.worker c.as_mut_slice.ensures.value c.step.auto.crew i.workers.ok.0
+    kept-back d c.self.invariant c.as_mut_slice.result.now c.step_worker.new.crew i.workers.len c.args.worker c.as_mut_slice.ensures.value c.step_worker.auto.crew i.workers.ok.0
     (subst AreAllThere (sym c.self.view_is) c.requires.workers) few s.on s.one s.only s.rows s.writes
 
 pub returns-in-Ok-clause-steps : goal.returns-in-Ok-clause-steps
@@ -58,8 +58,8 @@ returns-in-Ok-clause-steps c =
     let d : DataflowState = record { flow = i.flow; workers = i.workers.items } in
     let few : steps_by i.workers.items < 2 ^ 40 = subst (λ (e : DataflowState). steps_by e.workers < 2 ^ 40) (sym c.self.view_is) c.requires.few in
     let s = c.in-Ok.ensures in
-    subst (λ e. StepsAt e (record { flow = i.flow; workers = take i.workers.len (c.step.new.crew ++ drop (length c.step.new.crew) i.workers.items) }) c.args.worker) c.self.view_is
-    (stepped-back d c.self.invariant c.as_mut_slice.result.now c.step.new.crew i.workers.len c.args.worker c.as_mut_slice.ensures.value c.step.auto.crew i.workers.ok.0
+    subst (λ e. StepsAt e (record { flow = i.flow; workers = take i.workers.len (c.step_worker.new.crew ++ drop (length c.step_worker.new.crew) i.workers.items) }) c.args.worker) c.self.view_is
+    (stepped-back d c.self.invariant c.as_mut_slice.result.now c.step_worker.new.crew i.workers.len c.args.worker c.as_mut_slice.ensures.value c.step_worker.auto.crew i.workers.ok.0
     (subst AreAllThere (sym c.self.view_is) c.requires.workers) few s.on s.one s.only s.rows s.writes)
 
 pub invariant_of-self-in-Err : goal.invariant_of-self-in-Err

@@ -6,7 +6,7 @@ use Rattle.amber_dataflow.proofs.Numbers.{length-put}
 use Rattle.amber_dataflow.proofs.Passed.{besides-then, joined-put}
 use Rattle.amber_dataflow.proofs.Stepped.{IsTurn, at-crew, come-then, goes-on, goes-on-settled, joined-then, not-wanted, one-then, only-then, rows-then, steps-then, writes-then}
 use Rattle.amber_dataflow.proofs.Split.{read-at}
-use Rattle.amber_dataflow.proofs.stepping.step.Goals as goal
+use Rattle.amber_dataflow.proofs.stepping.step_worker.Goals as goal
 
 pub settle_outputs-requires-clause-crew : goal.settle_outputs-requires-clause-crew
 settle_outputs-requires-clause-crew c =
