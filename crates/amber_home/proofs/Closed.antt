@@ -56,7 +56,7 @@ module _ (flow : List Operator) (state : State) (quiet : (op : ℕ) → IsQuiet 
   pub orders-left : (op : ℕ) → 0 < op → op ≤ length flow → orders_of (arms_at (without_stops flow state) op) ≡ orders_of (arms_at state op)
   orders-left op some within = ap orders_of (left-at op some within) ∙ left-orders op
 
--- the state behind a close
+-- the state after a close
 abbrev pub closed_state : Bool → Query → State → Close → State
 closed_state true query state closed = state
 closed_state false query state closed = after_close query state closed

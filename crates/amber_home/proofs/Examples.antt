@@ -92,7 +92,7 @@ two_steps_at_once : StepsOn before (within (part 0 (entry.Go 2 1 ∷ []) ∷ [])
 unfolding homes_on_literals
 two_steps_at_once steps = let wrong = steps.one in absurd (omega arith)
 
--- a step behind a row that was taken writes one entry, or one more
+-- a step after a row that was taken writes one entry, or one more
 no_more : (entries : List Entry) → WritesStep (entry.Go 1 0 ∷ []) (entry.Go 1 1 ∷ entry.Pause ∷ entry.Resume ∷ entries) → ⊥
 unfolding with_go
 no_more entries (inl emits) = cc
@@ -120,7 +120,7 @@ pause n = item.Do (command.Pause 2 n)
 abbrev leg : List Part → Item
 leg parts = item.Run (record { parts = parts; close = close.Cut })
 
--- at rest behind these
+-- at rest after these
 abbrev resting : List Item → HomeState
 resting items = home items phase.Resting []
 
@@ -200,7 +200,7 @@ abbrev parts_of_leg : List Item → List Part
 parts_of_leg (item.Run leg ∷ []) = leg.parts
 parts_of_leg items = []
 
--- a leg that was closed behind these is the last item
+-- a leg that was closed after these is the last item
 module _ (items : List Item) (parts : List Part) (closes : ClosesLeg false (resting items) (resting (items ++ leg parts ∷ [])) close.Cut) where
   these : closes.parts ≡ parts
   these = sym (ap parts_of_leg (append_cancel_left items _ _ (ap (λ (h : HomeState). h.log.items) closes.is)))

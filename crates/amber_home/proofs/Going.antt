@@ -1,14 +1,9 @@
 -- Workers that go on.
-use Rattle.std.proofs.Common.{◌≡◌, refl, ap, ◌∙◌, ℕ, ◌+◌, ◌≤◌, true, inl, inr, Result, Ok, Err, OnOk, arith}
+use Rattle.std.proofs.Common.{◌≡◌, refl, ap, ◌∙◌, ℕ, ◌+◌, ◌≤◌, true, inl, inr, arith}
 use Rattle.std.proofs.lemmas.Bool.Decides.{eqb_tells}
 use Rattle.amber_rows.specs.Topology.{op_of}
 use Rattle.amber_dataflow.specs.Dataflow.{DataflowState, FirstHaveFinished, StepsAt, has_finished, have_all_finished}
 use Rattle.amber_home.specs.Going.{GoOn, MovesAlone}
-
--- where a call is done, so is what follows from what it promises then
-pub on_ok_both : {T E P Q R : Type 0} (result : Result T E) → (P → Q → R) → OnOk result P → OnOk result Q → OnOk result R
-on_ok_both (Ok done) both p q = both p q
-on_ok_both (Err error) both p q = tt
 
 -- ---- all of them
 

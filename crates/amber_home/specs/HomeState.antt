@@ -75,7 +75,7 @@ runs_to_end phase.Spent = false
 abbrev pub rest_state : HomeState → State
 rest_state e = state_after (query_of e) e.log.items
 
--- the state that a leg behind the log comes to with these parts
+-- the state that a leg after the log comes to with these parts
 abbrev pub leg_state : HomeState → Bool → List Part → State
 leg_state e to_end parts = after_leg (query_of e) (leg_start to_end (rest_state e)) parts
 
@@ -142,8 +142,8 @@ pub record ClosesLeg (to_end : Bool) (old new : HomeState) (closed : Close) : Ty
   pub in_time : IsInTime (query_of old) 0 (rest_state old) (item_of_leg to_end parts closed)
   pub is : new ≡ record old { log = with_item old.log (item_of_leg to_end parts closed); phase = phase.Resting; parts = [] }
 
--- what a leg leaves: a stop stands, to the end all have finished; or the steps are as many as may be, and that is not so; or only
--- memory was wanting
+-- what a leg leaves: a stop stands, to the end all have finished; or the steps are as many as may be, and that is not so; or memory
+-- ran out
 abbrev pub Ends : Result (Unit {0}) LegErr → Bool → HomeState → HomeState → Type 0
 Ends (Ok done) to_end old new = ClosesLeg to_end old new close.Cut
 Ends (Err leg_err.Long) to_end old new = ClosesLeg to_end old new close.Long

@@ -24,7 +24,7 @@ pub record IsAtRest (e : HomeState) (live : LiveState) : Type 0 where
   pub arms_are : live.arms ≡ (rest_state e).arms
   pub stops_are : live.stops ≡ kept_stops (query_of e) e.log.items
 
--- within a leg the workers stand somewhere behind where it began
+-- within a leg the workers stand somewhere after where it began
 pub record IsWithinLeg (to_end : Bool) (e : HomeState) (d : DataflowState) (arms : List Arms) : Type 0 where
   pub more : ends_over false e.log.items ≡ false
   pub positions : ℕ → Position

@@ -69,7 +69,7 @@ cut_at arms d op = record (armed_at arms op) { pause = if is_paused arms d op th
 abbrev pub cut_arms : List Arms → DataflowState → List Arms
 cut_arms arms d = map (cut_at arms d) (op_numbers d.flow)
 
--- what a close leaves in force: behind a leg up to a stop the pauses that stand are taken away
+-- what a close leaves in force: after a leg up to a stop the pauses that stand are taken away
 abbrev pub closed_arms : Bool → Close → List Arms → DataflowState → List Arms
 closed_arms true closed arms d = arms
 closed_arms false close.Cut arms d = cut_arms arms d

@@ -1,4 +1,5 @@
 pub mod Applied
+pub mod Beginning
 pub mod Going
 pub mod HomeState
 pub mod Kept

@@ -1,4 +1,5 @@
-//! A command that is done at rest: the copies that it wants, and what it changes.
+//! A command that is done at rest: the copies that it wants, and what it changes. Over `InForce` and
+//! `Dataflow`.
 
 ghost use Rattle.std.specs.Prelude.{◌≡◌, ◌∷◌, ◌++◌, IfOk, OnErr, OnOk, [], length, option_map, true};
 ghost use Rattle.amber_dataflow.specs.Dataflow.{HaveDoneNothing};
@@ -29,7 +30,7 @@ pub(crate) fn copies_for(
     Ok(copies)
 }
 
-/// Puts a command behind the items.
+/// Appends a command to the items.
 pub(crate) fn push_command(command: &Command, items: &mut Items) -> Result<(), AllocError>
     ensures ok { OnOk result (items.new ≡ items.old ++ item.Do command.now ∷ []) }
     ensures err { OnErr result (items.new ≡ items.old) }
@@ -37,7 +38,7 @@ pub(crate) fn push_command(command: &Command, items: &mut Items) -> Result<(), A
     items.push(Item::Do(command.clone()?))
 }
 
-/// Puts in force what a command asks for that is done at rest: it wants no memory, for the copies were made before.
+/// Applies a command between two runs. It cannot fail: the copies of a constant were made before.
 pub(crate) fn put_in_force(
     effect: &Effect<'_>,
     mut copies: Vec<Value>,

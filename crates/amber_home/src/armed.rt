@@ -1,4 +1,4 @@
-//! What is in force at one operator.
+//! What is in force at one operator. Over `Change` of `amber_log`, which says what a command asks for.
 
 ghost use Rattle.std.specs.Prelude.{◌≡◌, [], IfOk, false, None, Some, option_map, option_to_list};
 ghost use Rattle.amber_log.specs.Effect.{is_put};
@@ -9,7 +9,8 @@ use amber_rows::{Cond, Value, What};
 use std::alloc::AllocError;
 use std::marker::Model;
 
-/// An armed count: how many rows it asks for, and how many rows of each of its operator's workers were gone when it was armed.
+/// An armed count: how many rows it asks for, and how many rows of each of its operator's workers were gone
+/// when it was armed.
 #[derive(Drop)]
 pub struct Counting {
     target: u64,
@@ -79,8 +80,8 @@ impl Armed {
         self.constant.as_ref()
     }
 
-    /// Does what a command asks for at the operator, which arms no count and no condition: those take memory, and no run has
-    /// them yet. The constant is a copy of the command's.
+    /// Does what a command asks for at the operator, which arms no count and no condition: those take memory,
+    /// and no run has them yet. The constant is a copy of the command's.
     pub fn change(&mut self, arming: &Arming<'_>, constant: Option<Value>)
         requires uncounted { is_put arming.now.count ≡ false }
         requires unwatched { is_put arming.now.when ≡ false }

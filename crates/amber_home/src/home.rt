@@ -1,30 +1,31 @@
-//! The home of a run: what it keeps, and its calls.
+//! The home of a run: what it keeps, and its calls. Over `Dataflow`, `InForce` and the functions of the other
+//! files.
 
-ghost use Rattle.std.specs.Prelude.{◌≡◌, ◌+◌, ◌^◌, ◌<◌, ◌≤◌, ◌≢◌, [], IfOk, OnErr, OnOk, false, true, length};
-ghost use Rattle.amber_dataflow.specs.Start.{BeginsOrNames};
+ghost use Rattle.std.specs.Prelude.{◌≡◌, ◌+◌, ◌^◌, ◌<◌, ◌≤◌, ◌≢◌, [], IfOk, None, OnErr, OnOk, false, true, length};
 ghost use Rattle.amber_log.specs.Fits.{fits_of};
 ghost use Rattle.amber_log.specs.Grammar.{ends_over};
 ghost use Rattle.amber_log.specs.declared.log.Item.TheVariants as item;
 ghost use Rattle.amber_meaning.specs.InTime.{IsInTime};
 ghost use Rattle.amber_meaning.specs.Legal.{IsLegal};
-ghost use Rattle.amber_meaning.specs.Plain.{scan_count};
+ghost use Rattle.amber_meaning.specs.Plain.{scan_count, wrong_header};
 ghost use Rattle.amber_meaning.specs.State.{have_finished, steps_in};
 ghost use Rattle.amber_meaning.specs.Views.{answer_in, inspected_of};
+ghost use Rattle.amber_home.specs.Beginning.{BeginsOrNames};
 ghost use Rattle.amber_home.specs.HomeState.{ClosesIn, Ends, MayClose, StepsOn, has_crew};
 ghost use Rattle.amber_home.specs.HomeState.{is_done_at_rest, is_open, item_of_leg, query_of, rest_state, runs_to_end, state_of};
 ghost use Rattle.amber_home.specs.HomeState.{stops_of_home, with_item, with_closed_leg};
 
 use crate::applying::{copies_for, push_command, put_in_force};
-use crate::error::LegErr;
+use crate::driving::drive_workers;
+use crate::error::{HomeErr, LegErr};
 use crate::in_force::InForce;
 use crate::inspection::inspect;
 use crate::leg_item::{is_last, push_leg};
-use crate::opening::clear_for;
 use crate::phase::Phase;
-use crate::stopping::{close_arms, run_leg, stops_of};
-use amber_dataflow::{Dataflow, HomeErr};
+use crate::stopping::{close_arms, stops_of};
+use amber_dataflow::Dataflow;
 use amber_log::{Action, Close, Command, Item, Items, Leg, Log, commands_have_text};
-use amber_meaning::{Answer, Inspected, Stops};
+use amber_meaning::{Answer, Inspected, Stops, wrong_header};
 use amber_rows::{Files, Flow};
 use std::alloc::{AllocError, Global};
 use std::marker::Model;
@@ -71,8 +72,8 @@ impl Model for Home {
 }
 
 impl Home {
-    /// The home of a run that has not begun: of a workflow over the files of its scans, with so many rows in a batch, 1 to
-    /// 65,536, and at most so many steps, 2^40 or fewer.
+    /// The home of a run that has not begun: of a workflow over the files of its scans, with this many rows
+    /// in a batch, 1 to 65,536, and at most `most` steps, 2^40 or fewer.
     ///
     /// # Errors
     ///
@@ -98,6 +99,34 @@ impl Home {
         }) }
         ensures header { BeginsOrNames result flow files }
     {
+        if let Some(op) = wrong_header(alloc, &flow, &files)? {
+            return Err(HomeErr::Header(op));
+        }
+        Ok(Home::start_checked(alloc, flow, files, batch_size, most)?)
+    }
+
+    /// The same, where each file is known to begin with the names of its columns.
+    pub fn start_checked(
+        alloc: Global,
+        flow: Flow,
+        files: Files,
+        batch_size: u32,
+        most: u64,
+    ) -> Result<Home, AllocError>
+        requires one_each { length files ≡ scan_count flow }
+        requires headers { wrong_header 1 files flow ≡ None }
+        requires some { 0 < batch_size }
+        requires few { batch_size ≤ 65536 }
+        requires steps { most ≤ 2 ^ 40 }
+        ensures begins { IfOk result (λ home. home ≡ record {
+          flow = flow;
+          files = files;
+          most = most;
+          log = record { batch = batch_size; items = [] };
+          phase = Phase.Resting;
+          parts = [];
+        }) }
+    {
         let dataflow = Dataflow::new(alloc, flow, &files, batch_size)?;
         let arms = InForce::new(alloc, dataflow.flow())?;
         Ok(Home {
@@ -114,8 +143,9 @@ impl Home {
         })
     }
 
-    /// Does a command that is no leg: a pause, another constant, a look, or taking back all that was asked to stop at an
-    /// operator. The log grows by it, and what it names changes. Want of memory leaves all as before.
+    /// Does a command that is no leg: a pause, another constant, a look, or taking back all that was asked to
+    /// stop at an operator. The log grows by it, and what it names changes. If memory runs out all is as
+    /// before.
     pub fn apply(&mut self, alloc: Global, command: &Command) -> Result<(), AllocError>
         requires resting { self.old.phase ≡ Phase.Resting }
         requires open { ends_over false self.old.log.items ≡ false }
@@ -143,12 +173,12 @@ impl Home {
         ensures { self.new ≡ record self.old { phase = Phase.Open to_end; parts = [] } }
     {
         self.dataflow.begin();
-        clear_for(to_end, &mut self.arms);
+        self.arms.begin_leg(to_end);
         self.phase = Phase::Open { to_end };
     }
 
-    /// One step of the unfinished worker with the smallest number. After want of memory the log is as before, and the run cannot
-    /// go on.
+    /// One step of the unfinished worker with the smallest number. After running out of memory the log is as
+    /// before, and the run cannot go on.
     pub fn home_step(&mut self) -> Result<(), AllocError>
         requires within { is_open self.old.phase ≡ true }
         requires unfinished { have_finished (state_of self.old) ≡ false }
@@ -164,8 +194,9 @@ impl Home {
         Ok(())
     }
 
-    // Runs the leg that is open, and says how it may be closed. One in which nothing was done yet stops in time.
-    fn run_open(&mut self) -> Result<Close, AllocError>
+    // Drives the workers through the leg that is open, and says how it may be closed. One in which nothing
+    // was done yet stops in time.
+    fn drive_open_leg(&mut self) -> Result<Close, AllocError>
         requires within { is_open self.old.phase ≡ true }
         ensures ok { OnOk result (self.new ≡ record self.old { parts = self.new.parts }) }
         ensures closes { IfOk result (λ close. ClosesIn (runs_to_end self.old.phase)
@@ -179,13 +210,14 @@ impl Home {
         let phase = self.phase;
         self.phase = Phase::Spent;
         let budget = self.most - self.dataflow.steps();
-        let close = run_leg(&self.arms, &mut self.dataflow, budget)?;
+        let close = drive_workers(&self.arms, &mut self.dataflow, budget)?;
         self.phase = phase;
         Ok(close)
     }
 
-    /// Closes the leg that is open: as cut where a stop stands, or to the end all have finished; as long where that is not so,
-    /// and the run has made as many steps as it may. After want of memory the log is as before, and the run cannot go on.
+    /// Closes the leg that is open: as cut where a stop stands, or to the end all have finished; as long
+    /// where that is not so, and the run has made as many steps as it may. After running out of memory the
+    /// log is as before, and the run cannot go on.
     pub fn close_leg(&mut self, alloc: Global, close: Close) -> Result<(), AllocError>
         requires within { is_open self.old.phase ≡ true }
         requires closes { MayClose (runs_to_end self.old.phase) self.old close }
@@ -208,21 +240,22 @@ impl Home {
         Ok(())
     }
 
-    /// Runs a leg, up to a stop or to the end: the workers make their steps until a stop stands, or until all have finished. Up to a
-    /// stop nobody does anything where one stands already, and no operator emits more rows than its pause asks for. What stands at
-    /// the end of such a leg is taken away.
+    /// Runs a leg, up to a stop or to the end: the workers make their steps until a stop stands, or until all
+    /// have finished. Up to a stop nobody does anything where one stands already, and no operator emits more
+    /// rows than its pause asks for. What stands at the end of such a leg is taken away.
     ///
     /// # Errors
     ///
-    /// `Long` exactly where the run has made as many steps as it may and no stop stands, or to the end somebody has not
-    /// finished; the leg stands in the log. After `NoMemory` the log is as before, and the run cannot go on.
+    /// `Long` exactly where the run has made as many steps as it may and no stop stands, or to the end
+    /// somebody has not finished; the leg stands in the log. After `NoMemory` the log is as before, and the
+    /// run cannot go on.
     pub fn leg_home(&mut self, alloc: Global, to_end: bool) -> Result<(), LegErr>
         requires resting { self.old.phase ≡ Phase.Resting }
         requires open { ends_over false self.old.log.items ≡ false }
         ensures ends { Ends result to_end self.old self.new }
     {
         self.open_leg(to_end);
-        let close = self.run_open()?;
+        let close = self.drive_open_leg()?;
         self.close_leg(alloc, close)?;
         match close {
             Close::Cut => Ok(()),
@@ -230,8 +263,8 @@ impl Home {
         }
     }
 
-    /// The stops that stand within a leg. Outside of one those of the last leg, as they stood before its end took any away,
-    /// whatever commands followed; none before the first leg.
+    /// The stops that stand within a leg. Outside of one those of the last leg, as they stood before its end
+    /// took any away, whatever commands followed; none before the first leg.
     pub fn stops(&self, alloc: Global) -> Result<Stops, AllocError>
         requires there { has_crew self.now.phase ≡ true }
         ensures { IfOk result (λ stops. stops ≡ stops_of_home self.now) }
@@ -268,8 +301,8 @@ impl Home {
     ///
     /// # Errors
     ///
-    /// After `NoMemory` the workers are no longer there either. The home is over, its log is as before, and no call gives the answer
-    /// any more.
+    /// After `NoMemory` the workers are no longer there either. The home is over, its log is as before, and
+    /// no call gives the answer any more.
     pub fn take_answer(&mut self, alloc: Global) -> Result<Answer, AllocError>
         requires resting { self.old.phase ≡ Phase.Resting }
         requires finished { have_finished (state_of self.old) ≡ true }

@@ -1,6 +1,7 @@
-//! What commands have put in force at each operator. A command changes what it names and nothing else.
+//! What commands have put in force at each operator. A command changes what it names and nothing else. Over
+//! `Armed` of `armed`, one for each operator.
 
-ghost use Rattle.std.specs.Prelude.{◌≡◌, ◌<◌, ◌≤◌, [], IfOk, None, false, length, map, option_map, unwrap_or};
+ghost use Rattle.std.specs.Prelude.{◌≡◌, ◌<◌, ◌≤◌, [], IfOk, None, false, if◌then◌else◌, length, map, option_map, unwrap_or};
 ghost use Rattle.amber_rows.specs.Lists.{changed_at, nth};
 ghost use Rattle.amber_log.specs.Effect.{is_put};
 ghost use Rattle.amber_meaning.specs.State.{arms_changed, no_arms, start_of, without_arms};
@@ -59,7 +60,8 @@ impl InForce {
         }
     }
 
-    /// Does what a command asks for at an operator, which arms no count and no condition. The constant is a copy of the command's.
+    /// Does what a command asks for at an operator, which arms no count and no condition. The constant is a
+    /// copy of the command's.
     pub fn change(&mut self, op: u32, arming: &Arming<'_>, constant: Option<Value>)
         requires some { 0 < op }
         requires there { op ≤ length self.old }
@@ -80,10 +82,13 @@ impl InForce {
         self.arms[op as usize - 1].end_pause();
     }
 
-    /// Takes back all that was asked to stop anywhere.
-    pub fn clear_all(&mut self)
-        ensures { self.new ≡ map without_arms self.old }
+    /// A leg begins. To the end all is taken back that was asked to stop anywhere.
+    pub fn begin_leg(&mut self, to_end: bool)
+        ensures { self.new ≡ (if to_end then map without_arms self.old else self.old) }
     {
+        if !to_end {
+            return;
+        }
         for arms in self.arms.iter_mut() {
             arms.clear();
         }

@@ -1,4 +1,4 @@
-//! What an operator shows.
+//! What an operator shows. Over `Dataflow::views`, and `InForce`.
 
 ghost use Rattle.std.specs.Prelude.{◌≡◌, ◌<◌, ◌≤◌, IfOk, length, true};
 ghost use Rattle.amber_dataflow.specs.Dataflow.{AreAllThere};

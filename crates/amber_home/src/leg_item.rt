@@ -1,4 +1,4 @@
-//! A leg as an item of the log.
+//! A leg as an item of the log. Over `Dataflow::take_parts`, which hands out what the workers did.
 
 ghost use Rattle.std.specs.Prelude.{◌≡◌, ◌∷◌, ◌++◌, [], OnErr, OnOk};
 ghost use Rattle.amber_dataflow.specs.Dataflow.{AreAllThere, handed_out, leg_parts};
@@ -21,7 +21,7 @@ fn item_of_leg(to_end: bool, parts: Parts, close: Close) -> Item
     }
 }
 
-/// Puts a leg behind the items, with what the workers have done, which they hand out.
+/// Appends a leg to the items, with what the workers have done, which they hand out.
 pub(crate) fn push_leg(
     alloc: Global,
     to_end: bool,

@@ -1,27 +1,27 @@
 //! The home of a run: all of its workers at rest, with the log of what was done.
 //!
-//! A home keeps its log legal, and while a run can go on its workers stand where the log says, whatever commands were given. It
-//! runs without threads: a step is one step of the unfinished worker with the smallest number.
+//! A home keeps its log legal, and while a run can go on its workers stand where the log says, whatever
+//! commands were given. It runs without threads: a step is one step of the unfinished worker with the
+//! smallest number.
 //!
-//! For instance, a home of a workflow of a scan of five records, a filter that passes three of them and a sink rests at first with
-//! an empty log. After `apply` of a pause of the filter after two rows, and a leg up to a stop, its log has the command and the leg,
-//! `stops` gives that pause with two rows, and the filter's pause is no longer armed.
+//! For instance, a home of a workflow of a scan of five records, a filter that passes three of them and a
+//! sink rests at first with an empty log. After `apply` of a pause of the filter after two rows, and a leg up
+//! to a stop, its log has the command and the leg, `stops` gives that pause with two rows, and the filter's
+//! pause is no longer armed.
 #![tactic(auto)]
 
 mod applying;
 mod armed;
+mod driving;
 pub mod error;
 pub mod home;
 mod in_force;
 mod inspection;
-mod leg;
 mod leg_item;
-mod opening;
 pub mod phase;
 mod stopping;
 
-pub use amber_dataflow::HomeErr;
-pub use error::LegErr;
+pub use error::{HomeErr, LegErr};
 pub use home::Home;
 pub use phase::Phase;
 pub use std::alloc::AllocError as NoMemory;

@@ -1,3 +1,5 @@
+//! Where a run is: at rest, within a leg, over, or spent.
+
 ghost use Rattle.std.specs.Prelude.{◌≡◌};
 ghost use Rattle.amber_home.specs.HomeState.{is_open, runs_to_end};
 

@@ -1,20 +1,32 @@
-//! The stops that stand, what a close leaves of what is in force, and the run to a stop.
+//! The stops that stand, and what a close takes away of them. Over `InForce`, which has the pauses, and the
+//! rows that `Dataflow` counts.
 
-ghost use Rattle.std.specs.Prelude.{◌≡◌, ◌+◌, ◌++◌, ◌^◌, ◌<◌, ◌≤◌, ℕ, IfOk, None, OnErr, OnOk, false, if◌then◌else◌, length, true};
-ghost use Rattle.amber_dataflow.specs.Dataflow.{AreAllThere, rows_emitted, step_count, without_workers};
+ghost use Rattle.std.specs.Prelude.{◌≡◌, ◌++◌, ◌<◌, ◌≤◌, ℕ, IfOk, None, OnOk, false, if◌then◌else◌, length, true};
+ghost use Rattle.amber_dataflow.specs.Dataflow.{AreAllThere, rows_emitted};
 ghost use Rattle.amber_rows.specs.Lists.{changed_at};
-ghost use Rattle.amber_home.specs.Going.{GoOn};
-ghost use Rattle.amber_home.specs.Leg.{IsLegDone, IsLegInTime, NonePaused, closed_arms, cut_arms, is_paused, pause_at, paused_stop, stops_by};
+ghost use Rattle.amber_home.specs.Leg.{NonePaused, closed_arms, cut_arms, is_paused, pause_at, paused_stop, stops_by};
 
 use crate::in_force::InForce;
-use crate::leg::{is_paused, run_workers};
 use amber_dataflow::Dataflow;
 use amber_log::Close;
 use amber_meaning::{Stop, Stops};
 use std::alloc::{AllocError, Global};
 
-// Whether a pause of any operator stands.
-fn any_paused(arms: &InForce, dataflow: &Dataflow) -> bool
+/// Whether the pause of an operator stands.
+pub(crate) fn is_paused(arms: &InForce, dataflow: &Dataflow, op: u32) -> bool
+    requires workers { AreAllThere dataflow.now }
+    requires some { 0 < op }
+    requires within { op ≤ length dataflow.now.flow }
+    ensures { result ≡ is_paused arms.now dataflow.now op }
+{
+    match arms.pause_at(op) {
+        None => false,
+        Some(rows) => rows <= dataflow.rows_emitted(op),
+    }
+}
+
+/// Whether a pause of any operator stands.
+pub(crate) fn any_paused(arms: &InForce, dataflow: &Dataflow) -> bool
     requires workers { AreAllThere dataflow.now }
     requires arms { length arms.now ≡ length dataflow.now.flow }
     ensures some { result ≡ true → (op : ℕ) × (is_paused arms.now dataflow.now op ≡ true) }
@@ -29,7 +41,7 @@ fn any_paused(arms: &InForce, dataflow: &Dataflow) -> bool
     false
 }
 
-// Puts the stop of an operator's pause behind the others, if it stands.
+// Appends the stop of an operator's pause to the others, if it stands.
 fn add_stop(
     arms: &InForce,
     dataflow: &Dataflow,
@@ -111,27 +123,4 @@ pub(crate) fn close_arms(to_end: bool, close: Close, arms: &mut InForce, dataflo
         Close::Cut => end_paused(arms, dataflow),
         Close::Long => {}
     }
-}
-
-/// Runs the workers until a stop stands, or so many steps were made. Where a stop stands already nobody does anything. The answer
-/// says how the leg may be closed.
-pub(crate) fn run_leg(
-    arms: &InForce,
-    dataflow: &mut Dataflow,
-    budget: u64,
-) -> Result<Close, AllocError>
-    requires workers { AreAllThere dataflow.old }
-    requires arms { length arms.now ≡ length dataflow.old.flow }
-    requires few { step_count dataflow.old + budget ≤ 2 ^ 40 }
-    ensures on { OnOk result (GoOn dataflow.old dataflow.new) }
-    ensures few { OnOk result (step_count dataflow.new ≤ step_count dataflow.old + budget) }
-    ensures done { IfOk result (λ close. IsLegDone close arms.now
-        (step_count dataflow.old + budget) dataflow.new) }
-    ensures in_time { OnOk result (IsLegInTime arms.now dataflow.old dataflow.new) }
-    ensures err { OnErr result (dataflow.new ≡ without_workers dataflow.old) }
-{
-    if any_paused(arms, dataflow) {
-        return Ok(Close::Cut);
-    }
-    run_workers(arms, dataflow, budget)
 }

@@ -13,7 +13,7 @@ invariant_of-self c =
     let e = seen i in
     let live = kept i in
     home-opened e live c.args.to_end c.self.invariant (ap (λ (h : HomeState). h.phase) c.self.view_is ∙ c.requires.resting)
-    (ap (λ (h : HomeState). ends_over false h.log.items) c.self.view_is ∙ c.requires.open) c.begin.new.self c.begin.ensures c.clear_for.new.arms c.clear_for.ensures refl
+    (ap (λ (h : HomeState). ends_over false h.log.items) c.self.view_is ∙ c.requires.open) c.begin.new.self c.begin.ensures c.begin_leg.new.self c.begin_leg.ensures refl
 
 pub returns : goal.returns
 returns c =
@@ -21,5 +21,5 @@ returns c =
     let e = seen i in
     let live = kept i in
     state-opened e live c.args.to_end c.self.invariant (ap (λ (h : HomeState). h.phase) c.self.view_is ∙ c.requires.resting)
-    (ap (λ (h : HomeState). ends_over false h.log.items) c.self.view_is ∙ c.requires.open) c.begin.new.self c.begin.ensures c.clear_for.new.arms c.clear_for.ensures refl
+    (ap (λ (h : HomeState). ends_over false h.log.items) c.self.view_is ∙ c.requires.open) c.begin.new.self c.begin.ensures c.begin_leg.new.self c.begin_leg.ensures refl
     ∙ ap (λ (h : HomeState). record h { phase = phase.Open c.args.to_end; parts = [] }) c.self.view_is

@@ -1,7 +1,7 @@
 -- One operator more was cleared.
 use Rattle.amber_meaning.specs.State.{without_arms}
 use Rattle.amber_dataflow.proofs.Changed.{write-left}
-use Rattle.amber_home.proofs.in_force.InForce.clear_all.Goals as goal
+use Rattle.amber_home.proofs.in_force.InForce.begin_leg.Goals as goal
 
 pub loop-arms-preserved : goal.loop-arms-preserved
 loop-arms-preserved c =

@@ -3,7 +3,7 @@ use Rattle.std.proofs.Common.{◌≡◌, ◌+◌, true}
 use Rattle.amber_dataflow.specs.Dataflow.{has_finished, step_count}
 use Rattle.amber_home.specs.Going.{GoOn, MovesAlone}
 use Rattle.amber_home.specs.Leg.{NoneIsLate}
-use Rattle.amber_home.proofs.leg.drive.Given as goal
+use Rattle.amber_home.proofs.driving.drive_worker.Given as goal
 
 abbrev pub invariant-steps : goal.invariant-steps
 invariant-steps l = record {

@@ -3,7 +3,7 @@ use Rattle.std.proofs.Common.{◌≡◌, ◌+◌, true}
 use Rattle.amber_dataflow.specs.Dataflow.{FirstHaveFinished, have_all_finished, step_count}
 use Rattle.amber_home.specs.Going.{GoOn}
 use Rattle.amber_home.specs.Leg.{NonePaused}
-use Rattle.amber_home.proofs.leg.run_workers.Given as goal
+use Rattle.amber_home.proofs.driving.drive_workers.Given as goal
 
 abbrev pub invariant-workers : goal.invariant-workers
 invariant-workers l = record {

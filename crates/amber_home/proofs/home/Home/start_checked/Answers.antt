@@ -5,7 +5,7 @@ use Rattle.amber_meaning.specs.State.{start_of}
 use Rattle.amber_home.specs.Kept.{IsHome}
 use Rattle.amber_home.specs.declared.phase.Phase.TheVariants as phase
 use Rattle.amber_home.proofs.Fresh.{home-new}
-use Rattle.amber_home.proofs.home.Home.new.Goals as goal
+use Rattle.amber_home.proofs.home.Home.start_checked.Goals as goal
 
 pub invariant_of-result : goal.invariant_of-result
 invariant_of-result c =
