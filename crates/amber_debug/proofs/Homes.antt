@@ -1,5 +1,5 @@
 -- What commands leave at home.
-use Rattle.std.proofs.Common.{◌≡◌, ◌⊎◌, inl, inr, refl, sym, ap, subst, ◌∙◌, ℕ, zero, suc, ◌-◌, ◌<◌, List, [], ◌∷◌, ◌++◌, length, get_or, Bool, true, false, Ok, Err, arith}
+use Rattle.std.proofs.Common.{◌≡◌, ◌⊎◌, inl, inr, refl, sym, ap, subst, ◌∙◌, ℕ, zero, suc, ◌-◌, ◌<◌, List, [], ◌∷◌, ◌++◌, length, get_or, Bool, true, false, Result, Ok, Err, IfOk, arith}
 use Rattle.std.proofs.lemmas.List.{get_or_push, length_push}
 use Rattle.amber_rows.specs.declared.flow.Operator.{Operator}
 use Rattle.amber_log.specs.Fits.{fits_of}
@@ -24,9 +24,10 @@ use Rattle.amber_lines.proofs.Kept.{kept_stops_were_replied}
 use Rattle.amber_home.specs.HomeState.{ClosesLeg, HomeState, item_of_leg, query_of, rest_state, state_of, stops_of_home, with_item}
 use Rattle.amber_home.specs.declared.phase.Phase.TheVariants as phase
 use Rattle.amber_debug.specs.declared.done.Done.{Done}
+use Rattle.amber_debug.specs.declared.done.EndErr.{EndErr}
 use Rattle.amber_debug.specs.declared.done.EndErr.TheVariants as end_err
 use Rattle.amber_log.specs.declared.leg.Part.{Part}
-use Rattle.amber_debug.specs.AtHome.{HasLeg, HasLog, IsLastText, RunsAs, TellsLeg}
+use Rattle.amber_debug.specs.AtHome.{HasLeg, HasLog, IsLastText, RunsAs, TellsLeg, is_cut_off}
 use Rattle.amber_debug.specs.Session.{IsKept}
 
 -- ---- the last item
@@ -150,7 +151,7 @@ over-push : (over : Bool) (items : List Item) (one : Item) → ends_over over (i
 over-push over [] one = refl
 over-push over (x ∷ items) one = over-push (is_last x) items one
 
--- behind a leg to the end, and one that was too long, nothing follows
+-- after a leg to the end, and one that was too long, nothing follows
 last-is : (to_end : Bool) (parts : List Part) (closed : Close) → (to_end ≡ true) ⊎ (closed ≡ close.Long) → is_last (item_of_leg to_end parts closed) ≡ true
 last-is true parts closed h = refl
 last-is false parts closed (inl e) = absurd (let never : false ≡ true = e in cc)
@@ -164,3 +165,13 @@ kept-over to_end old new closed spent leg h legal = record {
       absurd (let never : false ≡ true = sym more ∙ ap (λ log. ends_over false log.items) leg.kept.log ∙ over-push false old.log.items (item_of_leg to_end leg.parts closed)
       ∙ last-is to_end leg.parts closed h in cc);
 }
+
+-- ---- a command to run
+
+-- so is what is kept after a command to run
+pub kept-ran : (to_end : Bool) (old new : HomeState) (told : Result Done EndErr) → RunsAs told to_end old new → IsLegal (query_of new) new.log
+    → ((to_end ≡ true) ⊎ IfOk told (λ done. new.phase ≡ phase.Resting)) → IsKept new (is_cut_off told)
+kept-ran to_end old new (Ok done) runs legal (inl end) = kept-over to_end old new close.Cut false runs.0 (inl end) legal
+kept-ran to_end old new (Ok done) runs legal (inr rests) = record { legal = legal; rests = λ unspent more. rests }
+kept-ran to_end old new (Err (end_err.Long text)) runs legal rests = kept-over to_end old new close.Long false runs.0 (inr refl) legal
+kept-ran to_end old new (Err end_err.NoMemory) runs legal rests = record { legal = legal; rests = λ unspent more. absurd (let never : true ≡ false = unspent in cc) }

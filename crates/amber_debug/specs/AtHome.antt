@@ -1,5 +1,5 @@
 -- What commands do at home.
-use Rattle.std.specs.Prelude.{◌≡◌, ℕ, ◌⊎◌, List, [], ◌∷◌, ◌++◌, Result, Ok, Err, Bool}
+use Rattle.std.specs.Prelude.{◌≡◌, ℕ, ◌⊎◌, List, [], ◌∷◌, ◌++◌, Result, Ok, Err, Bool, true, false}
 use Rattle.amber_log.specs.LogText.{item_text}
 use Rattle.amber_log.specs.declared.command.Command.{Command}
 use Rattle.amber_log.specs.declared.leg.Close.{Close}
@@ -12,6 +12,8 @@ use Rattle.amber_meaning.specs.InTime.{IsInTime}
 use Rattle.amber_meaning.specs.Transcript.{reply_of}
 use Rattle.amber_home.specs.HomeState.{ClosesLeg, HomeState, item_of_leg, query_of, rest_state, with_item}
 use Rattle.amber_debug.specs.Session.{most_late}
+use Rattle.amber_debug.specs.declared.done.DebugErr.{DebugErr}
+use Rattle.amber_debug.specs.declared.done.DebugErr.TheVariants as debug_err
 use Rattle.amber_debug.specs.declared.done.EndErr.{EndErr}
 use Rattle.amber_debug.specs.declared.done.EndErr.TheVariants as end_err
 use Rattle.amber_debug.specs.declared.done.Done.{Done}
@@ -34,7 +36,7 @@ pub record HasLeg (to_end : Bool) (old new : HomeState) (closed : Close) : Type 
   pub in_time : IsInTime (query_of old) most_late (rest_state old) (item_of_leg to_end parts closed)
 
 -- the leg stands in the log, with its text and the reply to it; or it was too long, and stands there; or memory ran out before or
--- behind that
+-- after that
 abbrev pub RunsAs : Result Done EndErr → Bool → HomeState → HomeState → Type 0
 RunsAs (Ok done) to_end old new =
     (leg : HasLeg to_end old new close.Cut) × (done.item ≡ item_text (item_of_leg to_end leg.parts close.Cut))
@@ -46,6 +48,18 @@ RunsAs (Err end_err.NoMemory) to_end old new = HasLog old new old.log ⊎ ((clos
 abbrev pub TellsLeg : Result (List ℕ) EndErr → Bool → HomeState → HomeState → Type 0
 TellsLeg (Ok text) to_end old new = (leg : ClosesLeg to_end old new close.Cut) × (text ≡ item_text (item_of_leg to_end leg.parts close.Cut))
 TellsLeg (Err why) to_end old new = RunsAs (Err why) to_end old new
+
+-- what a command to run answers
+abbrev pub answer_to_run : Result Done EndErr → Result Done DebugErr
+answer_to_run (Ok done) = Ok done
+answer_to_run (Err (end_err.Long text)) = Err (debug_err.Long text)
+answer_to_run (Err end_err.NoMemory) = Err debug_err.NoMemory
+
+-- memory ran out at a command to run
+abbrev pub is_cut_off : Result Done EndErr → Bool
+is_cut_off (Ok done) = false
+is_cut_off (Err (end_err.Long text)) = false
+is_cut_off (Err end_err.NoMemory) = true
 
 -- a command that is no leg has its item in the log, with its text and the reply to it
 pub record DoesAtRest (old new : HomeState) (told : Done) (command : Command) : Type 0 where

@@ -86,7 +86,7 @@ pub record Grew (old new : Session) (done : Command) (one : Item) : Type 0 where
   pub in_time : IsNextInTime old one
   pub unspent : new.spent ≡ false
 
--- memory ran out at a command to run: the log is as before, or has that command's leg behind it, and no command follows
+-- memory ran out at a command to run: the log is as before, or has that command's leg as well, and no command follows
 pub record IsCutOff (old new : Session) (done : Command) : Type 0 where
   pub flow : new.flow ≡ old.flow
   pub files : new.files ≡ old.files

@@ -1,23 +1,27 @@
-ghost use Rattle.std.specs.Prelude.{◌≡◌, ◌≢◌, ◌<◌, ◌≤◌, ◌⊎◌, ◌^◌, ◌↔◌, [], Err, IfOk, OnErr, false, true, length};
+//! The debugger of a run: its commands, one after another, each with its item and its reply. Over `Home`, and
+//! the texts of `amber_journal` and `amber_report`.
+
+ghost use Rattle.std.specs.Prelude.{◌≡◌, ◌≢◌, ◌<◌, ◌≤◌, ◌⊎◌, ◌^◌, ◌↔◌, [], Err, IfOk, None, OnErr, false, true, length};
 ghost use Rattle.amber_log.specs.Commands.{action_of};
-ghost use Rattle.amber_dataflow.specs.Start.{BeginsOrNames};
 ghost use Rattle.amber_log.specs.Fits.{fits_of};
 ghost use Rattle.amber_log.specs.Grammar.{IsLog, ends_over};
 ghost use Rattle.amber_log.specs.declared.effect.Action.TheVariants as action;
 ghost use Rattle.amber_log.specs.declared.log.Item.TheVariants as item;
 ghost use Rattle.amber_meaning.specs.Legal.{IsLegal};
-ghost use Rattle.amber_meaning.specs.Plain.{scan_count};
+ghost use Rattle.amber_meaning.specs.Plain.{scan_count, wrong_header};
 ghost use Rattle.amber_meaning.specs.Transcript.{reply_of};
 ghost use Rattle.amber_script.specs.Commands.{is_scripted};
+ghost use Rattle.amber_home.specs.Beginning.{BeginsOrNames};
 ghost use Rattle.amber_home.specs.HomeState.{is_done_at_rest, query_of, rest_state};
 ghost use Rattle.amber_home.specs.declared.phase.Phase.TheVariants as phase;
-ghost use Rattle.amber_debug.specs.AtHome.{DoesAtRest, IsLastText, RunsAs, TellsLeg};
+ghost use Rattle.amber_debug.specs.AtHome.{DoesAtRest, IsLastText, RunsAs, TellsLeg, answer_to_run, is_cut_off};
 ghost use Rattle.amber_debug.specs.Session.{Does, query_in};
 
 use crate::done::{DebugErr, Done, EndErr};
 use amber_home::{Home, HomeErr, LegErr};
 use amber_journal::{write_command, write_item};
 use amber_log::{Action, Command, Effect, Log, Reply, commands_have_text};
+use amber_meaning::wrong_header;
 use amber_report::{answer_lines, inspect_lines, ok_line, stop_lines};
 use amber_rows::{Bytes, Files, Flow};
 use std::alloc::{AllocError, Global};
@@ -71,7 +75,7 @@ fn last_text(alloc: Global, log: &Log) -> Result<Bytes, AllocError>
 }
 
 // Runs a leg, up to a stop or to the end, and writes it.
-fn run_leg(alloc: Global, home: &mut Home, to_end: bool) -> Result<Bytes, EndErr>
+fn leg_text(alloc: Global, home: &mut Home, to_end: bool) -> Result<Bytes, EndErr>
     requires resting { home.old.phase ≡ phase.Resting }
     requires open { ends_over false home.old.log.items ≡ false }
     requires legal { IsLegal (query_of home.old) home.old.log }
@@ -88,7 +92,7 @@ fn run_leg(alloc: Global, home: &mut Home, to_end: bool) -> Result<Bytes, EndErr
 }
 
 // Runs up to a stop, and writes the leg and the stops.
-fn do_run(alloc: Global, home: &mut Home) -> Result<Done, EndErr>
+fn run_to_stop(alloc: Global, home: &mut Home) -> Result<Done, EndErr>
     requires resting { home.old.phase ≡ phase.Resting }
     requires open { ends_over false home.old.log.items ≡ false }
     requires legal { IsLegal (query_of home.old) home.old.log }
@@ -96,7 +100,7 @@ fn do_run(alloc: Global, home: &mut Home) -> Result<Done, EndErr>
     ensures rests { IfOk result (λ done. home.new.phase ≡ phase.Resting) }
     ensures legal { IsLegal (query_of home.new) home.new.log }
 {
-    let item = run_leg(alloc, home, false)?;
+    let item = leg_text(alloc, home, false)?;
     let stops = home.stops(alloc)?;
     let reply = stop_lines(alloc, home.flow(), &stops)?;
     Ok(Done {
@@ -107,14 +111,14 @@ fn do_run(alloc: Global, home: &mut Home) -> Result<Done, EndErr>
 }
 
 // Runs to the end, and writes the leg and the answer.
-fn do_end(alloc: Global, home: &mut Home) -> Result<Done, EndErr>
+fn run_to_end(alloc: Global, home: &mut Home) -> Result<Done, EndErr>
     requires resting { home.old.phase ≡ phase.Resting }
     requires open { ends_over false home.old.log.items ≡ false }
     requires legal { IsLegal (query_of home.old) home.old.log }
     ensures runs { RunsAs result true home.old home.new }
     ensures legal { IsLegal (query_of home.new) home.new.log }
 {
-    let item = run_leg(alloc, home, true)?;
+    let item = leg_text(alloc, home, true)?;
     let answer = home.take_answer(alloc)?;
     let reply = answer_lines(alloc, home.flow(), &answer)?;
     Ok(Done {
@@ -177,18 +181,26 @@ fn do_at_rest(
     })
 }
 
-// Memory ran out at a command to run, and no command follows.
-fn cut_off(spent: &mut bool) -> DebugErr
-    ensures why { result ≡ DebugErr.NoMemory }
-    ensures spent { spent.new ≡ true }
+// What a command to run answers. Where memory ran out no command follows.
+fn answer_to_run(told: Result<Done, EndErr>, spent: &mut bool) -> Result<Done, DebugErr>
+    requires { spent.old ≡ false }
+    ensures answer { result ≡ answer_to_run told }
+    ensures spent { spent.new ≡ is_cut_off told }
 {
-    *spent = true;
-    DebugErr::NoMemory
+    match told {
+        Ok(done) => Ok(done),
+        Err(EndErr::Long { item }) => Err(DebugErr::Long { item }),
+        Err(EndErr::NoMemory) => {
+            *spent = true;
+            Err(DebugErr::NoMemory)
+        }
+    }
 }
 
 impl Debugger {
-    /// A run that has not begun: of a workflow over the files of its scans, with so many rows in a batch, 1 to 65,536, on
-    /// so many threads, 1 to 64, and with at most so many steps, 2^40 or fewer. For now a run takes no thread of its own.
+    /// A run that has not begun: of a workflow over the files of its scans, with this many rows in a batch, 1
+    /// to 65,536, on this many threads, 1 to 64, and with at most `most` steps, 2^40 or fewer. For now a run
+    /// takes no thread of its own.
     ///
     /// # Errors
     ///
@@ -207,7 +219,6 @@ impl Debugger {
         requires some_threads { 0 < threads }
         requires few_threads { threads ≤ 64 }
         requires steps { most ≤ 2 ^ 40 }
-
         ensures begins { IfOk result (λ d. d ≡ record {
           flow = flow;
           files = files;
@@ -218,7 +229,38 @@ impl Debugger {
         }) }
         ensures header { BeginsOrNames result flow files }
     {
-        let home = Home::new(alloc, flow, files, batch_size, most)?;
+        if let Some(op) = wrong_header(alloc, &flow, &files)? {
+            return Err(HomeErr::Header(op));
+        }
+        Ok(Debugger::start_checked(alloc, flow, files, batch_size, threads, most)?)
+    }
+
+    /// The same, where each file is known to begin with the names of its columns.
+    pub fn start_checked(
+        alloc: Global,
+        flow: Flow,
+        files: Files,
+        batch_size: u32,
+        threads: u32,
+        most: u64,
+    ) -> Result<Debugger, AllocError>
+        requires one_each { length files ≡ scan_count flow }
+        requires headers { wrong_header 1 files flow ≡ None }
+        requires some { 0 < batch_size }
+        requires few { batch_size ≤ 65536 }
+        requires some_threads { 0 < threads }
+        requires few_threads { threads ≤ 64 }
+        requires steps { most ≤ 2 ^ 40 }
+        ensures begins { IfOk result (λ d. d ≡ record {
+          flow = flow;
+          files = files;
+          most = most;
+          threads = threads;
+          log = record { batch = batch_size; items = [] };
+          spent = false;
+        }) }
+    {
+        let home = Home::start_checked(alloc, flow, files, batch_size, most)?;
         Ok(Debugger {
             home,
             threads,
@@ -230,10 +272,10 @@ impl Debugger {
     ///
     /// # Errors
     ///
-    /// `Long` where the run has made as many steps as it may, and somebody has not finished: the log has the leg, and
-    /// nothing may follow. After `NoMemory` at a command to run, which `End` is, the log is as before or has that command's
-    /// leg behind it, and each later command answers `Spent`, which comes exactly then. After `NoMemory` at another command
-    /// all is as before.
+    /// `Long` where the run has made as many steps as it may, and somebody has not finished: the log has the
+    /// leg, and nothing may follow. After `NoMemory` at a command to run, which `End` is, the log is as
+    /// before or has that command's leg as well, and each later command answers `Spent`, which comes exactly
+    /// then. After `NoMemory` at another command all is as before.
     pub fn command(&mut self, alloc: Global, command: &Command) -> Result<Done, DebugErr>
         requires fits { fits_of self.old.flow command.now ≡ true }
 
@@ -250,59 +292,14 @@ impl Debugger {
             return Err(DebugErr::Spent);
         }
         match command.action() {
-            Action::Leg { to_end: false } => self.run(alloc),
-            Action::Leg { to_end: true } => self.end(alloc),
-            Action::AtRest(effect) => self.change(alloc, command, &effect),
+            Action::Leg { to_end: false } => {
+                answer_to_run(run_to_stop(alloc, &mut self.home), &mut self.spent)
+            }
+            Action::Leg { to_end: true } => {
+                answer_to_run(run_to_end(alloc, &mut self.home), &mut self.spent)
+            }
+            Action::AtRest(effect) => Ok(do_at_rest(alloc, &mut self.home, command, &effect)?),
         }
-    }
-
-    // Runs up to a stop.
-    fn run(&mut self, alloc: Global) -> Result<Done, DebugErr>
-        requires unspent { self.old.spent ≡ false }
-        requires open { ends_over false self.old.log.items ≡ false }
-        ensures does { Does result self.old self.new Command.Run }
-        ensures unspent { result ≢ Err DebugErr.Spent }
-        ensures legal { IsLegal (query_in self.new) self.new.log }
-    {
-        match do_run(alloc, &mut self.home) {
-            Ok(done) => Ok(done),
-            Err(EndErr::Long { item }) => Err(DebugErr::Long { item }),
-            Err(EndErr::NoMemory) => Err(cut_off(&mut self.spent)),
-        }
-    }
-
-    // Runs to the end.
-    fn end(&mut self, alloc: Global) -> Result<Done, DebugErr>
-        requires unspent { self.old.spent ≡ false }
-        requires open { ends_over false self.old.log.items ≡ false }
-        ensures does { Does result self.old self.new Command.End }
-        ensures unspent { result ≢ Err DebugErr.Spent }
-        ensures legal { IsLegal (query_in self.new) self.new.log }
-    {
-        match do_end(alloc, &mut self.home) {
-            Ok(done) => Ok(done),
-            Err(EndErr::Long { item }) => Err(DebugErr::Long { item }),
-            Err(EndErr::NoMemory) => Err(cut_off(&mut self.spent)),
-        }
-    }
-
-    // Does a command with this effect.
-    fn change(
-        &mut self,
-        alloc: Global,
-        command: &Command,
-        effect: &Effect<'_>,
-    ) -> Result<Done, DebugErr>
-        requires unspent { self.old.spent ≡ false }
-        requires open { ends_over false self.old.log.items ≡ false }
-        requires fits { fits_of self.old.flow command.now ≡ true }
-        requires at_rest { is_done_at_rest command.now ≡ true }
-        requires effect { action_of command.now ≡ action.AtRest effect.now }
-        ensures does { Does result self.old self.new command.now }
-        ensures unspent { result ≢ Err DebugErr.Spent }
-        ensures legal { IsLegal (query_in self.new) self.new.log }
-    {
-        Ok(do_at_rest(alloc, &mut self.home, command, effect)?)
     }
 
     /// The log of the run so far.

@@ -3,7 +3,7 @@ use Rattle.std.proofs.Common.{subst}
 use Rattle.amber_log.specs.declared.leg.Close.TheVariants as close
 use Rattle.amber_debug.specs.AtHome.{IsLastText}
 use Rattle.amber_debug.proofs.Homes.{leg-text, runs-long}
-use Rattle.amber_debug.proofs.debugger.run_leg.Goals as goal
+use Rattle.amber_debug.proofs.debugger.leg_text.Goals as goal
 
 pub returns-in_ok-last_text-in-Ok-clause-told : goal.returns-in_ok-last_text-in-Ok-clause-told
 returns-in_ok-last_text-in-Ok-clause-told c =
