@@ -1,3 +1,4 @@
 pub mod Lookup
 pub mod Pieces
 pub mod Told
+pub mod Worlds

@@ -6,3 +6,4 @@ pub mod Memory
 pub mod MemFolder
 pub mod MemSink
 pub mod Real
+pub mod World
