@@ -1,13 +1,14 @@
 -- Steps that follow the course, one after the other.
-use Rattle.std.proofs.Common.{◌≡◌, ℕ, ◌+◌, ◌<◌, ◌≤◌, ◌⊎◌, inl, inr, nat_le, true, false, List, length, take, Option, None, Some, Result, Ok, Err, refl, sym, ap, subst, ◌∙◌, arith}
+use Rattle.std.proofs.Common.{◌≡◌, ℕ, ◌+◌, ◌<◌, ◌≤◌, ◌⊎◌, inl, inr, nat_le, true, false, List, length, take, Option, None, Some, Result, Ok, Err, refl, ap, subst, ◌∙◌, arith}
 use Rattle.std.proofs.lemmas.Bool.Decides.{nat_tests}
 use Rattle.std.proofs.lemmas.List.{length-take, take_all}
 use Rattle.std.specs.Result.{IfErr, IfOk}
 use Rattle.amber_io.specs.Counts.{Rose}
 use Rattle.amber_io.specs.Folder.{Gives, Lacks, Named, Told}
+use Rattle.amber_io.specs.World.{World}
 use Rattle.amber_rows.specs.declared.flow.Operator.{Operator}
 use Rattle.amber_course.specs.Course.{IsScanFile, IsScanned, load_of, require_size, then_on, workflow_in}
-use Rattle.amber_course.specs.Steps.{Follows, IsBounded, IsMissing, Judges, Names, Stopped, Tells, Loads, loading}
+use Rattle.amber_course.specs.Steps.{Follows, IsBounded, IsMissing, Judges, Names, Stopped, Tells}
 use Rattle.amber_course.specs.declared.failure.Failure.{Failure}
 use Rattle.amber_course.specs.declared.failure.Failure.TheVariants as failure
 
@@ -40,25 +41,24 @@ tells-both (Some files) P Q R h p q = h files p q
 
 -- ---- stops
 
-pub stopped-map : (s : Failure) (loads : Loads) (M N T U : Type 0) → (M → N) → (T → U) → Stopped s loads M T → Stopped s loads N U
-stopped-map failure.Usage loads M N T U m t h = h
-stopped-map failure.LogFault loads M N T U m t h = h
-stopped-map failure.OutFault loads M N T U m t h = h
-stopped-map (failure.ReadFault name) loads M N T U m t h = elim h [ inl p ↦ inl (p.0, t p.1) | inr r ↦ inr r ]
-stopped-map failure.NoMemory loads M N T U m t h = tt
-stopped-map other loads M N T U m t h = (h.0, m h.1)
+pub stopped-map : (s : Failure) (P Q : Named → Type 0) (before after : World) → ((files : Named) → P files → Q files) → Stopped s P before after → Stopped s Q before after
+stopped-map failure.Usage P Q before after f h = h
+stopped-map failure.LogFault P Q before after f h = h
+stopped-map failure.OutFault P Q before after f h = h
+stopped-map (failure.ReadFault name) P Q before after f h = elim h [ inl p ↦ inl (p.0, tells-map before.files P Q f p.1) | inr rose ↦ inr rose ]
+stopped-map failure.NoMemory P Q before after f h = tt
+stopped-map other P Q before after f h = (h.0, told-map before.files P Q f h.1)
+
+pub stopped-both : (s : Failure) (P Q R : Named → Type 0) (before after : World) → ((files : Named) → P files → Q files → R files) → Told before.files P
+    → Stopped s Q before after → Stopped s R before after
+stopped-both failure.Usage P Q R before after f p h = h
+stopped-both failure.LogFault P Q R before after f p h = h
+stopped-both failure.OutFault P Q R before after f p h = h
+stopped-both (failure.ReadFault name) P Q R before after f p h = elim h [ inl q ↦ inl (q.0, tells-both before.files P Q R f p q.1) | inr rose ↦ inr rose ]
+stopped-both failure.NoMemory P Q R before after f p h = tt
+stopped-both other P Q R before after f p h = (h.0, told-both before.files P Q R f p h.1)
 
 -- ---- steps
-
--- two ways to say what is meant
-pub follows-same : {A : Type 0} (r : Result A Failure) (told : Option Named) (f g : Named → Result A Failure) (a b : ℕ)
-    → ((files : Named) → f files ≡ g files) → Follows r f (loading told a b) → Follows r g (loading told a b)
-follows-same (Ok x) told f g a b same h = (h.0, told-map told (λ files. f files ≡ Ok x) (λ files. g files ≡ Ok x) (λ files e. sym (same files) ∙ e) h.1)
-follows-same (Err s) told f g a b same h =
-    stopped-map s (loading told a b) (Told told (λ files. f files ≡ Err s)) (Told told (λ files. g files ≡ Err s)) (Tells told (λ files. f files ≡ Err s)) (Tells told (λ files. g files ≡ Err s))
-    (told-map told (λ files. f files ≡ Err s) (λ files. g files ≡ Err s) (λ files e. sym (same files) ∙ e))
-    (tells-map told (λ files. f files ≡ Err s) (λ files. g files ≡ Err s) (λ files e. sym (same files) ∙ e))
-    h
 
 pub then-err : {A B : Type 0} (r : Result A Failure) (s : Failure) (next : A → Result B Failure) → r ≡ Err s → then_on r next ≡ Err s
 then-err r s next e = rw e
@@ -67,41 +67,42 @@ pub then-ok : {A B : Type 0} (r : Result A Failure) (x : A) (next : A → Result
 then-ok r x next y e h = rw e h
 
 -- a step stopped, so the whole did
-pub follows-failure : {A B : Type 0} (s : Failure) (told : Option Named) (f : Named → Result A Failure) (g : Named → A → Result B Failure) (a b : ℕ)
-    → Follows {A = A} (Err s) f (loading told a b) → Follows {A = B} (Err s) (λ files. then_on (f files) (g files)) (loading told a b)
-follows-failure s told f g a b h =
-    stopped-map s (loading told a b) (Told told (λ files. f files ≡ Err s)) (Told told (λ files. then_on (f files) (g files) ≡ Err s)) (Tells told (λ files. f files ≡ Err s))
-    (Tells told (λ files. then_on (f files) (g files) ≡ Err s))
-    (told-map told (λ files. f files ≡ Err s) (λ files. then_on (f files) (g files) ≡ Err s) (λ files e. then-err (f files) s (g files) e))
-    (tells-map told (λ files. f files ≡ Err s) (λ files. then_on (f files) (g files) ≡ Err s) (λ files e. then-err (f files) s (g files) e))
-    h
+pub follows-failure : {A B : Type 0} (s : Failure) (f : Named → Result A Failure) (g : Named → A → Result B Failure) (before after : World)
+    → Follows {A = A} (Err s) f before after → Follows {A = B} (Err s) (λ files. then_on (f files) (g files)) before after
+follows-failure s f g before after h =
+    stopped-map s (λ files. f files ≡ Err s) (λ files. then_on (f files) (g files) ≡ Err s) before after (λ files e. then-err (f files) s (g files) e) h
 
 -- a step went on
-pub follows-on : {A B : Type 0} (r : Result B Failure) (x : A) (told : Option Named) (f : Named → Result A Failure) (g : Named → A → Result B Failure) (a b c : ℕ)
-    → Follows (Ok x) f (loading told a b) → Follows r (λ files. g files x) (loading told b c) → Follows r (λ files. then_on (f files) (g files)) (loading told a c)
-follows-on (Ok y) x told f g a b c p q = (
-  q.0 ∙ p.0,
-  told-both told (λ files. f files ≡ Ok x) (λ files. g files x ≡ Ok y) (λ files. then_on (f files) (g files) ≡ Ok y)
-      (λ files e h. then-ok (f files) x (g files) (Ok y) e h) p.1 q.1,
+follows-then : {A B : Type 0} (r : Result B Failure) (x : A) (f : Named → Result A Failure) (g : Named → A → Result B Failure) (before after : World)
+    → Told before.files (λ files. f files ≡ Ok x) → Follows r (λ files. g files x) before after → Follows r (λ files. then_on (f files) (g files)) before after
+follows-then (Ok y) x f g before after p q = (
+  q.0,
+  told-both before.files (λ files. f files ≡ Ok x) (λ files. g files x ≡ Ok y) (λ files. then_on (f files) (g files) ≡ Ok y)
+      (λ files e h. then-ok (f files) x (g files) (Ok y) e h) p q.1,
 )
-follows-on (Err s) x told f g a b c p q =
-    stopped-map s (loading told a c) (Told told (λ files. g files x ≡ Err s)) (Told told (λ files. then_on (f files) (g files) ≡ Err s)) (Tells told (λ files. g files x ≡ Err s))
-    (Tells told (λ files. then_on (f files) (g files) ≡ Err s))
-    (told-both told (λ files. f files ≡ Ok x) (λ files. g files x ≡ Err s) (λ files. then_on (f files) (g files) ≡ Err s)
-    (λ files e h. then-ok (f files) x (g files) (Err s) e h) p.1)
-    (tells-both told (λ files. f files ≡ Ok x) (λ files. g files x ≡ Err s) (λ files. then_on (f files) (g files) ≡ Err s)
-    (λ files e h. then-ok (f files) x (g files) (Err s) e h) p.1)
-    (subst (λ n. Stopped s (loading told n c) (Told told (λ files. g files x ≡ Err s)) (Tells told (λ files. g files x ≡ Err s))) p.0 q)
+follows-then (Err s) x f g before after p q =
+    stopped-both s (λ files. f files ≡ Ok x) (λ files. g files x ≡ Err s) (λ files. then_on (f files) (g files) ≡ Err s) before after
+    (λ files e h. then-ok (f files) x (g files) (Err s) e h) p q
+
+pub follows-on : {A B : Type 0} (r : Result B Failure) (x : A) (f : Named → Result A Failure) (g : Named → A → Result B Failure) (before mid after : World)
+    → Follows (Ok x) f before mid → Follows r (λ files. g files x) mid after → Follows r (λ files. then_on (f files) (g files)) before after
+follows-on r x f g before mid after p q = follows-then r x f g before after p.1 (subst (λ w. Follows r (λ files. g files x) w after) p.0 q)
 
 -- a step that reads nothing
-pub follows-judged : {A : Type 0} (r meant : Result A Failure) (told : Option Named) (a : ℕ) → Judges r meant → Follows r (λ files. meant) (loading told a a)
-follows-judged (Ok x) meant told a h = (refl, told-all told (λ files. meant ≡ Ok x) (λ files. h))
-follows-judged (Err failure.Usage) meant told a h = h
-follows-judged (Err (failure.ReadFault name)) meant told a h = absurd h
-follows-judged (Err failure.LogFault) meant told a h = h
-follows-judged (Err failure.OutFault) meant told a h = h
-follows-judged (Err failure.NoMemory) meant told a h = tt
-follows-judged (Err other) meant told a h = (refl, told-all told (λ files. meant ≡ Err other) (λ files. h))
+pub follows-judged : {A : Type 0} (r meant : Result A Failure) (world : World) → Judges r meant → Follows r (λ files. meant) world world
+follows-judged (Ok x) meant world h = (refl, told-all world.files (λ files. meant ≡ Ok x) (λ files. h))
+follows-judged (Err failure.Usage) meant world h = h
+follows-judged (Err (failure.ReadFault name)) meant world h = absurd h
+follows-judged (Err failure.LogFault) meant world h = h
+follows-judged (Err failure.OutFault) meant world h = h
+follows-judged (Err failure.NoMemory) meant world h = tt
+follows-judged (Err other) meant world h = (refl, told-all world.files (λ files. meant ≡ Err other) (λ files. h))
+
+-- a step that was the last, and went well
+pub follows-last : {A B : Type 0} (x : A) (f : Named → Result A Failure) (g : A → B) (before after : World) → Follows (Ok x) f before after
+    → Follows (Ok (g x)) (λ files. then_on (f files) (λ y. Ok (g y))) before after
+follows-last x f g before after p =
+    follows-on (Ok (g x)) x f (λ files y. Ok (g y)) before after after p (follows-judged (Ok (g x)) (Ok (g x)) after refl)
 
 -- ---- loads
 
@@ -142,13 +143,14 @@ load-large None most name bytes file e h large = tt
 load-large (Some files) most name bytes file e h large = rw (h.1, e) (require_size-large most name bytes h.0 h.2 large)
 
 -- the first bytes of a file came
-pub load-bounded : (r : Result (List ℕ) Failure) (told : Option Named) (most : ℕ) (name bytes : List ℕ) (a b : ℕ) → b ≡ a → Gives told name (most + 1) bytes
-    → IsBounded r name most bytes → Follows r (load_of most name) (loading told a b)
-load-bounded (Ok whole) told most name bytes a b same h r =
-    (same, load-ok told most name whole (rw (← r.0) at h) (rw (← r.0) at r.1))
-load-bounded (Err (failure.TooLarge file)) told most name bytes a b same h r = (same, load-large told most name bytes file r.0 h r.1)
-load-bounded (Err failure.NoMemory) told most name bytes a b same h r = tt
-load-bounded (Err other) told most name bytes a b same h r = absurd r.0
+pub load-bounded : (r : Result (List ℕ) Failure) (most : ℕ) (name bytes : List ℕ) (before after : World) → after ≡ before → Gives before.files name (most + 1) bytes
+    → IsBounded r name most bytes → Follows r (load_of most name) before after
+load-bounded (Ok whole) most name bytes before after same h r =
+    (same, load-ok before.files most name whole (rw (← r.0) at h) (rw (← r.0) at r.1))
+load-bounded (Err (failure.TooLarge file)) most name bytes before after same h r =
+    (ap (λ (w : World). w.loads) same, load-large before.files most name bytes file r.0 h r.1)
+load-bounded (Err failure.NoMemory) most name bytes before after same h r = tt
+load-bounded (Err other) most name bytes before after same h r = absurd r.0
 
 pub bounded-few : (r : Result (List ℕ) Failure) (name : List ℕ) (most : ℕ) (bytes : List ℕ) → IsBounded r name most bytes → IfOk r (λ whole. length whole ≤ most)
 bounded-few (Ok whole) name most bytes r = rw (← r.0) at r.1
@@ -165,15 +167,15 @@ lacks-tells None most name h = h
 lacks-tells (Some files) most name h = rw h refl
 
 -- a load failed
-pub load-err : (s : Failure) (told : Option Named) (most : ℕ) (name : List ℕ) (a b : ℕ) → IsMissing s name → Lacks told name ⊎ Rose a b → (Lacks told name → b ≡ a)
-    → Follows {A = List ℕ} (Err s) (load_of most name) (loading told a b)
-load-err (failure.ReadFault file) told most name a b m h same =
+pub load-err : (s : Failure) (most : ℕ) (name : List ℕ) (before after : World) → IsMissing s name → Lacks before.files name ⊎ Rose before.loads after.loads
+    → (Lacks before.files name → after.loads ≡ before.loads) → Follows {A = List ℕ} (Err s) (load_of most name) before after
+load-err (failure.ReadFault file) most name before after m h same =
     elim h [
-      | inl lacks ↦ inl (same lacks, rw m (lacks-tells told most name lacks))
+      | inl lacks ↦ inl (same lacks, rw m (lacks-tells before.files most name lacks))
       | inr rose ↦ inr rose
     ]
-load-err failure.NoMemory told most name a b m h same = tt
-load-err other told most name a b m h same = absurd m
+load-err failure.NoMemory most name before after m h same = tt
+load-err other most name before after m h same = absurd m
 
 -- ---- names
 

@@ -3,9 +3,10 @@ use Rattle.std.proofs.Common.{ℕ, List, [], ◌++◌, Option, None, Some, Resul
 use Rattle.std.proofs.lemmas.List.{append-nil}
 use Rattle.std.specs.Io.KnownBytes.{Appends, Keeps}
 use Rattle.amber_io.specs.Sink.{Begins}
+use Rattle.amber_io.specs.World.{World}
 use Rattle.amber_io.specs.declared.error.IoErr.{IoErr}
 use Rattle.amber_io.specs.declared.error.IoErr.TheVariants as io_err
-use Rattle.amber_course.specs.Steps.{Lined, putting}
+use Rattle.amber_course.specs.Steps.{Lined}
 
 pub appends-on : (old mid new : Option (List ℕ)) (x y : List ℕ) → Appends old mid x → Appends mid new y → Appends old new (x ++ y)
 appends-on None mid new x y p q = tt
@@ -24,7 +25,7 @@ pub appends-same : (a : Option (List ℕ)) → Appends a a []
 appends-same None = tt
 appends-same (Some x) = sym (append-nil x)
 
--- a front part behind a whole piece
+-- a front part after a whole piece
 pub begins-on : (old mid new : Option (List ℕ)) (x y : List ℕ) → Appends old mid x → Begins mid new y → Begins old new (x ++ y)
 begins-on old mid new x y p b = (x ++ b.0, b.1, append_assoc x b.0 b.1 ∙ ap (λ t. x ++ t) b.2, appends-on old mid new x b.0 p b.3)
 
@@ -37,14 +38,13 @@ pub begins-all : (old new : Option (List ℕ)) (x : List ℕ) → Appends old ne
 begins-all old new x p = (x, [], append-nil x, p)
 
 -- a put was refused, so the line stops
-pub lined-failure : (e : IoErr) (old new : Option (List ℕ)) (a b : ℕ) (x y : List ℕ)
-    → Lined {A = Unit {0}} (Err e) (putting old new a b) x → Lined {A = Unit {0}} (Err e) (putting old new a b) (x ++ y)
-lined-failure io_err.NoMemory old new a b x y h = (h.0, begins-more old new x y h.1)
-lined-failure io_err.Failed old new a b x y h = (h.0, h.1, begins-more old new x y h.2)
+pub lined-failure : (e : IoErr) (x y : List ℕ) (before after : World) → Lined {A = Unit {0}} (Err e) x before after → Lined {A = Unit {0}} (Err e) (x ++ y) before after
+lined-failure io_err.NoMemory x y before after h = (h.0, begins-more before.got after.got x y h.1)
+lined-failure io_err.Failed x y before after h = (h.0, h.1, begins-more before.got after.got x y h.2)
 
 -- a piece was put, so the line goes on
-pub lined-on : (r : Result (Unit {0}) IoErr) (u : Unit {0}) (old mid new : Option (List ℕ)) (a b c : ℕ) (x y : List ℕ)
-    → Lined {A = Unit {0}} (Ok u) (putting old mid a b) x → Lined {A = Unit {0}} r (putting mid new b c) y → Lined {A = Unit {0}} r (putting old new a c) (x ++ y)
-lined-on (Ok v) u old mid new a b c x y p q = (q.0 ∙ p.0, appends-on old mid new x y p.1 q.1)
-lined-on (Err io_err.NoMemory) u old mid new a b c x y p q = (q.0 ∙ p.0, begins-on old mid new x y p.1 q.1)
-lined-on (Err io_err.Failed) u old mid new a b c x y p q = (rw p.0 at q.0, rw p.0 at q.1, begins-on old mid new x y p.1 q.2)
+pub lined-on : (r : Result (Unit {0}) IoErr) (u : Unit {0}) (x y : List ℕ) (before mid after : World) → Lined {A = Unit {0}} (Ok u) x before mid → Lined {A = Unit {0}} r y mid after
+    → Lined {A = Unit {0}} r (x ++ y) before after
+lined-on (Ok v) u x y before mid after p q = (q.0 ∙ p.0, appends-on before.got mid.got after.got x y p.1 q.1)
+lined-on (Err io_err.NoMemory) u x y before mid after p q = (q.0 ∙ p.0, begins-on before.got mid.got after.got x y p.1 q.1)
+lined-on (Err io_err.Failed) u x y before mid after p q = (rw p.0 at q.0, rw p.0 at q.1, begins-on before.got mid.got after.got x y p.1 q.2)

@@ -4,6 +4,8 @@ use Rattle.std.proofs.lemmas.List.{append-nil, drop_all, drop_more, length_push,
 use Rattle.std.proofs.lemmas.List.Sums.{sum_by-cons}
 use Rattle.std.specs.Result.{IfOk}
 use Rattle.amber_io.specs.Folder.{Named, Told}
+use Rattle.amber_io.specs.World.{World}
+use Rattle.amber_rows.specs.FlowRules.{IsFlow}
 use Rattle.amber_rows.specs.Record.{has_header}
 use Rattle.amber_rows.specs.declared.column.Column.{Column}
 use Rattle.amber_rows.specs.declared.flow.What.{What}
@@ -11,13 +13,13 @@ use Rattle.amber_rows.specs.declared.flow.What.TheVariants as what
 use Rattle.amber_rows.specs.declared.flow.Operator.{Operator}
 use Rattle.amber_meaning.specs.Plain.{scan_count, wrong_header}
 use Rattle.amber_rows.specs.Kinds.{is_scan}
-use Rattle.amber_course.specs.Ready.{AreInputs}
+use Rattle.amber_course.specs.Loaded.{AreInputs}
 use Rattle.amber_course.specs.Course.{IsScanFile, file_before, require_header, most_scanned, scan_before, scan_file, scans_from, scans_of, then_on}
-use Rattle.amber_course.specs.Steps.{Follows, Judges, Names, Tells, loading}
+use Rattle.amber_course.specs.Steps.{Follows, Judges, Names}
 use Rattle.amber_course.specs.declared.failure.Reason.TheVariants as reason
 use Rattle.amber_course.specs.declared.failure.Failure.{Failure}
 use Rattle.amber_course.specs.declared.failure.Failure.TheVariants as failure
-use Rattle.amber_course.proofs.Following.{names-map, stopped-map, tells-both, told-both, told-map}
+use Rattle.amber_course.proofs.Following.{names-map, stopped-both, told-both, told-map}
 
 -- files that were loaded, before those of later scans
 abbrev pub after_files : List (List ℕ) → Result (List (List ℕ)) Failure → Result (List (List ℕ)) Failure
@@ -32,14 +34,14 @@ after-one : (done : List (List ℕ)) (bytes : List ℕ) (r : Result (List (List 
 after-one done bytes (Ok later) = ap (λ files. Ok files) (sym (append_assoc done (bytes ∷ []) later))
 after-one done bytes (Err s) = refl
 
--- the files that are left to load, behind those that were
+-- the files that are left to load, after those that were
 abbrev pub scans_at : List Operator → ℕ → ℕ → Named → Result (List (List ℕ)) Failure
 scans_at ops i left files = scans_from (i + 1) left (drop i ops) files
 
 drop-here : (ops : List Operator) (i : ℕ) (o : Operator) → i < length ops → o ≡ get_or ops i o → drop i ops ≡ o ∷ drop (i + 1) ops
 drop-here ops i o h is = drop_more ops i o h ∙ ap (λ x. x ∷ drop (i + 1) ops) (sym is)
 
--- the next operator, and those behind it
+-- the next operator, and those after it
 step-at : (ops : List Operator) (i left : ℕ) (o : Operator) (files : Named) → i < length ops → o ≡ get_or ops i o
     → scans_at ops i left files ≡ scan_before (i + 1) left o.what o.schema files (λ rest. scans_at ops (i + 1) rest files)
 unfolding scans_from
@@ -49,32 +51,32 @@ scan-is : (op left : ℕ) (w : What) (name : List ℕ) (columns : List Column) (
     → scan_before op left w columns files later ≡ then_on (scan_file op left name columns files) (λ bytes. file_before bytes (later (left - length bytes)))
 scan-is op left w name columns files later e = rw e refl
 
--- what the first operators give, whatever comes behind them: their scans' files, and then those of later scans
+-- what the first operators give, whatever comes after them: their scans' files, and then those of later scans
 abbrev pub IsWalked : List Operator → ℕ → ℕ → List (List ℕ) → Named → Type 0
-IsWalked ops i left done files = (behind : List Operator) → scans_of (take i ops ++ behind) files ≡ after_files done (scans_from (i + 1) left behind files)
+IsWalked ops i left done files = (later : List Operator) → scans_of (take i ops ++ later) files ≡ after_files done (scans_from (i + 1) left later files)
 
 pub walk-none : (ops : List Operator) (files : Named) → IsWalked ops 0 most_scanned [] files
 unfolding scans_of
-walk-none ops files behind = after-none (scans_from 1 most_scanned behind files)
+walk-none ops files later = after-none (scans_from 1 most_scanned later files)
 
-take-here : (ops behind : List Operator) (i : ℕ) (o : Operator) → i < length ops → o ≡ get_or ops i o → take (i + 1) ops ++ behind ≡ take i ops ++ o ∷ behind
-take-here ops behind i o h is =
-    ap (λ front. front ++ behind) (take_more ops i o h ∙ ap (λ x. take i ops ++ x ∷ []) (sym is)) ∙ append_assoc (take i ops) (o ∷ []) behind
+take-here : (ops later : List Operator) (i : ℕ) (o : Operator) → i < length ops → o ≡ get_or ops i o → take (i + 1) ops ++ later ≡ take i ops ++ o ∷ later
+take-here ops later i o h is =
+    ap (λ front. front ++ later) (take_more ops i o h ∙ ap (λ x. take i ops ++ x ∷ []) (sym is)) ∙ append_assoc (take i ops) (o ∷ []) later
 
 -- the next operator, before any others
-step-before : (i left : ℕ) (o : Operator) (behind : List Operator) (files : Named)
-    → scans_from (i + 1) left (o ∷ behind) files ≡ scan_before (i + 1) left o.what o.schema files (λ rest. scans_from (i + 1 + 1) rest behind files)
+step-before : (i left : ℕ) (o : Operator) (later : List Operator) (files : Named)
+    → scans_from (i + 1) left (o ∷ later) files ≡ scan_before (i + 1) left o.what o.schema files (λ rest. scans_from (i + 1 + 1) rest later files)
 unfolding scans_from
-step-before i left o behind files = refl
+step-before i left o later files = refl
 
 -- a scan whose file was loaded
 walk-scan : (ops : List Operator) (i left : ℕ) (o : Operator) (name bytes : List ℕ) (done : List (List ℕ)) (files : Named)
     → i < length ops → o ≡ get_or ops i o → o.what ≡ what.Scan name → scan_file (i + 1) left name o.schema files ≡ Ok bytes
     → IsWalked ops i left done files → IsWalked ops (i + 1) (left - length bytes) (done ++ bytes ∷ []) files
-walk-scan ops i left o name bytes done files h is w load sofar behind =
-    ap (λ walked. scans_of walked files) (take-here ops behind i o h is) ∙ sofar (o ∷ behind)
-    ∙ rw (step-before i left o behind files, scan-is (i + 1) left o.what name o.schema files (λ rest. scans_from (i + 1 + 1) rest behind files) w, load)
-    (after-one done bytes (scans_from (i + 1 + 1) (left - length bytes) behind files))
+walk-scan ops i left o name bytes done files h is w load sofar later =
+    ap (λ walked. scans_of walked files) (take-here ops later i o h is) ∙ sofar (o ∷ later)
+    ∙ rw (step-before i left o later files, scan-is (i + 1) left o.what name o.schema files (λ rest. scans_from (i + 1 + 1) rest later files) w, load)
+    (after-one done bytes (scans_from (i + 1 + 1) (left - length bytes) later files))
 
 pub scan-next : (ops : List Operator) (i left : ℕ) (o : Operator) (name bytes : List ℕ) (done : List (List ℕ)) (told : Option Named)
     → i < length ops → o ≡ get_or ops i o → o.what ≡ what.Scan name → Told told (λ files. scan_file (i + 1) left name o.schema files ≡ Ok bytes)
@@ -106,7 +108,7 @@ scan-names s ops i left o file done told h is w walked named =
     (λ files one. names-map s (λ name. name ≡ file) (IsScanFile ops files) (λ name same. record {
       front = take i ops;
       operator = o;
-      behind = drop (i + 1) ops;
+      later = drop (i + 1) ops;
       split = sym (take-append-drop i ops) ∙ ap (λ rest. take i ops ++ rest) (drop-here ops i o h is);
       names = rw same w;
       right = front-right ops i left done files one;
@@ -119,16 +121,12 @@ scan-stops ops i left o name done whole s files h is w load sofar =
     sofar ∙ rw (step-at ops i left o files h is, scan-is (i + 1) left o.what name o.schema files (λ rest. scans_at ops (i + 1) rest files) w, load) refl
 
 -- a scan whose file was not loaded
-pub scan-failure : (ops : List Operator) (i left : ℕ) (o : Operator) (name : List ℕ) (done : List (List ℕ)) (whole : Named → Result (List (List ℕ)) Failure) (s : Failure) (told : Option Named) (a b : ℕ)
-    → i < length ops → o ≡ get_or ops i o → o.what ≡ what.Scan name → Told told (λ files. whole files ≡ after_files done (scans_at ops i left files))
-    → Follows {A = List ℕ} (Err s) (scan_file (i + 1) left name o.schema) (loading told a b) → Follows {A = List (List ℕ)} (Err s) whole (loading told a b)
-scan-failure ops i left o name done whole s told a b h is w sofar =
-    stopped-map s (loading told a b) (Told told (λ files. scan_file (i + 1) left name o.schema files ≡ Err s)) (Told told (λ files. whole files ≡ Err s))
-    (Tells told (λ files. scan_file (i + 1) left name o.schema files ≡ Err s)) (Tells told (λ files. whole files ≡ Err s))
-    (told-both told (λ files. whole files ≡ after_files done (scans_at ops i left files)) (λ files. scan_file (i + 1) left name o.schema files ≡ Err s)
-    (λ files. whole files ≡ Err s) (λ files sofar load. scan-stops ops i left o name done (whole files) s files h is w load sofar) sofar)
-    (tells-both told (λ files. whole files ≡ after_files done (scans_at ops i left files)) (λ files. scan_file (i + 1) left name o.schema files ≡ Err s)
-    (λ files. whole files ≡ Err s) (λ files sofar load. scan-stops ops i left o name done (whole files) s files h is w load sofar) sofar)
+pub scan-failure : (ops : List Operator) (i left : ℕ) (o : Operator) (name : List ℕ) (done : List (List ℕ)) (whole : Named → Result (List (List ℕ)) Failure) (s : Failure) (before after : World)
+    → i < length ops → o ≡ get_or ops i o → o.what ≡ what.Scan name → Told before.files (λ files. whole files ≡ after_files done (scans_at ops i left files))
+    → Follows {A = List ℕ} (Err s) (scan_file (i + 1) left name o.schema) before after → Follows {A = List (List ℕ)} (Err s) whole before after
+scan-failure ops i left o name done whole s before after h is w =
+    stopped-both s (λ files. whole files ≡ after_files done (scans_at ops i left files)) (λ files. scan_file (i + 1) left name o.schema files ≡ Err s) (λ files. whole files ≡ Err s) before after
+    (λ files sofar load. scan-stops ops i left o name done (whole files) s files h is w load sofar)
 
 scan-skips : (op left : ℕ) (w : What) (columns : List Column) (files : Named) (later : ℕ → Result (List (List ℕ)) Failure) → is_scan w ≡ false
     → scan_before op left w columns files later ≡ later left
@@ -138,9 +136,9 @@ scan-skips op left other columns files later h = refl
 -- an operator that is no scan
 walk-skip : (ops : List Operator) (i left : ℕ) (o : Operator) (done : List (List ℕ)) (files : Named) → i < length ops → o ≡ get_or ops i o → is_scan o.what ≡ false
     → IsWalked ops i left done files → IsWalked ops (i + 1) left done files
-walk-skip ops i left o done files h is w sofar behind =
-    ap (λ walked. scans_of walked files) (take-here ops behind i o h is) ∙ sofar (o ∷ behind)
-    ∙ rw (step-before i left o behind files, scan-skips (i + 1) left o.what o.schema files (λ rest. scans_from (i + 1 + 1) rest behind files) w) refl
+walk-skip ops i left o done files h is w sofar later =
+    ap (λ walked. scans_of walked files) (take-here ops later i o h is) ∙ sofar (o ∷ later)
+    ∙ rw (step-before i left o later files, scan-skips (i + 1) left o.what o.schema files (λ rest. scans_from (i + 1 + 1) rest later files) w) refl
 
 pub scan-skip : (ops : List Operator) (i left : ℕ) (o : Operator) (done : List (List ℕ)) (told : Option Named)
     → i < length ops → o ≡ get_or ops i o → is_scan o.what ≡ false → Told told (IsWalked ops i left done) → Told told (IsWalked ops (i + 1) left done)
@@ -209,13 +207,13 @@ inputs-skip ops i o done h is w sofar =
       headed = λ later right_later. sofar.headed later (rw (drop-here ops i o h is) (header-skip (i + 1) later o (drop (i + 1) ops) w right_later));
     }
 
-pub inputs-end : (ops : List Operator) (i : ℕ) (done : List (List ℕ)) → length ops ≤ i → AreInputsSoFar ops i done → AreInputs ops done
+pub inputs-end : (ops : List Operator) (i : ℕ) (done : List (List ℕ)) → IsFlow ops → length ops ≤ i → AreInputsSoFar ops i done → AreInputs (record { flow = ops; files = done })
 unfolding scan_count wrong_header
-inputs-end ops i done h sofar =
+inputs-end ops i done flow h sofar =
     let none = drop_all i ops h in
     let count : scan_count (drop i ops) ≡ 0 = rw none refl in
     let headed : wrong_header (i + 1) [] (drop i ops) ≡ None = rw none refl in
-    record { count = omega (arith, count, sofar.count); headed = rw append-nil at (sofar.headed [] headed) }
+    record { flow = flow; count = omega (arith, count, sofar.count); headed = rw append-nil at (sofar.headed [] headed) }
 
 -- ---- headers
 

@@ -12,6 +12,7 @@ use Rattle.amber_flow.specs.declared.error.Fault.{Fault}
 use Rattle.amber_log.specs.declared.command.Command.{Command}
 use Rattle.amber_meaning.specs.Plain.{row_total}
 use Rattle.amber_script.specs.Script.{BadLine, script_of}
+use Rattle.amber_course.specs.Loaded.{Loaded}
 use Rattle.amber_course.specs.Words.{call_words_of}
 use Rattle.amber_course.specs.declared.job.Job.{Job}
 use Rattle.amber_course.specs.declared.job.Job.TheVariants as job
@@ -121,6 +122,10 @@ scans_from op left (operator ∷ more) files = scan_before op left operator.what
 unfoldable pub scans_of : List Operator → Named → Result (List (List ℕ)) Failure
 scans_of flow files = scans_from 1 most_scanned flow files
 
+-- a workflow with the files of its scans
+unfoldable pub loaded_for : List Operator → Named → Result Loaded Failure
+loaded_for flow files = then_on (scans_of flow files) (λ scans. Ok (record { flow = flow; files = scans }))
+
 -- ---- the order of work
 
 abbrev pub words_read : Option Words → Result Words Failure
@@ -128,22 +133,22 @@ words_read None = Err failure.Usage
 words_read (Some words) = Ok words
 
 -- what a run is to do
-abbrev pub run_of : RunWords → List Operator → List Command → List (List ℕ) → RunJob
-run_of words flow commands inputs =
-    record { flow = flow; files = inputs; commands = commands; log = words.log; threads = words.threads; batch = words.batch }
+abbrev pub run_of : RunWords → List Command → Loaded → RunJob
+run_of words commands inputs =
+    record { inputs = inputs; commands = commands; log = words.log; threads = words.threads; batch_size = words.batch_size }
 
 -- the job that words ask for: the workflow is loaded and read; for a run its scans' files are compared with the log, and the script is
 -- loaded and read; each scan's file is loaded and its header compared
 unfoldable pub job_of : Words → Named → Result Job Failure
 job_of (form.Plain workflow) files =
-    then_on (workflow_in workflow files) (λ flow. then_on (scans_of flow files) (λ inputs. Ok (job.Plain flow inputs)))
+    then_on (workflow_in workflow files) (λ flow. then_on (loaded_for flow files) (λ inputs. Ok (job.Plain inputs)))
 job_of (form.Run words) files =
     then_on (run_flow words.workflow words.log files)
-    (λ flow. then_on (script_in words.script flow files) (λ commands. then_on (scans_of flow files) (λ inputs. Ok (job.Run (run_of words flow commands inputs)))))
+    (λ flow. then_on (script_in words.script flow files) (λ commands. then_on (loaded_for flow files) (λ inputs. Ok (job.Run (run_of words commands inputs)))))
 
 -- the operators of a query that is printed at once give no more rows than they may
 abbrev pub require_limit : Job → Result Job Failure
-require_limit (job.Plain flow inputs) = if nat_le (row_total flow inputs) most_rows then Ok (job.Plain flow inputs) else Err failure.Long
+require_limit (job.Plain inputs) = if nat_le (row_total inputs.flow inputs.files) most_rows then Ok (job.Plain inputs) else Err failure.Long
 require_limit (job.Run run) = Ok (job.Run run)
 
 -- the words are read; the files are loaded and read; for `plain` the rows of all operators are counted
@@ -156,8 +161,8 @@ course_of words files = then_on (words_read (call_words_of words)) (λ read. the
 pub record IsScanFile (flow : List Operator) (files : Named) (file : List ℕ) : Type 0 where
   pub front : List Operator
   pub operator : Operator
-  pub behind : List Operator
-  pub split : flow ≡ front ++ operator ∷ behind
+  pub later : List Operator
+  pub split : flow ≡ front ++ operator ∷ later
   pub names : operator.what ≡ what.Scan file
   pub right : IsOk (scans_of front files)
 
@@ -165,14 +170,14 @@ pub record IsScanFile (flow : List Operator) (files : Named) (file : List ℕ) :
 abbrev pub IsScanned : List ℕ → Named → List ℕ → Type 0
 IsScanned workflow files file = (flow : List Operator) × (workflow_in workflow files ≡ Ok flow) × IsScanFile flow files file
 
--- the script of a run, where its workflow stands, and the file of a scan of it, where the script stands too
-abbrev pub IsBehind : RunWords → Named → List ℕ → Type 0
-IsBehind words files file = (flow : List Operator) × (run_flow words.workflow words.log files ≡ Ok flow)
+-- the script of a run, where its workflow is right, and the file of a scan of it, where the script is right too
+abbrev pub IsRunFile : RunWords → Named → List ℕ → Type 0
+IsRunFile words files file = (flow : List Operator) × (run_flow words.workflow words.log files ≡ Ok flow)
     × ((file ≡ words.script) ⊎ (IsOk (script_in words.script flow files) × IsScanFile flow files file))
 
 abbrev pub IsLoaded : Words → Named → List ℕ → Type 0
 IsLoaded (form.Plain workflow) files file = (file ≡ workflow) ⊎ IsScanned workflow files file
-IsLoaded (form.Run words) files file = (file ≡ words.workflow) ⊎ IsBehind words files file
+IsLoaded (form.Run words) files file = (file ≡ words.workflow) ⊎ IsRunFile words files file
 
 -- a file that the order of work reaches: what comes before it is there and right
 abbrev pub IsReached : List (List ℕ) → Named → List ℕ → Type 0

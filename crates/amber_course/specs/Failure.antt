@@ -21,7 +21,7 @@ status_of failure.Long = status.Long
 status_of (failure.TooLarge name) = status.TooLarge
 status_of failure.NoMemory = status.NoMemory
 
--- the status that tells a failure. Want of memory may stand in for any, but not for a sink that failed
+-- the status that tells a failure. Running out of memory may stand in for any, but not for a sink that failed
 abbrev pub IsToldAs : Failure → Status → Type 0
 IsToldAs failure.OutFault result = result ≡ status.OutFault
 IsToldAs other result = (result ≡ status_of other) ⊎ (result ≡ status.NoMemory)

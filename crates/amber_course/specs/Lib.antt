@@ -1,5 +1,6 @@
 pub mod Course
 pub mod Failure
+pub mod Loaded
 pub mod Ready
 pub mod Status
 pub mod Steps

@@ -1,11 +1,9 @@
--- What a job is made of, and which words ask for it.
-use Rattle.std.specs.Prelude.{◌≡◌, ⊤, List, None, length, ℕ, true}
+-- What a job is made of beside what was loaded, and which words ask for it.
+use Rattle.std.specs.Prelude.{◌≡◌, ⊤, List, true}
 use Rattle.std.specs.List.{list_all}
-use Rattle.amber_rows.specs.FlowRules.{IsFlow}
 use Rattle.amber_rows.specs.declared.flow.Operator.{Operator}
 use Rattle.amber_log.specs.Fits.{fits_of}
 use Rattle.amber_log.specs.declared.command.Command.{Command}
-use Rattle.amber_meaning.specs.Plain.{scan_count, wrong_header}
 use Rattle.amber_course.specs.Words.{AreSizes}
 use Rattle.amber_script.specs.Commands.{is_scripted}
 use Rattle.amber_course.specs.declared.job.Job.{Job}
@@ -14,29 +12,23 @@ use Rattle.amber_course.specs.declared.job.RunJob.{RunJob}
 use Rattle.amber_course.specs.declared.words.Words.{Words}
 use Rattle.amber_course.specs.declared.words.Words.TheVariants as form
 
--- there is a file for each scan, and each begins with the names of its columns
-pub record AreInputs (flow : List Operator) (files : List (List ℕ)) : Type 0 where
-  pub count : length files ≡ scan_count flow
-  pub headed : wrong_header 1 files flow ≡ None
-
 -- commands as a script may have them, which fit the workflow
 pub record AreOfScript (flow : List Operator) (commands : List Command) : Type 0 where
   pub fit : list_all (fits_of flow) commands ≡ true
   pub scripted : list_all is_scripted commands ≡ true
 
+-- the sizes are in their ranges, and the commands fit the workflow
 pub record IsRunReady (run : RunJob) : Type 0 where
-  pub inputs : AreInputs run.flow run.files
-  pub sizes : AreSizes run.threads run.batch
-  pub flow : IsFlow run.flow
-  pub commands : AreOfScript run.flow run.commands
+  pub sizes : AreSizes run.threads run.batch_size
+  pub commands : AreOfScript run.inputs.flow run.commands
 
 abbrev pub IsReady : Job → Type 0
-IsReady (job.Plain flow files) = AreInputs flow files
+IsReady (job.Plain inputs) = ⊤
 IsReady (job.Run run) = IsRunReady run
 
 -- a job that writes no file
 abbrev pub WritesNothing : Job → Type 0
-WritesNothing (job.Plain flow files) = ⊤
+WritesNothing (job.Plain inputs) = ⊤
 WritesNothing (job.Run run) = ⊥
 
 -- words that ask for no run have a job that writes no file

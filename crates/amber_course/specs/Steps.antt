@@ -4,6 +4,7 @@ use Rattle.std.specs.Io.KnownBytes.{Appends, Keeps}
 use Rattle.amber_io.specs.Counts.{Rose}
 use Rattle.amber_io.specs.Folder.{Named, Told}
 use Rattle.amber_io.specs.Sink.{Begins}
+use Rattle.amber_io.specs.World.{World}
 use Rattle.amber_io.specs.declared.error.IoErr.{IoErr}
 use Rattle.amber_io.specs.declared.error.IoErr.TheVariants as io_err
 use Rattle.amber_course.specs.declared.words.Words.{Words}
@@ -15,31 +16,22 @@ abbrev pub Tells : Option Named → (Named → Type 0) → Type 0
 Tells None P = ⊥
 Tells (Some files) P = P files
 
--- what loads have found: the folder's files, and how many loads had failed before and have failed
-pub record Loads : Type 0 where
-  pub told : Option Named
-  pub old : ℕ
-  pub new : ℕ
+-- a failure after the words and before the output: over told files `meant` says that it is to come. A file could not be read only
+-- where that is meant over files that are told, or the count rose
+abbrev pub Stopped : Failure → (Named → Type 0) → World → World → Type 0
+Stopped failure.Usage meant before after = ⊥
+Stopped failure.LogFault meant before after = ⊥
+Stopped failure.OutFault meant before after = ⊥
+Stopped (failure.ReadFault name) meant before after = ((after.loads ≡ before.loads) × Tells before.files meant) ⊎ Rose before.loads after.loads
+Stopped failure.NoMemory meant before after = ⊤
+Stopped other meant before after = (after.loads ≡ before.loads) × Told before.files meant
 
-abbrev pub loading : Option Named → ℕ → ℕ → Loads
-loading told old new = record { told = told; old = old; new = new }
+-- a step that reads answers as `meant` says over told files, and where it does not stop, all is as before
+abbrev pub Follows : {A : Type 0} → Result A Failure → (Named → Result A Failure) → World → World → Type 0
+Follows (Ok x) meant before after = (after ≡ before) × Told before.files (λ files. meant files ≡ Ok x)
+Follows (Err s) meant before after = Stopped s (λ files. meant files ≡ Err s) before after
 
--- a failure behind the words and before the output: `meant` says that over told files it is to come, and `told` also that the files
--- are told. A file could not be read only where that is meant, or the count rose
-abbrev pub Stopped : Failure → Loads → Type 0 → Type 0 → Type 0
-Stopped failure.Usage loads meant told = ⊥
-Stopped failure.LogFault loads meant told = ⊥
-Stopped failure.OutFault loads meant told = ⊥
-Stopped (failure.ReadFault name) loads meant told = ((loads.new ≡ loads.old) × told) ⊎ Rose loads.old loads.new
-Stopped failure.NoMemory loads meant told = ⊤
-Stopped other loads meant told = (loads.new ≡ loads.old) × meant
-
--- a step that reads answers as `meant` says over told files
-abbrev pub Follows : {A : Type 0} → Result A Failure → (Named → Result A Failure) → Loads → Type 0
-Follows (Ok x) meant loads = (loads.new ≡ loads.old) × Told loads.told (λ files. meant files ≡ Ok x)
-Follows (Err s) meant loads = Stopped s loads (Told loads.told (λ files. meant files ≡ Err s)) (Tells loads.told (λ files. meant files ≡ Err s))
-
--- a step that reads nothing answers what is meant, but for want of memory
+-- a step that reads nothing answers what is meant, unless memory runs out
 abbrev pub Judges : {A : Type 0} → Result A Failure → Result A Failure → Type 0
 Judges (Ok x) meant = meant ≡ Ok x
 Judges (Err failure.Usage) meant = ⊥
@@ -56,28 +48,18 @@ AreRead (Err failure.Usage) meant = meant ≡ None
 AreRead (Err failure.NoMemory) meant = IsSome meant
 AreRead (Err other) meant = ⊥
 
--- what puts have changed: what the sink had got and has got, and how many puts had failed before and have failed
-pub record Puts : Type 0 where
-  pub before : Option (List ℕ)
-  pub got : Option (List ℕ)
-  pub old : ℕ
-  pub new : ℕ
-
-abbrev pub putting : Option (List ℕ) → Option (List ℕ) → ℕ → ℕ → Puts
-putting before got old new = record { before = before; got = got; old = old; new = new }
-
 -- the output was put: the whole of it, or a front part where the count of failed puts rose
-abbrev pub Sent : {A : Type 0} → Result A Failure → Puts → List ℕ → Type 0
-Sent (Ok x) puts text = (puts.new ≡ puts.old) × Appends puts.before puts.got text
-Sent (Err failure.OutFault) puts text = (puts.old ≤ puts.new) × Rose puts.old puts.new × Begins puts.before puts.got text
-Sent (Err failure.NoMemory) puts text = (puts.new ≡ puts.old) × Keeps puts.before puts.got
-Sent (Err other) puts text = ⊥
+abbrev pub Sent : {A : Type 0} → Result A Failure → List ℕ → World → World → Type 0
+Sent (Ok x) text before after = (after.puts ≡ before.puts) × Appends before.got after.got text
+Sent (Err failure.OutFault) text before after = (before.puts ≤ after.puts) × Rose before.puts after.puts × Begins before.got after.got text
+Sent (Err failure.NoMemory) text before after = (after.puts ≡ before.puts) × Keeps before.got after.got
+Sent (Err other) text before after = ⊥
 
 -- a line was put piece by piece: the whole of it, or a front part where a put was refused
-abbrev pub Lined : {A : Type 0} → Result A IoErr → Puts → List ℕ → Type 0
-Lined (Ok x) puts line = (puts.new ≡ puts.old) × Appends puts.before puts.got line
-Lined (Err io_err.NoMemory) puts line = (puts.new ≡ puts.old) × Begins puts.before puts.got line
-Lined (Err io_err.Failed) puts line = (puts.old ≤ puts.new) × Rose puts.old puts.new × Begins puts.before puts.got line
+abbrev pub Lined : {A : Type 0} → Result A IoErr → List ℕ → World → World → Type 0
+Lined (Ok x) line before after = (after.puts ≡ before.puts) × Appends before.got after.got line
+Lined (Err io_err.NoMemory) line before after = (after.puts ≡ before.puts) × Begins before.got after.got line
+Lined (Err io_err.Failed) line before after = (before.puts ≤ after.puts) × Rose before.puts after.puts × Begins before.got after.got line
 
 -- where a failure tells that a file could not be read, its name is one of these
 abbrev pub Names : Failure → (List ℕ → Type 0) → Type 0

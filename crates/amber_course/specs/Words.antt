@@ -13,26 +13,26 @@ most_batch = 65536
 
 -- the words of a run, whose log is none of its other files
 abbrev pub run_words : List ℕ → List ℕ → List ℕ → Option ℕ → Option ℕ → Option Words
-run_words workflow script log None batch = None
+run_words workflow script log None batch_size = None
 run_words workflow script log (Some threads) None = None
-run_words workflow script log (Some threads) (Some batch) =
+run_words workflow script log (Some threads) (Some batch_size) =
     if bytes_eq log workflow || bytes_eq log script then None
-    else Some (form.Run (record { workflow = workflow; script = script; log = log; threads = threads; batch = batch }))
+    else Some (form.Run (record { workflow = workflow; script = script; log = log; threads = threads; batch_size = batch_size }))
 
 -- the words are `plain` and the name of a workflow, or `run` and the names of a workflow, a script and a log and two numbers
 unfoldable pub call_words_of : List (List ℕ) → Option Words
 call_words_of (word ∷ workflow ∷ []) = if bytes_eq word (codes "plain") then Some (form.Plain workflow) else None
-call_words_of (word ∷ workflow ∷ script ∷ log ∷ threads ∷ batch ∷ []) =
-    if bytes_eq word (codes "run") then run_words workflow script log (number_up_to most_threads threads) (number_up_to most_batch batch) else None
+call_words_of (word ∷ workflow ∷ script ∷ log ∷ threads ∷ batch_size ∷ []) =
+    if bytes_eq word (codes "run") then run_words workflow script log (number_up_to most_threads threads) (number_up_to most_batch batch_size) else None
 call_words_of others = None
 
 -- the numbers of a run are in their ranges
-pub record AreSizes (threads batch : ℕ) : Type 0 where
+pub record AreSizes (threads batch_size : ℕ) : Type 0 where
   pub some_threads : 0 < threads
   pub few_threads : threads ≤ most_threads
-  pub some_batch : 0 < batch
-  pub few_batch : batch ≤ most_batch
+  pub some_batch : 0 < batch_size
+  pub few_batch : batch_size ≤ most_batch
 
 abbrev pub AreSound : Words → Type 0
 AreSound (form.Plain workflow) = ⊤
-AreSound (form.Run words) = AreSizes words.threads words.batch
+AreSound (form.Run words) = AreSizes words.threads words.batch_size

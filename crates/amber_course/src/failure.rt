@@ -1,3 +1,6 @@
+//! Why a call ended early, with what its error line says.
+//! Rests on `FlowWhy`, `ScriptWhy` and `Status`.
+
 ghost use Rattle.std.specs.Prelude.{◌≡◌};
 ghost use Rattle.amber_course.specs.Failure.{reason_word, status_of};
 ghost use Rattle.amber_course.specs.declared.failure.Failure.TheVariants.{NoMemory};

@@ -1,95 +1,46 @@
-ghost use Rattle.std.specs.Prelude.{◌≡◌, ◌<◌, ◌≤◌, ◌^◌, length, IfErr, IfOk};
-ghost use Rattle.amber_flow.specs.Workflow.{workflow_of};
-ghost use Rattle.amber_course.specs.Course.{flow_read, load_of, workflow_in};
-ghost use Rattle.amber_course.specs.Steps.{Follows, IsBounded, IsMissing, IsOversized, Judges, Names, loading};
+//! What was loaded for a job: a workflow with the files of its scans, as one value.
+//! Rests on `Flow` and `Files`; `load_scans` alone makes one.
 
-use crate::failure::{Failure, Reason};
-use amber_flow::{FlowErr, read_flow};
-use amber_io::{Folder, IoErr};
-use amber_rows::{Bytes, Flow, Text};
-use std::alloc::Global;
+ghost use Rattle.std.specs.Prelude.{◌≡◌};
+ghost use Rattle.amber_course.specs.Loaded.{AreInputs};
 
-// How many bytes a workflow or a script may have.
-pub(crate) const MOST_TEXT: u64 = 1 << 20;
+use amber_rows::{Files, Flow};
+use std::marker::Model;
 
-// The failure for a file that could not be read.
-fn unread(alloc: Global, name: &str) -> Failure
-    ensures { IsMissing result name.now }
-{
-    match Text::new(alloc, name) {
-        Ok(name) => Failure::ReadFault { name },
-        Err(_) => Failure::NoMemory,
-    }
+/// A workflow with a file for each of its scans, which begins with the names of the scan's columns.
+#[derive(Drop)]
+pub struct Inputs {
+    flow: Flow,
+    files: Files,
 }
 
-// The failure for a file that is too large.
-fn oversized(alloc: Global, name: &str) -> Failure
-    ensures { IsOversized result name.now }
-{
-    match Text::new(alloc, name) {
-        Ok(name) => Failure::TooLarge { name },
-        Err(_) => Failure::NoMemory,
-    }
+impl Model for Inputs {
+    ghost use Rattle.amber_course.specs.Loaded.{AreInputs, Loaded};
+
+    ghost Value = { Loaded };
+
+    ghost view = { λ inputs. record { flow = inputs.flow; files = inputs.files } };
+
+    ghost invariant = { λ inputs. AreInputs
+        (record { flow = inputs.flow; files = inputs.files }) };
 }
 
-// The first bytes of a file, where they are no more than it may have.
-fn bounded(alloc: Global, name: &str, most: u64, bytes: Vec<u8>) -> Result<Bytes, Failure>
-    ensures { IsBounded result name.now most bytes.items }
-{
-    if bytes.len() as u64 > most {
-        return Err(oversized(alloc, name));
+impl Inputs {
+    // A workflow with these files.
+    pub(crate) fn new(flow: Flow, files: Files) -> Inputs
+        requires { AreInputs (record { flow = flow; files = files }) }
+        ensures { result ≡ record { flow = flow; files = files } }
+    {
+        Inputs { flow, files }
     }
-    Ok(Bytes::new(bytes))
-}
 
-/// All bytes of a file, of which it may have so many.
-pub(crate) fn load<F: Folder>(
-    alloc: Global,
-    name: &str,
-    most: u64,
-    folder: &mut F,
-) -> Result<Bytes, Failure>
-    requires { most < 2 ^ 63 }
-    ensures course { Follows result (load_of most name.now)
-        (loading (F.files folder.old) (F.load_faults folder.old) (F.load_faults folder.new)) }
-    ensures few { IfOk result (λ bytes. length bytes ≤ most) }
-    ensures named { IfErr result (λ failure. Names failure (λ file. file ≡ name.now)) }
-    ensures same { F.files folder.new ≡ F.files folder.old }
-    ensures writes { F.write_faults folder.new ≡ F.write_faults folder.old }
-{
-    match folder.load(alloc, name, most + 1) {
-        Ok(bytes) => bounded(alloc, name, most, bytes),
-        Err(IoErr::Failed) => Err(unread(alloc, name)),
-        Err(IoErr::NoMemory) => Err(Failure::NoMemory),
+    /// The workflow and the files.
+    pub fn into_parts(self) -> (Flow, Files)
+        ensures flow { result.0 ≡ self.flow }
+        ensures files { result.1 ≡ self.files }
+        ensures inputs { AreInputs self }
+    {
+        let Inputs { flow, files } = self;
+        (flow, files)
     }
-}
-
-// The workflow that the bytes of a file are.
-fn read(alloc: Global, bytes: &Bytes) -> Result<Flow, Failure>
-    ensures { Judges result (flow_read (workflow_of bytes.now)) }
-{
-    match read_flow(alloc, bytes.get()) {
-        Ok(flow) => Ok(flow),
-        Err(FlowErr::Bad { op, why }) => Err(Failure::BadFlow {
-            op,
-            why: Reason::Flow(why),
-        }),
-        Err(FlowErr::NoMemory) => Err(Failure::NoMemory),
-    }
-}
-
-/// The workflow in a file.
-pub(crate) fn load_flow<F: Folder>(
-    alloc: Global,
-    name: &str,
-    folder: &mut F,
-) -> Result<Flow, Failure>
-    ensures course { Follows result (workflow_in name.now)
-        (loading (F.files folder.old) (F.load_faults folder.old) (F.load_faults folder.new)) }
-    ensures named { IfErr result (λ failure. Names failure (λ file. file ≡ name.now)) }
-    ensures same { F.files folder.new ≡ F.files folder.old }
-    ensures writes { F.write_faults folder.new ≡ F.write_faults folder.old }
-{
-    let bytes = load(alloc, name, MOST_TEXT, folder)?;
-    read(alloc, &bytes)
 }

@@ -1,13 +1,16 @@
+//! The jobs that a call may ask for, with all that was loaded and read for them.
+//! Rests on `Inputs` and on the commands of a script.
+
+use crate::inputs::Inputs;
 use amber_log::Commands;
-use amber_rows::{Files, Flow, Text};
+use amber_rows::Text;
 
 /// What a run is to do: the workflow over the files of its scans, by the commands of a script, with
-/// what was done written into the log of this name; on so many threads, from 1 to 64, with so many
-/// rows in a batch, from 1 to 65,536.
+/// what was done written into the log of this name; on `threads` threads, from 1 to 64, with
+/// `batch_size` rows in a batch, from 1 to 65,536.
 #[derive(Drop)]
 pub struct RunJob {
-    pub flow: Flow,
-    pub files: Files,
+    pub inputs: Inputs,
     pub commands: Commands,
     pub log: Text,
     pub threads: u32,
@@ -18,7 +21,7 @@ pub struct RunJob {
 #[derive(Drop)]
 pub enum Job {
     /// To print the sequential answer of a workflow over the files of its scans.
-    Plain { flow: Flow, files: Files },
+    Plain { inputs: Inputs },
     /// To run a workflow by the commands of a script and then to its end.
     Run(RunJob),
 }

@@ -6,8 +6,9 @@
 #![tactic(auto)]
 
 pub mod failure;
-pub mod inputs;
+mod inputs;
 pub mod job;
+mod loading;
 mod log_name;
 pub mod preparing;
 pub mod refusal;
@@ -18,6 +19,7 @@ pub mod words;
 
 pub use amber_script::ScriptWhy;
 pub use failure::{Failure, Reason};
+pub use inputs::Inputs;
 pub use job::{Job, RunJob};
 pub use preparing::prepare;
 pub use refusal::{put_output, refuse};

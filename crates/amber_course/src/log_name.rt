@@ -1,10 +1,14 @@
+//! The log of a run against the files of its scans: none of them may be the log.
+//! Rests on `load_flow`.
+
 ghost use Rattle.std.specs.Prelude.{◌≡◌, IfErr, IfOk};
+ghost use Rattle.amber_io.specs.World.{LoadsOnly};
 ghost use Rattle.amber_course.specs.Course.{apart_from, log_scan, is_scan_of, run_flow};
-ghost use Rattle.amber_course.specs.Steps.{Follows, Judges, Names, loading};
+ghost use Rattle.amber_course.specs.Steps.{Follows, Judges, Names};
 
 use crate::failure::{Failure, Reason};
-use crate::inputs::load_flow;
-use amber_io::Folder;
+use crate::loading::load_flow;
+use amber_io::Outside;
 use amber_rows::{Flow, What};
 use std::alloc::Global;
 
@@ -46,18 +50,18 @@ fn apart_from(flow: Flow, log: &str) -> Result<Flow, Failure>
 }
 
 /// The workflow in a file, where none of its scans reads the log.
-pub(crate) fn load_run_flow<F: Folder>(
+pub(crate) fn load_run_flow<W: Outside>(
     alloc: Global,
     workflow: &str,
     log: &str,
-    folder: &mut F,
+    outside: &mut W,
 ) -> Result<Flow, Failure>
-    ensures course { Follows result (run_flow workflow.now log.now)
-        (loading (F.files folder.old) (F.load_faults folder.old) (F.load_faults folder.new)) }
+    ensures course { Follows result (run_flow workflow.now log.now) (W.world outside.old)
+        (W.world outside.new) }
     ensures named { IfErr result (λ failure. Names failure (λ file. file ≡ workflow.now)) }
-    ensures same { F.files folder.new ≡ F.files folder.old }
-    ensures writes { F.write_faults folder.new ≡ F.write_faults folder.old }
+    ensures only { LoadsOnly (W.world outside.old) (W.world outside.new) }
+    ensures held { W.held outside.new ≡ W.held outside.old }
 {
-    let flow = load_flow(alloc, workflow, folder)?;
+    let flow = load_flow(alloc, workflow, outside)?;
     apart_from(flow, log)
 }

@@ -1,14 +1,18 @@
+//! The files of a workflow's scans, in the order of the operators, each with the right header.
+//! Rests on `load` and on `has_header`.
+
 ghost use Rattle.std.specs.Prelude.{◌≡◌, ◌≤◌, ◌<◌, ◌^◌, length, true, IfErr, IfOk};
 ghost use Rattle.amber_io.specs.Folder.{Told};
-ghost use Rattle.amber_rows.specs.FlowRules.{IsFlow};
+ghost use Rattle.amber_io.specs.World.{LoadsOnly};
 ghost use Rattle.amber_rows.specs.Record.{has_header};
-ghost use Rattle.amber_course.specs.Ready.{AreInputs};
-ghost use Rattle.amber_course.specs.Course.{IsScanFile, require_header, scan_file, scans_of};
-ghost use Rattle.amber_course.specs.Steps.{Follows, Judges, Names, loading};
+ghost use Rattle.amber_course.specs.Loaded.{AreInputs};
+ghost use Rattle.amber_course.specs.Course.{IsScanFile, loaded_for, require_header, scan_file, scans_of};
+ghost use Rattle.amber_course.specs.Steps.{Follows, Judges, Names};
 
 use crate::failure::{Failure, Reason};
-use crate::inputs::load;
-use amber_io::Folder;
+use crate::inputs::Inputs;
+use crate::loading::load;
+use amber_io::Outside;
 use amber_rows::{Bytes, Files, Flow, Schema, What, has_header};
 use std::alloc::Global;
 
@@ -29,42 +33,38 @@ fn with_header(alloc: Global, op: u32, columns: &Schema, bytes: Bytes) -> Result
     Ok(bytes)
 }
 
-// The file of a scan, which may have so many bytes.
-fn load_scan<F: Folder>(
+// The file of a scan, which has at most `most` bytes.
+fn load_scan<W: Outside>(
     alloc: Global,
     op: u32,
     most: u64,
     name: &str,
     columns: &Schema,
-    folder: &mut F,
+    outside: &mut W,
 ) -> Result<Bytes, Failure>
     requires { most < 2 ^ 63 }
-    ensures course { Follows result (scan_file op most name.now columns.now)
-        (loading (F.files folder.old) (F.load_faults folder.old) (F.load_faults folder.new)) }
+    ensures course { Follows result (scan_file op most name.now columns.now) (W.world outside.old)
+        (W.world outside.new) }
     ensures few { IfOk result (λ bytes. length bytes ≤ most) }
     ensures headed { IfOk result (λ bytes. has_header columns.now bytes ≡ true) }
     ensures named { IfErr result (λ failure. Names failure (λ file. file ≡ name.now)) }
-    ensures same { F.files folder.new ≡ F.files folder.old }
-    ensures writes { F.write_faults folder.new ≡ F.write_faults folder.old }
+    ensures only { LoadsOnly (W.world outside.old) (W.world outside.new) }
+    ensures held { W.held outside.new ≡ W.held outside.old }
 {
-    let bytes = load(alloc, name, most, folder)?;
+    let bytes = load(alloc, name, most, outside)?;
     with_header(alloc, op, columns, bytes)
 }
 
-/// The files of a workflow's scans, in the order of the operators.
-pub(crate) fn load_scans<F: Folder>(
-    alloc: Global,
-    flow: &Flow,
-    folder: &mut F,
-) -> Result<Files, Failure>
-    ensures course { Follows result (scans_of flow.now)
-        (loading (F.files folder.old) (F.load_faults folder.old) (F.load_faults folder.new)) }
-    ensures inputs { IfOk result (λ files. AreInputs flow.now files) }
-    ensures flow { IsFlow flow.now }
-    ensures named { Told (F.files folder.old)
+// The files of a workflow's scans, in the order of the operators.
+fn load_files<W: Outside>(alloc: Global, flow: &Flow, outside: &mut W) -> Result<Files, Failure>
+    ensures course { Follows result (scans_of flow.now) (W.world outside.old)
+        (W.world outside.new) }
+    ensures inputs { IfOk result
+        (λ files. AreInputs (record { flow = flow.now; files = files })) }
+    ensures named { Told (W.world outside.old).files
         (λ files. IfErr result (λ failure. Names failure (IsScanFile flow.now files))) }
-    ensures same { F.files folder.new ≡ F.files folder.old }
-    ensures writes { F.write_faults folder.new ≡ F.write_faults folder.old }
+    ensures only { LoadsOnly (W.world outside.old) (W.world outside.new) }
+    ensures held { W.held outside.new ≡ W.held outside.old }
 {
     let mut files = Vec::new(alloc);
     let mut left = MOST_SCANNED;
@@ -72,10 +72,28 @@ pub(crate) fn load_scans<F: Folder>(
     for (i, operator) in operators.iter().enumerate() {
         if let What::Scan { file } = &operator.what {
             let op = i as u32 + 1;
-            let bytes = load_scan(alloc, op, left, file.get(), &operator.schema, folder)?;
+            let bytes = load_scan(alloc, op, left, file.get(), &operator.schema, outside)?;
             left -= bytes.len() as u64;
             files.push(bytes)?;
         }
     }
     Ok(Files::new(files))
+}
+
+/// A workflow with the files of its scans.
+pub(crate) fn load_scans<W: Outside>(
+    alloc: Global,
+    flow: Flow,
+    outside: &mut W,
+) -> Result<Inputs, Failure>
+    ensures course { Follows result (loaded_for flow) (W.world outside.old)
+        (W.world outside.new) }
+    ensures flow { IfOk result (λ inputs. inputs.flow ≡ flow) }
+    ensures named { Told (W.world outside.old).files
+        (λ files. IfErr result (λ failure. Names failure (IsScanFile flow files))) }
+    ensures only { LoadsOnly (W.world outside.old) (W.world outside.new) }
+    ensures held { W.held outside.new ≡ W.held outside.old }
+{
+    let files = load_files(alloc, &flow, outside)?;
+    Ok(Inputs::new(flow, files))
 }

@@ -1,12 +1,16 @@
+//! The commands of the script in a file.
+//! Rests on `load` and on `read_script`.
+
 ghost use Rattle.std.specs.Prelude.{◌≡◌, IfErr, IfOk};
+ghost use Rattle.amber_io.specs.World.{LoadsOnly};
 ghost use Rattle.amber_course.specs.Course.{script_in, script_read};
 ghost use Rattle.amber_course.specs.Ready.{AreOfScript};
-ghost use Rattle.amber_course.specs.Steps.{Follows, Judges, Names, loading};
+ghost use Rattle.amber_course.specs.Steps.{Follows, Judges, Names};
 ghost use Rattle.amber_script.specs.Script.{script_of};
 
 use crate::failure::Failure;
-use crate::inputs::{MOST_TEXT, load};
-use amber_io::Folder;
+use crate::loading::{MOST_TEXT, load};
+use amber_io::Outside;
 use amber_log::Commands;
 use amber_rows::{Bytes, Flow};
 use amber_script::{ScriptErr, read_script};
@@ -25,19 +29,19 @@ fn read(alloc: Global, bytes: &Bytes, flow: &Flow) -> Result<Commands, Failure>
 }
 
 /// The commands of the script in a file.
-pub(crate) fn load_script<F: Folder>(
+pub(crate) fn load_script<W: Outside>(
     alloc: Global,
     name: &str,
     flow: &Flow,
-    folder: &mut F,
+    outside: &mut W,
 ) -> Result<Commands, Failure>
-    ensures course { Follows result (script_in name.now flow.now)
-        (loading (F.files folder.old) (F.load_faults folder.old) (F.load_faults folder.new)) }
+    ensures course { Follows result (script_in name.now flow.now) (W.world outside.old)
+        (W.world outside.new) }
     ensures fit { IfOk result (AreOfScript flow.now) }
     ensures named { IfErr result (λ failure. Names failure (λ file. file ≡ name.now)) }
-    ensures same { F.files folder.new ≡ F.files folder.old }
-    ensures writes { F.write_faults folder.new ≡ F.write_faults folder.old }
+    ensures only { LoadsOnly (W.world outside.old) (W.world outside.new) }
+    ensures held { W.held outside.new ≡ W.held outside.old }
 {
-    let bytes = load(alloc, name, MOST_TEXT, folder)?;
+    let bytes = load(alloc, name, MOST_TEXT, outside)?;
     read(alloc, &bytes, flow)
 }

@@ -1,3 +1,5 @@
+//! How a call ended, with the number of each status. Rests on nothing.
+
 ghost use Rattle.std.specs.Prelude.{◌≡◌};
 ghost use Rattle.amber_course.specs.Status.{code_of};
 

@@ -1,3 +1,6 @@
+//! What the words of a call ask for.
+//! Rests on `read_number`.
+
 ghost use Rattle.std.specs.Prelude.{◌≡◌, ◌<◌, ◌≤◌, map, string_bytes, IfOk, IfSome, Some};
 ghost use Rattle.amber_course.specs.Steps.{AreRead};
 ghost use Rattle.amber_script.specs.Numbers.{number_up_to};
@@ -34,7 +37,7 @@ pub enum Words {
     Run(RunWords),
 }
 
-// The words behind `plain`.
+// The words after `plain`.
 fn read_plain(alloc: Global, workflow: &str) -> Result<Words, Failure>
     ensures read { AreRead result (Some (Words.Plain workflow.now)) }
     ensures sound { IfOk result AreSound }
@@ -43,24 +46,24 @@ fn read_plain(alloc: Global, workflow: &str) -> Result<Words, Failure>
     Ok(Words::Plain { workflow })
 }
 
-// The words behind `run`.
+// The words after `run`.
 fn read_run(
     alloc: Global,
     workflow: &str,
     script: &str,
     log: &str,
     threads: &str,
-    batch: &str,
+    batch_size: &str,
 ) -> Result<Words, Failure>
     ensures read { AreRead result
         (run_words workflow.now script.now log.now (number_up_to 64 threads.now)
-        (number_up_to 65536 batch.now)) }
+        (number_up_to 65536 batch_size.now)) }
     ensures sound { IfOk result AreSound }
 {
     let Some(threads) = read_number(threads, MOST_THREADS) else {
         return Err(Failure::Usage);
     };
-    let Some(batch) = read_number(batch, MOST_BATCH) else {
+    let Some(batch_size) = read_number(batch_size, MOST_BATCH) else {
         return Err(Failure::Usage);
     };
     if log == workflow || log == script {
@@ -71,11 +74,11 @@ fn read_run(
         script: Text::new(alloc, script)?,
         log: Text::new(alloc, log)?,
         threads: threads as u32,
-        batch: batch as u32,
+        batch_size: batch_size as u32,
     }))
 }
 
-// Reads the words after the program's name.
+/// Reads the words after the program's name.
 #[tactic(auto, unfolding(crate::specs::Words::call_words_of))]
 pub fn read_words(alloc: Global, words: &[String]) -> Result<Words, Failure>
     ensures read { AreRead result (call_words_of (map string_bytes words.now)) }
@@ -83,13 +86,13 @@ pub fn read_words(alloc: Global, words: &[String]) -> Result<Words, Failure>
 {
     match words {
         [form, workflow] if form.as_str() == "plain" => read_plain(alloc, workflow.as_str()),
-        [form, workflow, script, log, threads, batch] if form.as_str() == "run" => read_run(
+        [form, workflow, script, log, threads, batch_size] if form.as_str() == "run" => read_run(
             alloc,
             workflow.as_str(),
             script.as_str(),
             log.as_str(),
             threads.as_str(),
-            batch.as_str(),
+            batch_size.as_str(),
         ),
         _ => Err(Failure::Usage),
     }

@@ -4,19 +4,28 @@ use Rattle.std.specs.Fmt.{decimal}
 use Rattle.amber_course.proofs.Lines.{lined-on, lined-failure}
 use Rattle.amber_course.proofs.refusal.put_reason_line.Goals as goal
 
-pub returns-in_err-put_piece : goal.returns-in_err-put_piece
-returns-in_err-put_piece g c =
+pub returns-in_err-put_piece-clause-lined : goal.returns-in_err-put_piece-clause-lined
+returns-in_err-put_piece-clause-lined g c =
     let e : c.from_residual.result ≡ Err c.in_err-put_piece.field-0.0 = search rules in
-    rw e (lined-failure c.in_err-put_piece.field-0.0 (g.O.Sink.written c.args.out.now) (g.O.Sink.written c.put_piece.new.out) (g.O.Sink.faults c.args.out.now) (g.O.Sink.faults c.put_piece.new.out) c.args.words.now (decimal c.args.number ++ (codes " " ++ (c.args.why.now ++ codes "\n"))) c.in_err-put_piece.ensures)
+    rw e (lined-failure c.in_err-put_piece.field-0.0 c.args.words.now (decimal c.args.number ++ (codes " " ++ (c.args.why.now ++ codes "\n")))
+    (g.W.Outside.world c.args.outside.now) (g.W.Outside.world c.put_piece.new.outside) c.in_err-put_piece.ensures.lined)
 
-pub returns-in_err-put_piece-2 : goal.returns-in_err-put_piece-2
-returns-in_err-put_piece-2 g c =
+pub returns-in_err-put_piece-2-clause-lined : goal.returns-in_err-put_piece-2-clause-lined
+returns-in_err-put_piece-2-clause-lined g c =
+    let first = g.W.Outside.world c.put_piece.new.outside in
+    let second = g.W.Outside.world c.put_piece-2.new.outside in
     let e : c.from_residual-in_err-put_piece-2.result ≡ Err c.in_err-put_piece-2.field-0.0 = search rules in
-    rw e (lined-on (Err c.in_err-put_piece-2.field-0.0) c.in_ok-put_piece.field-0 (g.O.Sink.written c.args.out.now) (g.O.Sink.written c.put_piece.new.out) (g.O.Sink.written c.put_piece-2.new.out) (g.O.Sink.faults c.args.out.now) (g.O.Sink.faults c.put_piece.new.out) (g.O.Sink.faults c.put_piece-2.new.out) c.args.words.now (decimal c.args.number ++ (codes " " ++ (c.args.why.now ++ codes "\n"))) c.in_ok-put_piece.ensures
-    (lined-failure c.in_err-put_piece-2.field-0.0 (g.O.Sink.written c.put_piece.new.out) (g.O.Sink.written c.put_piece-2.new.out) (g.O.Sink.faults c.put_piece.new.out) (g.O.Sink.faults c.put_piece-2.new.out) (decimal c.args.number) (codes " " ++ (c.args.why.now ++ codes "\n")) (rw (c.as_bytes.ensures.value ∙ c.format.ensures.text) at c.in_err-put_piece-2.ensures)))
+    rw e (lined-on (Err c.in_err-put_piece-2.field-0.0) c.in_ok-put_piece.field-0 c.args.words.now (decimal c.args.number ++ (codes " " ++ (c.args.why.now ++ codes "\n")))
+    (g.W.Outside.world c.args.outside.now) first second c.in_ok-put_piece.ensures.lined
+    (lined-failure c.in_err-put_piece-2.field-0.0 (decimal c.args.number) (codes " " ++ (c.args.why.now ++ codes "\n")) first second
+    (rw (c.as_bytes.ensures.value ∙ c.format.ensures.text) at c.in_err-put_piece-2.ensures.lined)))
 
-pub returns : goal.returns
-returns g c =
-    lined-on c.put_text_line.result c.in_ok-put_piece.field-0 (g.O.Sink.written c.args.out.now) (g.O.Sink.written c.put_piece.new.out) (g.O.Sink.written c.put_text_line.new.out) (g.O.Sink.faults c.args.out.now) (g.O.Sink.faults c.put_piece.new.out) (g.O.Sink.faults c.put_text_line.new.out) c.args.words.now (decimal c.args.number ++ (codes " " ++ (c.args.why.now ++ codes "\n"))) c.in_ok-put_piece.ensures
-    (lined-on c.put_text_line.result c.in_ok-put_piece-2.field-0 (g.O.Sink.written c.put_piece.new.out) (g.O.Sink.written c.put_piece-2.new.out) (g.O.Sink.written c.put_text_line.new.out) (g.O.Sink.faults c.put_piece.new.out) (g.O.Sink.faults c.put_piece-2.new.out) (g.O.Sink.faults c.put_text_line.new.out) (decimal c.args.number) (codes " " ++ (c.args.why.now ++ codes "\n")) (rw (c.as_bytes.ensures.value ∙ c.format.ensures.text) at c.in_ok-put_piece-2.ensures)
-    c.put_text_line.ensures)
+pub returns-clause-lined : goal.returns-clause-lined
+returns-clause-lined g c =
+    let first = g.W.Outside.world c.put_piece.new.outside in
+    let second = g.W.Outside.world c.put_piece-2.new.outside in
+    let third = g.W.Outside.world c.put_text_line.new.outside in
+    lined-on c.put_text_line.result c.in_ok-put_piece.field-0 c.args.words.now (decimal c.args.number ++ (codes " " ++ (c.args.why.now ++ codes "\n")))
+    (g.W.Outside.world c.args.outside.now) first third c.in_ok-put_piece.ensures.lined
+    (lined-on c.put_text_line.result c.in_ok-put_piece-2.field-0 (decimal c.args.number) (codes " " ++ (c.args.why.now ++ codes "\n")) first second third
+    (rw (c.as_bytes.ensures.value ∙ c.format.ensures.text) at c.in_ok-put_piece-2.ensures.lined) c.put_text_line.ensures.lined)

@@ -1,88 +1,20 @@
--- A step of the walk, and its ends.
-use Rattle.std.proofs.Common.{◌≡◌, ◌<◌, ◌≤◌, length, get_or, [], false, refl, Err, arith, rules, ◌∙◌}
-use Rattle.amber_rows.specs.Kinds.{is_scan}
-use Rattle.amber_course.specs.Course.{most_scanned, scans_of}
-use Rattle.amber_course.proofs.Following.{told-all}
-use Rattle.amber_course.proofs.Scanning.{IsWalked, inputs-end, inputs-none, inputs-scan, inputs-skip, not-scan, scan-end, scan-names, scan-next, scan-skip, scan-failure, walk-none, walked-all}
+-- The files, and then both as one.
+use Rattle.std.proofs.Common.{◌≡◌, ℕ, List, Ok, Err, rules}
+use Rattle.amber_course.specs.Course.{loaded_for, scans_of}
+use Rattle.amber_course.specs.Loaded.{Loaded}
+use Rattle.amber_course.proofs.Following.{follows-failure, follows-last}
 use Rattle.amber_course.proofs.scans.load_scans.Goals as goal
-use Rattle.amber_course.proofs.scans.load_scans.Goals.{in-Scan+in_ok-bytes+in_ok-push, in_default}
 
-pub load_scan-requires : goal.load_scan-requires
-load_scan-requires g c = omega (arith, c.loop-i.invariant.few)
-
-pub loop-i-init : goal.loop-i-init
-loop-i-init g c = record {
-  course = rw c.new-files.ensures.items (told-all (g.F.Folder.files c.args.folder.now) (IsWalked c.args.flow.now 0 most_scanned []) (walk-none c.args.flow.now));
-  inputs = rw c.new-files.ensures.items (inputs-none c.args.flow.now);
-  few = omega arith;
-  same = refl;
-  loads = refl;
-  writes = refl;
-}
-
-pub loop-i-preserved : goal.loop-i-preserved
-loop-i-preserved g c =
-    let flow = c.args.flow.now in
-    let i = c.loop-i.i in
-    let o = c.index-operators-i.result in
-    let sofar = c.loop-i.invariant in
-    let h : i < length flow = rw c.get-operators.ensures.operators at c.loop-i-test.true in
-    let is : o ≡ get_or flow i o = rw c.get-operators.ensures.operators at c.index-operators-i.is in
-    elim c.match-operator.branch [
-      | in-Scan+in_ok-bytes+in_ok-push w ↦
-          let load = rw (w.get.ensures, sofar.same) at w.in_ok-bytes.ensures.course.1 in
-          record {
-            course = rw (w.files-is, w.in_ok-push.ensures.items, w.left-is, w.len.ensures) (scan-next flow i c.loop-i.left o w.in-Scan.file w.in_ok-bytes.bytes c.loop-i.files.items
-                (g.F.Folder.files c.args.folder.now) h is w.in-Scan.is load sofar.course);
-            inputs = rw (w.files-is, w.in_ok-push.ensures.items) (inputs-scan flow i o w.in-Scan.file w.in_ok-bytes.bytes c.loop-i.files.items h is w.in-Scan.is w.in_ok-bytes.ensures.headed sofar.inputs);
-            few = rw w.left-is (omega (arith, sofar.few));
-            same = rw w.folder-is (w.load_scan.ensures.same ∙ sofar.same);
-            loads = rw w.folder-is (w.in_ok-bytes.ensures.course.0 ∙ sofar.loads);
-            writes = rw w.folder-is (w.load_scan.ensures.writes ∙ sofar.writes);
-          }
-      | in_default w ↦
-          let other : is_scan o.what ≡ false = not-scan o.what w.in_default.not-Scan in
-          record {
-            course = rw (w.files-is, w.left-is) (scan-skip flow i c.loop-i.left o c.loop-i.files.items (g.F.Folder.files c.args.folder.now) h is other sofar.course);
-            inputs = rw w.files-is (inputs-skip flow i o c.loop-i.files.items h is other sofar.inputs);
-            few = rw w.left-is sofar.few;
-            same = rw w.folder-is sofar.same;
-            loads = rw w.folder-is sofar.loads;
-            writes = rw w.folder-is sofar.writes;
-          }
-    ]
-
-pub returns-in_err-bytes-clause-course : goal.returns-in_err-bytes-clause-course
-returns-in_err-bytes-clause-course g c =
-    let flow = c.args.flow.now in
-    let o = c.index-operators-i.result in
-    let h : c.loop-i.i < length flow = rw c.get-operators.ensures.operators at c.loop-i-test.true in
-    let is : o ≡ get_or flow c.loop-i.i o = rw c.get-operators.ensures.operators at c.index-operators-i.is in
-    let e : c.from_residual.result ≡ Err c.in_err-bytes.field-0.0 = search rules in
-    let load = rw (c.get.ensures, c.loop-i.invariant.same, c.loop-i.invariant.loads) at c.in_err-bytes.ensures.course in
-    rw e (scan-failure flow c.loop-i.i c.loop-i.left o c.in-Scan.file c.loop-i.files.items (scans_of flow) c.in_err-bytes.field-0.0
-    (g.F.Folder.files c.args.folder.now) (g.F.Folder.load_faults c.args.folder.now) (g.F.Folder.load_faults c.load_scan.new.folder)
-    h is c.in-Scan.is (walked-all flow c.loop-i.i c.loop-i.left c.loop-i.files.items (g.F.Folder.files c.args.folder.now) c.loop-i.invariant.course) load)
-
-pub returns-in_err-bytes-clause-named : goal.returns-in_err-bytes-clause-named
-returns-in_err-bytes-clause-named g c =
-    let flow = c.args.flow.now in
-    let o = c.index-operators-i.result in
-    let h : c.loop-i.i < length flow = rw c.get-operators.ensures.operators at c.loop-i-test.true in
-    let is : o ≡ get_or flow c.loop-i.i o = rw c.get-operators.ensures.operators at c.index-operators-i.is in
-    let e : c.from_residual.result ≡ Err c.in_err-bytes.field-0.0 = search rules in
-    rw e (scan-names c.in_err-bytes.field-0.0 flow c.loop-i.i c.loop-i.left o c.in-Scan.file c.loop-i.files.items (g.F.Folder.files c.args.folder.now)
-    h is c.in-Scan.is c.loop-i.invariant.course (rw c.get.ensures at c.in_err-bytes.ensures.named))
+pub returns-in_err-files-clause-course : goal.returns-in_err-files-clause-course
+unfolding loaded_for
+returns-in_err-files-clause-course g c =
+    let e : c.from_residual.result ≡ Err c.in_err-files.field-0.0 = search rules in
+    let loaded : List (List ℕ) → Loaded = λ files. record { flow = c.args.flow; files = files } in
+    rw e (follows-failure c.in_err-files.field-0.0 (scans_of c.args.flow) (λ files scans. Ok (loaded scans))
+    (g.W.Outside.world c.args.outside.now) (g.W.Outside.world c.load_files.new.outside) c.in_err-files.ensures.course)
 
 pub returns-clause-course : goal.returns-clause-course
+unfolding loaded_for
 returns-clause-course g c =
-    let h : length c.args.flow.now ≤ c.loop-i.i = rw c.get-operators.ensures.operators at c.loop-i-test.false in (
-      c.loop-i.invariant.loads,
-      rw c.new.ensures (scan-end c.args.flow.now c.loop-i.i c.loop-i.left c.loop-i.files.items (scans_of c.args.flow.now) (g.F.Folder.files c.args.folder.now) h
-          (walked-all c.args.flow.now c.loop-i.i c.loop-i.left c.loop-i.files.items (g.F.Folder.files c.args.folder.now) c.loop-i.invariant.course)),
-    )
-
-pub returns-clause-inputs : goal.returns-clause-inputs
-returns-clause-inputs g c =
-    let h : length c.args.flow.now ≤ c.loop-i.i = rw c.get-operators.ensures.operators at c.loop-i-test.false in
-    rw c.new.ensures (inputs-end c.args.flow.now c.loop-i.i c.loop-i.files.items h c.loop-i.invariant.inputs)
+    let loaded : List (List ℕ) → Loaded = λ files. record { flow = c.args.flow; files = files } in
+    rw c.new.ensures (follows-last c.in_ok-files.files (scans_of c.args.flow) loaded (g.W.Outside.world c.args.outside.now) (g.W.Outside.world c.load_files.new.outside) c.in_ok-files.ensures.course)
