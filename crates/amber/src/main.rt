@@ -25,18 +25,18 @@ const HELP: &str = "amber answers queries over CSV files.
   amber --help           prints this text
   amber --version        prints the version
 
-A script has a command a line; blank lines, and lines that begin with #, say nothing. OP is the id of
+A script has a command a line; blank lines, and lines that begin with #, are ignored. OP is the id of
 an operator. A script may be empty.
 
-  run                    runs until something stops it, and tells what
+  run                    runs until something stops it, and says what
   pause OP N             asks to stop once OP has emitted N rows since the start
   inspect OP             shows how far the workers of OP are
   set OP VALUE           changes the constant of the filter OP, for the rows that it takes from then on
   clear OP               takes back what was asked to stop at OP
 
 A workflow is a JSON text with a list of operators: scans of CSV files, filters, projections, joins,
-groups and a sink. The answer is the sink's rows in their order, behind their number and the columns'
-names. Records that are no rows are told before it.
+groups and a sink. The answer is the number of the sink's rows, the columns' names, and the rows in their
+order. Records that are no rows are skipped and reported before it.
 
 LOG is made anew: what stood in that file is gone. It is none of the files that are read, under whatever
 path or link; such a run ends with 5 and leaves the file as it was.
@@ -44,7 +44,7 @@ path or link; such a run ends with 5 and leaves the file as it was.
 WORKFLOW and SCRIPT have at most 1 MiB each, and the files of all scans at most 32 MiB together. A query's
 operators give at most 2^40 rows together, and a run makes at most 2^40 steps.
 
-Whatever is refused is told in one line on the standard output, unless that failed: `error`, the exit
+Whatever is refused is reported in one line on the standard output, unless that failed: `error`, the exit
 code, a word for what was refused, and then what it was, as in `error 4 read orders.csv` or
 `error 2 flow 1 Header`, which names an operator by its number. The exit code is
 

@@ -26,14 +26,12 @@ use Rattle.amber_meaning.proofs.Fronts.{Reaches-parts}
 use Rattle.amber_laws.proofs.Counted.{schedules_take_one_total}
 use Rattle.amber_laws.proofs.Schedules.{ends_reply_the_answer}
 use Rattle.amber_debug.specs.Session.{Session, command_of, is_long_item}
-use Rattle.amber_run.specs.Outcome.{Counts}
-use Rattle.amber_run.specs.UnderWay.{EndsTorn, Halts, HasAnswer, HasText, IsAt, IsBare, IsLeft, IsUnderWay, Leaves, Opens, Worked, log_of_items}
+use Rattle.amber_io.specs.World.{World}
+use Rattle.amber_run.specs.UnderWay.{EndsTorn, Halts, HasAnswer, HasText, IsAt, IsLeft, IsUnderWay, Leaves, Opens, Worked, log_of_items}
 use Rattle.amber_run.specs.RunTask.{AlterNothing, RunTask, end_alone, ends_long, most_steps, query_at}
-use Rattle.amber_run.specs.World.{Shown, showing}
 use Rattle.amber_course.specs.declared.failure.Failure.{Failure}
 use Rattle.amber_course.specs.declared.failure.Failure.TheVariants as failure
-use Rattle.amber_course.proofs.Lines.{appends-same}
-use Rattle.amber_run.proofs.Working.{ends_long-push, last-is}
+use Rattle.amber_run.proofs.Working.{ends_long-push, keeps-same, last-is}
 
 -- ---- the last item
 
@@ -72,8 +70,8 @@ is-long close.Long h = refl
 
 -- ---- the answer
 
-pub has-answer : (t : RunTask) (script : List Command) (log : Log) (shown : Shown) → IsFlow t.flow → t.commands ≡ script ++ end_alone → IsUnderWay t [] log shown → HasAnswer t log
-has-answer t script log shown flow all h unaltered done last is =
+pub has-answer : (t : RunTask) (script : List Command) (log : Log) (now : World) → IsFlow t.flow → t.commands ≡ script ++ end_alone → IsUnderWay t [] log now → HasAnswer t log
+has-answer t script log now flow all h unaltered done last is =
     let commands = rw is at (h.commands ∙ all) in
     by-last last is (last-end done last script commands)
   where
@@ -176,52 +174,44 @@ unaltered-items (item.Run leg ∷ items) left h = unaltered-items items left h
 unaltered-items (item.End leg ∷ items) left h = unaltered-items items left h
 
 -- the log that is left is of the run's batch size, where it has an item
-same-size : (t : RunTask) (s : Failure) (line : List ℕ) (shown : Shown) → (h : IsLeft t s line shown) → EndsLong (h.done ++ h.last) → h.batch ≡ t.batch
-same-size t s line shown h ends = by-form h.stands
+same-size : (t : RunTask) (s : Failure) (now : World) → (h : IsLeft t s now) → EndsLong (h.done ++ h.last) → h.batch ≡ t.batch_size
+same-size t s now h ends = by-form h.stands
   where
     by-form : HasText t (log_of_items h.batch (h.done ++ h.last)) h.bytes
-        ⊎ ((s ≡ failure.LogFault) × (h.last ≡ []) × EndsTorn t h.left (log_of_items h.batch (h.done ++ h.last)) h.bytes) → h.batch ≡ t.batch
+        ⊎ ((s ≡ failure.LogFault) × (h.last ≡ []) × EndsTorn t h.left (log_of_items h.batch (h.done ++ h.last)) h.bytes) → h.batch ≡ t.batch_size
     by-form (inl text) = text.batch
     by-form (inr (is, all, inl torn)) = torn.batch
     by-form (inr (is, all, inr torn)) = absurd (no-push ends.front ends.one (sym (ap (λ (log : Log). log.items) torn.none) ∙ ends.split))
 
-pub too-long : (t : RunTask) (line : List ℕ) (shown : Shown) → IsFlow t.flow → IsLeft t failure.Long line shown → AlterNothing t.commands
-    → most_steps < step_total (query_at t t.batch)
-too-long t line shown flow h nothing =
+pub too-long : (t : RunTask) (now : World) → IsFlow t.flow → IsLeft t failure.Long now → AlterNothing t.commands
+    → most_steps < step_total (query_at t t.batch_size)
+too-long t now flow h nothing =
     let items = h.done ++ h.last in
     let unaltered = unaltered-items items h.left (subst AlterNothing (sym h.commands) nothing) in
-    rw (same-size t failure.Long line shown h (some-long items h.closed)) at (total-of (query_at t h.batch) (record { batch = h.batch; items = items }) flow h.legal unaltered h.closed)
+    rw (same-size t failure.Long now h (some-long items h.closed)) at (total-of (query_at t h.batch) (record { batch = h.batch; items = items }) flow h.legal unaltered h.closed)
 
 -- ---- the run
 
-pub bare-none : (t : RunTask) → IsBare t [] (showing t.told t.before)
-bare-none t = (inl refl, appends-same t.before)
-
--- it has not begun, for want of memory
-pub begin-failure : (s : Failure) (t : RunTask) → s ≡ failure.NoMemory → Leaves t s [] (showing t.told t.before)
-begin-failure s t e = rw e (inl (bare-none t))
+-- it has not begun, since memory ran out
+pub begin-failure : (s : Failure) (t : RunTask) → s ≡ failure.NoMemory → Leaves t s t.before
+begin-failure s t e = rw e (inl (inl refl, keeps-same t.before.got t.before.got refl))
 
 -- the log was not made
-pub opens-failure : (s : Failure) (t : RunTask) (log : Log) (shown : Shown) → Opens {A = Unit {0}} (Err s) t log shown → Leaves t s [] shown
-opens-failure failure.LogFault t log shown h = h
-opens-failure failure.NoMemory t log shown h = inl h
-opens-failure other t log shown h = absurd h
+pub opens-failure : (s : Failure) (t : RunTask) (log : Log) (now : World) → Opens {A = Unit {0}} (Err s) t log now → Leaves t s now
+opens-failure failure.LogFault t log now h = h
+opens-failure failure.NoMemory t log now h = inl h
+opens-failure other t log now h = absurd h
 
 -- a command was not done
-halts-failure : (s : Failure) (t : RunTask) (shown : Shown) → IsFlow t.flow → Halts t shown s → Leaves t s [] shown
-halts-failure failure.LogFault t shown flow h = inr h
-halts-failure failure.OutFault t shown flow h = h
-halts-failure failure.Long t shown flow h = (h, λ nothing. too-long t [] shown flow h nothing)
-halts-failure failure.NoMemory t shown flow h = inr h
-halts-failure other t shown flow h = absurd h
+halts-failure : (s : Failure) (t : RunTask) (now : World) → IsFlow t.flow → Halts t now s → Leaves t s now
+halts-failure failure.LogFault t now flow h = inr h
+halts-failure failure.OutFault t now flow h = h
+halts-failure failure.Long t now flow h = (h, λ nothing. too-long t now flow h nothing)
+halts-failure failure.NoMemory t now flow h = inr h
+halts-failure other t now flow h = absurd h
 
 -- the commands were done, or one was not
-pub worked-script : (r : Result (Unit {0}) Failure) (t : RunTask) (script : List Command) (d : Session) (shown : Shown) → IsFlow t.flow → t.commands ≡ script ++ end_alone
-    → MatchResult r (λ done. IsAt t [] d shown) (Halts t shown) → Worked r t shown
-worked-script (Ok u) t script d shown flow all h = (d.log, h.way, has-answer t script d.log shown flow all h.way)
-worked-script (Err s) t script d shown flow all h = halts-failure s t shown flow h
-
--- where the log was not made, the sink did not fail
-pub opens-counts : (s : Failure) (t : RunTask) (log : Log) (shown : Shown) (n : ℕ) → Opens {A = Unit {0}} (Err s) t log shown → Counts {A = Unit {0}} (Err s) n n
-opens-counts failure.OutFault t log shown n h = absurd h
-opens-counts other t log shown n h = refl
+pub worked-script : {A : Type 0} (r : Result A Failure) (t : RunTask) (script : List Command) (d : Session) (now : World) → IsFlow t.flow → t.commands ≡ script ++ end_alone
+    → MatchResult r (λ rows. IsAt t [] d now) (Halts t now) → Worked r t now
+worked-script (Ok rows) t script d now flow all h = (d.log, h.way, has-answer t script d.log now flow all h.way)
+worked-script (Err s) t script d now flow all h = halts-failure s t now flow h

@@ -1,8 +1,9 @@
-pub mod Changes
 pub mod Texting
 pub mod Ending
+pub mod Refusing
 pub mod Working
 pub mod Finishing
 pub mod Deciding
 pub mod Longing
 pub mod Scripted
+pub mod Answers

@@ -1,21 +1,20 @@
 -- Where the answer of a call is `Long`.
-use Rattle.std.proofs.Common.{◌≡◌, ◌≢◌, ℕ, ◌<◌, ◌⊎◌, inl, inr, List, [], ◌++◌, Result, Ok, Err, Bool, true, false, nat_le, refl, sym, subst, ◌∙◌, arith}
+use Rattle.std.proofs.Common.{◌≡◌, ◌≢◌, ℕ, ◌<◌, ◌⊎◌, inl, inr, List, ◌++◌, Result, Ok, Err, Bool, true, false, nat_le, refl, sym, subst, ◌∙◌, arith}
 use Rattle.std.proofs.lemmas.Bool.Decides.{nat_tests}
 use Rattle.amber_io.specs.Counts.{Rose}
 use Rattle.amber_io.specs.Folder.{Named, Told}
-use Rattle.amber_rows.specs.declared.flow.Operator.{Operator}
+use Rattle.amber_io.specs.World.{World}
+use Rattle.amber_course.specs.Loaded.{Loaded}
 use Rattle.amber_log.specs.LogText.{log_text}
 use Rattle.amber_log.proofs.Torn.{reads-whole}
 use Rattle.amber_meaning.specs.Plain.{row_total}
 use Rattle.amber_run.specs.Answering.{BreaksOff, Fulfils}
 use Rattle.amber_course.specs.Course.{course_of, require_limit, most_rows}
-use Rattle.amber_run.specs.Outcome.{Answers, AsksFor, Breaks, IsLongWhere, IsPrintStatus, Runs, RunsLong, StopsLong, TellsLong}
+use Rattle.amber_run.specs.Outcome.{Answers, AsksFor, Breaks, IsLongWhere, IsPrintStatus, RunsLong, Stops, StopsLong, Succeeds, TellsLong}
 use Rattle.amber_run.specs.UnderWay.{IsDone, IsLeft}
 use Rattle.amber_course.specs.Failure.{status_of}
 use Rattle.amber_run.specs.RunTask.{run_task_of}
-use Rattle.amber_run.specs.World.{Change, Shown}
-use Rattle.amber_run.proofs.Changes.{Counted}
-use Rattle.amber_run.specs.Writing.{CountsWrites}
+use Rattle.amber_run.specs.Writing.{FailedAs}
 use Rattle.amber_course.specs.declared.job.Job.{Job}
 use Rattle.amber_course.specs.declared.job.Job.TheVariants as job
 use Rattle.amber_course.specs.declared.job.RunJob.{RunJob}
@@ -23,7 +22,8 @@ use Rattle.amber_course.specs.declared.status.Status.{Status}
 use Rattle.amber_course.specs.declared.status.Status.TheVariants as status
 use Rattle.amber_course.specs.declared.failure.Failure.{Failure}
 use Rattle.amber_course.specs.declared.failure.Failure.TheVariants as failure
-use Rattle.amber_run.proofs.Ending.{course-job, course-none, told-tells}
+use Rattle.amber_run.proofs.Ending.{course-job, course-none}
+use Rattle.amber_run.proofs.Deciding.{told-tells}
 use Rattle.amber_course.proofs.Following.{told-all, told-both, told-map}
 
 -- ---- rows
@@ -41,27 +41,27 @@ many-rows : (rows most : ℕ) → nat_le rows most ≡ false → most < rows
 many-rows rows most e = grind (arith, nat_tests)
 
 -- a printed answer, by whether there are too many rows
-long-print : (flow : List Operator) (files : List (List ℕ)) (result : Status) (a b : ℕ) (few : Bool) → nat_le (row_total flow files) most_rows ≡ few
-    → Answers (require_limit (job.Plain flow files)) result a b → ¬ (Rose a b) → IsLongWhere result (most_rows < row_total flow files)
-long-print flow files result a b true is h quiet =
+long-print : (inputs : Loaded) (result : Status) (a b : ℕ) (few : Bool) → nat_le (row_total inputs.flow inputs.files) most_rows ≡ few
+    → Answers (require_limit (job.Plain inputs)) result a b → ¬ (Rose a b) → IsLongWhere result (most_rows < row_total inputs.flow inputs.files)
+long-print inputs result a b true is h quiet =
     elim (rw is at h) [
-      | inl print ↦ inr ((λ e. absurd (print-short result print e)), (λ over. absurd (few-rows (row_total flow files) most_rows is over)))
+      | inl print ↦ inr ((λ e. absurd (print-short result print e)), (λ over. absurd (few-rows (row_total inputs.flow inputs.files) most_rows is over)))
       | inr read ↦ absurd (quiet read.1)
     ]
-long-print flow files result a b false is h quiet =
+long-print inputs result a b false is h quiet =
     elim (rw is at h) [
-      | inl long ↦ inr ((λ e. many-rows (row_total flow files) most_rows is), (λ over. long))
+      | inl long ↦ inr ((λ e. many-rows (row_total inputs.flow inputs.files) most_rows is), (λ over. long))
       | inr rest ↦ elim rest [ inl none ↦ inl none | inr read ↦ absurd (quiet read.1) ]
     ]
 
 -- ---- logs
 
 -- a run that stopped, where its log is read
-left-long : (before now : Shown) (run : RunJob) (result : Status) → IsLeft (run_task_of before run) failure.Long [] now → result ≡ status.Long → RunsLong result before.files now.files run.log
+left-long : (before now : World) (run : RunJob) (result : Status) → IsLeft (run_task_of before run) failure.Long now → result ≡ status.Long → RunsLong result before.files now.files run.log
 left-long before now run result h is =
     inr (record { batch = h.batch; items = h.done ++ h.last }, (h.bytes, h.place, h.read), ((λ e. h.closed), (λ long. is)))
 
-left-short : (before now : Shown) (run : RunJob) (result : Status) → IsLeft (run_task_of before run) failure.OutFault [] now → result ≡ status.OutFault
+left-short : (before now : World) (run : RunJob) (result : Status) → IsLeft (run_task_of before run) failure.OutFault now → result ≡ status.OutFault
     → RunsLong result before.files now.files run.log
 left-short before now run result h is =
     inr (
@@ -70,7 +70,7 @@ left-short before now run result h is =
       ((λ e. absurd (let two : status.OutFault ≡ status.Long = sym is ∙ e in cc)), (λ long. absurd (let two : false ≡ true = sym h.closed ∙ long in cc))),
     )
 
-done-short : (before now : Shown) (run : RunJob) → IsDone (run_task_of before run) now → RunsLong status.Ok before.files now.files run.log
+done-short : (before now : World) (run : RunJob) → IsDone (run_task_of before run) now → RunsLong status.Ok before.files now.files run.log
 done-short before now run h =
     inr (
       h.0,
@@ -78,16 +78,16 @@ done-short before now run h =
       ((λ e. cc), (λ long. absurd (let two : false ≡ true = sym h.1.short ∙ long in cc))),
     )
 
-broke-long : (one : Job) (c : Change) (run : RunJob) (result : Status) → one ≡ job.Run run → BreaksOff one failure.Long [] c → result ≡ status.Long
-    → RunsLong result c.before.files c.now.files run.log
-broke-long one c run result e h is = left-long c.before c.now run result (subst (λ j. BreaksOff j failure.Long [] c) e h).0 is
+broke-long : (one : Job) (before mid : World) (run : RunJob) (result : Status) → one ≡ job.Run run → BreaksOff one failure.Long before mid → result ≡ status.Long
+    → RunsLong result before.files mid.files run.log
+broke-long one before mid run result e h is = left-long before mid run result (subst (λ j. BreaksOff j failure.Long before mid) e h).0 is
 
-broke-short : (one : Job) (c : Change) (run : RunJob) (result : Status) → one ≡ job.Run run → BreaksOff one failure.OutFault [] c → result ≡ status.OutFault
-    → RunsLong result c.before.files c.now.files run.log
-broke-short one c run result e h is = left-short c.before c.now run result (subst (λ j. BreaksOff j failure.OutFault [] c) e h) is
+broke-short : (one : Job) (before mid : World) (run : RunJob) (result : Status) → one ≡ job.Run run → BreaksOff one failure.OutFault before mid → result ≡ status.OutFault
+    → RunsLong result before.files mid.files run.log
+broke-short one before mid run result e h is = left-short before mid run result (subst (λ j. BreaksOff j failure.OutFault before mid) e h) is
 
-did-short : (one : Job) (c : Change) (run : RunJob) → one ≡ job.Run run → Fulfils one c → RunsLong status.Ok c.before.files c.now.files run.log
-did-short one c run e h = done-short c.before c.now run (subst (λ j. Fulfils j c) e h)
+did-short : (one : Job) (before mid : World) (run : RunJob) → one ≡ job.Run run → Fulfils one before mid → RunsLong status.Ok before.files mid.files run.log
+did-short one before mid run e h = done-short before mid run (subst (λ j. Fulfils j before mid) e h)
 
 -- ---- runs
 
@@ -98,82 +98,82 @@ no-job : (r : Result Job Failure) (s : Failure) (j : Job) → r ≡ Err s → r 
 no-job r s j e f = let both : ◌≡◌ {A = Result Job Failure} (Err s) (Ok j) = sym e ∙ f in cc
 
 -- what is to be said of a run, where what the course says has one and neither a load nor a write failed
-abbrev pub IsRunLong : Result Job Failure → Status → Change → Counted → Type 0
-IsRunLong course result c k =
-    (run : RunJob) → course ≡ Ok (job.Run run) → ¬ (Rose c.loads c.loads_now) → ¬ (Rose k.writes k.writes_now) → RunsLong result c.before.files c.now.files run.log
+abbrev pub IsRunLong : Result Job Failure → Status → World → World → ℕ → Type 0
+IsRunLong course result before mid puts =
+    (run : RunJob) → course ≡ Ok (job.Run run) → ¬ (Rose before.loads mid.loads) → ¬ (Rose before.writes mid.writes) → RunsLong result before.files mid.files run.log
 
-abbrev pub AreRunsLong : List (List ℕ) → Status → Change → Counted → Type 0
-AreRunsLong words result c k = Told c.before.files (λ files. IsRunLong (course_of words files) result c k)
+abbrev pub AreRunsLong : List (List ℕ) → Status → World → World → ℕ → Type 0
+AreRunsLong words result before mid puts = Told before.files (λ files. IsRunLong (course_of words files) result before mid puts)
 
-run-cause : (s : Failure) (words : List (List ℕ)) (c : Change) (k : Counted) (result : Status) → Told c.before.files (λ files. course_of words files ≡ Err s) → AreRunsLong words result c k
-run-cause s words c k result =
-    told-map c.before.files (λ files. course_of words files ≡ Err s) (λ files. IsRunLong (course_of words files) result c k)
+run-cause : (s : Failure) (words : List (List ℕ)) (before mid : World) (puts : ℕ) (result : Status) → Told before.files (λ files. course_of words files ≡ Err s) → AreRunsLong words result before mid puts
+run-cause s words before mid puts result =
+    told-map before.files (λ files. course_of words files ≡ Err s) (λ files. IsRunLong (course_of words files) result before mid puts)
     (λ files p run e read kept. absurd (no-job (course_of words files) s (job.Run run) p e))
 
-run-out : (words : List (List ℕ)) (c : Change) (k : Counted) (result : Status) → Breaks words failure.OutFault [] c → result ≡ status.OutFault → AreRunsLong words result c k
-run-out words c k result h is =
-    told-map c.before.files (λ files. (one : Job) × (course_of words files ≡ Ok one) × BreaksOff one failure.OutFault [] c) (λ files. IsRunLong (course_of words files) result c k)
-    (λ files p run e read kept. broke-short p.0 c run result (one-job (course_of words files) p.0 (job.Run run) p.1 e) p.2 is) h
+run-out : (words : List (List ℕ)) (before mid : World) (puts : ℕ) (result : Status) → Breaks words failure.OutFault before mid → result ≡ status.OutFault → AreRunsLong words result before mid puts
+run-out words before mid puts result h is =
+    told-map before.files (λ files. (one : Job) × (course_of words files ≡ Ok one) × BreaksOff one failure.OutFault before mid) (λ files. IsRunLong (course_of words files) result before mid puts)
+    (λ files p run e read kept. broke-short p.0 before mid run result (one-job (course_of words files) p.0 (job.Run run) p.1 e) p.2 is) h
 
-run-long : (words : List (List ℕ)) (c : Change) (k : Counted) (result : Status) → StopsLong words [] c → result ≡ status.Long → AreRunsLong words result c k
-run-long words c k result (inl few) is = run-cause failure.Long words c k result few.0
-run-long words c k result (inr breaks) is =
-    told-map c.before.files (λ files. (one : Job) × (course_of words files ≡ Ok one) × BreaksOff one failure.Long [] c) (λ files. IsRunLong (course_of words files) result c k)
-    (λ files p run e read kept. broke-long p.0 c run result (one-job (course_of words files) p.0 (job.Run run) p.1 e) p.2 is) breaks
+run-long : (words : List (List ℕ)) (before mid : World) (puts : ℕ) (result : Status) → StopsLong words before mid → result ≡ status.Long → AreRunsLong words result before mid puts
+run-long words before mid puts result (inl few) is = run-cause failure.Long words before mid puts result few.0
+run-long words before mid puts result (inr breaks) is =
+    told-map before.files (λ files. (one : Job) × (course_of words files ≡ Ok one) × BreaksOff one failure.Long before mid) (λ files. IsRunLong (course_of words files) result before mid puts)
+    (λ files p run e read kept. broke-long p.0 before mid run result (one-job (course_of words files) p.0 (job.Run run) p.1 e) p.2 is) breaks
 
-run-stopped : (s : Failure) (words : List (List ℕ)) (c : Change) (k : Counted) (result : Status)
-    → Runs {A = Unit {0}} (Err s) words c → CountsWrites {A = Unit {0}} (Err s) k.writes k.writes_now → (result ≡ status_of s) ⊎ (result ≡ status.NoMemory) → AreRunsLong words result c k
-run-stopped s words c k result r m (inr none) =
-    told-all c.before.files (λ files. IsRunLong (course_of words files) result c k) (λ files run e read kept. inl none)
-run-stopped failure.Usage words c k result r m (inl is) =
-    told-all c.before.files (λ files. IsRunLong (course_of words files) result c k)
+run-stopped : (s : Failure) (words : List (List ℕ)) (before mid : World) (puts : ℕ) (result : Status)
+    → Stops words s before mid → FailedAs s (record before { loads = mid.loads }) mid → (result ≡ status_of s) ⊎ (result ≡ status.NoMemory) → AreRunsLong words result before mid puts
+run-stopped s words before mid puts result r m (inr none) =
+    told-all before.files (λ files. IsRunLong (course_of words files) result before mid puts) (λ files run e read kept. inl none)
+run-stopped failure.Usage words before mid puts result r m (inl is) =
+    told-all before.files (λ files. IsRunLong (course_of words files) result before mid puts)
     (λ files run e read kept. absurd (no-job (course_of words files) failure.Usage (job.Run run) (course-none words files r.1) e))
-run-stopped (failure.ReadFault name) words c k result r m (inl is) =
+run-stopped (failure.ReadFault name) words before mid puts result r m (inl is) =
     elim r.0 [
-      | inl lacks ↦ run-cause (failure.ReadFault name) words c k result (told-tells c.before.files (λ files. course_of words files ≡ Err (failure.ReadFault name)) lacks.1)
-      | inr rose ↦ told-all c.before.files (λ files. IsRunLong (course_of words files) result c k) (λ files run e read kept. absurd (read rose))
+      | inl lacks ↦ run-cause (failure.ReadFault name) words before mid puts result (told-tells before.files (λ files. course_of words files ≡ Err (failure.ReadFault name)) lacks.1)
+      | inr rose ↦ told-all before.files (λ files. IsRunLong (course_of words files) result before mid puts) (λ files run e read kept. absurd (read rose))
     ]
-run-stopped failure.LogFault words c k result r m (inl is) =
-    told-all c.before.files (λ files. IsRunLong (course_of words files) result c k) (λ files run e read kept. absurd (kept m.1))
-run-stopped failure.OutFault words c k result r m (inl is) = run-out words c k result r.1 is
-run-stopped failure.Long words c k result r m (inl is) = run-long words c k result r.1 is
-run-stopped failure.NoMemory words c k result r m (inl is) =
-    told-all c.before.files (λ files. IsRunLong (course_of words files) result c k) (λ files run e read kept. inl is)
-run-stopped other words c k result r m (inl is) = run-cause other words c k result r.0.1
+run-stopped failure.LogFault words before mid puts result r m (inl is) =
+    told-all before.files (λ files. IsRunLong (course_of words files) result before mid puts) (λ files run e read kept. absurd (kept m.1.1))
+run-stopped failure.OutFault words before mid puts result r m (inl is) = run-out words before mid puts result r.1 is
+run-stopped failure.Long words before mid puts result r m (inl is) = run-long words before mid puts result r.1 is
+run-stopped failure.NoMemory words before mid puts result r m (inl is) =
+    told-all before.files (λ files. IsRunLong (course_of words files) result before mid puts) (λ files run e read kept. inl is)
+run-stopped other words before mid puts result r m (inl is) = run-cause other words before mid puts result r.0.1
 
-run-done : (words : List (List ℕ)) (c : Change) (k : Counted) → Told c.before.files (λ files. (job : Job) × (course_of words files ≡ Ok job) × Fulfils job c)
-    → AreRunsLong words status.Ok c k
-run-done words c k =
-    told-map c.before.files (λ files. (job : Job) × (course_of words files ≡ Ok job) × Fulfils job c) (λ files. IsRunLong (course_of words files) status.Ok c k)
-    (λ files p run e read kept. did-short p.0 c run (one-job (course_of words files) p.0 (job.Run run) p.1 e) p.2)
+run-done : (words : List (List ℕ)) (before mid : World) (puts : ℕ) → Told before.files (λ files. Succeeds words files before mid)
+    → AreRunsLong words status.Ok before mid puts
+run-done words before mid puts =
+    told-map before.files (λ files. Succeeds words files before mid) (λ files. IsRunLong (course_of words files) status.Ok before mid puts)
+    (λ files p run e read kept. did-short p.0 before mid run (one-job (course_of words files) p.0 (job.Run run) p.1 e) p.2)
 
 -- ---- both forms
 
 -- what the clause says
-abbrev pub IsLongTold : List (List ℕ) → Status → Change → Counted → Type 0
-IsLongTold words result c k =
-    Told c.before.files (λ files. (one : Job) → AsksFor words files one → ¬ (Rose c.loads c.loads_now) → ¬ (Rose k.writes k.writes_now) → TellsLong one result c.before.files c.now.files)
+abbrev pub IsLongTold : List (List ℕ) → Status → World → World → ℕ → Type 0
+IsLongTold words result before mid puts =
+    Told before.files (λ files. (one : Job) → AsksFor words files one → ¬ (Rose before.loads mid.loads) → ¬ (Rose before.writes mid.writes) → TellsLong one result before.files mid.files)
 
-long-job : (words : List (List ℕ)) (c : Change) (k : Counted) (result : Status) (files : Named) (one : Job) → Answers (course_of words files) result c.loads c.loads_now
-    → IsRunLong (course_of words files) result c k → AsksFor words files one → ¬ (Rose c.loads c.loads_now) → ¬ (Rose k.writes k.writes_now) → TellsLong one result c.before.files c.now.files
-long-job words c k result files (job.Plain flow inputs) h run asks read kept =
-    long-print flow inputs result c.loads c.loads_now (nat_le (row_total flow inputs) most_rows) refl
-    (subst (λ r. Answers r result c.loads c.loads_now) (course-job words asks.0 files (job.Plain flow inputs) (require_limit (job.Plain flow inputs)) asks.1 asks.2 refl) h) read
-long-job words c k result files (job.Run one) h run asks read kept =
+long-job : (words : List (List ℕ)) (before mid : World) (puts : ℕ) (result : Status) (files : Named) (one : Job) → Answers (course_of words files) result before.loads mid.loads
+    → IsRunLong (course_of words files) result before mid puts → AsksFor words files one → ¬ (Rose before.loads mid.loads) → ¬ (Rose before.writes mid.writes) → TellsLong one result before.files mid.files
+long-job words before mid puts result files (job.Plain inputs) h run asks read kept =
+    long-print inputs result before.loads mid.loads (nat_le (row_total inputs.flow inputs.files) most_rows) refl
+    (subst (λ r. Answers r result before.loads mid.loads) (course-job words asks.0 files (job.Plain inputs) (require_limit (job.Plain inputs)) asks.1 asks.2 refl) h) read
+long-job words before mid puts result files (job.Run one) h run asks read kept =
     run one (course-job words asks.0 files (job.Run one) (Ok (job.Run one)) asks.1 asks.2 refl) read kept
 
-long-of : (words : List (List ℕ)) (c : Change) (k : Counted) (result : Status) → Told c.before.files (λ files. Answers (course_of words files) result c.loads c.loads_now)
-    → AreRunsLong words result c k → IsLongTold words result c k
-long-of words c k result =
-    told-both c.before.files (λ files. Answers (course_of words files) result c.loads c.loads_now) (λ files. IsRunLong (course_of words files) result c k)
-    (λ files. (one : Job) → AsksFor words files one → ¬ (Rose c.loads c.loads_now) → ¬ (Rose k.writes k.writes_now) → TellsLong one result c.before.files c.now.files)
-    (λ files h run one asks read kept. long-job words c k result files one h run asks read kept)
+long-of : (words : List (List ℕ)) (before mid : World) (puts : ℕ) (result : Status) → Told before.files (λ files. Answers (course_of words files) result before.loads mid.loads)
+    → AreRunsLong words result before mid puts → IsLongTold words result before mid puts
+long-of words before mid puts result =
+    told-both before.files (λ files. Answers (course_of words files) result before.loads mid.loads) (λ files. IsRunLong (course_of words files) result before mid puts)
+    (λ files. (one : Job) → AsksFor words files one → ¬ (Rose before.loads mid.loads) → ¬ (Rose before.writes mid.writes) → TellsLong one result before.files mid.files)
+    (λ files h run one asks read kept. long-job words before mid puts result files one h run asks read kept)
 
-pub long-stopped : (s : Failure) (words : List (List ℕ)) (c : Change) (k : Counted) (result : Status)
-    → Runs {A = Unit {0}} (Err s) words c → CountsWrites {A = Unit {0}} (Err s) k.writes k.writes_now → (result ≡ status_of s) ⊎ (result ≡ status.NoMemory)
-    → Told c.before.files (λ files. Answers (course_of words files) result c.loads c.loads_now) → IsLongTold words result c k
-long-stopped s words c k result r m tells h = long-of words c k result h (run-stopped s words c k result r m tells)
+pub long-stopped : (s : Failure) (words : List (List ℕ)) (before mid : World) (puts : ℕ) (result : Status)
+    → Stops words s before mid → FailedAs s (record before { loads = mid.loads }) mid → (result ≡ status_of s) ⊎ (result ≡ status.NoMemory)
+    → Told before.files (λ files. Answers (course_of words files) result before.loads mid.loads) → IsLongTold words result before mid puts
+long-stopped s words before mid puts result r m tells h = long-of words before mid puts result h (run-stopped s words before mid puts result r m tells)
 
-pub long-done : (words : List (List ℕ)) (c : Change) (k : Counted) → Told c.before.files (λ files. (job : Job) × (course_of words files ≡ Ok job) × Fulfils job c)
-    → Told c.before.files (λ files. Answers (course_of words files) status.Ok c.loads c.loads_now) → IsLongTold words status.Ok c k
-long-done words c k p h = long-of words c k status.Ok h (run-done words c k p)
+pub long-done : (words : List (List ℕ)) (before mid : World) (puts : ℕ) → Told before.files (λ files. Succeeds words files before mid)
+    → Told before.files (λ files. Answers (course_of words files) status.Ok before.loads mid.loads) → IsLongTold words status.Ok before mid puts
+long-done words before mid puts p h = long-of words before mid puts status.Ok h (run-done words before mid puts p)

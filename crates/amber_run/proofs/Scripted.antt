@@ -1,11 +1,11 @@
 -- From one command of a script to the next.
-use Rattle.std.proofs.Common.{◌≡◌, ◌≢◌, ℕ, zero, suc, ◌+◌, ◌<◌, ◌≤◌, List, [], ◌∷◌, ◌++◌, length, drop, get_or, Option, Result, Ok, Err, Bool, true, false, refl, sym, ap, subst, ◌∙◌, arith}
+use Rattle.std.proofs.Common.{◌≡◌, ◌≢◌, ℕ, zero, suc, ◌+◌, ◌<◌, ◌≤◌, List, [], ◌∷◌, ◌++◌, length, drop, get_or, Result, Ok, Err, Bool, true, false, refl, sym, ap, subst, ◌∙◌, arith}
 use Rattle.std.specs.List.{list_all}
 use Rattle.std.specs.Result.{MatchResult}
 use Rattle.std.specs.Io.KnownBytes.{Appends}
 use Rattle.std.proofs.Math.Seq.{drop-cons}
 use Rattle.std.proofs.lemmas.List.Folds.{list_all_at}
-use Rattle.amber_io.specs.Folder.{Named, with_more}
+use Rattle.amber_io.specs.World.{PutsOnly, World}
 use Rattle.amber_log.specs.Grammar.{ends_over, is_last}
 use Rattle.amber_log.specs.declared.command.Command.{Command}
 use Rattle.amber_log.specs.declared.command.Command.TheVariants as command
@@ -17,10 +17,9 @@ use Rattle.amber_debug.specs.Session.{Does, Grew, Session, command_of, is_long_i
 use Rattle.amber_debug.specs.declared.done.Done.{Done}
 use Rattle.amber_run.specs.RunTask.{IsSession, RunTask}
 use Rattle.amber_run.specs.UnderWay.{Halts, IsAt}
-use Rattle.amber_run.specs.World.{showing}
-use Rattle.amber_course.specs.Steps.{Sent, putting}
+use Rattle.amber_course.specs.Steps.{Sent}
 use Rattle.amber_course.specs.declared.failure.Failure.{Failure}
-use Rattle.amber_run.proofs.Working.{done-next, done-send}
+use Rattle.amber_run.proofs.Working.{IsWritten, done-next, done-send}
 
 -- ---- one command
 
@@ -28,23 +27,23 @@ session-next : (t : RunTask) (old new : Session) (done : Command) (one : Item) �
 session-next t old new done one h grew = record { flow = grew.flow ∙ h.flow; inputs = grew.files ∙ h.inputs; most = grew.most ∙ h.most }
 
 -- its item was written, and its reply was put
-pub at-next : (t : RunTask) (left : List Command) (old new : Session) (done : Command) (told : Done) (piece reply : List ℕ) (mid files : Option Named) (written got : Option (List ℕ))
-    → IsAt t (done ∷ left) old (showing mid written) → Does (Ok told) old new done → IsLegal (query_in new) new.log → piece ≡ told.item → reply ≡ told.reply
-    → files ≡ with_more mid t.name piece → Appends written got reply → IsAt t left new (showing files got)
-at-next t left old new done told piece reply mid files written got h does legal is answer wrote sent = record {
+at-next : (t : RunTask) (left : List Command) (old new : Session) (done : Command) (told : Done) (piece reply : List ℕ) (before mid now : World)
+    → IsAt t (done ∷ left) old before → Does (Ok told) old new done → IsLegal (query_in new) new.log → piece ≡ told.item → reply ≡ told.reply
+    → IsWritten t piece before mid → Appends mid.got now.got reply → now.files ≡ mid.files → IsAt t left new now
+at-next t left old new done told piece reply before mid now h does legal is answer wrote sent kept = record {
   session = session-next t old new done does.0 h.session does.1;
-  way = done-next t left old new done told piece reply mid files written got h.session h.way does legal is answer wrote sent;
+  way = done-next t left old new done told piece reply before mid now h.session h.way does legal is answer wrote sent kept;
 }
 
 -- the item was written, and the reply was put, or was not
-pub told-next : (r : Result (Unit {0}) Failure) (t : RunTask) (left : List Command) (old new : Session) (done : Command) (told : Done) (piece reply : List ℕ) (mid files : Option Named)
-    (written got : Option (List ℕ)) (a b : ℕ) → IsAt t (done ∷ left) old (showing mid written) → Does (Ok told) old new done → IsLegal (query_in new) new.log → piece ≡ told.item
-    → reply ≡ told.reply → files ≡ with_more mid t.name piece → Sent r (putting written got a b) reply
-    → MatchResult r (λ done. IsAt t left new (showing files got)) (Halts t (showing files got))
-told-next (Ok u) t left old new done told piece reply mid files written got a b h does legal is answer wrote sent =
-    at-next t left old new done told piece reply mid files written got h does legal is answer wrote sent.1
-told-next (Err s) t left old new done told piece reply mid files written got a b h does legal is answer wrote sent =
-    done-send s t left old new done told piece reply mid files written got a b h.session h.way does legal is answer wrote sent
+pub told-next : (r : Result (Unit {0}) Failure) (t : RunTask) (left : List Command) (old new : Session) (done : Command) (told : Done) (piece reply : List ℕ) (before mid now : World)
+    → IsAt t (done ∷ left) old before → Does (Ok told) old new done → IsLegal (query_in new) new.log → piece ≡ told.item
+    → reply ≡ told.reply → IsWritten t piece before mid → Sent r reply mid now → PutsOnly mid now
+    → MatchResult r (λ done. IsAt t left new now) (Halts t now)
+told-next (Ok u) t left old new done told piece reply before mid now h does legal is answer wrote sent only =
+    at-next t left old new done told piece reply before mid now h does legal is answer wrote sent.1 (ap (λ (w : World). w.files) only)
+told-next (Err s) t left old new done told piece reply before mid now h does legal is answer wrote sent only =
+    done-send s t left old new done told piece reply before mid now h.session h.way does legal is answer wrote sent (ap (λ (w : World). w.files) only)
 
 ends_over-push : (over : Bool) (items : List Item) (one : Item) → ends_over over (items ++ one ∷ []) ≡ is_last one
 ends_over-push over [] one = refl

@@ -1,9 +1,10 @@
 -- What stands after each step of a run.
-use Rattle.std.proofs.Common.{◌≡◌, ◌≢◌, ℕ, suc, ◌+◌, ◌≤◌, ◌⊎◌, inl, inr, length-append, List, [], ◌∷◌, ◌++◌, length, map, take, Option, Result, Ok, Err, IfOk, Bool, true, false, refl, sym, ap, subst, ◌∙◌, arith, append_assoc}
+use Rattle.std.proofs.Common.{◌≡◌, ◌≢◌, ℕ, suc, ◌+◌, ◌≤◌, ◌⊎◌, inl, inr, length-append, List, [], ◌∷◌, ◌++◌, length, map, take, Option, None, Some, Result, Ok, Err, IfOk, Bool, true, false, refl, sym, ap, subst, ◌∙◌, arith, append_assoc}
 use Rattle.std.proofs.lemmas.List.{append-nil, map-append}
 use Rattle.std.proofs.Math.Seq.{take-append_seam}
-use Rattle.std.specs.Io.KnownBytes.{Appends}
+use Rattle.std.specs.Io.KnownBytes.{Appends, Keeps}
 use Rattle.amber_io.specs.Folder.{IsThere, Named, with_file, with_more}
+use Rattle.amber_io.specs.World.{World}
 use Rattle.amber_io.proofs.Told.{more_there, with_more-with_file}
 use Rattle.amber_log.specs.Grammar.{AreItems, IsBatch, IsItem, IsLog, is_last}
 use Rattle.amber_log.specs.LogText.{head_text, item_text, log_text}
@@ -24,9 +25,8 @@ use Rattle.amber_debug.specs.Session.{Does, Grew, Session, command_of, is_long_i
 use Rattle.amber_debug.specs.declared.done.DebugErr.TheVariants as debug_err
 use Rattle.amber_debug.specs.declared.done.Done.{Done}
 use Rattle.amber_run.specs.UnderWay.{ClosesAs, Halts, HasText, HasTornHead, HasTornItem, IsBare, IsItemFor, IsLeft, IsUnderWay, Opens, log_of_items}
-use Rattle.amber_course.specs.Steps.{Sent, putting}
+use Rattle.amber_course.specs.Steps.{Sent}
 use Rattle.amber_run.specs.RunTask.{IsSession, RunTask, ends_long, query_at}
-use Rattle.amber_run.specs.World.{showing}
 use Rattle.amber_run.specs.Writing.{Made, Wrote}
 use Rattle.amber_course.specs.declared.failure.Failure.{Failure}
 use Rattle.amber_course.specs.declared.failure.Failure.TheVariants as failure
@@ -56,31 +56,43 @@ ends_long-push long (x ∷ items) one = ends_long-push (is_long_item x) items on
 one-few : (one : Item) → length (one ∷ []) ≤ 1
 one-few one = omega arith
 
+-- ---- what a sink that was left alone has got
+
+keeps-self : (a : Option (List ℕ)) → Keeps a a
+keeps-self None = tt
+keeps-self (Some x) = refl
+
+pub keeps-same : (a b : Option (List ℕ)) → b ≡ a → Keeps a b
+keeps-same a b e = subst (λ got. Keeps a got) (sym e) (keeps-self a)
+
+pub appends-none : (a b : Option (List ℕ)) → b ≡ a → Appends a b []
+appends-none a b e = subst (λ got. Appends a got []) (sym e) (appends-same a)
+
 -- ---- the log's head
 
-legal-start : (t : RunTask) (batch : ℕ) → IsBatch batch → IsLegal (query_at t batch) (record { batch = batch; items = [] })
+legal-start : (t : RunTask) (batch : ℕ) → IsBatch batch → IsLegal (query_at t batch) (log_of_items batch [])
 unfolding AreItems Reaches
 legal-start t batch h = record { text = record { batch = h; items = tt }; batch = refl; after = start_of t.flow; reached = refl }
 
-pub stands-start : (t : RunTask) (batch : ℕ) (files : Option Named) (written : Option (List ℕ)) → IsBatch batch → batch ≡ t.batch
-    → files ≡ with_file t.told t.name (head_text batch) → Appends t.before written [] → IsUnderWay t t.commands (record { batch = batch; items = [] }) (showing files written)
+stands-start : (t : RunTask) (batch : ℕ) (now : World) → IsBatch batch → t.batch_size ≡ batch → now.files ≡ with_file t.before.files t.name (head_text batch)
+    → now.got ≡ t.before.got → IsUnderWay t t.commands (log_of_items batch []) now
 unfolding log_text transcript_of replies AreInTime
-stands-start t batch files written h is place sent = record {
-  batch = is;
+stands-start t batch now h is place same = record {
+  batch = sym is;
   legal = legal-start t batch h;
   in_time = tt;
   commands = refl;
-  place = place ∙ ap (λ text. with_file t.told t.name text) (sym (append-nil (head_text batch)));
-  sent = sent;
+  place = place ∙ ap (λ text. with_file t.before.files t.name text) (sym (append-nil (head_text batch)));
+  sent = appends-none t.before.got now.got same;
   short = refl;
 }
 
 -- a log of no item, whose head was written, or is torn
-left-head : (t : RunTask) (bytes : List ℕ) (batch : ℕ) (files : Option Named) (written : Option (List ℕ)) → IsBatch batch → IsReadAs bytes (log_of_items batch [])
-    → HasText t (log_of_items batch []) bytes ⊎ HasTornHead t (log_of_items batch []) bytes → files ≡ with_file t.told t.name bytes → Appends t.before written []
-    → IsLeft t failure.LogFault [] (showing files written)
+left-head : (t : RunTask) (bytes : List ℕ) (batch : ℕ) (now : World) → IsBatch batch → IsReadAs bytes (log_of_items batch [])
+    → HasText t (log_of_items batch []) bytes ⊎ HasTornHead t (log_of_items batch []) bytes → now.files ≡ with_file t.before.files t.name bytes → now.got ≡ t.before.got
+    → IsLeft t failure.LogFault now
 unfolding transcript_of replies AreInTime
-left-head t bytes batch files written h read stands place sent = record {
+left-head t bytes batch now h read stands place same = record {
   batch = batch;
   done = [];
   last = [];
@@ -97,7 +109,7 @@ left-head t bytes batch files written h read stands place sent = record {
   commands = refl;
   split = refl;
   whole = λ n. refl;
-  sent = sent;
+  sent = appends-none t.before.got now.got same;
   closed = tt;
 }
 
@@ -105,23 +117,22 @@ no-items : AreItems false []
 unfolding AreItems
 no-items = tt
 
-head-read : (batch : ℕ) → IsBatch batch → IsReadAs (head_text batch) (record { batch = batch; items = [] })
+head-read : (batch : ℕ) → IsBatch batch → IsReadAs (head_text batch) (log_of_items batch [])
 head-read batch h =
-    subst (λ text. IsReadAs text (record { batch = batch; items = [] })) (log_text-head batch) (reads-whole (record { batch = batch; items = [] }) (record { batch = h; items = no-items }))
+    subst (λ text. IsReadAs text (log_of_items batch [])) (log_text-head batch) (reads-whole (log_of_items batch []) (record { batch = h; items = no-items }))
 
 empty-batch : IsBatch 400
 empty-batch = (omega arith, omega arith)
 
 -- the log was not made
-pub exit-create : (s : Failure) (t : RunTask) (log : Log) (files : Option Named) (written : Option (List ℕ)) → Made {A = Unit {0}} (Err s) t.told files t.name → Appends t.before written []
-    → Opens {A = Unit {0}} (Err s) t log (showing files written)
-exit-create failure.LogFault t log files written h sent = inl (h, sent)
-exit-create failure.NoMemory t log files written h sent = (inl h, sent)
-exit-create other t log files written h sent = absurd h
+pub exit-create : (s : Failure) (t : RunTask) (log : Log) (now : World) → Made {A = Unit {0}} (Err s) t.name t.before now → now.got ≡ t.before.got → Opens {A = Unit {0}} (Err s) t log now
+exit-create failure.LogFault t log now h same = inl (h, keeps-same t.before.got now.got same)
+exit-create failure.NoMemory t log now h same = (inl h, keeps-same t.before.got now.got same)
+exit-create other t log now h same = absurd h
 
 -- there was no memory for its head
-pub exit-bare : (t : RunTask) (files : Option Named) (written : Option (List ℕ)) → files ≡ with_file t.told t.name [] → Appends t.before written [] → IsBare t [] (showing files written)
-exit-bare t files written h sent = (inr (inr h), sent)
+pub exit-bare : (t : RunTask) (now : World) → now.files ≡ with_file t.before.files t.name [] → now.got ≡ t.before.got → IsBare t now
+exit-bare t now h same = (inr (inr h), keeps-same t.before.got now.got same)
 
 -- a head that is torn is read as the log of no item
 torn-read : (batch : ℕ) (part : List ℕ) (x : ℕ) (xs : List ℕ) → IsBatch batch → part ++ x ∷ xs ≡ head_text batch → IsReadAs part (log_of_items 400 [])
@@ -132,49 +143,49 @@ torn-read batch part x xs h whole =
     ]
 
 -- its head was not written
-pub exit-head : (s : Failure) (t : RunTask) (log : Log) (batch : ℕ) (head : List ℕ) (mid files : Option Named) (written : Option (List ℕ)) → IsBatch batch → batch ≡ t.batch
-    → head ≡ head_text batch → mid ≡ with_file t.told t.name [] → Wrote {A = Unit {0}} (Err s) mid files (record { name = t.name; bytes = head }) → Appends t.before written []
-    → Opens {A = Unit {0}} (Err s) t log (showing files written)
-exit-head failure.LogFault t log batch head mid files written h is text made (part, rest, split, new) sent =
-    inr (by-rest rest (split ∙ text) (new ∙ ap (λ m. with_more m t.name part) made ∙ with_more-with_file t.told t.name [] part))
+exit-head : (s : Failure) (t : RunTask) (log : Log) (batch : ℕ) (mid now : World) → IsBatch batch → t.batch_size ≡ batch
+    → mid.files ≡ with_file t.before.files t.name [] → Wrote {A = Unit {0}} (Err s) (record { name = t.name; bytes = head_text batch }) mid now → now.got ≡ t.before.got
+    → Opens {A = Unit {0}} (Err s) t log now
+exit-head failure.LogFault t log batch mid now h is made (part, rest, split, new) same =
+    inr (by-rest rest split (new ∙ ap (λ m. with_more m t.name part) made ∙ with_more-with_file t.before.files t.name [] part))
   where
-    by-rest : (rest : List ℕ) → part ++ rest ≡ head_text batch → files ≡ with_file t.told t.name part → IsLeft t failure.LogFault [] (showing files written)
+    by-rest : (rest : List ℕ) → part ++ rest ≡ head_text batch → now.files ≡ with_file t.before.files t.name part → IsLeft t failure.LogFault now
     by-rest [] whole place =
         let all : part ≡ head_text batch = sym (append-nil part) ∙ whole in
-        left-head t part batch files written h (rw all (head-read batch h)) (inl (record { batch = is; text = all ∙ sym (log_text-head batch) })) place sent
+        left-head t part batch now h (rw all (head-read batch h)) (inl (record { batch = sym is; text = all ∙ sym (log_text-head batch) })) place same
     by-rest (x ∷ xs) whole place =
-        left-head t part 400 files written empty-batch (torn-read batch part x xs h whole) (inr (record { none = refl; front = (x ∷ xs, whole ∙ ap head_text is, λ e. cc) })) place sent
-exit-head failure.NoMemory t log batch head mid files written h is text made new sent = (inr (inr (new ∙ made)), sent)
-exit-head other t log batch head mid files written h is text made new sent = absurd new
+        left-head t part 400 now empty-batch (torn-read batch part x xs h whole) (inr (record { none = refl; front = (x ∷ xs, whole ∙ ap head_text (sym is), λ e. cc) })) place same
+exit-head failure.NoMemory t log batch mid now h is made new same = (inr (inr (new ∙ made)), keeps-same t.before.got now.got same)
+exit-head other t log batch mid now h is made new same = absurd new
 
 -- its head was written
-pub stands-head : (t : RunTask) (batch : ℕ) (head : List ℕ) (mid files : Option Named) (written : Option (List ℕ)) → IsBatch batch → batch ≡ t.batch → head ≡ head_text batch
-    → mid ≡ with_file t.told t.name [] → files ≡ with_more mid t.name head → Appends t.before written [] → IsUnderWay t t.commands (record { batch = batch; items = [] }) (showing files written)
-stands-head t batch head mid files written h is text made new sent =
-    stands-start t batch files written h is
-    (new ∙ ap (λ m. with_more m t.name head) made ∙ with_more-with_file t.told t.name [] head ∙ ap (λ b. with_file t.told t.name b) text) sent
+stands-head : (t : RunTask) (batch : ℕ) (mid now : World) → IsBatch batch → t.batch_size ≡ batch → mid.files ≡ with_file t.before.files t.name []
+    → now.files ≡ with_more mid.files t.name (head_text batch) → now.got ≡ t.before.got → IsUnderWay t t.commands (log_of_items batch []) now
+stands-head t batch mid now h is made new same =
+    stands-start t batch now h is (new ∙ ap (λ m. with_more m t.name (head_text batch)) made ∙ with_more-with_file t.before.files t.name [] (head_text batch)) same
 
 -- whatever became of the writing of its head
-pub opens-head : (r : Result (Unit {0}) Failure) (t : RunTask) (batch : ℕ) (head : List ℕ) (mid files : Option Named) (written : Option (List ℕ)) → IsBatch batch → batch ≡ t.batch → head ≡ head_text batch
-    → mid ≡ with_file t.told t.name [] → Wrote r mid files (record { name = t.name; bytes = head }) → Appends t.before written [] → Opens r t (record { batch = batch; items = [] }) (showing files written)
-opens-head (Ok done) t batch head mid files written h is text made new sent = stands-head t batch head mid files written h is text made new sent
-opens-head (Err s) t batch head mid files written h is text made new sent = exit-head s t (record { batch = batch; items = [] }) batch head mid files written h is text made new sent
+pub opens-head : (r : Result (Unit {0}) Failure) (t : RunTask) (batch : ℕ) (mid now : World) → IsBatch batch → t.batch_size ≡ batch
+    → mid.files ≡ with_file t.before.files t.name [] → Wrote r (record { name = t.name; bytes = head_text batch }) mid now → now.got ≡ t.before.got → Opens r t (log_of_items batch []) now
+opens-head (Ok done) t batch mid now h is made new same = stands-head t batch mid now h is made new same
+opens-head (Err s) t batch mid now h is made new same = exit-head s t (log_of_items batch []) batch mid now h is made new same
 
-pub there-written : (r : Result (Unit {0}) Failure) (name bytes : List ℕ) (mid files : Option Named) → IsThere mid name → Wrote r mid files (record { name = name; bytes = bytes }) → IfOk r (λ done. IsThere files name)
-there-written (Ok done) name bytes mid files there new = subst (λ now. IsThere now name) (sym new) (more_there mid name bytes there)
-there-written (Err s) name bytes mid files there new = tt
+pub there-written : (r : Result (Unit {0}) Failure) (name bytes : List ℕ) (mid now : World) → IsThere mid.files name → Wrote r (record { name = name; bytes = bytes }) mid now
+    → IfOk r (λ done. IsThere now.files name)
+there-written (Ok done) name bytes mid now there new = subst (λ files. IsThere files name) (sym new) (more_there mid.files name bytes there)
+there-written (Err s) name bytes mid now there new = tt
 
 -- ---- a command
 
--- nothing stands behind the log's text, or the log could not be written, and a torn item does
+-- nothing stands after the log's text, or the log could not be written, and a torn item does
 abbrev Stands : RunTask → Failure → List Command → Log → List ℕ → Type 0
 Stands t s left log bytes = (bytes ≡ log_text log) ⊎ ((s ≡ failure.LogFault) × HasTornItem t left log bytes)
 
--- the log is as it was, and perhaps a torn item behind it
-left-log : (t : RunTask) (s : Failure) (left : List Command) (log : Log) (bytes : List ℕ) (mid files : Option Named) (written : Option (List ℕ)) → IsUnderWay t left log (showing mid written)
-    → files ≡ with_file t.told t.name bytes → IsReadAs bytes log → Stands t s left log bytes → ClosesAs s false → IsLeft t s [] (showing files written)
+-- the log is as it was, and perhaps a torn item after it
+left-log : (t : RunTask) (s : Failure) (left : List Command) (log : Log) (bytes : List ℕ) (before now : World) → IsUnderWay t left log before
+    → now.files ≡ with_file t.before.files t.name bytes → now.got ≡ before.got → IsReadAs bytes log → Stands t s left log bytes → ClosesAs s false → IsLeft t s now
 unfolding replies
-left-log t s left log bytes mid files written h place read stands closed = record {
+left-log t s left log bytes before now h place same read stands closed = record {
   batch = log.batch;
   done = log.items;
   last = [];
@@ -191,7 +202,7 @@ left-log t s left log bytes mid files written h place read stands closed = recor
   commands = rw (append-nil log.items) h.commands;
   split = refl;
   whole = λ n. refl;
-  sent = rw (append-nil (transcript_of (query_at t log.batch) log.items)) h.sent;
+  sent = rw (append-nil (transcript_of (query_at t log.batch) log.items), same) h.sent;
   closed = rw (append-nil log.items, h.short) closed;
 }
 
@@ -202,12 +213,12 @@ unfolding state_after
 items-in-time t log command one h item = AreInTime-push (query_at t log.batch) most_late (start_of t.flow) log.items one h item.in_time
 
 -- the log has an item more, and a part of its reply was put
-left-item : (t : RunTask) (s : Failure) (left : List Command) (command : Command) (log : Log) (one : Item) (part rest : List ℕ) (mid files : Option Named) (written got : Option (List ℕ))
-    → IsUnderWay t (command ∷ left) log (showing mid written) → IsItemFor t log command one
-    → files ≡ with_file t.told t.name (log_text (one_more log one)) → part ++ rest ≡ reply_of (query_at t log.batch) (state_after (query_at t log.batch) log.items) one
-    → (s ≢ failure.OutFault → part ≡ []) → Appends written got part → ClosesAs s (is_long_item one) → IsLeft t s [] (showing files got)
+left-item : (t : RunTask) (s : Failure) (left : List Command) (command : Command) (log : Log) (one : Item) (part rest : List ℕ) (before now : World)
+    → IsUnderWay t (command ∷ left) log before → IsItemFor t log command one
+    → now.files ≡ with_file t.before.files t.name (log_text (one_more log one)) → part ++ rest ≡ reply_of (query_at t log.batch) (state_after (query_at t log.batch) log.items) one
+    → (s ≢ failure.OutFault → part ≡ []) → Appends before.got now.got part → ClosesAs s (is_long_item one) → IsLeft t s now
 unfolding replies
-left-item t s left command log one part rest mid files written got h item place split whole put closed =
+left-item t s left command log one part rest before now h item place split whole put closed =
     let query = query_at t log.batch in
     record {
       batch = log.batch;
@@ -227,18 +238,18 @@ left-item t s left command log one part rest mid files written got h item place 
           ∙ append_assoc (map command_of log.items) (command ∷ []) left ∙ h.commands;
       split = split ∙ sym (append-nil (reply_of query (state_after query log.items) one));
       whole = whole;
-      sent = rw (append-nil part) (appends-on t.before written got (transcript_of query log.items) part h.sent put);
+      sent = appends-on t.before.got before.got now.got (transcript_of query log.items) part h.sent put;
       closed = rw (ends_long-push false log.items one) closed;
     }
 
 -- where an item more was written
-item-place : (t : RunTask) (log : Log) (one : Item) (mid files : Option Named) (piece : List ℕ) → mid ≡ with_file t.told t.name (log_text log) → piece ≡ item_text one
-    → files ≡ with_more mid t.name piece → files ≡ with_file t.told t.name (log_text (one_more log one))
+item-place : (t : RunTask) (log : Log) (one : Item) (mid files : Option Named) (piece : List ℕ) → mid ≡ with_file t.before.files t.name (log_text log) → piece ≡ item_text one
+    → files ≡ with_more mid t.name piece → files ≡ with_file t.before.files t.name (log_text (one_more log one))
 item-place t log one mid files piece place text new =
-    new ∙ ap (λ m. with_more m t.name piece) place ∙ with_more-with_file t.told t.name (log_text log) piece
-    ∙ ap (λ b. with_file t.told t.name (log_text log ++ b)) text ∙ ap (λ b. with_file t.told t.name b) (sym (log_text-push log one))
+    new ∙ ap (λ m. with_more m t.name piece) place ∙ with_more-with_file t.before.files t.name (log_text log) piece
+    ∙ ap (λ b. with_file t.before.files t.name (log_text log ++ b)) text ∙ ap (λ b. with_file t.before.files t.name b) (sym (log_text-push log one))
 
--- behind a log an item that is torn changes nothing
+-- after a log an item that is torn changes nothing
 torn-item : (log : Log) (one : Item) (part : List ℕ) (x : ℕ) (xs : List ℕ) → IsLog log → IsItem one → part ++ x ∷ xs ≡ item_text one → IsReadAs (log_text log ++ part) log
 torn-item log one part x xs h i whole =
     elim (rw (take-front part (x ∷ xs) (item_text one) whole) at (reads-torn log one (length part) h i)) [
@@ -246,24 +257,24 @@ torn-item log one part x xs h i whole =
       | inr all ↦ absurd (not-whole part x xs (item_text one) whole all)
     ]
 
--- there was no item, for want of memory
-pub exit-memory : (t : RunTask) (left : List Command) (log : Log) (files : Option Named) (written : Option (List ℕ)) → IsUnderWay t left log (showing files written) → IsLeft t failure.NoMemory [] (showing files written)
-exit-memory t left log files written h = left-log t failure.NoMemory left log (log_text log) files files written h h.place (reads-whole log h.legal.text) (inl refl) tt
+-- there was no item, since memory ran out
+pub exit-memory : (t : RunTask) (left : List Command) (log : Log) (world : World) → IsUnderWay t left log world → IsLeft t failure.NoMemory world
+exit-memory t left log world h = left-log t failure.NoMemory left log (log_text log) world world h h.place refl (reads-whole log h.legal.text) (inl refl) tt
 
 -- the item was not written
-pub exit-write : (s : Failure) (t : RunTask) (left : List Command) (command : Command) (log : Log) (one : Item) (piece : List ℕ) (mid files : Option Named) (written : Option (List ℕ))
-    → IsUnderWay t (command ∷ left) log (showing mid written) → IsItemFor t log command one → piece ≡ item_text one
-    → Wrote {A = Unit {0}} (Err s) mid files (record { name = t.name; bytes = piece }) → Halts t (showing files written) s
-exit-write failure.LogFault t left command log one piece mid files written h item text (part, rest, split, new) =
+exit-write : (s : Failure) (t : RunTask) (left : List Command) (command : Command) (log : Log) (one : Item) (piece : List ℕ) (before now : World)
+    → IsUnderWay t (command ∷ left) log before → IsItemFor t log command one → piece ≡ item_text one
+    → Wrote {A = Unit {0}} (Err s) (record { name = t.name; bytes = piece }) before now → now.got ≡ before.got → Halts t now s
+exit-write failure.LogFault t left command log one piece before now h item text (part, rest, split, new) same =
     by-rest rest (split ∙ text)
   where
-    place : files ≡ with_file t.told t.name (log_text log ++ part)
-    place = new ∙ ap (λ m. with_more m t.name part) h.place ∙ with_more-with_file t.told t.name (log_text log) part
+    place : now.files ≡ with_file t.before.files t.name (log_text log ++ part)
+    place = new ∙ ap (λ m. with_more m t.name part) h.place ∙ with_more-with_file t.before.files t.name (log_text log) part
 
-    by-rest : (rest : List ℕ) → part ++ rest ≡ item_text one → IsLeft t failure.LogFault [] (showing files written)
+    by-rest : (rest : List ℕ) → part ++ rest ≡ item_text one → IsLeft t failure.LogFault now
     by-rest [] whole =
-        left-item t failure.LogFault left command log one [] (reply_of (query_at t log.batch) (state_after (query_at t log.batch) log.items) one) mid files written written h item
-        (item-place t log one mid files part h.place (sym (append-nil part) ∙ whole) new) refl (λ n. refl) (appends-same written) tt
+        left-item t failure.LogFault left command log one [] (reply_of (query_at t log.batch) (state_after (query_at t log.batch) log.items) one) before now h item
+        (item-place t log one before.files now.files part h.place (sym (append-nil part) ∙ whole) new) refl (λ n. refl) (appends-none before.got now.got same) tt
     by-rest (x ∷ xs) whole =
         let torn : HasTornItem t (command ∷ left) log (log_text log ++ part) = record {
           batch = h.batch;
@@ -276,48 +287,54 @@ exit-write failure.LogFault t left command log one piece mid files written h ite
           front = (x ∷ xs, whole, λ e. cc);
           text = refl;
         } in
-        left-log t failure.LogFault (command ∷ left) log (log_text log ++ part) mid files written h place
+        left-log t failure.LogFault (command ∷ left) log (log_text log ++ part) before now h place same
         (torn-item log one part x xs h.legal.text (last-is false log.items one item.legal.text.items) whole) (inr (refl, torn)) tt
-exit-write failure.NoMemory t left command log one piece mid files written h item text new =
-    left-log t failure.NoMemory (command ∷ left) log (log_text log) mid files written h (new ∙ h.place) (reads-whole log h.legal.text) (inl refl) tt
-exit-write other t left command log one piece mid files written h item text new = absurd new
+exit-write failure.NoMemory t left command log one piece before now h item text new same =
+    left-log t failure.NoMemory (command ∷ left) log (log_text log) before now h (new ∙ h.place) same (reads-whole log h.legal.text) (inl refl) tt
+exit-write other t left command log one piece before now h item text new same = absurd new
+
+-- a piece was written at the end of the log, and nothing was put
+pub record IsWritten (t : RunTask) (piece : List ℕ) (before mid : World) : Type 0 where
+  pub files : mid.files ≡ with_more before.files t.name piece
+  pub same : mid.got ≡ before.got
 
 -- the reply was not put
-pub exit-send : (s : Failure) (t : RunTask) (left : List Command) (command : Command) (log : Log) (one : Item) (piece reply : List ℕ) (mid files : Option Named) (written got : Option (List ℕ)) (a b : ℕ)
-    → IsUnderWay t (command ∷ left) log (showing mid written) → IsItemFor t log command one → piece ≡ item_text one
-    → is_long_item one ≡ false → files ≡ with_more mid t.name piece → reply ≡ reply_of (query_at t log.batch) (state_after (query_at t log.batch) log.items) one
-    → Sent {A = Unit {0}} (Err s) (putting written got a b) reply → Halts t (showing files got) s
-exit-send failure.OutFault t left command log one piece reply mid files written got a b h item text short new answer sent =
-    left-item t failure.OutFault left command log one sent.2.0 sent.2.1 mid files written got h item (item-place t log one mid files piece h.place text new) (sent.2.2 ∙ answer)
-    (λ n. absurd (n refl)) sent.2.3 short
-exit-send failure.NoMemory t left command log one piece reply mid files written got a b h item text short new answer sent =
-    left-item t failure.NoMemory left command log one [] reply mid files written got h item (item-place t log one mid files piece h.place text new) answer
-    (λ n. refl) (keeps-nil written got sent.1) tt
-exit-send other t left command log one piece reply mid files written got a b h item text short new answer sent = absurd sent
+exit-send : (s : Failure) (t : RunTask) (left : List Command) (command : Command) (log : Log) (one : Item) (piece reply : List ℕ) (before mid now : World)
+    → IsUnderWay t (command ∷ left) log before → IsItemFor t log command one → piece ≡ item_text one
+    → is_long_item one ≡ false → IsWritten t piece before mid → reply ≡ reply_of (query_at t log.batch) (state_after (query_at t log.batch) log.items) one
+    → Sent {A = Unit {0}} (Err s) reply mid now → now.files ≡ mid.files → Halts t now s
+exit-send failure.OutFault t left command log one piece reply before mid now h item text short new answer sent kept =
+    left-item t failure.OutFault left command log one sent.2.0 sent.2.1 before now h item (item-place t log one before.files now.files piece h.place text (kept ∙ new.files)) (sent.2.2 ∙ answer)
+    (λ n. absurd (n refl)) (rw new.same at sent.2.3) short
+exit-send failure.NoMemory t left command log one piece reply before mid now h item text short new answer sent kept =
+    left-item t failure.NoMemory left command log one [] reply before now h item (item-place t log one before.files now.files piece h.place text (kept ∙ new.files)) answer
+    (λ n. refl) (rw new.same at (keeps-nil mid.got now.got sent.1)) tt
+exit-send other t left command log one piece reply before mid now h item text short new answer sent kept = absurd sent
 
 -- the steps were as many as may be
-pub exit-long : (t : RunTask) (left : List Command) (command : Command) (log : Log) (one : Item) (piece : List ℕ) (mid files : Option Named) (written : Option (List ℕ))
-    → IsUnderWay t (command ∷ left) log (showing mid written) → IsItemFor t log command one → piece ≡ item_text one
-    → is_long_item one ≡ true → files ≡ with_more mid t.name piece → IsLeft t failure.Long [] (showing files written)
-exit-long t left command log one piece mid files written h item text long new =
-    left-item t failure.Long left command log one [] (reply_of (query_at t log.batch) (state_after (query_at t log.batch) log.items) one) mid files written written h item
-    (item-place t log one mid files piece h.place text new) refl (λ n. refl) (appends-same written) long
+exit-long : (t : RunTask) (left : List Command) (command : Command) (log : Log) (one : Item) (piece : List ℕ) (before now : World)
+    → IsUnderWay t (command ∷ left) log before → IsItemFor t log command one → piece ≡ item_text one
+    → is_long_item one ≡ true → IsWritten t piece before now → IsLeft t failure.Long now
+exit-long t left command log one piece before now h item text long new =
+    left-item t failure.Long left command log one [] (reply_of (query_at t log.batch) (state_after (query_at t log.batch) log.items) one) before now h item
+    (item-place t log one before.files now.files piece h.place text new.files) refl (λ n. refl) (appends-none before.got now.got new.same) long
 
 -- the command was done
-pub stands-next : (t : RunTask) (left : List Command) (command : Command) (log : Log) (one : Item) (piece reply : List ℕ) (mid files : Option Named) (written got : Option (List ℕ))
-    → IsUnderWay t (command ∷ left) log (showing mid written) → IsItemFor t log command one → piece ≡ item_text one
-    → is_long_item one ≡ false → files ≡ with_more mid t.name piece → reply ≡ reply_of (query_at t log.batch) (state_after (query_at t log.batch) log.items) one
-    → Appends written got reply → IsUnderWay t left (one_more log one) (showing files got)
-stands-next t left command log one piece reply mid files written got h item text short new answer put =
+stands-next : (t : RunTask) (left : List Command) (command : Command) (log : Log) (one : Item) (piece reply : List ℕ) (before mid now : World)
+    → IsUnderWay t (command ∷ left) log before → IsItemFor t log command one → piece ≡ item_text one
+    → is_long_item one ≡ false → IsWritten t piece before mid → reply ≡ reply_of (query_at t log.batch) (state_after (query_at t log.batch) log.items) one
+    → Appends mid.got now.got reply → now.files ≡ mid.files → IsUnderWay t left (one_more log one) now
+stands-next t left command log one piece reply before mid now h item text short new answer put kept =
     let query = query_at t log.batch in
+    let more : Appends before.got now.got reply = rw new.same at put in
     record {
       batch = h.batch;
       legal = item.legal;
       in_time = items-in-time t log command one h.in_time item;
       commands = ap (λ c. c ++ left) (map-append command_of log.items (one ∷ []) ∙ ap (λ c. map command_of log.items ++ c ∷ []) item.command)
           ∙ append_assoc (map command_of log.items) (command ∷ []) left ∙ h.commands;
-      place = item-place t log one mid files piece h.place text new;
-      sent = rw (transcripts_grow query log.items one).0 (rw answer at (appends-on t.before written got (transcript_of query log.items) reply h.sent put));
+      place = item-place t log one before.files now.files piece h.place text (kept ∙ new.files);
+      sent = rw (transcripts_grow query log.items one).0 (rw answer at (appends-on t.before.got before.got now.got (transcript_of query log.items) reply h.sent more));
       short = ends_long-push false log.items one ∙ short;
     }
 
@@ -339,11 +356,11 @@ session-item t old new command one h grew legal = record {
 -- ---- what the debugger did
 
 -- a command was done, and its item was not written
-pub done-write : (s : Failure) (t : RunTask) (left : List Command) (old new : Session) (command : Command) (told : Done) (piece : List ℕ) (mid files : Option Named) (written : Option (List ℕ))
-    → IsSession t old → IsUnderWay t (command ∷ left) old.log (showing mid written) → Does (Ok told) old new command → IsLegal (query_in new) new.log → piece ≡ told.item
-    → Wrote {A = Unit {0}} (Err s) mid files (record { name = t.name; bytes = piece }) → Halts t (showing files written) s
-done-write s t left old new command told piece mid files written session h does legal is wrote =
-    exit-write s t left command old.log does.0 piece mid files written h (session-item t old new command does.0 session does.1 legal) (is ∙ does.3) wrote
+pub done-write : (s : Failure) (t : RunTask) (left : List Command) (old new : Session) (command : Command) (told : Done) (piece : List ℕ) (before now : World)
+    → IsSession t old → IsUnderWay t (command ∷ left) old.log before → Does (Ok told) old new command → IsLegal (query_in new) new.log → piece ≡ told.item
+    → Wrote {A = Unit {0}} (Err s) (record { name = t.name; bytes = piece }) before now → now.got ≡ before.got → Halts t now s
+done-write s t left old new command told piece before now session h does legal is wrote same =
+    exit-write s t left command old.log does.0 piece before now h (session-item t old new command does.0 session does.1 legal) (is ∙ does.3) wrote same
 
 reply-is : (t : RunTask) (old new : Session) (command : Command) (told : Done) (reply : List ℕ) → IsSession t old → (does : Does (Ok told) old new command) → reply ≡ told.reply
     → reply ≡ reply_of (query_at t old.log.batch) (state_after (query_at t old.log.batch) old.log.items) does.0
@@ -351,32 +368,32 @@ reply-is t old new command told reply session does is =
     is ∙ does.4 ∙ ap (λ query. reply_of query (state_after query old.log.items) does.0) (session-query t old session)
 
 -- its reply was not put
-pub done-send : (s : Failure) (t : RunTask) (left : List Command) (old new : Session) (command : Command) (told : Done) (piece reply : List ℕ) (mid files : Option Named) (written got : Option (List ℕ)) (a b : ℕ)
-    → IsSession t old → IsUnderWay t (command ∷ left) old.log (showing mid written) → Does (Ok told) old new command → IsLegal (query_in new) new.log → piece ≡ told.item → reply ≡ told.reply
-    → files ≡ with_more mid t.name piece → Sent {A = Unit {0}} (Err s) (putting written got a b) reply → Halts t (showing files got) s
-done-send s t left old new command told piece reply mid files written got a b session h does legal is answer wrote sent =
-    exit-send s t left command old.log does.0 piece reply mid files written got a b h (session-item t old new command does.0 session does.1 legal) (is ∙ does.3) does.2 wrote
-    (reply-is t old new command told reply session does answer) sent
+pub done-send : (s : Failure) (t : RunTask) (left : List Command) (old new : Session) (command : Command) (told : Done) (piece reply : List ℕ) (before mid now : World)
+    → IsSession t old → IsUnderWay t (command ∷ left) old.log before → Does (Ok told) old new command → IsLegal (query_in new) new.log → piece ≡ told.item → reply ≡ told.reply
+    → IsWritten t piece before mid → Sent {A = Unit {0}} (Err s) reply mid now → now.files ≡ mid.files → Halts t now s
+done-send s t left old new command told piece reply before mid now session h does legal is answer wrote sent kept =
+    exit-send s t left command old.log does.0 piece reply before mid now h (session-item t old new command does.0 session does.1 legal) (is ∙ does.3) does.2 wrote
+    (reply-is t old new command told reply session does answer) sent kept
 
 -- all was written and put
-pub done-next : (t : RunTask) (left : List Command) (old new : Session) (command : Command) (told : Done) (piece reply : List ℕ) (mid files : Option Named) (written got : Option (List ℕ))
-    → IsSession t old → IsUnderWay t (command ∷ left) old.log (showing mid written) → Does (Ok told) old new command → IsLegal (query_in new) new.log → piece ≡ told.item → reply ≡ told.reply
-    → files ≡ with_more mid t.name piece → Appends written got reply → IsUnderWay t left new.log (showing files got)
-done-next t left old new command told piece reply mid files written got session h does legal is answer wrote sent =
+pub done-next : (t : RunTask) (left : List Command) (old new : Session) (command : Command) (told : Done) (piece reply : List ℕ) (before mid now : World)
+    → IsSession t old → IsUnderWay t (command ∷ left) old.log before → Does (Ok told) old new command → IsLegal (query_in new) new.log → piece ≡ told.item → reply ≡ told.reply
+    → IsWritten t piece before mid → Appends mid.got now.got reply → now.files ≡ mid.files → IsUnderWay t left new.log now
+done-next t left old new command told piece reply before mid now session h does legal is answer wrote sent kept =
     rw does.1.log
-    (stands-next t left command old.log does.0 piece reply mid files written got h (session-item t old new command does.0 session does.1 legal) (is ∙ does.3) does.2 wrote
-    (reply-is t old new command told reply session does answer) sent)
+    (stands-next t left command old.log does.0 piece reply before mid now h (session-item t old new command does.0 session does.1 legal) (is ∙ does.3) does.2 wrote
+    (reply-is t old new command told reply session does answer) sent kept)
 
 -- a leg was too long, and was not written
-pub long-write : (s : Failure) (t : RunTask) (left : List Command) (old new : Session) (command : Command) (text piece : List ℕ) (mid files : Option Named) (written : Option (List ℕ))
-    → IsSession t old → IsUnderWay t (command ∷ left) old.log (showing mid written) → Does (Err (debug_err.Long text)) old new command → IsLegal (query_in new) new.log → piece ≡ text
-    → Wrote {A = Unit {0}} (Err s) mid files (record { name = t.name; bytes = piece }) → Halts t (showing files written) s
-long-write s t left old new command text piece mid files written session h does legal is wrote =
-    exit-write s t left command old.log does.0 piece mid files written h (session-item t old new command does.0 session does.1 legal) (is ∙ does.3) wrote
+pub long-write : (s : Failure) (t : RunTask) (left : List Command) (old new : Session) (command : Command) (text piece : List ℕ) (before now : World)
+    → IsSession t old → IsUnderWay t (command ∷ left) old.log before → Does (Err (debug_err.Long text)) old new command → IsLegal (query_in new) new.log → piece ≡ text
+    → Wrote {A = Unit {0}} (Err s) (record { name = t.name; bytes = piece }) before now → now.got ≡ before.got → Halts t now s
+long-write s t left old new command text piece before now session h does legal is wrote same =
+    exit-write s t left command old.log does.0 piece before now h (session-item t old new command does.0 session does.1 legal) (is ∙ does.3) wrote same
 
 -- it was written
-pub long-next : (t : RunTask) (left : List Command) (old new : Session) (command : Command) (text piece : List ℕ) (mid files : Option Named) (written : Option (List ℕ))
-    → IsSession t old → IsUnderWay t (command ∷ left) old.log (showing mid written) → Does (Err (debug_err.Long text)) old new command → IsLegal (query_in new) new.log → piece ≡ text
-    → files ≡ with_more mid t.name piece → IsLeft t failure.Long [] (showing files written)
-long-next t left old new command text piece mid files written session h does legal is wrote =
-    exit-long t left command old.log does.0 piece mid files written h (session-item t old new command does.0 session does.1 legal) (is ∙ does.3) does.2 wrote
+pub long-next : (t : RunTask) (left : List Command) (old new : Session) (command : Command) (text piece : List ℕ) (before now : World)
+    → IsSession t old → IsUnderWay t (command ∷ left) old.log before → Does (Err (debug_err.Long text)) old new command → IsLegal (query_in new) new.log → piece ≡ text
+    → IsWritten t piece before now → IsLeft t failure.Long now
+long-next t left old new command text piece before now session h does legal is wrote =
+    exit-long t left command old.log does.0 piece before now h (session-item t old new command does.0 session does.1 legal) (is ∙ does.3) does.2 wrote

@@ -1,7 +1,8 @@
 -- What the steps of a job give.
-use Rattle.std.specs.Prelude.{◌≡◌, ℕ, ◌<◌, ◌≤◌, ◌⊎◌, nat_le, List, [], Result, Ok, Err, if◌then◌else◌, ⊤}
-use Rattle.std.specs.Io.KnownBytes.{Appends}
+use Rattle.std.specs.Prelude.{◌≡◌, ℕ, ◌<◌, ◌≤◌, ◌⊎◌, List, Result, Ok, Err, ⊤}
+use Rattle.std.specs.Io.KnownBytes.{Appends, Keeps}
 use Rattle.amber_io.specs.Sink.{Begins}
+use Rattle.amber_io.specs.World.{World}
 use Rattle.amber_rows.specs.declared.flow.Operator.{Operator}
 use Rattle.amber_meaning.specs.Plain.{answer_of, row_total}
 use Rattle.amber_meaning.specs.Texts.{answer_text}
@@ -9,7 +10,6 @@ use Rattle.amber_meaning.specs.declared.answer.Answer.{Answer}
 use Rattle.amber_course.specs.Course.{require_limit, most_rows}
 use Rattle.amber_run.specs.UnderWay.{IsDone, Leaves}
 use Rattle.amber_run.specs.RunTask.{run_task_of}
-use Rattle.amber_run.specs.World.{Change}
 use Rattle.amber_course.specs.declared.job.Job.{Job}
 use Rattle.amber_course.specs.declared.job.Job.TheVariants as job
 use Rattle.amber_course.specs.declared.failure.Failure.{Failure}
@@ -22,34 +22,35 @@ IsAnswer (Err failure.Long) flow files = most_rows < row_total flow files
 IsAnswer (Err failure.NoMemory) flow files = ⊤
 IsAnswer (Err other) flow files = ⊥
 
--- the text of the sequential answer, where the rows of all operators are few enough
-abbrev pub text_of : List Operator → List (List ℕ) → Result (List ℕ) Failure
-text_of flow files = if nat_le (row_total flow files) most_rows then Ok (answer_text flow (answer_of flow files)) else Err failure.Long
-
 -- ---- what a job leaves
 
--- no file has changed, and the sink got a line alone
-abbrev pub IsUntouched : List ℕ → Change → Type 0
-IsUntouched line change = (change.now.files ≡ change.before.files) × Appends change.before.got change.now.got line
+-- no file has changed, and the sink got nothing
+abbrev pub IsUntouched : World → World → Type 0
+IsUntouched before after = (after.files ≡ before.files) × Keeps before.got after.got
 
 -- the job is done: for `plain` no file has changed, and the sink got the text of the sequential answer
-abbrev pub Fulfils : Job → Change → Type 0
-Fulfils (job.Plain flow files) change = IsUntouched (answer_text flow (answer_of flow files)) change
-Fulfils (job.Run run) change = IsDone (run_task_of change.before run) change.now
+abbrev pub Fulfils : Job → World → World → Type 0
+Fulfils (job.Plain inputs) before after =
+    (after.files ≡ before.files) × Appends before.got after.got (answer_text inputs.flow (answer_of inputs.flow inputs.files))
+Fulfils (job.Run run) before after = IsDone (run_task_of before run) after
 
--- the job was broken off, and a line was put behind: for `plain` the sink failed, which got a front part of that text alone
-abbrev pub BreaksOff : Job → Failure → List ℕ → Change → Type 0
-BreaksOff (job.Plain flow files) failure.OutFault line change =
-    (change.now.files ≡ change.before.files) × Begins change.before.got change.now.got (answer_text flow (answer_of flow files))
-BreaksOff (job.Plain flow files) other line change = ⊥
-BreaksOff (job.Run run) s line change = Leaves (run_task_of change.before run) s line change.now
+-- the job was broken off: for `plain` the sink failed, which got a front part of that text alone
+abbrev pub BreaksOff : Job → Failure → World → World → Type 0
+BreaksOff (job.Plain inputs) failure.OutFault before after =
+    (after.files ≡ before.files) × Begins before.got after.got (answer_text inputs.flow (answer_of inputs.flow inputs.files))
+BreaksOff (job.Plain inputs) other before after = ⊥
+BreaksOff (job.Run run) s before after = Leaves (run_task_of before run) s after
 
--- a job was done, or broken off, or nothing was done: for want of memory, or since the query gives too many rows
-abbrev pub Works : {A : Type 0} → Result A Failure → Job → Change → Type 0
-Works (Ok x) done change = (require_limit done ≡ Ok done) × Fulfils done change
-Works (Err failure.LogFault) done change = (require_limit done ≡ Ok done) × BreaksOff done failure.LogFault [] change
-Works (Err failure.OutFault) done change = (require_limit done ≡ Ok done) × BreaksOff done failure.OutFault [] change
-Works (Err failure.Long) done change =
-    ((require_limit done ≡ Err failure.Long) × IsUntouched [] change) ⊎ ((require_limit done ≡ Ok done) × BreaksOff done failure.Long [] change)
-Works (Err failure.NoMemory) done change = IsUntouched [] change ⊎ ((require_limit done ≡ Ok done) × BreaksOff done failure.NoMemory [] change)
-Works (Err other) done change = ⊥
+-- a job was broken off, or nothing was done: memory ran out, or the query gives too many rows
+abbrev pub Fails : Failure → Job → World → World → Type 0
+Fails failure.LogFault done before after = (require_limit done ≡ Ok done) × BreaksOff done failure.LogFault before after
+Fails failure.OutFault done before after = (require_limit done ≡ Ok done) × BreaksOff done failure.OutFault before after
+Fails failure.Long done before after =
+    ((require_limit done ≡ Err failure.Long) × IsUntouched before after) ⊎ ((require_limit done ≡ Ok done) × BreaksOff done failure.Long before after)
+Fails failure.NoMemory done before after = IsUntouched before after ⊎ ((require_limit done ≡ Ok done) × BreaksOff done failure.NoMemory before after)
+Fails other done before after = ⊥
+
+-- a job was done, or it failed
+abbrev pub Works : {A : Type 0} → Result A Failure → Job → World → World → Type 0
+Works (Ok x) done before after = (require_limit done ≡ Ok done) × Fulfils done before after
+Works (Err s) done before after = Fails s done before after

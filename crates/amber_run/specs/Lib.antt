@@ -2,5 +2,4 @@ pub mod Answering
 pub mod Outcome
 pub mod RunTask
 pub mod UnderWay
-pub mod World
 pub mod Writing

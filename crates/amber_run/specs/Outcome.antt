@@ -1,7 +1,10 @@
 -- What the status of a call says, and what the call leaves.
-use Rattle.std.specs.Prelude.{◌≡◌, ◌≢◌, ℕ, ◌-◌, ◌^◌, ◌<◌, ◌≤◌, ◌⊎◌, List, [], ◌++◌, Option, None, Some, Result, Ok, Err, IsSome, true, false, ◌↔◌, ⊤}
+use Rattle.std.specs.Prelude.{◌≡◌, ◌≢◌, ℕ, ◌-◌, ◌^◌, ◌<◌, ◌≤◌, ◌⊎◌, List, ◌++◌, Option, None, Some, Result, Ok, Err, IsSome, true, false, ◌↔◌, ⊤}
+use Rattle.std.specs.Io.KnownBytes.{Appends}
+use Rattle.std.specs.Result.{IfErr}
 use Rattle.amber_io.specs.Counts.{Rose}
 use Rattle.amber_io.specs.Folder.{Named, Told, with_file}
+use Rattle.amber_io.specs.World.{PutsOnly, World}
 use Rattle.amber_log.specs.ReadAs.{IsReadAs}
 use Rattle.amber_log.specs.declared.log.Log.{Log}
 use Rattle.amber_meaning.specs.Legal.{query_over}
@@ -10,11 +13,10 @@ use Rattle.amber_meaning.specs.Total.{step_total}
 use Rattle.amber_run.specs.Answering.{BreaksOff, Fulfils, IsUntouched}
 use Rattle.amber_course.specs.Course.{IsReached, course_of, job_of, most_rows}
 use Rattle.amber_run.specs.RunTask.{AlterNothing, ends_long, most_steps}
-use Rattle.amber_run.specs.World.{Change, World, change_between}
 use Rattle.amber_course.specs.Words.{call_words_of}
 use Rattle.amber_course.specs.declared.job.Job.{Job}
 use Rattle.amber_course.specs.declared.job.Job.TheVariants as job
-use Rattle.amber_course.specs.Steps.{Names, Stopped, Tells, loading}
+use Rattle.amber_course.specs.Steps.{Names, Stopped, Tells}
 use Rattle.amber_course.specs.Failure.{IsToldAs, error_line_of, status_of}
 use Rattle.amber_course.specs.declared.status.Status.{Status}
 use Rattle.amber_course.specs.declared.status.Status.TheVariants as status
@@ -43,23 +45,23 @@ IsRunStatus other = ⊥
 
 -- the statuses that are left where the course has a job
 abbrev pub IsJobStatus : Job → Status → Type 0
-IsJobStatus (job.Plain flow files) result = IsPrintStatus result
+IsJobStatus (job.Plain inputs) result = IsPrintStatus result
 IsJobStatus (job.Run run) result = IsRunStatus result
 
--- the course decides the status, but for want of memory and for reads that failed, which raise the count of failed loads
+-- the course decides the status, unless memory runs out and for reads that failed, which raise the count of failed loads
 abbrev pub Answers : Result Job Failure → Status → ℕ → ℕ → Type 0
 Answers (Ok job) result old new = IsJobStatus job result ⊎ ((result ≡ status.ReadFault) × Rose old new)
 Answers (Err s) result old new = (result ≡ status_of s) ⊎ (result ≡ status.NoMemory) ⊎ ((result ≡ status.ReadFault) × Rose old new)
 
 -- the course has a job, which meets the limit on its steps: by a script that alters nothing, and whose query has so many steps at most
 abbrev pub MeetsLimit : Result Job Failure → Type 0
-MeetsLimit (Ok (job.Plain flow files)) = ⊤
-MeetsLimit (Ok (job.Run run)) = AlterNothing run.commands × (step_total (query_over run.flow run.files run.batch most_steps) ≤ most_steps)
+MeetsLimit (Ok (job.Plain inputs)) = ⊤
+MeetsLimit (Ok (job.Run run)) = AlterNothing run.commands × (step_total (query_over run.inputs.flow run.inputs.files run.batch_size most_steps) ≤ most_steps)
 MeetsLimit (Err s) = ⊥
 
 -- the statuses where the course has a job and only the sink has failed
 abbrev pub IsSinkStatus : Result Job Failure → Status → Type 0
-IsSinkStatus (Ok (job.Plain flow files)) result = (result ≡ status.OutFault) ⊎ (result ≡ status.NoMemory)
+IsSinkStatus (Ok (job.Plain inputs)) result = (result ≡ status.OutFault) ⊎ (result ≡ status.NoMemory)
 IsSinkStatus (Ok (job.Run run)) result = (result ≡ status.OutFault) ⊎ (result ≡ status.Long) ⊎ (result ≡ status.NoMemory)
 IsSinkStatus (Err s) result = ⊤
 
@@ -79,7 +81,7 @@ AsksFor words files job = (read : Words) × (call_words_of words ≡ Some read) 
 abbrev pub HoldsLog : Option Named → Option Named → List ℕ → Log → Type 0
 HoldsLog told now name log = (bytes : List ℕ) × (now ≡ with_file told name bytes) × IsReadAs bytes log
 
--- the status is `Long` where this holds, and only there, but for want of memory
+-- the status is `Long` where this holds, and only there, unless memory runs out
 abbrev pub IsLongWhere : Status → Type 0 → Type 0
 IsLongWhere result P = (result ≡ status.NoMemory) ⊎ ((result ≡ status.Long) ↔ P)
 
@@ -90,52 +92,51 @@ RunsLong result told now name =
 
 -- when a job is too long: `plain` where the operators give more rows than they may, a run where its log says so
 abbrev pub TellsLong : Job → Status → Option Named → Option Named → Type 0
-TellsLong (job.Plain flow files) result told now = IsLongWhere result (most_rows < row_total flow files)
+TellsLong (job.Plain inputs) result told now = IsLongWhere result (most_rows < row_total inputs.flow inputs.files)
 TellsLong (job.Run run) result told now = RunsLong result told now run.log
 
 -- ---- what a call leaves
 
 -- the course has a job, and it is done
 abbrev pub Succeeds : List (List ℕ) → Named → World → World → Type 0
-Succeeds words files before after = (job : Job) × (course_of words files ≡ Ok job) × Fulfils job (change_between before after)
+Succeeds words files before after = (job : Job) × (course_of words files ≡ Ok job) × Fulfils job before after
 
 -- the course has a job, and it was broken off
-abbrev pub Breaks : List (List ℕ) → Failure → List ℕ → Change → Type 0
-Breaks words s line change = Told change.before.files (λ files. (job : Job) × (course_of words files ≡ Ok job) × BreaksOff job s line change)
-
--- a failure behind the words is that of the course, but for want of memory and for reads that failed
-abbrev pub IsCause : List (List ℕ) → Failure → Change → Type 0
-IsCause words s change =
-    Stopped s (loading change.before.files change.loads change.loads_now) (Told change.before.files (λ files. course_of words files ≡ Err s)) (Tells change.before.files (λ files. course_of words files ≡ Err s))
+abbrev pub Breaks : List (List ℕ) → Failure → World → World → Type 0
+Breaks words s before after = Told before.files (λ files. (job : Job) × (course_of words files ≡ Ok job) × BreaksOff job s before after)
 
 -- the query gives too many rows, and nothing was done; or a run was too long
-abbrev pub StopsLong : List (List ℕ) → List ℕ → Change → Type 0
-StopsLong words line change =
-    (Told change.before.files (λ files. course_of words files ≡ Err failure.Long) × IsUntouched line change) ⊎ Breaks words failure.Long line change
+abbrev pub StopsLong : List (List ℕ) → World → World → Type 0
+StopsLong words before after =
+    (Told before.files (λ files. course_of words files ≡ Err failure.Long) × IsUntouched before after) ⊎ Breaks words failure.Long before after
 
--- what a call that stopped leaves, with this part of the failure's line
-abbrev pub Stops : List (List ℕ) → Failure → List ℕ → Change → Type 0
-Stops words failure.Usage line change = (change.loads_now ≡ change.loads) × (call_words_of words ≡ None) × IsUntouched line change
-Stops words failure.LogFault line change = (change.loads_now ≡ change.loads) × Breaks words failure.LogFault line change
-Stops words failure.OutFault line change = (change.loads_now ≡ change.loads) × Breaks words failure.OutFault line change
-Stops words failure.Long line change = (change.loads_now ≡ change.loads) × StopsLong words line change
-Stops words failure.NoMemory line change = IsUntouched line change ⊎ ((change.loads_now ≡ change.loads) × Breaks words failure.NoMemory line change)
-Stops words other line change = IsCause words other change × IsUntouched line change
+-- what a call that stopped leaves, before the failure's line
+abbrev pub Stops : List (List ℕ) → Failure → World → World → Type 0
+Stops words failure.Usage before after = (after.loads ≡ before.loads) × (call_words_of words ≡ None) × IsUntouched before after
+Stops words failure.LogFault before after = (after.loads ≡ before.loads) × Breaks words failure.LogFault before after
+Stops words failure.OutFault before after = (after.loads ≡ before.loads) × Breaks words failure.OutFault before after
+Stops words failure.Long before after = (after.loads ≡ before.loads) × StopsLong words before after
+Stops words failure.NoMemory before after = IsUntouched before after ⊎ ((after.loads ≡ before.loads) × Breaks words failure.NoMemory before after)
+Stops words other before after = Stopped other (λ files. course_of words files ≡ Err other) before after × IsUntouched before after
 
--- why a call did not end with `Ok`, and what it left; a file in the line is one that the order of work reaches, and the line is whole
--- unless the sink failed or memory ran out
-pub record Ended (words : List (List ℕ)) (result : Status) (old new : World) : Type 0 where
+-- why a call did not end with `Ok`, and what it left, and then the cause's line: a file in it is one that the order of work reaches,
+-- and it is whole unless the sink failed or memory ran out
+pub record Ended (words : List (List ℕ)) (result : Status) (before after : World) : Type 0 where
   pub cause : Failure
   pub answer : IsToldAs cause result
-  -- what was put of the cause's line, and what was not
+  pub named : Told before.files (λ files. Names cause (IsReached words files))
+  -- what there was before the line
+  pub world : World
+  pub left : Stops words cause before world
+  -- what was put of the line, and what was not
   pub line : List ℕ
   pub rest : List ℕ
   pub split : line ++ rest ≡ error_line_of cause
-  pub whole : result ≢ status.NoMemory → new.puts ≡ old.puts → old.puts < 2 ^ 64 - 1 → line ≡ error_line_of cause
+  pub whole : result ≢ status.NoMemory → after.puts ≡ before.puts → before.puts < 2 ^ 64 - 1 → line ≡ error_line_of cause
   -- the log is blamed only where a write failed, also where memory ran out at its line
-  pub wrote : cause ≡ failure.LogFault → Rose old.writes new.writes
-  pub left : Stops words cause line (change_between old new)
-  pub named : Told old.files (λ files. Names cause (IsReached words files))
+  pub wrote : cause ≡ failure.LogFault → Rose before.writes after.writes
+  pub put : Appends world.got after.got line
+  pub only : PutsOnly world after
 
 -- ---- the whole of it
 
@@ -170,20 +171,20 @@ pub record Answered (words : List (List ℕ)) (result : Status) (before after : 
 
 -- ---- the steps of a call
 
--- a run before its error line
-abbrev pub Runs : {A : Type 0} → Result A Failure → List (List ℕ) → Change → Type 0
-Runs (Ok x) words change =
-    (change.loads_now ≡ change.loads) × Told change.before.files (λ files. (job : Job) × (course_of words files ≡ Ok job) × Fulfils job change)
-Runs (Err s) words change = Stops words s [] change
-
--- the count of failed puts stands, unless the sink failed
-abbrev pub Counts : {A : Type 0} → Result A Failure → ℕ → ℕ → Type 0
-Counts (Ok x) old new = new ≡ old
-Counts (Err failure.OutFault) old new = (old ≤ new) × Rose old new
-Counts (Err other) old new = new ≡ old
+-- a call before its error line
+abbrev pub Runs : {A : Type 0} → Result A Failure → List (List ℕ) → World → World → Type 0
+Runs (Ok x) words before after = (after.loads ≡ before.loads) × Told before.files (λ files. Succeeds words files before after)
+Runs (Err s) words before after = Stops words s before after
 
 -- the words are refused where they ask for nothing, and only there
+abbrev pub MissesWords : Failure → List (List ℕ) → Type 0
+MissesWords failure.Usage words = call_words_of words ≡ None
+MissesWords other words = IsSome (call_words_of words)
+
 abbrev pub Worded : {A : Type 0} → Result A Failure → List (List ℕ) → Type 0
 Worded (Ok x) words = IsSome (call_words_of words)
-Worded (Err failure.Usage) words = call_words_of words ≡ None
-Worded (Err other) words = IsSome (call_words_of words)
+Worded (Err s) words = MissesWords s words
+
+-- no file was written: none has changed, no write has failed, and the log is not blamed
+abbrev pub WroteNothing : {A : Type 0} → Result A Failure → World → World → Type 0
+WroteNothing result before after = (after.files ≡ before.files) × (after.writes ≡ before.writes) × IfErr result (λ s. s ≢ failure.LogFault)

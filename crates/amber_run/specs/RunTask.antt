@@ -1,6 +1,6 @@
 -- What a run is to do.
-use Rattle.std.specs.Prelude.{◌≡◌, ℕ, ◌^◌, List, [], ◌∷◌, ◌++◌, map, Option, Bool}
-use Rattle.amber_io.specs.Folder.{Named}
+use Rattle.std.specs.Prelude.{◌≡◌, ℕ, ◌^◌, List, [], ◌∷◌, ◌++◌, map, Bool}
+use Rattle.amber_io.specs.World.{World}
 use Rattle.amber_rows.specs.declared.flow.Operator.{Operator}
 use Rattle.amber_log.specs.declared.command.Command.{Command}
 use Rattle.amber_log.specs.declared.command.Command.TheVariants as command
@@ -9,20 +9,18 @@ use Rattle.amber_log.specs.declared.log.Item.TheVariants as item
 use Rattle.amber_meaning.specs.Legal.{IsUnaltered, Query, query_over}
 use Rattle.amber_course.specs.declared.job.RunJob.{RunJob}
 use Rattle.amber_debug.specs.Session.{Session, is_long_item}
-use Rattle.amber_run.specs.World.{Shown}
 
 -- what is fixed once nothing is left that refuses a run
 pub record RunTask : Type 0 where
-  -- the folder's files before the log is made, and what the sink has got before
-  pub told : Option Named
-  pub before : Option (List ℕ)
+  -- what there is outside before the log is made
+  pub before : World
   -- the log's name
   pub name : List ℕ
   pub flow : List Operator
   -- the scans' files
   pub inputs : List (List ℕ)
   -- how many rows a batch has
-  pub batch : ℕ
+  pub batch_size : ℕ
   -- the script's commands, then the one to run to the end
   pub commands : List Command
 
@@ -32,9 +30,9 @@ most_steps = 2 ^ 40
 
 -- what is run, in batches of this size
 abbrev pub query_at : RunTask → ℕ → Query
-query_at t batch = query_over t.flow t.inputs batch most_steps
+query_at t batch_size = query_over t.flow t.inputs batch_size most_steps
 
--- what is done behind the commands of a script
+-- what is done after the commands of a script
 abbrev pub end_alone : List Command
 end_alone = command.End ∷ []
 
@@ -54,13 +52,12 @@ ends_long long [] = long
 ends_long long (one ∷ more) = ends_long (is_long_item one) more
 
 -- a run is to do the commands of its script, and then to go to the end
-abbrev pub run_task_of : Shown → RunJob → RunTask
+abbrev pub run_task_of : World → RunJob → RunTask
 run_task_of before run = record {
-  told = before.files;
-  before = before.got;
+  before = before;
   name = run.log;
-  flow = run.flow;
-  inputs = run.files;
-  batch = run.batch;
+  flow = run.inputs.flow;
+  inputs = run.inputs.files;
+  batch_size = run.batch_size;
   commands = run.commands ++ end_alone;
 }

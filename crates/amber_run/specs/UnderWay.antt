@@ -1,7 +1,8 @@
 -- How far a run has come, and what it leaves that ended early.
 use Rattle.std.specs.Prelude.{◌≡◌, ◌≢◌, ℕ, ◌<◌, ◌≤◌, ◌⊎◌, List, [], ◌∷◌, ◌++◌, length, map, Result, Ok, Err, Bool, true, false, ⊤}
-use Rattle.std.specs.Io.KnownBytes.{Appends}
+use Rattle.std.specs.Io.KnownBytes.{Appends, Keeps}
 use Rattle.amber_io.specs.Folder.{with_file, without_file}
+use Rattle.amber_io.specs.World.{World}
 use Rattle.amber_log.specs.Grammar.{ends_over}
 use Rattle.amber_log.specs.LogText.{head_text, item_text, log_text}
 use Rattle.amber_log.specs.ReadAs.{IsReadAs}
@@ -19,11 +20,14 @@ use Rattle.amber_meaning.specs.Total.{step_total}
 use Rattle.amber_meaning.specs.Transcript.{replies, reply_of, transcript_of}
 use Rattle.amber_debug.specs.Session.{Session, command_of, most_late, one_more}
 use Rattle.amber_run.specs.RunTask.{AlterNothing, IsSession, RunTask, ends_long, most_steps, query_at}
-use Rattle.amber_run.specs.World.{Shown, showing}
 use Rattle.amber_course.specs.declared.failure.Failure.{Failure}
 use Rattle.amber_course.specs.declared.failure.Failure.TheVariants as failure
 
 -- ---- between two commands
+
+-- the log of this batch size and these items
+abbrev pub log_of_items : ℕ → List Item → Log
+log_of_items batch_size items = record { batch = batch_size; items = items }
 
 -- more may follow: the log's last item is none that nothing follows
 abbrev pub MayFollow : Log → Type 0
@@ -31,25 +35,25 @@ MayFollow log = ends_over false log.items ≡ false
 
 -- the log's file holds the text of a legal log, whose legs stop in time, all other files are as before, and the sink got the log's
 -- transcript; `left` are the commands that are still to be done
-pub record IsUnderWay (t : RunTask) (left : List Command) (log : Log) (shown : Shown) : Type 0 where
-  pub batch : log.batch ≡ t.batch
+pub record IsUnderWay (t : RunTask) (left : List Command) (log : Log) (world : World) : Type 0 where
+  pub batch : log.batch ≡ t.batch_size
   pub legal : IsLegal (query_at t log.batch) log
   pub in_time : AreInTime (query_at t log.batch) most_late (start_of t.flow) log.items
   pub commands : map command_of log.items ++ left ≡ t.commands
-  pub place : shown.files ≡ with_file t.told t.name (log_text log)
-  pub sent : Appends t.before shown.got (transcript_of (query_at t log.batch) log.items)
+  pub place : world.files ≡ with_file t.before.files t.name (log_text log)
+  pub sent : Appends t.before.got world.got (transcript_of (query_at t log.batch) log.items)
   pub short : ends_long false log.items ≡ false
 
 -- a session that runs what the task asks for has come so far
-pub record IsAt (t : RunTask) (left : List Command) (d : Session) (shown : Shown) : Type 0 where
+pub record IsAt (t : RunTask) (left : List Command) (d : Session) (world : World) : Type 0 where
   pub session : IsSession t d
-  pub way : IsUnderWay t left d.log shown
+  pub way : IsUnderWay t left d.log world
 
 -- a session that runs what the task asks for has done nothing, and outside all is as the task found it
-pub record IsAtStart (t : RunTask) (d : Session) (shown : Shown) : Type 0 where
+pub record IsAtStart (t : RunTask) (d : Session) (world : World) : Type 0 where
   pub session : IsSession t d
-  pub log : d.log ≡ record { batch = t.batch; items = [] }
-  pub outside : shown ≡ showing t.told t.before
+  pub log : d.log ≡ log_of_items t.batch_size []
+  pub outside : world ≡ t.before
 
 -- where no item sets a constant or drops a row, the reply to the last item is the text of the sequential answer
 abbrev pub HasAnswer : RunTask → Log → Type 0
@@ -58,14 +62,10 @@ HasAnswer t log =
     → reply_of (query_at t log.batch) (state_after (query_at t log.batch) done) last ≡ answer_text t.flow (answer_of t.flow t.inputs)
 
 -- a run that has done all
-abbrev pub IsDone : RunTask → Shown → Type 0
-IsDone t shown = (log : Log) × IsUnderWay t [] log shown × HasAnswer t log
+abbrev pub IsDone : RunTask → World → Type 0
+IsDone t world = (log : Log) × IsUnderWay t [] log world × HasAnswer t log
 
 -- ---- what a failed write leaves of the log
-
--- the log of this batch size and these items
-abbrev pub log_of_items : ℕ → List Item → Log
-log_of_items batch items = record { batch = batch; items = items }
 
 -- a text whose end is missing: a front part of it, and not the whole
 abbrev pub IsTorn : List ℕ → List ℕ → Type 0
@@ -79,12 +79,12 @@ pub record IsItemFor (t : RunTask) (log : Log) (done : Command) (one : Item) : T
 
 -- the file holds the log's text
 pub record HasText (t : RunTask) (log : Log) (bytes : List ℕ) : Type 0 where
-  pub batch : log.batch ≡ t.batch
+  pub batch : log.batch ≡ t.batch_size
   pub text : bytes ≡ log_text log
 
--- the file holds the log's text and behind it an item for the first of the commands that are left, torn
+-- the file holds the log's text and after it an item for the first of the commands that are left, torn
 pub record HasTornItem (t : RunTask) (left : List Command) (log : Log) (bytes : List ℕ) : Type 0 where
-  pub batch : log.batch ≡ t.batch
+  pub batch : log.batch ≡ t.batch_size
   pub next : Command
   pub later : List Command
   pub commands : left ≡ next ∷ later
@@ -97,7 +97,7 @@ pub record HasTornItem (t : RunTask) (left : List Command) (log : Log) (bytes : 
 -- the file holds the head, torn, which reads as the log of no item
 pub record HasTornHead (t : RunTask) (log : Log) (bytes : List ℕ) : Type 0 where
   pub none : log ≡ empty_log
-  pub front : IsTorn bytes (head_text t.batch)
+  pub front : IsTorn bytes (head_text t.batch_size)
 
 -- the last piece that was to be written into the file is torn
 abbrev pub EndsTorn : RunTask → List Command → Log → List ℕ → Type 0
@@ -112,9 +112,8 @@ ClosesAs failure.OutFault long = long ≡ false
 ClosesAs other long = ⊤
 
 -- the log's file reads as a legal log, whose legs stop in time and whose commands are the first of those to be done, and all other
--- files are as before. The sink got the replies to all items, where that to the last may be wanting, or cut if the sink failed; then a
--- line
-pub record IsLeft (t : RunTask) (s : Failure) (line : List ℕ) (shown : Shown) : Type 0 where
+-- files are as before. The sink got the replies to all items, where that to the last may be missing, or cut if the sink failed
+pub record IsLeft (t : RunTask) (s : Failure) (world : World) : Type 0 where
   -- the log: its batch size, the items that were replied to, and perhaps one more
   pub batch : ℕ
   pub done : List Item
@@ -126,10 +125,10 @@ pub record IsLeft (t : RunTask) (s : Failure) (line : List ℕ) (shown : Shown) 
   -- what was put of the reply to the last item, and what was not
   pub part : List ℕ
   pub rest : List ℕ
-  pub place : shown.files ≡ with_file t.told t.name bytes
+  pub place : world.files ≡ with_file t.before.files t.name bytes
   pub few : length last ≤ 1
   pub read : IsReadAs bytes (log_of_items batch (done ++ last))
-  -- nothing is torn, unless the log could not be written behind the reply to the last item
+  -- nothing is torn, unless the log could not be written after the reply to the last item
   pub stands : HasText t (log_of_items batch (done ++ last)) bytes
       ⊎ ((s ≡ failure.LogFault) × (last ≡ []) × EndsTorn t left (log_of_items batch (done ++ last)) bytes)
   pub legal : IsLegal (query_at t batch) (log_of_items batch (done ++ last))
@@ -137,40 +136,40 @@ pub record IsLeft (t : RunTask) (s : Failure) (line : List ℕ) (shown : Shown) 
   pub commands : map command_of (done ++ last) ++ left ≡ t.commands
   pub split : part ++ rest ≡ replies (query_at t batch) (state_after (query_at t batch) done) last
   pub whole : s ≢ failure.OutFault → part ≡ []
-  pub sent : Appends t.before shown.got (transcript_of (query_at t batch) done ++ (part ++ line))
+  pub sent : Appends t.before.got world.got (transcript_of (query_at t batch) done ++ part)
   pub closed : ClosesAs s (ends_long false (done ++ last))
 
--- the log's file is as before, absent or empty, all other files are as before, and the sink got a line alone
-abbrev pub IsBare : RunTask → List ℕ → Shown → Type 0
-IsBare t line shown =
-    ((shown.files ≡ t.told) ⊎ (shown.files ≡ without_file t.told t.name) ⊎ (shown.files ≡ with_file t.told t.name [])) × Appends t.before shown.got line
+-- the log's file is as before, absent or empty, all other files are as before, and the sink got nothing
+abbrev pub IsBare : RunTask → World → Type 0
+IsBare t world =
+    ((world.files ≡ t.before.files) ⊎ (world.files ≡ without_file t.before.files t.name) ⊎ (world.files ≡ with_file t.before.files t.name [])) × Keeps t.before.got world.got
 
 -- what each failure of a run that was begun leaves; a script that alters nothing is too long only where its query has too many steps
-abbrev pub Leaves : RunTask → Failure → List ℕ → Shown → Type 0
-Leaves t failure.LogFault line shown = IsBare t line shown ⊎ IsLeft t failure.LogFault line shown
-Leaves t failure.OutFault line shown = IsLeft t failure.OutFault line shown
-Leaves t failure.Long line shown = IsLeft t failure.Long line shown × (AlterNothing t.commands → most_steps < step_total (query_at t t.batch))
-Leaves t failure.NoMemory line shown = IsBare t line shown ⊎ IsLeft t failure.NoMemory line shown
-Leaves t other line shown = ⊥
+abbrev pub Leaves : RunTask → Failure → World → Type 0
+Leaves t failure.LogFault world = IsBare t world ⊎ IsLeft t failure.LogFault world
+Leaves t failure.OutFault world = IsLeft t failure.OutFault world
+Leaves t failure.Long world = IsLeft t failure.Long world × (AlterNothing t.commands → most_steps < step_total (query_at t t.batch_size))
+Leaves t failure.NoMemory world = IsBare t world ⊎ IsLeft t failure.NoMemory world
+Leaves t other world = ⊥
 
 -- ---- the steps of a run
 
 -- the log was made
-abbrev pub Opens : {A : Type 0} → Result A Failure → RunTask → Log → Shown → Type 0
-Opens (Ok x) t log shown = IsUnderWay t t.commands log shown
-Opens (Err failure.LogFault) t log shown = IsBare t [] shown ⊎ IsLeft t failure.LogFault [] shown
-Opens (Err failure.NoMemory) t log shown = IsBare t [] shown
-Opens (Err other) t log shown = ⊥
+abbrev pub Opens : {A : Type 0} → Result A Failure → RunTask → Log → World → Type 0
+Opens (Ok x) t log world = IsUnderWay t t.commands log world
+Opens (Err failure.LogFault) t log world = IsBare t world ⊎ IsLeft t failure.LogFault world
+Opens (Err failure.NoMemory) t log world = IsBare t world
+Opens (Err other) t log world = ⊥
 
 -- what a failure at a command leaves
-abbrev pub Halts : RunTask → Shown → Failure → Type 0
-Halts t shown failure.LogFault = IsLeft t failure.LogFault [] shown
-Halts t shown failure.OutFault = IsLeft t failure.OutFault [] shown
-Halts t shown failure.Long = IsLeft t failure.Long [] shown
-Halts t shown failure.NoMemory = IsLeft t failure.NoMemory [] shown
-Halts t shown other = ⊥
+abbrev pub Halts : RunTask → World → Failure → Type 0
+Halts t world failure.LogFault = IsLeft t failure.LogFault world
+Halts t world failure.OutFault = IsLeft t failure.OutFault world
+Halts t world failure.Long = IsLeft t failure.Long world
+Halts t world failure.NoMemory = IsLeft t failure.NoMemory world
+Halts t world other = ⊥
 
 -- the run was done
-abbrev pub Worked : {A : Type 0} → Result A Failure → RunTask → Shown → Type 0
-Worked (Ok x) t shown = IsDone t shown
-Worked (Err s) t shown = Leaves t s [] shown
+abbrev pub Worked : {A : Type 0} → Result A Failure → RunTask → World → Type 0
+Worked (Ok x) t world = IsDone t world
+Worked (Err s) t world = Leaves t s world

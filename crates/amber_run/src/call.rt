@@ -1,46 +1,43 @@
-ghost use Rattle.std.specs.Prelude.{◌≡◌, ◌≢◌, map, IfErr, string_bytes};
+//! The top call: its words are read, their job is prepared and done, and a refusal is reported.
+//! Rests on `amber_course` and on `do_job`.
+
+ghost use Rattle.std.specs.Prelude.{◌≡◌, map, IfErr, string_bytes};
 ghost use Rattle.amber_io.specs.Folder.{Told};
 ghost use Rattle.amber_course.specs.Course.{IsReached};
 ghost use Rattle.amber_course.specs.Steps.{Names};
 ghost use Rattle.amber_course.specs.Words.{call_words_of};
-ghost use Rattle.amber_run.specs.Outcome.{Answered, AsksNoRun, Counts, Runs, Worded};
-ghost use Rattle.amber_run.specs.World.{showing};
-ghost use Rattle.amber_run.specs.Writing.{CountsWrites};
+ghost use Rattle.amber_run.specs.Outcome.{Answered, AsksNoRun, Runs, Worded, WroteNothing};
+ghost use Rattle.amber_run.specs.Writing.{Counted};
 
-use crate::answer::do_job;
+use crate::job::do_job;
 use crate::printed::Printed;
 use amber_course::{Failure, Status, prepare, read_words, refuse};
-use amber_io::{Folder, Sink};
+use amber_io::{Folder, FolderAndSink, Outside, Sink};
+use amber_rows::Rows;
 use std::alloc::Global;
 
-fn run<F: Folder, O: Sink>(
+// Does what the words say, up to the line that reports a failure, and gives back the rows that were
+// printed last, if any.
+fn do_call<W: Outside>(
     alloc: Global,
     words: &[String],
-    folder: &mut F,
-    out: &mut O,
-    printed: &mut Printed,
-) -> Result<(), Failure>
-    ensures ran { Runs result (map string_bytes words.now) (record {
-      before = showing (F.files folder.old) (O.written out.old);
-      now = showing (F.files folder.new) (O.written out.new);
-      loads = F.load_faults folder.old;
-      loads_now = F.load_faults folder.new;
-    }) }
-    ensures named { Told (F.files folder.old) (λ files.
+    outside: &mut W,
+) -> Result<Option<Rows>, Failure>
+    ensures ran { Runs result (map string_bytes words.now) (W.world outside.old)
+        (W.world outside.new) }
+    ensures named { Told (W.world outside.old).files (λ files.
         IfErr result (λ failure. Names failure (IsReached (map string_bytes words.now) files))) }
-    ensures puts { Counts result (O.faults out.old) (O.faults out.new) }
-    ensures writes { CountsWrites result (F.write_faults folder.old) (F.write_faults folder.new) }
     ensures words { Worded result (map string_bytes words.now) }
-    ensures same { AsksNoRun (call_words_of (map string_bytes words.now))
-        → F.files folder.new ≡ F.files folder.old }
-    ensures unlogged { AsksNoRun (call_words_of (map string_bytes words.now))
-        → IfErr result (λ failure. failure ≢ Failure.LogFault) }
+    ensures counted { Counted result
+        (record (W.world outside.old) { loads = (W.world outside.new).loads })
+        (W.world outside.new) }
     ensures idle { AsksNoRun (call_words_of (map string_bytes words.now))
-        → F.write_faults folder.new ≡ F.write_faults folder.old }
+        → WroteNothing result (W.world outside.old) (W.world outside.new) }
+    ensures held { W.held outside.new ≡ W.held outside.old }
 {
     let words = read_words(alloc, words)?;
-    let job = prepare(alloc, words, folder)?;
-    do_job(alloc, job, folder, out, printed)
+    let job = prepare(alloc, words, outside)?;
+    do_job(alloc, job, outside)
 }
 
 /// Does what the words after the program's name say.
@@ -58,9 +55,9 @@ fn run<F: Folder, O: Sink>(
 /// head in one call; then, for each command, the item is appended in one call, and the reply is put in one call. A
 /// leg that comes to 2^40 steps is appended before the call ends with `Long`.
 ///
-/// The rows of an answer that was printed stay in `printed`, for the caller to let go.
+/// The rows of an answer that was printed stay in `printed`, for the caller to drop.
 ///
-/// The first refusal ends the call. After one other than `OutFault` a line is put that tells it, in pieces and
+/// The first refusal ends the call. After one other than `OutFault` a line is put that reports it, in pieces and
 /// without taking memory; after a put that was refused nothing more is put. No file but LOG is changed.
 ///
 /// # Errors
@@ -89,8 +86,12 @@ pub fn amber<F: Folder, O: Sink>(
           puts = O.faults out.new;
         }) }
 {
-    match run(alloc, words, folder, out, printed) {
-        Ok(()) => Status::Ok,
-        Err(failure) => refuse(out, &failure),
+    let mut outside = FolderAndSink::new(folder, out);
+    match do_call(alloc, words, &mut outside) {
+        Ok(rows) => {
+            printed.keep(rows);
+            Status::Ok
+        }
+        Err(failure) => refuse(&mut outside, &failure),
     }
 }

@@ -9,7 +9,8 @@ pub use amber_course::{Failure, Job, Reason, RunWords, ScriptWhy, Status, Words}
 pub use call::amber;
 pub use printed::Printed;
 
-mod answer;
 mod call;
+mod job;
+mod plain_job;
 mod printed;
-mod work;
+mod runner;

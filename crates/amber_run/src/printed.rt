@@ -1,12 +1,13 @@
-// The rows that a call has printed.
+//! The rows that a call has printed, kept for its caller to drop. Rests on `Rows`.
+
 ghost use Rattle.std.specs.Prelude.{◌≡◌, IfSome, IfNone, None, Some};
 
 use amber_rows::Rows;
 use std::marker::Model;
 
-/// The rows that a call has printed, for its caller to let go, if there are some.
+/// The rows that a call has printed, if there are some, for the caller to drop.
 ///
-/// Freeing a million rows takes longer than printing them. A program that ends behind the call may forget them, since the
+/// Freeing a million rows takes longer than printing them. A program that ends after the call may forget them, since the
 /// system takes all its memory back at once; any other drops them.
 pub struct Printed {
     rows: Option<Rows>,
