@@ -1,0 +1,3 @@
+mod Examples
+pub mod Places
+pub mod Records

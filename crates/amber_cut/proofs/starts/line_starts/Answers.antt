@@ -1,0 +1,28 @@
+-- Line by line.
+use Rattle.std.proofs.Common.{◌≡◌, ◌≤◌, ◌-◌, ◌∙◌, ◌++◌, arith, drop, length, length-drop, map, sym, take, ap}
+use Rattle.std.proofs.lemmas.List.{append-nil, drop_all, take_all}
+use Rattle.amber_cut.specs.Lines.{line_at, lines}
+use Rattle.amber_cut.proofs.Records.{lines-none}
+use Rattle.amber_cut.proofs.Places.{lines-note, within-note}
+use Rattle.amber_cut.proofs.starts.line_starts.Goals as goal
+
+pub lines-preserved : goal.lines-preserved
+lines-preserved c =
+    let bytes = c.args.bytes.now in
+    let starts = c.lines.starts.items in
+    let inv = c.lines.invariant in
+    let whole : take (length bytes - c.lines.at) (drop c.lines.at bytes) ≡ drop c.lines.at bytes = take_all (length bytes - c.lines.at) (drop c.lines.at bytes) (omega (arith, length-drop c.lines.at bytes)) in
+    let within : c.line_end-end.result ≤ length (drop c.lines.at bytes) = rw whole at c.line_end-end.ensures.within in
+    let before = rw whole at c.line_end-end.ensures.line in
+    let past = rw whole at c.line_end-end.ensures.later in
+    rw c.in_ok-note.ensures (record {
+      start_if_filled = lines-note bytes _ starts c.lines.at c.line_end-end.result c.lines-test.true before within past inv.start_if_filled;
+      within = within-note bytes starts c.lines.at c.line_end-end.result c.lines-test.true inv.within;
+    })
+
+pub returns-clause-lines : goal.returns-clause-lines
+returns-clause-lines c =
+    let bytes = c.args.bytes.now in
+    let f = line_at bytes in
+    let starts = c.lines.starts.items in
+    sym (c.lines.invariant.start_if_filled ∙ ap (λ xs. map f starts ++ lines xs) (drop_all c.lines.at bytes c.lines-test.false) ∙ ap (λ xs. map f starts ++ xs) lines-none ∙ append-nil (map f starts))

@@ -1,0 +1,49 @@
+-- The lines of a text, and the fields of a line.
+use Rattle.std.specs.Prelude.{ℕ, ◌==◌, ◌||◌, List, [], ◌∷◌, Bool, true, false, cond, drop, filter, Contains}
+use Rattle.std.specs.List.{slice_split}
+
+-- ---- lines and fields
+
+-- a double quote stands among these bytes
+abbrev pub HasQuote : List ℕ → Type 0
+HasQuote bytes = Contains bytes 34
+
+-- a line feed or a carriage return
+abbrev pub ends_line : ℕ → Bool
+ends_line byte = byte == 13 || byte == 10
+
+-- a comma
+abbrev pub ends_field : ℕ → Bool
+ends_field byte = byte == 44
+
+abbrev pub is_filled : List ℕ → Bool
+is_filled [] = false
+is_filled (byte ∷ bytes) = true
+
+-- the lines of a text without what ends them, empty ones left out
+unfoldable pub lines : List ℕ → List (List ℕ)
+lines bytes = filter is_filled (slice_split ends_line bytes)
+
+-- the fields of a line, which stand between its commas
+unfoldable pub cut : List ℕ → List (List ℕ)
+cut line = slice_split ends_field line
+
+-- ---- places
+
+-- the bytes until the first that passes
+unfoldable pub until : (ℕ → Bool) → List ℕ → List ℕ
+until test [] = []
+until test (byte ∷ bytes) = cond (test byte) [] (byte ∷ until test bytes)
+
+-- the bytes after the first that passes
+unfoldable pub past : (ℕ → Bool) → List ℕ → List ℕ
+past test [] = []
+past test (byte ∷ bytes) = cond (test byte) bytes (past test bytes)
+
+-- the line of a text that begins at this place
+abbrev pub line_at : List ℕ → ℕ → List ℕ
+line_at bytes start = until ends_line (drop start bytes)
+
+-- what is noted of a line that begins at this place: the place, if the line has bytes
+abbrev pub start_if_filled : ℕ → ℕ → List ℕ
+start_if_filled start length = cond (length == 0) [] (start ∷ [])
