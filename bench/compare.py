@@ -31,7 +31,7 @@ def run(words, folder, given, output):
 
 
 def same(output, wanted):
-    """Whether the first output is the second behind its first line."""
+    """Whether the first output is the second after its first line."""
     with open(output, "rb") as out:
         skipped = len(out.readline())
     return subprocess.run(["cmp", "-s", f"--ignore-initial={skipped}:0", output, wanted]).returncode == 0

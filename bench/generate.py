@@ -61,7 +61,7 @@ def scan(name, columns):
 
 
 def write(top, name, tables, operators, query, workers=1):
-    """A workload: its tables as (name, columns, rows), its operators behind the scans, what sqlite3 is asked, and how many
+    """A workload: its tables as (name, columns, rows), its operators after the scans, what sqlite3 is asked, and how many
     workers an operator has."""
     if len(sys.argv) > 2 and name not in sys.argv[2:]:
         return
