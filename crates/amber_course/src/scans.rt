@@ -1,5 +1,5 @@
 //! The files of a workflow's scans, in the order of the operators, each with the right header.
-//! Rests on `load` and on `has_header`.
+//! Rests on `load`, `has_header` and `FileBytes`.
 
 ghost use Rattle.std.specs.Prelude.{◌≡◌, ◌≤◌, ◌<◌, ◌^◌, length, true, IfErr, IfOk};
 ghost use Rattle.amber_io.specs.Folder.{Told};
@@ -13,7 +13,7 @@ use crate::failure::{Failure, Reason};
 use crate::inputs::Inputs;
 use crate::loading::load;
 use amber_io::Outside;
-use amber_rows::{Bytes, Files, Flow, Schema, What, has_header};
+use amber_rows::{Bytes, FileBytes, Files, Flow, Schema, What, has_header};
 use std::alloc::Global;
 
 // How many bytes the files of all scans may have together.
@@ -74,7 +74,7 @@ fn load_files<W: Outside>(alloc: Global, flow: &Flow, outside: &mut W) -> Result
             let op = i as u32 + 1;
             let bytes = load_scan(alloc, op, left, file.get(), &operator.schema, outside)?;
             left -= bytes.len() as u64;
-            files.push(bytes)?;
+            files.push(FileBytes::new(alloc, bytes)?)?;
         }
     }
     Ok(Files::new(files))

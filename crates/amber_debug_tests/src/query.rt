@@ -4,7 +4,8 @@ ghost use Rattle.std.specs.Prelude.{◌≡◌, ◌++◌, ◌∷◌, [], codes, l
 ghost use Rattle.amber_meaning.specs.Plain.{scan_count};
 
 use amber_rows::{
-    Bytes, Cmp, ColKind, Column, Cond, Files, Flow, NoMemory, Operator, Schema, Text, Value, What,
+    Bytes, Cmp, ColKind, Column, Cond, FileBytes, Files, Flow, NoMemory, Operator, Schema, Text,
+    Value, What,
 };
 use std::alloc::Global;
 
@@ -72,8 +73,8 @@ pub fn query(alloc: Global) -> Result<Flow, NoMemory>
 pub fn files_of(alloc: Global, file: &str) -> Result<Files, NoMemory>
     ensures { IfOk result (λ files. length files ≡ 1) }
 {
-    let file = Bytes::new(Vec::from_slice(alloc, file.as_bytes())?);
+    let bytes = Bytes::new(Vec::from_slice(alloc, file.as_bytes())?);
     let mut files = Vec::new(alloc);
-    files.push(file)?;
+    files.push(FileBytes::new(alloc, bytes)?)?;
     Ok(Files::new(files))
 }

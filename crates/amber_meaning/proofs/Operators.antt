@@ -1,11 +1,11 @@
 -- What the definitions say of the operators of a flow one by one.
-use Rattle.std.proofs.Common.{◌≡◌, ℕ, zero, suc, ◌+◌, ◌-◌, ◌<◌, ◌≤◌, Bool, true, false, cond, eqb, List, [], ◌∷◌, ◌++◌, length, get_or, take, drop, count_by, slice_get, Option, Some, None, IsSomeAnd, Result, refl, sym, ap, ◌∙◌, arith, add-one, add-zero, append_assoc}
+use Rattle.std.proofs.Common.{◌≡◌, ℕ, zero, suc, ◌+◌, ◌-◌, ◌<◌, ◌≤◌, Bool, true, false, cond, eqb, List, [], ◌∷◌, ◌++◌, length, get_or, take, drop, count_by, slice_get, unwrap_or, Option, Some, None, IsSomeAnd, Result, refl, sym, ap, ◌∙◌, arith, add-one, add-zero, append_assoc}
 use Rattle.std.proofs.Math.Seq.{get_or-append_seam}
 use Rattle.std.proofs.lemmas.Bool.{ne_eqb, eqb-false}
 use Rattle.std.proofs.lemmas.List.{append-nil, drop_more, drop_all, length-take, get_or_append_left, length_push, take-append-drop, take_more}
 use Rattle.std.proofs.lemmas.List.Sums.{sum_by-cons}
 use Rattle.std.proofs.lemmas.Option.{unwrap_or-slice_get, slice_get-get_or}
-use Rattle.amber_rows.specs.Lists.{nth, first_list, later_of, list_at}
+use Rattle.amber_rows.specs.Lists.{nth, first_list, first_of, later_of, list_at}
 use Rattle.amber_rows.specs.FlowRules.{IsFlow, IsNext}
 use Rattle.amber_rows.specs.Record.{has_header}
 use Rattle.amber_rows.proofs.FlowFacts.{AreNext-at}
@@ -58,16 +58,21 @@ files_left-drop files (x ∷ xs) =
     let more : count_by (λ (o : Operator). is_scan o.what) (x ∷ xs) ≡ n + cond (is_scan x.what) 1 0 = omega (arith, sum_by-cons (λ (o : Operator). cond (is_scan o.what) 1 0) x xs) in
     files_left-drop (files_after x.what files) xs ∙ drop_by (is_scan x.what) files n ∙ ap (λ k. drop k files) (sym more)
 
-pub next-at : (files : Files) (n : ℕ) (d : List ℕ) → n < length files → first_list (drop n files) ≡ get_or files n d
-next-at [] n d h = absurd (omega arith)
-next-at (x ∷ files) zero d h = refl
-next-at (x ∷ files) (suc n) d h = next-at files n d (omega arith)
+pub file-at : (files : Files) (n : ℕ) (d : List ℕ) → n < length files → first_of (drop n files) ≡ Some (get_or files n d)
+file-at [] n d h = absurd (omega arith)
+file-at (x ∷ files) zero d h = refl
+file-at (x ∷ files) (suc n) d h = file-at files n d (omega arith)
 
-pub next-past : (files : Files) (n : ℕ) → length files ≤ n → first_list (drop n files) ≡ []
-next-past [] zero h = refl
-next-past [] (suc n) h = refl
-next-past (x ∷ files) zero h = absurd (omega arith)
-next-past (x ∷ files) (suc n) h = next-past files n (omega arith)
+pub file-past : (files : Files) (n : ℕ) → length files ≤ n → first_of (drop n files) ≡ None
+file-past [] zero h = refl
+file-past [] (suc n) h = refl
+file-past (x ∷ files) zero h = absurd (omega arith)
+file-past (x ∷ files) (suc n) h = file-past files n (omega arith)
+
+-- the first file, or none
+pub first_list-is : (files : Files) → first_list files ≡ unwrap_or (first_of files) []
+first_list-is [] = refl
+first_list-is (x ∷ files) = refl
 
 -- the records of an operator are those of the file that is next after the operators before it
 pub records-here : (files : Files) (flow : List Operator) (i : ℕ) (o : Operator) → i < length flow → o ≡ get_or flow i o

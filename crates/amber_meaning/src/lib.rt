@@ -13,6 +13,6 @@ pub mod view;
 
 pub use answer::{Answer, PlainErr, Refusal, Refusals};
 pub use headers::wrong_header;
-pub use scan_files::file_after;
+pub use scan_files::{file_after, shared_file_after};
 pub use std::alloc::AllocError as NoMemory;
 pub use view::{Counted, Extra, Inspected, Stand, Stop, Stops, Views, WorkerView};

@@ -1,5 +1,5 @@
 //! Workflows: operators in order, and the files of their scans.
-//! Rests on `Schema`, `Cond`, `Aggs` and the texts of `text`.
+//! Rests on `Schema`, `Cond`, `Aggs`, `FileBytes` and the texts of `text`.
 
 ghost use Rattle.std.specs.Prelude.{◌≡◌, length, option_map};
 ghost use Rattle.amber_rows.specs.Lists.{nth};
@@ -8,7 +8,8 @@ ghost use Rattle.amber_rows.specs.FlowRules.{IsFlow};
 use crate::agg::Aggs;
 use crate::column::{Cols, Schema};
 use crate::cond::Cond;
-use crate::text::{Bytes, Text};
+use crate::file_bytes::FileBytes;
+use crate::text::Text;
 use std::marker::Model;
 
 /// What an operator does with the rows of its input. An input is an operator's number, from 1.
@@ -140,7 +141,7 @@ impl Flow {
 
 /// The bytes of the scans' files, one for each scan in the order of the operators, seen as a list.
 pub struct Files {
-    inner: Vec<Bytes>,
+    inner: Vec<FileBytes>,
 }
 
 impl Drop for Files {
@@ -159,14 +160,14 @@ impl Model for Files {
 
 impl Files {
     /// The files of a `Vec`, in its order.
-    pub fn new(inner: Vec<Bytes>) -> Self
+    pub fn new(inner: Vec<FileBytes>) -> Self
         ensures { result ≡ inner.items }
     {
         Files { inner }
     }
 
     /// The files as a slice.
-    pub fn get(&self) -> &[Bytes]
+    pub fn get(&self) -> &[FileBytes]
         ensures { result.now ≡ self.now }
     {
         self.inner.as_slice()

@@ -14,8 +14,10 @@ use csv::ByteRecord;
 use std::alloc::{AllocError, Global};
 use std::str;
 
-// Puts the cell that a field is in a column in the place of another cell, or answers its fault.
-fn put_cell(
+/// Puts the cell that a field is in a column of this kind and number, from 1, in the place of another cell, or answers
+/// its fault. A text takes no memory that fits where a text was.
+#[inline(always)]
+pub fn put_cell(
     alloc: Global,
     place: &mut Value,
     field: &[u8],

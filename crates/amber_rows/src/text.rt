@@ -146,7 +146,7 @@ impl fmt::Display for Text {
     }
 }
 
-/// The bytes of a file, seen as a list.
+/// The bytes of a file or of a text, seen as a list.
 pub struct Bytes {
     inner: Vec<u8>,
 }

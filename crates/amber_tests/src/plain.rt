@@ -8,7 +8,7 @@ use crate::expected::expect_text;
 use amber_flow::read_flow;
 use amber_meaning::{Answer, PlainErr};
 use amber_plain::plain;
-use amber_rows::{Bytes, Files, Flow};
+use amber_rows::{Bytes, FileBytes, Files, Flow};
 use std::alloc::{AllocError, Global};
 use std::test::Fail;
 
@@ -23,8 +23,9 @@ const PRICES: &str = "name,price\nnut,3\nbolt,4\nbolt,9\n";
 
 const ORDERS: &str = "id,item,qty\n1,nut,5\n2,bolt,12\n3,nut,7\n4,cog,12\n5,bolt,1\n";
 
-fn bytes(alloc: Global, file: &str) -> Result<Bytes, AllocError> {
-    Ok(Bytes::new(Vec::from_slice(alloc, file.as_bytes())?))
+fn file_bytes(alloc: Global, file: &str) -> Result<FileBytes, AllocError> {
+    let bytes = Bytes::new(Vec::from_slice(alloc, file.as_bytes())?);
+    FileBytes::new(alloc, bytes)
 }
 
 #[tactic(auto, unfolding(amber_meaning::specs::Plain::scan_count))]
@@ -40,8 +41,8 @@ fn scans_of(flow: &Flow) -> usize
 // The files of the prices and of the orders.
 fn files(alloc: Global, prices: &str) -> Result<Files, AllocError> {
     let mut files = Vec::new(alloc);
-    files.push(bytes(alloc, prices)?)?;
-    files.push(bytes(alloc, ORDERS)?)?;
+    files.push(file_bytes(alloc, prices)?)?;
+    files.push(file_bytes(alloc, ORDERS)?)?;
     Ok(Files::new(files))
 }
 

@@ -5,7 +5,7 @@ use Rattle.amber_course.specs.Course.{most_scanned, scans_of}
 use Rattle.amber_course.proofs.Following.{told-all}
 use Rattle.amber_course.proofs.Scanning.{IsWalked, inputs-end, inputs-none, inputs-scan, inputs-skip, not-scan, scan-end, scan-names, scan-next, scan-skip, scan-failure, walk-none, walked-all}
 use Rattle.amber_course.proofs.scans.load_files.Goals as goal
-use Rattle.amber_course.proofs.scans.load_files.Goals.{in-Scan+in_ok-bytes+in_ok-push, in_default}
+use Rattle.amber_course.proofs.scans.load_files.Goals.{in-Scan+in_ok-bytes+in_ok-new+in_ok-push, in_default}
 
 pub load_scan-requires : goal.load_scan-requires
 load_scan-requires g c = omega (arith, c.loop-i.invariant.few)
@@ -28,12 +28,12 @@ loop-i-preserved g c =
     let h : i < length flow = rw c.get-operators.ensures.operators at c.loop-i-test.true in
     let is : o ≡ get_or flow i o = rw c.get-operators.ensures.operators at c.index-operators-i.is in
     elim c.match-operator.branch [
-      | in-Scan+in_ok-bytes+in_ok-push w ↦
+      | in-Scan+in_ok-bytes+in_ok-new+in_ok-push w ↦
           let load = rw (w.get.ensures, sofar.same) at w.in_ok-bytes.ensures.course.1 in
           record {
-            course = rw (w.files-is, w.in_ok-push.ensures.items, w.left-is, w.len.ensures) (scan-next flow i c.loop-i.left o w.in-Scan.file w.in_ok-bytes.bytes c.loop-i.files.items
+            course = rw (w.files-is, w.in_ok-push.ensures.items, w.in_ok-new.ensures, w.left-is, w.len.ensures) (scan-next flow i c.loop-i.left o w.in-Scan.file w.in_ok-bytes.bytes c.loop-i.files.items
                 (g.W.Outside.world c.args.outside.now).files h is w.in-Scan.is load sofar.course);
-            inputs = rw (w.files-is, w.in_ok-push.ensures.items) (inputs-scan flow i o w.in-Scan.file w.in_ok-bytes.bytes c.loop-i.files.items h is w.in-Scan.is w.in_ok-bytes.ensures.headed sofar.inputs);
+            inputs = rw (w.files-is, w.in_ok-push.ensures.items, w.in_ok-new.ensures) (inputs-scan flow i o w.in-Scan.file w.in_ok-bytes.bytes c.loop-i.files.items h is w.in-Scan.is w.in_ok-bytes.ensures.headed sofar.inputs);
             few = rw w.left-is (omega (arith, sofar.few));
             same = rw w.outside-is (w.in_ok-bytes.ensures.course.0 ∙ sofar.same);
             held = rw w.outside-is (w.load_scan.ensures.held ∙ sofar.held);
@@ -81,11 +81,11 @@ pub returns-clause-course : goal.returns-clause-course
 returns-clause-course g c =
     let h : length c.args.flow.now ≤ c.loop-i.i = rw c.get-operators.ensures.operators at c.loop-i-test.false in (
       c.loop-i.invariant.same,
-      rw c.new.ensures (scan-end c.args.flow.now c.loop-i.i c.loop-i.left c.loop-i.files.items (scans_of c.args.flow.now) (g.W.Outside.world c.args.outside.now).files h
+      rw c.new-2.ensures (scan-end c.args.flow.now c.loop-i.i c.loop-i.left c.loop-i.files.items (scans_of c.args.flow.now) (g.W.Outside.world c.args.outside.now).files h
           (walked-all c.args.flow.now c.loop-i.i c.loop-i.left c.loop-i.files.items (g.W.Outside.world c.args.outside.now).files c.loop-i.invariant.course)),
     )
 
 pub returns-clause-inputs : goal.returns-clause-inputs
 returns-clause-inputs g c =
     let h : length c.args.flow.now ≤ c.loop-i.i = rw c.get-operators.ensures.operators at c.loop-i-test.false in
-    rw c.new.ensures (inputs-end c.args.flow.now c.loop-i.i c.loop-i.files.items c.get-operators.ensures.flow h c.loop-i.invariant.inputs)
+    rw c.new-2.ensures (inputs-end c.args.flow.now c.loop-i.i c.loop-i.files.items c.get-operators.ensures.flow h c.loop-i.invariant.inputs)
