@@ -1,3 +1,5 @@
 mod Examples
+pub mod LineRecords
 pub mod Places
-pub mod Records
+pub mod PieceFacts
+pub mod TypedLines

@@ -7,7 +7,7 @@ use Rattle.std.proofs.lemmas.List.Elements.{All-push}
 use Rattle.memchr.specs.Find.{IsFirstByte, is_byte}
 use Rattle.csv.specs.Reading.{is_bom, strip_bom}
 use Rattle.amber_cut.specs.Lines.{HasQuote, past, ends_line, line_at, lines, start_if_filled, until}
-use Rattle.amber_cut.proofs.Records.{lines-end, lines-more, lines-none}
+use Rattle.amber_cut.proofs.LineRecords.{lines-end, lines-more, lines-none}
 
 -- ---- a double quote
 
@@ -43,7 +43,7 @@ bom-long (a ∷ b ∷ c ∷ rest) h = refl
 
 module _ (p : ℕ → Bool) where
   -- where the first byte that passes stands at this place
-  parts-at : (xs : List ℕ) (k : ℕ) → k < length xs → ((j : ℕ) → j < k → p (get_or xs j 0) ≡ false) → p (get_or xs k 0) ≡ true
+  pub parts-at : (xs : List ℕ) (k : ℕ) → k < length xs → ((j : ℕ) → j < k → p (get_or xs j 0) ≡ false) → p (get_or xs k 0) ≡ true
       → (take k xs ≡ until p xs) × (drop (suc k) xs ≡ past p xs)
   unfolding until past
   parts-at [] k h before at = absurd (omega (arith, h))
@@ -54,7 +54,7 @@ module _ (p : ℕ → Bool) where
       (rw f (ap (λ ys. x ∷ ys) later.0), rw f later.1)
 
   -- where none passes
-  parts-none : (xs : List ℕ) → ((j : ℕ) → j < length xs → p (get_or xs j 0) ≡ false) → (xs ≡ until p xs) × ([] ≡ past p xs)
+  pub parts-none : (xs : List ℕ) → ((j : ℕ) → j < length xs → p (get_or xs j 0) ≡ false) → (xs ≡ until p xs) × ([] ≡ past p xs)
   unfolding until past
   parts-none [] before = (refl, refl)
   parts-none (x ∷ xs) before =

@@ -1,1 +1,4 @@
+pub mod Kept
 pub mod Lines
+pub mod Pieces
+pub mod Typing

@@ -1,11 +1,14 @@
-//! The lines of a file, each to be taken by its number. Over `line_starts` of `starts`, and `finding`.
+//! The lines of a file, each to be taken by its number. Over `line_starts` of `starts`, `type_line` of `typing` and
+//! `finding`; the bytes are those of `FileBytes` of `amber_rows`.
 
-ghost use Rattle.std.specs.Prelude.{◌≡◌, ◌<◌, ◌≤◌, ◌^◌, ◌⊎◌, ◌↔◌, [], length, map, slice_index_or, IfErr, IfOk, IsErr};
-ghost use Rattle.amber_rows.specs.Record.{file_records};
+ghost use Rattle.std.specs.Prelude.{◌≡◌, ◌<◌, ◌≤◌, ◌^◌, ◌⊎◌, ◌↔◌, [], length, map, slice_index_or, IfOk, IfSome, IsNone};
+ghost use Rattle.amber_rows.specs.Record.{file_records, row_of};
 ghost use Rattle.amber_cut.specs.Lines.{HasQuote, cut};
 
 use crate::finding::{has_quote, line_end, mark_length};
 use crate::starts::line_starts;
+use crate::typing::type_line;
+use amber_rows::{FileBytes, Row, RowFault, Schema, Value};
 use std::alloc::{AllocError, Global};
 use std::marker::Model;
 
@@ -17,17 +20,14 @@ const MOST_BYTES: usize = 4_294_967_295;
 ///
 /// The format is that of `LineReader`. Besides the file it keeps 4 bytes for each line, where the line begins.
 pub struct Lines {
-    bytes: Vec<u8>,
+    file: FileBytes,
     // Where each line begins, in order.
     starts: Vec<u32>,
 }
 
 impl Drop for Lines {
     fn drop(self) {
-        let Lines {
-            bytes: _,
-            starts: _,
-        } = self;
+        let Lines { file: _, starts: _ } = self;
     }
 }
 
@@ -38,29 +38,29 @@ impl Model for Lines {
 
     ghost Value = { List (List ℕ) };
 
-    ghost view = { λ a. map (line_at a.bytes.items) a.starts.items };
+    ghost view = { λ a. map (line_at a.file) a.starts.items };
 
-    ghost invariant = { λ a. All (λ start. start < length a.bytes.items) a.starts.items };
+    ghost invariant = { λ a. All (λ start. start < length a.file) a.starts.items };
 }
 
 impl Lines {
-    /// The lines of a file. The file is given back exactly where a double quote stands in it or it has 4 GiB or more.
-    pub fn new(alloc: Global, bytes: Vec<u8>) -> Result<Result<Lines, Vec<u8>>, AllocError>
+    /// The lines of a file; none exactly where a double quote stands in it or it has 4 GiB or more.
+    pub fn new(alloc: Global, file: &FileBytes) -> Result<Option<Lines>, AllocError>
         ensures refused { IfOk result
-            (λ found. IsErr found ↔ ((2 ^ 32 ≤ length bytes.items) ⊎ HasQuote bytes.items)) }
-        ensures back { IfOk result (λ found. IfErr found (λ file. file.items ≡ bytes.items)) }
+            (λ found. IsNone found ↔ ((2 ^ 32 ≤ length file.now) ⊎ HasQuote file.now)) }
         ensures records { IfOk result
-            (λ found. IfOk found (λ lines. map cut lines ≡ file_records bytes.items)) }
+            (λ found. IfSome found (λ lines. map cut lines ≡ file_records file.now)) }
     {
-        if bytes.len() > MOST_BYTES {
-            return Ok(Err(bytes));
+        let bytes = file.get();
+        if bytes.len() > MOST_BYTES || has_quote(bytes) {
+            return Ok(None);
         }
-        if has_quote(&bytes) {
-            return Ok(Err(bytes));
-        }
-        let from = mark_length(&bytes);
-        let starts = line_starts(alloc, &bytes, from)?;
-        Ok(Ok(Lines { bytes, starts }))
+        let starts = line_starts(alloc, bytes, mark_length(bytes))?;
+        let shared = file.clone()?;
+        Ok(Some(Lines {
+            file: shared,
+            starts,
+        }))
     }
 
     /// How many lines there are.
@@ -70,13 +70,30 @@ impl Lines {
         self.starts.len()
     }
 
-    /// The line with this number, from 0, without what ends it.
-    pub fn line(&self, number: usize) -> &[u8]
+    // The line with this number, from 0, without what ends it.
+    fn line(&self, number: usize) -> &[u8]
         requires { number < length self.now }
         ensures { result.now ≡ slice_index_or self.now number [] }
     {
         let start = self.starts[number] as usize;
-        let rest = &self.bytes[start..];
+        let rest = &self.file.get()[start..];
         &rest[..line_end(rest)]
+    }
+
+    /// The row that the line with this number, from 0, is under these columns, or the first fault, as `type_line` has
+    /// it. It is made in the room of cells that are done with.
+    pub fn typed(
+        &self,
+        alloc: Global,
+        number: usize,
+        room: Vec<Value>,
+        schema: &Schema,
+    ) -> Result<Result<Row, RowFault>, AllocError>
+        requires there { number < length self.now }
+        requires columns { length schema.now < 2 ^ 32 }
+        ensures { IfOk result
+            (λ typed. typed ≡ row_of schema.now (cut (slice_index_or self.now number []))) }
+    {
+        type_line(alloc, room, self.line(number), schema)
     }
 }

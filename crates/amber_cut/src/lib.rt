@@ -1,30 +1,44 @@
-//! Cutting: the records of a file without a quote are its lines.
+//! Cutting: the records of a file by their numbers, and the lines of a file.
+//!
+//! `Records` holds the records of a file, so that any of them can be taken by its number, also by several workers that
+//! share it. A record is typed, as a row or its fault, when it is taken.
 //!
 //! A file of comma-separated values may have quoted fields, in which commas and ends of lines are text, so its records
 //! are found one after the other, by a reader that knows where a quote was opened. Where no double quote stands in the
-//! file, they are found faster: each line is a record, and its fields stand between its commas. `LineReader` goes
-//! through such a file line by line, and needs no memory. `Lines` notes where each line begins, so that any of them can
-//! be taken, also by several workers.
+//! file, they are found faster: each line is a record, and its fields stand between its commas. So `Records` keeps a
+//! file in one of two ways. Of a file without a double quote, shorter than 4 GiB, it keeps the file itself, which is
+//! not copied, and where each line begins. Of any other file it keeps the fields that `csv` reads in it, one after the
+//! other, and where each record ends among them.
 //!
-//! That these are the records is proved: the lines that either gives, cut at commas, are `file_records` of the file, as
-//! `csv` reads it. A line ends at a line feed, at a carriage return, or at both; empty lines are no records; the last
-//! line may lack its end; and a byte order mark at the front is dropped. A file with a double quote is refused, wherever
-//! the quote stands.
+//! `LineReader` goes through a file without a double quote line by line, and needs no memory. `type_line` types a line.
 //!
-//! An example: the file `day,word\r\n\n7,\n8,a b` has the lines `day,word` and `7,` and `8,a b`. Cut at commas they are
-//! the records `day` and `word`, `7` and an empty field, and `8` and `a b`. With `"a b"` for `a b` it is refused.
+//! That these are the records is proved: what either gives is `file_records` of the file, as `csv` reads it. A line
+//! ends at a line feed, at a carriage return, or at both; empty lines are no records; the last line may lack its end;
+//! and a byte order mark at the front is dropped. Wherever a double quote stands, the file is not taken line by line.
 //!
-//! `specs/Lines.antt` says what the lines of a text and the fields of a line are.
+//! An example: the file `day,word\r\n\n7,\n8,a b` has the lines `day,word` and `7,` and `8,a b`, of which `Records`
+//! keeps where they begin, 0 and 11 and 14. Record 2, cut at the comma, has the fields `8` and `a b`; under a column
+//! of numbers and one of texts it is the row of 8 and `a b`. With `"a b"` for `a b` it has the same records, but is
+//! kept as the fields `day`, `word`, `7`, an empty one, `8` and `a b`, of which the records end at the second, the
+//! fourth and the sixth.
+//!
+//! `specs/Lines.antt` says what the lines of a text and the fields of a line are, `specs/Pieces.antt` what the records
+//! among the fields of a file are.
 #![tactic(auto)]
 
+mod fields;
+mod file_fields;
 mod file_lines;
 mod finding;
 mod line_reader;
+mod records;
 mod starts;
+mod typing;
 
-pub use file_lines::Lines;
 pub use line_reader::LineReader;
+pub use records::Records;
 pub use std::alloc::AllocError as NoMemory;
+pub use typing::type_line;
 
 #[cfg(test)]
 mod tests;

@@ -1,7 +1,11 @@
-//! Small files: their lines, cut at commas, against the records that `csv` reads in them.
+//! Small files: their lines, cut at commas, against the records that `csv` reads in them, and their records by number.
 
-use crate::{LineReader, Lines, NoMemory};
-use amber_rows::RecordReader;
+ghost use Rattle.std.specs.Prelude.{◌≡◌, length, IfOk};
+
+use crate::{LineReader, NoMemory, Records};
+use amber_rows::{
+    Bytes, ColKind, Column, FileBytes, RecordReader, RowFault, Schema, Text, row_text,
+};
 use csv::ByteRecord;
 use std::alloc::Global;
 use std::test::Fail;
@@ -53,28 +57,67 @@ fn read(alloc: Global, file: &[u8]) -> Result<Option<Vec<u8>>, NoMemory> {
     Ok(Some(text))
 }
 
-// The lines that are noted, one after the other, or nothing where the file is refused.
-fn start_if_filled(alloc: Global, file: &[u8]) -> Result<Option<Vec<u8>>, NoMemory> {
-    let Ok(lines) = Lines::new(alloc, Vec::from_slice(alloc, file)?)? else {
-        return Ok(None);
-    };
-    let mut text = Vec::new(alloc);
-    for number in 0..lines.len() {
-        append_line(&mut text, lines.line(number))?;
+// Fails unless the file is read as this text.
+fn expect(alloc: Global, file: &str, want: &str) -> Result<(), Fail> {
+    let found = read(alloc, file.as_bytes())?;
+    let found = found.unwrap_or(Vec::from_slice(alloc, b"refused")?);
+    if found.as_slice() != want.as_bytes() {
+        return Err(Fail::new(String::from_utf8_lossy(alloc, &found)?));
     }
-    Ok(Some(text))
+    Ok(())
 }
 
-// Fails unless both ways give this text.
-fn expect(alloc: Global, file: &str, want: &str) -> Result<(), Fail> {
-    for found in [
-        read(alloc, file.as_bytes())?,
-        start_if_filled(alloc, file.as_bytes())?,
-    ] {
-        let found = found.unwrap_or(Vec::from_slice(alloc, b"refused")?);
-        if found.as_slice() != want.as_bytes() {
-            return Err(Fail::new(String::from_utf8_lossy(alloc, &found)?));
+// A column of numbers and one of texts.
+fn day_and_word(alloc: Global) -> Result<Schema, NoMemory>
+    ensures { IfOk result (λ schema. length schema ≡ 2) }
+{
+    let mut columns = Vec::new(alloc);
+    columns.push(Column {
+        name: Text::new(alloc, "day")?,
+        kind: ColKind::Int,
+    })?;
+    columns.push(Column {
+        name: Text::new(alloc, "word")?,
+        kind: ColKind::Text,
+    })?;
+    Ok(Schema::new(columns))
+}
+
+fn fault_text(fault: RowFault) -> &'static [u8] {
+    match fault {
+        RowFault::Width => b"width/",
+        RowFault::Int(_) => b"int/",
+        RowFault::Utf8(_) => b"utf8/",
+    }
+}
+
+// The records of a file after the header, typed one after the other in one room.
+fn typed(alloc: Global, file: &[u8]) -> Result<Vec<u8>, NoMemory> {
+    let schema = day_and_word(alloc)?;
+    let bytes = Bytes::new(Vec::from_slice(alloc, file)?);
+    let records = Records::new(alloc, &FileBytes::new(alloc, bytes)?)?;
+    let mut text = Vec::new(alloc);
+    let mut room = Vec::new(alloc);
+    for number in 1..records.len() {
+        match records.typed(alloc, number, room, &schema)? {
+            Ok(row) => {
+                text.extend_from_slice(&row_text(alloc, &row)?)?;
+                room = row.into_inner();
+            }
+            Err(fault) => {
+                text.extend_from_slice(fault_text(fault))?;
+                room = Vec::new(alloc);
+            }
         }
+    }
+    Ok(text)
+}
+
+// Fails unless the records of the file are typed as this text.
+fn expect_typed(alloc: Global, file: &[u8], want: &str) -> Result<(), Fail> {
+    let found = typed(alloc, file)?;
+    if found.as_slice() != want.as_bytes() {
+        return Err(Fail::new(String::from_utf8_lossy(alloc, &found)?));
     }
     Ok(())
 }
@@ -126,4 +169,20 @@ fn quotes_are_refused(rt: HostRuntime) -> Result<(), Fail> {
         expect(alloc, file, "refused")?;
     }
     Ok(())
+}
+
+#[test]
+fn lines_are_typed_by_number(rt: HostRuntime) -> Result<(), Fail> {
+    let file = b"day,word\r\n7,a b\n\n-8,\n9\nx,y,z\nx,\xFF\n1,\xFF\n0,c";
+    expect_typed(rt.alloc(), file, "7,a b\n-8,\nwidth/width/int/utf8/0,c\n")
+}
+
+#[test]
+fn quoted_records_are_typed_by_number(rt: HostRuntime) -> Result<(), Fail> {
+    let file = b"day,word\r\n7,\"a\n,b\"\n\n\"-8\",\n9\nx,y,z\nx,\xFF\n1,\xFF\n0,c";
+    expect_typed(
+        rt.alloc(),
+        file,
+        "7,\"a\n,b\"\n-8,\nwidth/width/int/utf8/0,c\n",
+    )
 }

@@ -2,7 +2,7 @@
 use Rattle.std.proofs.Common.{◌≡◌, ◌≤◌, ◌-◌, ◌∙◌, ◌++◌, arith, drop, length, length-drop, map, sym, take, ap}
 use Rattle.std.proofs.lemmas.List.{append-nil, drop_all, take_all}
 use Rattle.amber_cut.specs.Lines.{line_at, lines}
-use Rattle.amber_cut.proofs.Records.{lines-none}
+use Rattle.amber_cut.proofs.LineRecords.{lines-none}
 use Rattle.amber_cut.proofs.Places.{lines-note, within-note}
 use Rattle.amber_cut.proofs.starts.line_starts.Goals as goal
 

@@ -3,7 +3,7 @@ use Rattle.std.proofs.Common.{◌≡◌, ◌∙◌, ◌-◌, ap, arith, drop, le
 use Rattle.std.proofs.lemmas.List.{take_all}
 use Rattle.csv.specs.Reading.{strip_bom}
 use Rattle.amber_cut.specs.Lines.{HasQuote, cut, lines}
-use Rattle.amber_cut.proofs.Records.{file-lines}
+use Rattle.amber_cut.proofs.LineRecords.{file-lines}
 use Rattle.amber_cut.proofs.line_reader.LineReader.open.Goals as goal
 
 pub returns-clause-records : goal.returns-clause-records
