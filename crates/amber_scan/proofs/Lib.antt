@@ -1,1 +1,3 @@
-pub mod Dealt
+pub mod Every
+pub mod SuitedRows
+pub mod Taking

@@ -4,6 +4,7 @@ ghost use Rattle.std.specs.Prelude.{◌≤◌};
 
 use crate::expected::expect_text;
 use crate::written::{append_typed, two_columns};
+use amber_rows::{Bytes, FileBytes};
 use amber_scan::{NoMemory, ScanErr, Scanned, Share, deal};
 use std::alloc::Global;
 use std::test::Fail;
@@ -17,7 +18,7 @@ fn append_record(alloc: Global, text: &mut String, one: &Scanned) -> Result<(), 
 
 // The next record of a share.
 fn append_next(alloc: Global, text: &mut String, share: &mut Share) -> Result<(), NoMemory> {
-    match share.next() {
+    match share.next()? {
         Some(one) => append_record(alloc, text, &one),
         None => text.push_str("none; "),
     }
@@ -41,6 +42,11 @@ fn append_shares(alloc: Global, text: &mut String, shares: Vec<Share>) -> Result
     Ok(())
 }
 
+// A file with this text.
+fn file_of(alloc: Global, text: &str) -> Result<FileBytes, NoMemory> {
+    FileBytes::new(alloc, Bytes::new(Vec::from_slice(alloc, text.as_bytes())?))
+}
+
 // The shares of a file.
 fn dealt(alloc: Global, file: &str, workers: u32) -> Result<String, NoMemory>
     requires some { 1 ≤ workers }
@@ -48,7 +54,7 @@ fn dealt(alloc: Global, file: &str, workers: u32) -> Result<String, NoMemory>
 {
     let schema = two_columns(alloc)?;
     let mut text = String::new(alloc);
-    match deal(alloc, file.as_bytes(), &schema, workers) {
+    match deal(alloc, &file_of(alloc, file)?, &schema, workers) {
         Ok(shares) => append_shares(alloc, &mut text, shares)?,
         Err(ScanErr::Header) => text.push_str("header")?,
         Err(ScanErr::NoMemory) => text.push_str("no memory")?,
@@ -80,25 +86,44 @@ fn copies(alloc: Global, share: &mut Share) -> Result<bool, NoMemory> {
     let same = copy.left() == share.left();
     let text = taken(alloc, &mut copy)?;
     let of_share = taken(alloc, share)?;
-    Ok(same && text == of_share && share.next().is_none() && copy.left() == 0)
+    Ok(same && text == of_share && share.next()?.is_none() && copy.left() == 0)
 }
 
 // Takes the next record of a share. Whether one less is left.
-fn takes_one(share: &mut Share) -> bool {
+fn takes_one(share: &mut Share) -> Result<bool, NoMemory> {
     let before = share.left();
-    share.next().is_some() && share.left() + 1 == before
+    let found = share.next()?.is_some();
+    Ok(found && share.left() + 1 == before)
 }
 
 #[test]
 fn a_copy_has_what_is_left(rt: HostRuntime) -> Result<(), Fail> {
     let alloc = rt.alloc();
     let schema = two_columns(alloc)?;
-    let Ok(shares) = deal(alloc, SEVEN.as_bytes(), &schema, 3) else {
+    let Ok(shares) = deal(alloc, &file_of(alloc, SEVEN)?, &schema, 3) else {
         return Err(Fail::from(NoMemory));
     };
     for mut share in shares {
-        assert!(rt; takes_one(&mut share));
+        assert!(rt; takes_one(&mut share)?);
         assert!(rt; copies(alloc, &mut share)?);
+    }
+    Ok(())
+}
+
+#[test]
+fn records_that_were_read_ahead_are_left_as_before(rt: HostRuntime) -> Result<(), Fail> {
+    let alloc = rt.alloc();
+    let schema = two_columns(alloc)?;
+    for count in [0, 1, 2, 9] {
+        let Ok(shares) = deal(alloc, &file_of(alloc, SEVEN)?, &schema, 3) else {
+            return Err(Fail::from(NoMemory));
+        };
+        for mut share in shares {
+            let mut ahead = share.clone()?;
+            ahead.read_ahead(count)?;
+            assert!(rt; ahead.left() == share.left());
+            assert!(rt; taken(alloc, &mut ahead)? == taken(alloc, &mut share)?);
+        }
     }
     Ok(())
 }
