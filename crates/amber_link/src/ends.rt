@@ -15,6 +15,8 @@ use std::collections::VecDeque;
 
 // How many batches a ring takes.
 const SLOTS: usize = 8;
+// For how many pushes room is made at once.
+const ROWS_AHEAD: u64 = 64;
 
 /// The end of a link into which rows are pushed.
 pub struct Out {
@@ -72,8 +74,17 @@ pub fn link(alloc: Global, batch_size: u32) -> Result<(Out, In), AllocError>
     Ok((out, into))
 }
 
+// For how many rows room is made where it is asked for so many: for several pushes at once, but for none where only the end
+// is to come.
+fn ahead_of(rows: u64) -> u64
+    ensures { rows ≤ result }
+{
+    if rows == 0 { 0 } else { rows.max(ROWS_AHEAD) }
+}
+
 impl Out {
-    /// Makes room, so that `rows` pushes and an end after them are not refused.
+    /// Makes room, so that `rows` pushes and an end after them are not refused. Where it makes room for a push it does so for
+    /// 64, so that a caller may ask before each.
     pub fn reserve(&mut self, rows: u64) -> Result<(), AllocError>
         requires open { self.old.kept.ended ≡ false }
         ensures ring { self.new.ring ≡ self.old.ring }
@@ -82,7 +93,10 @@ impl Out {
         ensures ok { OnOk result (rows < self.new.kept.room) }
         ensures err { OnErr result (self.new ≡ self.old) }
     {
-        self.kept.reserve(rows)
+        if rows < self.kept.room() {
+            return Ok(());
+        }
+        self.kept.reserve(ahead_of(rows))
     }
 
     /// Pushes a row for which there is room.
