@@ -6,12 +6,13 @@ use Rattle.std.proofs.lemmas.List.{nil_from_length, take-append-le, take_all}
 use Rattle.std.proofs.lemmas.List.Elements.{All-cons, All-push}
 use Rattle.amber_rows.specs.declared.value.Value.{Value}
 use Rattle.amber_rows.specs.declared.batch.Batch.{Batch}
+use Rattle.amber_rows.specs.declared.column.Column.{Column}
 use Rattle.amber_log.specs.declared.entry.Entry.{Entry}
 use Rattle.amber_log.specs.declared.entry.Entry.TheVariants as entry
 use Rattle.amber_meaning.specs.Position.{one_if, no_restraint}
 use Rattle.amber_meaning.specs.Task.{Arrival, row_in}
 use Rattle.amber_meaning.specs.Refused.{refusal_in}
-use Rattle.amber_scan.specs.declared.share.Scanned.{Scanned}
+use Rattle.amber_scan.specs.Shares.{ShareState}
 use Rattle.amber_link.specs.Sides.{IsTaken, have_all_ended, have_builders_ended}
 use Rattle.amber_link.specs.declared.upstreams.Upstream.{Upstream}
 use Rattle.amber_link.specs.declared.downstreams.Downstream.{Downstream}
@@ -19,8 +20,8 @@ use Rattle.amber_link.specs.Sides.{AreEnded, AreLooked}
 use Rattle.amber_worker.specs.Links.{EmitsFirst}
 use Rattle.amber_worker.specs.Fields.{AreFew, WorkerFields, restraint_of, row_from, rows_moved}
 use Rattle.amber_worker.specs.WorkerState.{WorkerState, has_ready}
-use Rattle.amber_worker.specs.Steps.{Becomes, Closes, EmitsRow, Finishes, TakesBatch, TakesRow, columns_at_hand, gives_if, gone_on, keeps_if, turned_to, with_go}
-use Rattle.amber_worker.proofs.States.{closes-batch, in_order-batch, in_order-row, in_order-settled}
+use Rattle.amber_worker.specs.Steps.{Becomes, Closes, EmitsRow, Finishes, TakesBatch, TakesRow, columns_at_hand, gives_if, gone_on, is_group, keeps_if, turned_to, with_go}
+use Rattle.amber_worker.proofs.States.{closes-asked, closes-group, in_order-batch, in_order-row, in_order-settled}
 use Rattle.amber_worker.specs.declared.flags.Flags.{Flags}
 use Rattle.amber_worker.specs.declared.operator_state.OperatorState.{OperatorState}
 use Rattle.amber_worker.specs.declared.operator_state.OperatorState.TheVariants as operator_state
@@ -72,17 +73,18 @@ scans-more does now builds found becomes scan =
     let P : OperatorState → Type 0 = λ d. Becomes d builds found now in
     subst P scan becomes
 
-scans-so : (does now : OperatorState) (o : Option (List Scanned)) → (does ≡ operator_state.Scan → now ≡ operator_state.Scan) → IfSome o (λ _. does ≡ operator_state.Scan) → IfSome o (λ _. now ≡ operator_state.Scan)
+scans-so : (does now : OperatorState) (o : Option ShareState) → (does ≡ operator_state.Scan → now ≡ operator_state.Scan) → IfSome o (λ _. does ≡ operator_state.Scan) → IfSome o (λ _. now ≡ operator_state.Scan)
 scans-so does now None f h = h
 scans-so does now (Some x) f h = f h
 
-pub few-row : (f : WorkerFields) (now : OperatorState) (found : Option (List Value)) (later : Option (List Scanned)) → Becomes f.operator_state f.building found now → AreFew f
-    → f.taken + f.emitted + f.batches + one_if f.finished < 2 ^ 40 → is_some later ≡ is_some f.share
+pub few-row : (f : WorkerFields) (now : OperatorState) (found : Option (List Value)) (later : Option ShareState) → Becomes f.operator_state f.building found now → AreFew f
+    → f.taken + f.emitted + f.batches + one_if f.finished < 2 ^ 40 → is_some later ≡ is_some f.share → IfSome later (λ share. share.columns ≡ f.columns)
     → AreFew (record f { operator_state = now; share = later; taken = f.taken + 1; journal = with_go f.journal 1 0 })
-few-row f now found later becomes few less same = record {
+few-row f now found later becomes few less same typed = record {
   in_order = in_order-row f.operator_state now f.building found f.taken f.ins becomes few.in_order;
   scans = scans-so f.operator_state now later (scans-more f.operator_state now f.building found becomes) (same-some (f.operator_state ≡ operator_state.Scan) f.share later same few.scans);
   shares = same-some (f.ins ≡ []) f.share later same few.shares;
+  typed = typed;
   lowered = few.lowered;
   steps = omega arith;
   received = few.received;
@@ -94,7 +96,7 @@ few-row f now found later becomes few less same = record {
 
 pub takes-row : (w : WorkerState) (one : Arrival) (later : List Arrival) (now : OperatorState) (last : List (List Value)) (rest : List Arrival) (pending : List (List Value)) (refused : List _)
     (kept : List (List Value)) (journal : List Entry) (columns : List _) (over : Bool)
-    → columns ≡ columns_at_hand w → over ≡ (eqb (length w.rest) 1 && have_all_ended w.ins)
+    → columns ≡ columns_at_hand w → over ≡ (is_group w.operator_state && (eqb (length w.rest) 1 && have_all_ended w.ins))
     → w.rest ≡ one ∷ later → rest ≡ later → Becomes w.operator_state w.building (row_in columns one.what) now → Closes now over last
     → pending ≡ (w.pending ++ gives_if w.operator_state w.building (row_in columns one.what)) ++ last → refused ≡ w.refused ++ refusal_in w.op one.from one.what
     → kept ≡ w.kept ++ keeps_if w.operator_state (row_in columns one.what) → journal ≡ with_go w.journal 1 0
@@ -106,7 +108,7 @@ takes-row w one later now last rest pending refused kept journal columns over co
   last = last;
   first = first;
   becomes = subst (λ columns. Becomes w.operator_state w.building (row_in columns one.what) now) columns_is becomes;
-  closes = subst (λ b. Closes now b last) over_is closes;
+  closes = closes-group w.operator_state now w.building (row_in columns one.what) (eqb (length w.rest) 1 && have_all_ended w.ins) last becomes (subst (λ b. Closes now b last) over_is closes);
   after = rw (← columns_is, pending_is, refused_is, kept_is, journal_is, rest_is) refl;
 }
 
@@ -119,6 +121,7 @@ few-emitted f after unfinished few less made over = record {
   in_order = few.in_order;
   scans = few.scans;
   shares = few.shares;
+  typed = few.typed;
   lowered = few.lowered;
   steps = omega arith;
   received = few.received;
@@ -136,6 +139,7 @@ few-done f after few less over = record {
   in_order = few.in_order;
   scans = few.scans;
   shares = few.shares;
+  typed = few.typed;
   lowered = few.lowered;
   steps = omega arith;
   received = few.received;
@@ -154,15 +158,16 @@ written-back n old new e same = take-append-le n new (drop (length new) old) (om
 turned-scan : (does : OperatorState) (builds : Bool) → does ≡ operator_state.Scan → turned_to builds does ≡ operator_state.Scan
 turned-scan does builds scan = ap (turned_to builds) scan
 
-pub few-batch : (f : WorkerFields) (found later : List Upstream) (place from number : ℕ) (builds : Bool) (batch : Batch)
+pub few-batch : (f : WorkerFields) (columns : List Column) (found later : List Upstream) (place from number : ℕ) (builds : Bool) (batch : Batch)
     → ((one : Upstream) × (one.from ≡ from) × (one.taken ≡ number) × (one.builds ≡ builds) × IsTaken found one batch later)
     → have_builders_ended found ≡ have_builders_ended f.ins → length found ≡ length f.ins → AreFew f → f.taken + f.emitted + f.batches + one_if f.finished < 2 ^ 40 → place < length f.ins
     → All (λ one. one.taken ≤ f.batches + 1) later
-    → AreFew (record f { operator_state = turned_to builds f.operator_state; building = builds; batches = f.batches + 1; ins = later; journal = f.journal ++ entry.Take from number ∷ [] })
-few-batch f found later place from number builds batch so built same few less there received = record {
+    → AreFew (record f { operator_state = turned_to builds f.operator_state; columns = columns; building = builds; batches = f.batches + 1; ins = later; journal = f.journal ++ entry.Take from number ∷ [] })
+few-batch f columns found later place from number builds batch so built same few less there received = record {
   in_order = rw (← so.3) (in_order-batch f.operator_state f.building f.taken found later so.0 batch so.4 (in_order-settled f.operator_state f.building f.taken f.ins found built few.in_order));
   scans = scans-so f.operator_state (turned_to builds f.operator_state) f.share (turned-scan f.operator_state builds) few.scans;
   shares = none f.share few.shares;
+  typed = unshared f.share few.shares;
   lowered = few.lowered;
   steps = omega arith;
   received = received;
@@ -172,22 +177,27 @@ few-batch f found later place from number builds batch so built same few less th
   moved = All-push (λ one. rows_moved one ≤ f.taken + f.emitted) f.journal (entry.Take from number) few.moved (omega arith);
 }
   where
-    none : (o : Option (List Scanned)) → IfSome o (λ _. f.ins ≡ []) → IfSome o (λ _. later ≡ [])
+    none : (o : Option ShareState) → IfSome o (λ _. f.ins ≡ []) → IfSome o (λ _. later ≡ [])
     none None h = tt
     none (Some x) h = let empty = ap length h in absurd (omega arith)
 
+    unshared : (o : Option ShareState) → IfSome o (λ _. f.ins ≡ []) → IfSome o (λ share. share.columns ≡ columns)
+    unshared None h = tt
+    unshared (Some x) h = let empty = ap length h in absurd (omega arith)
+
 -- a share stands where there are no senders alone
-pub no-share : (share : Option (List Scanned)) (ins : List Upstream) (place : ℕ) → IfSome share (λ _. ins ≡ []) → place < length ins → share ≡ None
+pub no-share : (share : Option ShareState) (ins : List Upstream) (place : ℕ) → IfSome share (λ _. ins ≡ []) → place < length ins → share ≡ None
 no-share None ins place h less = refl
 no-share (Some x) ins place h less = let empty = ap length h in absurd (omega arith)
 
 pub takes-batch : (w : WorkerState) (from number : ℕ) (builds : Bool) (batch : Batch) (looked ins found : List Upstream) (rest : List Arrival) (journal : List Entry) (now : OperatorState)
-    (closing pending : List (List Value)) (empty over : Bool)
+    (closing pending : List (List Value)) (empty asked over : Bool)
     → ((one : Upstream) × (one.from ≡ from) × (one.taken ≡ number) × (one.builds ≡ builds) × IsTaken looked one batch ins) → AreLooked w.ins looked → has_ready looked ≡ true → from < 2 ^ 32 → number < 2 ^ 64
     → rest ≡ map (row_from from) batch.rows → found ≡ ins → journal ≡ w.journal ++ entry.Take from number ∷ [] → now ≡ turned_to builds w.operator_state
-    → empty ≡ eqb (length batch.rows) 0 → over ≡ have_all_ended ins → Closes w.operator_state empty closing → pending ≡ (if over then closing else [])
+    → empty ≡ eqb (length batch.rows) 0 → over ≡ have_all_ended ins → (over ≡ true → asked ≡ empty)
+    → Closes w.operator_state asked closing → pending ≡ (if over then closing else [])
     → TakesBatch w (record w { operator_state = now; building = builds; rest = rest; pending = pending; batches = w.batches + 1; ins = found; journal = journal })
-takes-batch w from number builds batch looked ins found rest journal now closing pending empty over taken seen ready few small rest_is ins_is journal_is now_is empty_is over_is closes pending_is = record {
+takes-batch w from number builds batch looked ins found rest journal now closing pending empty asked over taken seen ready few small rest_is ins_is journal_is now_is empty_is over_is same closes pending_is = record {
   one = taken.0;
   batch = batch;
   found = looked;
@@ -198,7 +208,7 @@ takes-batch w from number builds batch looked ins found rest journal now closing
   from_small = let same = taken.1 in omega arith;
   number_small = let same = taken.2 in omega arith;
   last = pending;
-  closes = rw (← empty_is, ← over_is, pending_is) (closes-batch w.operator_state empty over closing closes);
+  closes = rw (← empty_is, ← over_is, pending_is) (closes-asked w.operator_state empty asked over closing same closes);
   after = rw (taken.1, taken.2, taken.3, rest_is, ins_is, journal_is, now_is) refl;
 }
 
@@ -209,6 +219,7 @@ few-settled f later few same received built = record {
   in_order = in_order-settled f.operator_state f.building f.taken f.ins later built few.in_order;
   scans = few.scans;
   shares = none f.share few.shares;
+  typed = few.typed;
   lowered = few.lowered;
   steps = few.steps;
   received = received;
@@ -218,7 +229,7 @@ few-settled f later few same received built = record {
   moved = few.moved;
 }
   where
-    none : (o : Option (List Scanned)) → IfSome o (λ _. f.ins ≡ []) → IfSome o (λ _. later ≡ [])
+    none : (o : Option ShareState) → IfSome o (λ _. f.ins ≡ []) → IfSome o (λ _. later ≡ [])
     none None h = tt
     none (Some x) h = let empty = ap length h in nil_from_length later (omega arith)
 
@@ -229,6 +240,7 @@ few-sent f later few made over = record {
   in_order = few.in_order;
   scans = few.scans;
   shares = few.shares;
+  typed = few.typed;
   lowered = few.lowered;
   steps = few.steps;
   received = few.received;
@@ -245,6 +257,7 @@ few-begun f flags journal few lowered none = record {
   in_order = few.in_order;
   scans = few.scans;
   shares = few.shares;
+  typed = few.typed;
   lowered = lowered;
   steps = few.steps;
   received = few.received;

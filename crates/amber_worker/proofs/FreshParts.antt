@@ -18,7 +18,7 @@ use Rattle.amber_meaning.specs.Produce.{closing}
 use Rattle.amber_meaning.specs.Kinds.{closing_rows, kept_rows}
 use Rattle.amber_meaning.proofs.Crews.{own-worker, worker-known, worker-op}
 use Rattle.amber_meaning.proofs.Numbers.{among, among-kept, in-below}
-use Rattle.amber_scan.specs.declared.share.Scanned.{Scanned}
+use Rattle.amber_scan.specs.Shares.{ShareState}
 use Rattle.amber_join.specs.Join.{Join}
 use Rattle.amber_link.specs.declared.upstreams.Upstream.{Upstream}
 use Rattle.amber_worker.specs.Fields.{IsInOrder, rest_in}
@@ -58,7 +58,7 @@ columns-arrivals flow op (what.Group input keys aggs) = refl
 columns-arrivals flow op (what.Sink input) = refl
 
 -- a scan is handed its share, all others nothing yet
-pub rest-first : (kind : What) (share : Option (List Scanned)) (role : Role) → is_some share ≡ is_scan kind → HasShare share role
+pub rest-first : (kind : What) (share : Option ShareState) (role : Role) → is_some share ≡ is_scan kind → HasShare share role
     → rest_in share 0 [] ≡ share_or kind role.share []
 rest-first (what.Scan file) None role some has = absurd (false≢true some)
 rest-first (what.Scan file) (Some records) role some has = has

@@ -1,17 +1,20 @@
 -- A new worker stands at the beginning.
-use Rattle.std.proofs.Common.{◌≡◌, ℕ, zero, suc, ◌*◌, ◌/◌, ◌<◌, not, List, [], ◌∷◌, ◌++◌, length, map, get_or, drop, All, Option, Some, None, is_some, true, false, refl, sym, ap, ◌∙◌, arith, subst}
+use Rattle.std.proofs.Common.{◌≡◌, ℕ, zero, suc, ◌*◌, ◌/◌, ◌<◌, not, List, [], ◌∷◌, ◌++◌, length, map, get_or, drop, All, Option, Some, None, is_some, Bool, true, false, if◌then◌else◌, refl, sym, ap, ◌∙◌, arith, subst}
 use Rattle.std.specs.Option.{IfSome}
 use Rattle.std.specs.Prelude.{Result}
-use Rattle.std.proofs.lemmas.Bool.{and_parts, not-true}
+use Rattle.std.proofs.lemmas.Bool.{and_parts, false≢true, not-true}
 use Rattle.std.proofs.Math.Nat.{zero-div}
 use Rattle.rtrb.specs.Ring.{known_items}
 use Rattle.amber_rows.specs.Chunks.{chunks_of}
 use Rattle.amber_rows.specs.Lists.{numbers_below}
 use Rattle.amber_rows.specs.Topology.{crew_of, op_of, receivers_of, senders_of, sends_to, what_at}
 use Rattle.amber_rows.specs.Kinds.{is_scan}
+use Rattle.amber_rows.specs.Columns.{columns_at}
+use Rattle.amber_rows.specs.declared.column.Column.{Column}
 use Rattle.amber_rows.specs.declared.value.Value.{Value}
 use Rattle.amber_rows.specs.declared.record.RowFault.{RowFault}
 use Rattle.amber_rows.specs.declared.flow.What.{What}
+use Rattle.amber_rows.specs.declared.flow.What.TheVariants as what
 use Rattle.amber_rows.specs.declared.flow.Operator.{Operator}
 use Rattle.amber_log.specs.Grammar.{AreEntries}
 use Rattle.amber_meaning.specs.Plan.{role_of, task_of}
@@ -20,7 +23,7 @@ use Rattle.amber_meaning.specs.Rules.{Leads}
 use Rattle.amber_meaning.specs.Task.{Role, Task}
 use Rattle.amber_meaning.specs.Produce.{closing}
 use Rattle.amber_meaning.proofs.Numbers.{among, are_different, different-below, different-kept}
-use Rattle.amber_scan.specs.declared.share.Scanned.{Scanned}
+use Rattle.amber_scan.specs.Shares.{ShareState}
 use Rattle.amber_link.specs.Links.{HasGiven, OutCarries}
 use Rattle.amber_link.specs.Outgoing.{Outgoing}
 use Rattle.amber_link.specs.declared.ends.Out.{Out}
@@ -30,7 +33,7 @@ use Rattle.amber_link.specs.declared.downstreams.Downstream.{Downstream}
 use Rattle.amber_link.proofs.Sides.{map-at, map-length}
 use Rattle.amber_worker.specs.Fields.{AreFew}
 use Rattle.amber_worker.specs.Links.{IsSoundRoute}
-use Rattle.amber_worker.specs.Made.{AreFreshSenders, AreNumbered, IsFresh, IsFreshIn, IsFreshOut, IsOperatorStateOf, IsTaskOf, end_of, fresh_fields, fresh_worker, from_of, is_join, link_of, out_of, roomless, to_of}
+use Rattle.amber_worker.specs.Made.{AreFreshSenders, AreNumbered, IsFresh, IsFreshIn, IsFreshOut, IsOperatorStateOf, IsTaskOf, end_of, fresh_fields, fresh_worker, from_of, handing_operator, is_join, link_of, out_of, roomless, to_of}
 use Rattle.amber_worker.specs.declared.new_worker.WorkerEnds.{WorkerEnds}
 use Rattle.amber_worker.specs.declared.new_worker.WorkerTask.{WorkerTask}
 use Rattle.amber_worker.specs.AtPosition.{HasShare, IsAtPosition, Placement, ReceiveAll, SendAll, Shows, first_context, first_orders, placement_of}
@@ -115,7 +118,7 @@ known-at flow worker k ins d is less =
     subst (λ n. n < crew_of flow) (sym (ap (λ l. get_or l k 0) is) ∙ map-at from_of ins k d 0 less) (sender-within flow worker k 0 within)
 
 -- a worker that has done nothing shows the beginning
-shows-first : (flow : List Operator) (records : List (List (Result (List Value) RowFault))) (batch_size worker : ℕ) (share : Option (List Scanned)) (w : WorkerState)
+shows-first : (flow : List Operator) (records : List (List (Result (List Value) RowFault))) (batch_size worker : ℕ) (share : Option ShareState) (w : WorkerState)
     → 0 < batch_size → is_some share ≡ is_scan (what_at flow (op_of flow worker))
     → HasShare share (role_of flow records worker) → IsFresh (record { flow = flow; number = worker; batch_size = batch_size; share = share }) w
     → Shows (first_context flow records batch_size worker) w origin
@@ -157,7 +160,7 @@ shows-first flow records batch_size worker share w some shared has fresh =
     }
 
 -- a worker that has done nothing stands at the beginning
-pub fresh-stands : (flow : List Operator) (records : List (List (Result (List Value) RowFault))) (batch_size worker : ℕ) (share : Option (List Scanned)) (w : WorkerState)
+pub fresh-stands : (flow : List Operator) (records : List (List (Result (List Value) RowFault))) (batch_size worker : ℕ) (share : Option ShareState) (w : WorkerState)
     → 0 < batch_size → is_some share ≡ is_scan (what_at flow (op_of flow worker))
     → HasShare share (role_of flow records worker) → IsFresh (record { flow = flow; number = worker; batch_size = batch_size; share = share }) w
     → IsAtPosition (first_context flow records batch_size worker) w origin origin
@@ -169,13 +172,15 @@ fresh-stands flow records batch_size worker share w some shared has fresh = reco
 }
 
 -- what a new worker counts is within its steps
-few-fresh : (kind : What) (flow : List Operator) (batch_size : ℕ) (share : Option (List Scanned)) (task : WorkerTask) (ends : WorkerEnds) → task.building ≡ is_join kind
-    → IsOperatorStateOf task.operator_state kind → is_some share ≡ is_scan kind → (is_scan kind ≡ true → ends.ins.items ≡ []) → AreFreshSenders flow kind ends.ins.items
+few-fresh : (kind : What) (flow : List Operator) (batch_size : ℕ) (share : Option ShareState) (task : WorkerTask) (ends : WorkerEnds) → task.building ≡ is_join kind
+    → IsOperatorStateOf task.operator_state kind → is_some share ≡ is_scan kind → (is_scan kind ≡ true → ends.ins.items ≡ [])
+    → IfSome share (λ one. one.columns ≡ (if task.building then task.build_columns else task.columns)) → AreFreshSenders flow kind ends.ins.items
     → All (λ (one : Downstream). IsFreshOut batch_size one.link) ends.outs.items → IsSoundRoute task.route → AreFew (fresh_fields share task ends)
-few-fresh kind flow batch_size share task ends building is shared scans fresh out_ends routed = record {
+few-fresh kind flow batch_size share task ends building is shared scans typed fresh out_ends routed = record {
   in_order = rw building (order-first task.operator_state kind ends.ins.items is);
   scans = scan share shared;
   shares = alone share shared;
+  typed = typed;
   lowered = refl;
   steps = omega arith;
   received = λ k e less. let same = (fresh k e less).0 in omega arith;
@@ -185,11 +190,11 @@ few-fresh kind flow batch_size share task ends building is shared scans fresh ou
   moved = λ k e less. absurd (omega arith);
 }
   where
-    scan : (o : Option (List Scanned)) → is_some o ≡ is_scan kind → IfSome o (λ _. task.operator_state ≡ operator_state.Scan)
+    scan : (o : Option ShareState) → is_some o ≡ is_scan kind → IfSome o (λ _. task.operator_state ≡ operator_state.Scan)
     scan None e = tt
     scan (Some x) e = scan-operator_state task.operator_state kind is (sym e)
 
-    alone : (o : Option (List Scanned)) → is_some o ≡ is_scan kind → IfSome o (λ _. ends.ins.items ≡ [])
+    alone : (o : Option ShareState) → is_some o ≡ is_scan kind → IfSome o (λ _. ends.ins.items ≡ [])
     alone None e = tt
     alone (Some x) e = scans (sym e)
 
@@ -217,7 +222,7 @@ no-sender flow worker [] is scans = refl
 no-sender flow worker (one ∷ ins) is scans = let none = is ∙ scan-senders flow worker scans in cc
 
 -- what is made of a task and of ends has done nothing
-pub made-fresh : (flow : List Operator) (worker batch_size : ℕ) (share : Option (List Scanned)) (task : WorkerTask) (ends : WorkerEnds) → IsTaskOf flow worker task → AreNumbered flow worker ends
+pub made-fresh : (flow : List Operator) (worker batch_size : ℕ) (share : Option ShareState) (task : WorkerTask) (ends : WorkerEnds) → IsTaskOf flow worker task → AreNumbered flow worker ends
     → All (IsFreshOut batch_size) (map out_of ends.outs.items) → All IsFreshIn (map end_of ends.ins.items) → IsFresh (record { flow = flow; number = worker; batch_size = batch_size; share = share }) (fresh_worker worker share task ends)
 made-fresh flow worker batch_size share task ends is numbered outs ins = record {
   op = is.op;
@@ -245,10 +250,27 @@ made-fresh flow worker batch_size share task ends is numbered outs ins = record 
   journal = refl;
 }
 
+-- the records of a scan's share are typed by the columns of the rows at hand
+scan-columns : (flow : List Operator) (op : ℕ) (kind : What) (columns built : List Column) (building : Bool) → columns ≡ columns_at flow (handing_operator kind op)
+    → building ≡ is_join kind → is_scan kind ≡ true → columns_at flow op ≡ (if building then built else columns)
+scan-columns flow op (what.Scan file) columns built building is joins scans = rw joins (sym is)
+scan-columns flow op (what.Filter input cond) columns built building is joins scans = absurd (false≢true scans)
+scan-columns flow op (what.Project input from) columns built building is joins scans = absurd (false≢true scans)
+scan-columns flow op (what.Join build probe build_keys probe_keys) columns built building is joins scans = absurd (false≢true scans)
+scan-columns flow op (what.Group input keys aggs) columns built building is joins scans = absurd (false≢true scans)
+scan-columns flow op (what.Sink input) columns built building is joins scans = absurd (false≢true scans)
+
+own-typed : (flow : List Operator) (op : ℕ) (kind : What) (share : Option ShareState) (columns built : List Column) (building : Bool) → columns ≡ columns_at flow (handing_operator kind op)
+    → building ≡ is_join kind → is_some share ≡ is_scan kind → IfSome share (λ one. one.columns ≡ columns_at flow op)
+    → IfSome share (λ one. one.columns ≡ (if building then built else columns))
+own-typed flow op kind None columns built building is joins shared typed = tt
+own-typed flow op kind (Some one) columns built building is joins shared typed = typed ∙ scan-columns flow op kind columns built building is joins (sym shared)
+
 -- what it counts is within its steps
-pub few-made : (flow : List Operator) (worker batch_size : ℕ) (share : Option (List Scanned)) (task : WorkerTask) (ends : WorkerEnds) → IsTaskOf flow worker task → AreNumbered flow worker ends
+pub few-made : (flow : List Operator) (worker batch_size : ℕ) (share : Option ShareState) (task : WorkerTask) (ends : WorkerEnds) → IsTaskOf flow worker task → AreNumbered flow worker ends
     → All (IsFreshOut batch_size) (map out_of ends.outs.items) → is_some share ≡ is_scan (what_at flow (op_of flow worker))
-    → AreFew (fresh_fields share task ends)
-few-made flow worker batch_size share task ends is numbered outs shared =
+    → IfSome share (λ one. one.columns ≡ columns_at flow (op_of flow worker)) → AreFew (fresh_fields share task ends)
+few-made flow worker batch_size share task ends is numbered outs shared typed =
     few-fresh (what_at flow (op_of flow worker)) flow batch_size share task ends is.building is.does shared
-    (no-sender flow worker ends.ins.items numbered.senders) numbered.fresh (all-back out_of (IsFreshOut batch_size) ends.outs.items outs) is.sound
+    (no-sender flow worker ends.ins.items numbered.senders)
+    (own-typed flow (op_of flow worker) (what_at flow (op_of flow worker)) share task.columns task.build_columns task.building is.columns is.building shared typed) numbered.fresh (all-back out_of (IsFreshOut batch_size) ends.outs.items outs) is.sound

@@ -5,6 +5,7 @@ pub mod Fresh
 pub mod GoOn
 pub mod Idle
 pub mod Journals
+pub mod Others
 pub mod KeptPosition
 pub mod Moves
 pub mod Emits

@@ -17,7 +17,7 @@ use Rattle.amber_link.specs.Sides.{IsTaken, have_builders_ended}
 use Rattle.amber_link.specs.declared.upstreams.Upstream.{Upstream}
 use Rattle.amber_worker.specs.Fields.{IsInOrder}
 use Rattle.amber_worker.specs.AtPosition.{DoesKind, KeepsRows}
-use Rattle.amber_worker.specs.Steps.{Becomes, Closes, GivesGroups, MayTakeRow, built_with, turned_to}
+use Rattle.amber_worker.specs.Steps.{Becomes, Closes, GivesGroups, MayTakeRow, built_with, is_group, turned_to}
 use Rattle.amber_worker.specs.declared.operator_state.OperatorState.{OperatorState}
 use Rattle.amber_worker.specs.declared.operator_state.OperatorState.TheVariants as operator_state
 
@@ -150,8 +150,29 @@ closing-is (operator_state.Group state) (what.Group input keys aggs) constants r
 closing-is operator_state.Sink (what.Sink input) constants role task arrivals over last does has closes = nothing-closes over last [] closes refl
 closing-is d kind constants role task arrivals over last does has closes = absurd does
 
+nothing-more : (d now : OperatorState) (over : Bool) (last : List (List Value)) → now ≡ d → is_group d ≡ false → Closes now false last → Closes now over last
+nothing-more d now over last is other closes = subst (λ n. Closes n over last) (sym is) (by d other (subst (λ n. Closes n false last) is closes))
+  where
+    by : (d : OperatorState) → is_group d ≡ false → Closes d false last → Closes d over last
+    by operator_state.Scan other closes = closes
+    by (operator_state.Filter cond) other closes = closes
+    by (operator_state.Project from) other closes = closes
+    by (operator_state.Join state) other closes = closes
+    by (operator_state.Group state) other closes = absurd (false≢true (sym other))
+    by operator_state.Sink other closes = closes
+
+-- where nothing but a group has rows to give at the end, it is enough to know of a group whether more can come
+pub closes-group : (d now : OperatorState) (builds : Bool) (found : Option (List Value)) (over : Bool) (last : List (List Value)) → Becomes d builds found now
+    → Closes now (is_group d && over) last → Closes now over last
+closes-group operator_state.Scan now builds found over last becomes closes = nothing-more operator_state.Scan now over last becomes refl closes
+closes-group (operator_state.Filter cond) now builds found over last becomes closes = nothing-more (operator_state.Filter cond) now over last becomes refl closes
+closes-group (operator_state.Project from) now builds found over last becomes closes = nothing-more (operator_state.Project from) now over last becomes refl closes
+closes-group (operator_state.Join state) now builds found over last becomes closes = nothing-more (operator_state.Join (built_with builds found state)) now over last becomes refl closes
+closes-group (operator_state.Group state) now builds found over last becomes closes = closes
+closes-group operator_state.Sink now builds found over last becomes closes = nothing-more operator_state.Sink now over last becomes refl closes
+
 -- an empty batch closes where all have ended
-pub closes-batch : (d : OperatorState) (empty over : Bool) (last : List (List Value)) → Closes d empty last → Closes d (empty && over) (if over then last else [])
+closes-batch : (d : OperatorState) (empty over : Bool) (last : List (List Value)) → Closes d empty last → Closes d (empty && over) (if over then last else [])
 closes-batch operator_state.Scan empty true last closes = closes
 closes-batch operator_state.Scan empty false last closes = refl
 closes-batch (operator_state.Filter cond) empty true last closes = closes
@@ -166,6 +187,21 @@ closes-batch (operator_state.Group state) true false last closes = refl
 closes-batch (operator_state.Group state) false false last closes = refl
 closes-batch operator_state.Sink empty true last closes = closes
 closes-batch operator_state.Sink empty false last closes = refl
+
+closes-none : (d : OperatorState) (empty : Bool) → Closes d (empty && false) []
+closes-none operator_state.Scan empty = refl
+closes-none (operator_state.Filter cond) empty = refl
+closes-none (operator_state.Project from) empty = refl
+closes-none (operator_state.Join state) empty = refl
+closes-none (operator_state.Group state) true = refl
+closes-none (operator_state.Group state) false = refl
+closes-none operator_state.Sink empty = refl
+
+-- the same, where it is asked for the rows at the end only if all have ended
+pub closes-asked : (d : OperatorState) (empty asked over : Bool) (last : List (List Value)) → (over ≡ true → asked ≡ empty) → Closes d asked last
+    → Closes d (empty && over) (if over then last else [])
+closes-asked d empty asked true last same closes = closes-batch d empty true last (subst (λ b. Closes d b last) (same refl) closes)
+closes-asked d empty asked false last same closes = closes-none d empty
 
 -- ---- in order
 

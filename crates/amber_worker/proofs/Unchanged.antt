@@ -1,9 +1,9 @@
 -- A worker that stays as it was after an error.
 use Rattle.std.proofs.Common.{◌≡◌, ◌+◌, ◌<◌, ◌^◌, ℕ, List, All, Option, false, Result, Ok, Err, ap, sym, ◌∙◌, arith, subst}
-use Rattle.std.specs.Option.{is_some}
+use Rattle.std.specs.Option.{IfSome, is_some}
 use Rattle.std.specs.Result.{OnErr}
 use Rattle.amber_rows.specs.declared.value.Value.{Value}
-use Rattle.amber_scan.specs.declared.share.Scanned.{Scanned}
+use Rattle.amber_scan.specs.Shares.{ShareState}
 use Rattle.amber_meaning.specs.Position.{one_if}
 use Rattle.amber_meaning.specs.Task.{Arrival}
 use Rattle.amber_meaning.specs.declared.answer.Refusal.{Refusal}
@@ -44,14 +44,16 @@ same-taking w now does rest pending refused kept journal a b c d e f is =
     ∙ ap (λ x. record w { kept = x; journal = journal }) e ∙ same-journal w now journal f is
 
 -- what is within bounds stays so
-pub few-same : (f : WorkerFields) (now : OperatorState) (later : Option (List Scanned)) → now ≡ f.operator_state → is_some later ≡ is_some f.share → AreFew f
+pub few-same : (f : WorkerFields) (now : OperatorState) (later : Option ShareState) → now ≡ f.operator_state → is_some later ≡ is_some f.share
+    → IfSome later (λ share. share.columns ≡ f.columns) → AreFew f
     → AreFew (record f { operator_state = now; share = later })
-few-same f now later e same few =
+few-same f now later e same typed few =
     subst (λ x. AreFew (record f { operator_state = x; share = later })) (sym e)
     (record {
       in_order = few.in_order;
       scans = same-some (f.operator_state ≡ operator_state.Scan) f.share later same few.scans;
       shares = same-some (f.ins ≡ _) f.share later same few.shares;
+      typed = typed;
       lowered = few.lowered;
       steps = few.steps;
       received = few.received;

@@ -22,7 +22,7 @@ use Rattle.amber_meaning.specs.Refused.{refused_in}
 use Rattle.amber_meaning.specs.Given.{worker_refusals}
 use Rattle.amber_meaning.specs.Views.{by_number, taken_of, view_of}
 use Rattle.amber_meaning.specs.declared.view.WorkerView.{WorkerView}
-use Rattle.amber_scan.specs.declared.share.Scanned.{Scanned}
+use Rattle.amber_scan.specs.Shares.{ShareState}
 use Rattle.amber_link.specs.Links.{HasGiven, OutCarries}
 use Rattle.amber_link.specs.Sides.{AreLooked, AreSameReceivers, AreSameSenders}
 use Rattle.amber_link.specs.declared.upstreams.Upstream.{Upstream}
@@ -61,9 +61,9 @@ unfoldable pub first_orders : List Operator → ℕ → Orders
 first_orders flow worker = record { constants = first_constants (what_at flow (op_of flow worker)); when = None; counted = false }
 
 -- a worker of a scan was given its share
-abbrev pub HasShare : Option (List Scanned) → Role → Type 0
+abbrev pub HasShare : Option ShareState → Role → Type 0
 HasShare None role = Unit {0}
-HasShare (Some share) role = map arrival_of share ≡ role.share
+HasShare (Some share) role = map arrival_of share.left ≡ role.share
 
 -- ---- the parts of a worker
 

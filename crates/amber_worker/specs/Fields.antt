@@ -1,10 +1,12 @@
 -- What a worker's fields mean.
 use Rattle.std.specs.Prelude.{◌≡◌, ℕ, not, false, true, ◌+◌, ◌^◌, ◌≤◌, All, List, [], map, IfSome, Option, Some, None, Ok, Bool}
 use Rattle.amber_rows.specs.declared.value.Value.{Value}
+use Rattle.amber_rows.specs.declared.column.Column.{Column}
 use Rattle.amber_log.specs.declared.entry.Entry.{Entry}
 use Rattle.amber_log.specs.declared.entry.Entry.TheVariants as entry
 use Rattle.amber_meaning.specs.Position.{Restraint, one_if, no_restraint}
 use Rattle.amber_meaning.specs.Task.{Arrival}
+use Rattle.amber_scan.specs.Shares.{ShareState}
 use Rattle.amber_scan.specs.declared.share.Scanned.{Scanned}
 use Rattle.amber_link.specs.Sides.{have_builders_ended}
 use Rattle.amber_link.specs.declared.upstreams.Upstream.{Upstream}
@@ -25,9 +27,9 @@ abbrev pub arrival_of : Scanned → Arrival
 arrival_of one = record { from = one.number; what = one.what }
 
 -- what is left: of a scan's share, or of the rows that a sender gave
-abbrev pub rest_in : Option (List Scanned) → ℕ → List (List Value) → List Arrival
+abbrev pub rest_in : Option ShareState → ℕ → List (List Value) → List Arrival
 rest_in None sender rows = map (row_from sender) rows
-rest_in (Some share) sender rows = map arrival_of share
+rest_in (Some share) sender rows = map arrival_of share.left
 
 -- the rows that an entry takes and emits
 abbrev pub rows_moved : Entry → ℕ
@@ -58,11 +60,12 @@ no_flags = record { held = false; waved = false; paused = false }
 abbrev pub restraint_of : ℕ → Flags → Restraint
 restraint_of hand flags = record { hand = hand; held = flags.held; waved = flags.waved; paused = flags.paused }
 
--- the fields of a worker that are within bounds
+-- the fields of a worker that are within bounds; its columns are those of the rows at hand
 pub record WorkerFields : Type 0 where
   pub operator_state : OperatorState
+  pub columns : List Column
   pub building : Bool
-  pub share : Option (List Scanned)
+  pub share : Option ShareState
   pub taken : ℕ
   pub emitted : ℕ
   pub batches : ℕ
@@ -73,12 +76,13 @@ pub record WorkerFields : Type 0 where
   pub route : Route
   pub journal : List Entry
 
--- what a worker counts is within its steps, and these are few; one that has a share is a scan's and has no senders; no flag
--- is raised, since nothing raises one yet
+-- what a worker counts is within its steps, and these are few; one that has a share is a scan's and has no senders, and its records
+-- are typed by these columns; no flag is raised, since nothing raises one yet
 pub record AreFew (f : WorkerFields) : Type 0 where
   pub in_order : IsInOrder f.operator_state f.building f.taken f.ins
   pub scans : IfSome f.share (λ _. f.operator_state ≡ operator_state.Scan)
   pub shares : IfSome f.share (λ _. f.ins ≡ [])
+  pub typed : IfSome f.share (λ share. share.columns ≡ f.columns)
   pub lowered : restraint_of 0 f.flags ≡ no_restraint
   pub steps : f.taken + f.emitted + f.batches + one_if f.finished ≤ 2 ^ 40
   pub received : All (λ one. one.taken ≤ f.batches) f.ins

@@ -1,5 +1,5 @@
 -- What a new worker is made of.
-use Rattle.std.specs.Prelude.{◌≡◌, ℕ, ◌==◌, ◌<◌, All, List, [], length, map, Option, None, Bool, true, false}
+use Rattle.std.specs.Prelude.{◌≡◌, ℕ, ◌==◌, ◌<◌, All, List, [], length, map, Option, None, Bool, true, false, if◌then◌else◌}
 use Rattle.amber_rows.specs.Topology.{op_of, receiver_of, receivers_of, senders_of, what_at}
 use Rattle.amber_rows.specs.declared.value.Value.{Value}
 use Rattle.amber_rows.specs.Columns.{columns_at}
@@ -9,7 +9,7 @@ use Rattle.amber_rows.specs.declared.flow.What.TheVariants as what
 use Rattle.amber_group.specs.Group.{IsFedWith}
 use Rattle.amber_meaning.specs.Plan.{built_columns}
 use Rattle.amber_meaning.specs.Position.{no_restraint}
-use Rattle.amber_scan.specs.declared.share.Scanned.{Scanned}
+use Rattle.amber_scan.specs.Shares.{ShareState}
 use Rattle.rtrb.specs.Ring.{received, sent}
 use Rattle.amber_link.specs.Links.{waiting}
 use Rattle.amber_link.specs.declared.ends.Out.{Out}
@@ -102,7 +102,7 @@ pub record NewWorker : Type 0 where
   pub flow : List Operator
   pub number : ℕ
   pub batch_size : ℕ
-  pub share : Option (List Scanned)
+  pub share : Option ShareState
 
 -- a worker that has done nothing
 pub record IsFresh (new : NewWorker) (w : WorkerState) : Type 0 where
@@ -147,9 +147,10 @@ pub record AreNumbered (flow : List Operator) (worker : ℕ) (ends : WorkerEnds)
   pub receivers : map to_of ends.outs.items ≡ receivers_of flow worker
 
 -- the bounded fields of a worker of this share, task and ends that has done nothing
-abbrev pub fresh_fields : Option (List Scanned) → WorkerTask → WorkerEnds → WorkerFields
+abbrev pub fresh_fields : Option ShareState → WorkerTask → WorkerEnds → WorkerFields
 fresh_fields share task ends = record {
   operator_state = task.operator_state;
+  columns = if task.building then task.build_columns else task.columns;
   building = task.building;
   share = share;
   taken = 0;
@@ -164,7 +165,7 @@ fresh_fields share task ends = record {
 }
 
 -- a worker of this number, share, task and ends that has done nothing
-abbrev pub fresh_worker : ℕ → Option (List Scanned) → WorkerTask → WorkerEnds → WorkerState
+abbrev pub fresh_worker : ℕ → Option ShareState → WorkerTask → WorkerEnds → WorkerState
 fresh_worker number share task ends = record empty_worker_state {
   op = task.op;
   number = number;

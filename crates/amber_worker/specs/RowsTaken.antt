@@ -15,7 +15,7 @@ use Rattle.amber_worker.specs.Steps.{Becomes, Closes, Feeds, GivesGroups, built_
 
 -- the same lists
 pub record AreSame (old new : Gains) : Type 0 where
-  pub pending : new.pending.items ≡ old.pending.items
+  pub pending : new.pending ≡ old.pending
   pub refused : new.refused.items ≡ old.refused.items
   pub kept : new.kept.items ≡ old.kept.items
 
@@ -28,7 +28,7 @@ pub record Taking (A : Type 0) : Type 0 where
 pub record GainsRecord (op : ℕ) (columns : List Column) (old new : Taking Scanned) : Type 0 where
   pub one : Scanned
   pub first : old.left ≡ one ∷ new.left
-  pub pending : new.gains.pending.items ≡ old.gains.pending.items ++ gives_if operator_state.Scan false (row_in columns one.what)
+  pub pending : new.gains.pending ≡ old.gains.pending ++ gives_if operator_state.Scan false (row_in columns one.what)
   pub refused : new.gains.refused.items ≡ old.gains.refused.items ++ refusal_in op one.number one.what
   pub kept : new.gains.kept.items ≡ old.gains.kept.items
 
@@ -36,7 +36,7 @@ pub record GainsRecord (op : ℕ) (columns : List Column) (old new : Taking Scan
 pub record GainsRow (d : OperatorState) (columns : List Column) (old new : Taking (List Value)) : Type 0 where
   pub row : List Value
   pub first : old.left ≡ row ∷ new.left
-  pub pending : new.gains.pending.items ≡ old.gains.pending.items ++ gives_if d false (row_in columns (Ok row))
+  pub pending : new.gains.pending ≡ old.gains.pending ++ gives_if d false (row_in columns (Ok row))
   pub refused : new.gains.refused.items ≡ old.gains.refused.items
   pub kept : new.gains.kept.items ≡ old.gains.kept.items ++ keeps_if d (row_in columns (Ok row))
 
@@ -97,7 +97,7 @@ pub record GainsAny (how : Manner) (old new : Advance (List Value)) : Type 0 whe
   pub becomes : Becomes old.state how.builds (row_in how.columns (Ok row)) new.state
   pub last : List (List Value)
   pub closes : Closes new.state how.over last
-  pub pending : new.gains.pending.items ≡ (old.gains.pending.items ++ gives_if old.state how.builds (row_in how.columns (Ok row))) ++ last
+  pub pending : new.gains.pending ≡ (old.gains.pending ++ gives_if old.state how.builds (row_in how.columns (Ok row))) ++ last
   pub refused : new.gains.refused.items ≡ old.gains.refused.items
   pub kept : new.gains.kept.items ≡ old.gains.kept.items ++ keeps_if old.state (row_in how.columns (Ok row))
 
@@ -108,6 +108,6 @@ pub record GainsNext (op : ℕ) (how : Manner) (old new : Advance Arrival) : Typ
   pub becomes : Becomes old.state how.builds (row_in how.columns one.what) new.state
   pub last : List (List Value)
   pub closes : Closes new.state how.over last
-  pub pending : new.gains.pending.items ≡ (old.gains.pending.items ++ gives_if old.state how.builds (row_in how.columns one.what)) ++ last
+  pub pending : new.gains.pending ≡ (old.gains.pending ++ gives_if old.state how.builds (row_in how.columns one.what)) ++ last
   pub refused : new.gains.refused.items ≡ old.gains.refused.items ++ refusal_in op one.from one.what
   pub kept : new.gains.kept.items ≡ old.gains.kept.items ++ keeps_if old.state (row_in how.columns one.what)

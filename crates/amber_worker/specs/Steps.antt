@@ -113,27 +113,29 @@ MayTakeRow (operator_state.Join state) builds = state.sealed ≡ not builds
 MayTakeRow (operator_state.Group state) builds = state.fed < 2 ^ 40
 MayTakeRow operator_state.Sink builds = Unit {0}
 
--- a worker keeps something of the rows that it took
-abbrev pub has_state : OperatorState → Bool
-has_state operator_state.Scan = false
-has_state (operator_state.Filter cond) = false
-has_state (operator_state.Project from) = false
-has_state (operator_state.Join state) = true
-has_state (operator_state.Group state) = true
-has_state operator_state.Sink = false
+-- a worker keeps nothing of the rows that it took
+abbrev pub is_plain : OperatorState → Bool
+is_plain operator_state.Scan = true
+is_plain (operator_state.Filter cond) = true
+is_plain (operator_state.Project from) = true
+is_plain (operator_state.Join state) = false
+is_plain (operator_state.Group state) = false
+is_plain operator_state.Sink = false
 
--- what becomes of a row: the rows that go on, and those that are kept
+-- what a worker keeps are groups
+abbrev pub is_group : OperatorState → Bool
+is_group operator_state.Scan = false
+is_group (operator_state.Filter cond) = false
+is_group (operator_state.Project from) = false
+is_group (operator_state.Join state) = false
+is_group (operator_state.Group state) = true
+is_group operator_state.Sink = false
+
+-- what becomes of a row: the rows that go on
 abbrev pub passed_of : Fate → List Value → List (List Value)
 passed_of fate.Dropped row = []
 passed_of fate.Passed row = row ∷ []
 passed_of (fate.Made other) row = other ∷ []
-passed_of fate.Kept row = []
-
-abbrev pub held_back_of : Fate → List Value → List (List Value)
-held_back_of fate.Dropped row = []
-held_back_of fate.Passed row = []
-held_back_of (fate.Made other) row = []
-held_back_of fate.Kept row = row ∷ []
 
 -- ---- the journal
 

@@ -1,6 +1,6 @@
 //! How a join takes rows. Rests on `JoinState` of `amber_join`.
 
-ghost use Rattle.std.specs.Prelude.{◌≡◌, not, true, false, OnErr, OnOk};
+ghost use Rattle.std.specs.Prelude.{◌≡◌, [], not, true, false, OnErr, OnOk};
 ghost use Rattle.amber_link.specs.Links.{has_some};
 ghost use Rattle.amber_worker.specs.RowsTaken.{Builds, JoinsRow, Probes};
 
@@ -17,7 +17,6 @@ fn build_first(rows: &mut VecDeque<Row>, state: &mut JoinState) -> Result<(), Al
     ensures rows_on_err { OnErr result (rows.new.items ≡ rows.old.items) }
     ensures state_on_err { OnErr result (state.new ≡ state.old) }
 {
-    rows.reserve(1)?;
     let Some(row) = rows.pop_front() else {
         unreachable!()
     };
@@ -36,6 +35,7 @@ fn probe_first(
 ) -> Result<(), AllocError>
     requires some { has_some rows.old.items ≡ true }
     requires sealed { state.now.sealed ≡ true }
+    requires none { pending.old.items ≡ [] }
     ensures ok { OnOk result (Probes
         (record { rows = rows.old.items; state = state.now; pending = pending.old.items })
         (record { rows = rows.new.items; state = state.now; pending = pending.new.items })) }
@@ -46,8 +46,7 @@ fn probe_first(
         unreachable!()
     };
     let found = state.probe(*pending.allocator(), next)?;
-    let mut matches = VecDeque::from_vec(found.into_inner());
-    pending.append(&mut matches)?;
+    *pending = VecDeque::from_vec(found.into_inner());
     rows.pop_front();
     Ok(())
 }
@@ -62,6 +61,7 @@ pub(crate) fn take_joined(
 ) -> Result<(), AllocError>
     requires some { has_some rows.old.items ≡ true }
     requires side { state.old.sealed ≡ not builds }
+    requires none { pending.old.items ≡ [] }
     ensures ok { OnOk result (JoinsRow columns.now builds
         (record { rows = rows.old.items; state = state.old; pending = pending.old.items })
         (record { rows = rows.new.items; state = state.new; pending = pending.new.items })) }

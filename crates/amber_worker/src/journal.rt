@@ -1,36 +1,35 @@
 //! How rows that were taken and emitted are noted in a journal. Over `Entry` of `amber_log`.
 
-ghost use Rattle.std.specs.Prelude.{◌≡◌, ◌+◌, ◌^◌, ◌<◌, ◌≤◌, ◌++◌, All, vec_capacity, vec_len};
+ghost use Rattle.std.specs.Prelude.{◌≡◌, ◌+◌, ◌^◌, ◌<◌, ◌∷◌, [], All, false, true, vec_capacity, vec_len};
 ghost use Rattle.amber_worker.specs.Fields.{rows_moved};
 ghost use Rattle.amber_worker.specs.Steps.{gone_on, with_go};
 
 use amber_log::Entry;
 
-// Appends an entry, and then rows that were taken and emitted, in that entry where it speaks of
-// rows.
-fn go_on(journal: &mut Vec<Entry>, last: Entry, rows: u64, outs: u64)
-    requires room { vec_len journal.old + 2 ≤ vec_capacity journal.old }
-    requires few { rows_moved last + rows + outs < 2 ^ 64 }
-    ensures { journal.new.items ≡ journal.old.items ++ gone_on last rows outs }
+// Adds rows that were taken and emitted to an entry that speaks of rows, and says whether it does.
+fn add_go(entry: &mut Entry, rows: u64, outs: u64) -> bool
+    requires few { rows_moved entry.old + rows + outs < 2 ^ 64 }
+    ensures added { result ≡ true → gone_on entry.old rows outs ≡ entry.new ∷ [] }
+    ensures other { result ≡ false → gone_on entry.old rows outs
+        ≡ entry.old ∷ Entry.Go rows outs ∷ [] }
+    ensures same { result ≡ false → entry.new ≡ entry.old }
 {
-    match last {
+    match entry {
         Entry::Go {
             rows: before,
             outs: given,
-        } => journal.push_reserved(Entry::Go {
-            rows: before + rows,
-            outs: given + outs,
-        }),
+        } => {
+            *before += rows;
+            *given += outs;
+            true
+        }
         Entry::Take { .. }
         | Entry::Grant { .. }
         | Entry::Back { .. }
         | Entry::Pause
         | Entry::Resume
         | Entry::Hold
-        | Entry::Finish => {
-            journal.push_reserved(last);
-            journal.push_reserved(Entry::Go { rows, outs });
-        }
+        | Entry::Finish => false,
     }
 }
 
@@ -40,8 +39,13 @@ pub(crate) fn note_go(journal: &mut Vec<Entry>, rows: u64, outs: u64)
     requires few { All (λ one. rows_moved one + rows + outs < 2 ^ 64) journal.old.items }
     ensures { journal.new.items ≡ with_go journal.old.items rows outs }
 {
-    match journal.pop() {
-        None => journal.push_reserved(Entry::Go { rows, outs }),
-        Some(last) => go_on(journal, last, rows, outs),
+    let count = journal.len();
+    if count == 0 {
+        journal.push_reserved(Entry::Go { rows, outs });
+        return;
     }
+    if add_go(&mut journal[count - 1], rows, outs) {
+        return;
+    }
+    journal.push_reserved(Entry::Go { rows, outs });
 }

@@ -22,6 +22,7 @@ mod journal;
 mod links;
 mod new_worker;
 pub mod operator_state;
+mod pending;
 pub mod route;
 mod setting;
 mod taking_rows;

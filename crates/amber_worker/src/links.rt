@@ -1,43 +1,60 @@
-//! What a worker does with its links. Rests on `Route`, and on `Downstream` and `Upstream` of `amber_link`.
+//! What a worker does with its links. Rests on `Route` and `Pending`, and on `Downstream` and `Upstream` of `amber_link`.
 
-ghost use Rattle.std.specs.Prelude.{All, ◌≡◌, ◌==◌, ◌+◌, ◌^◌, ◌<◌, ◌≤◌, ℕ, Bool, false, true, is_ok, map, OnErr, OnOk};
+ghost use Rattle.std.specs.Prelude.{All, ◌≡◌, ◌==◌, ◌+◌, ◌^◌, ◌<◌, ◌≤◌, ℕ, Bool, false, true, is_ok, length, map, slice_index_or, IfNone, IfSome, OnErr, OnOk};
 ghost use Rattle.std.specs.List.{list_any};
 ghost use Rattle.amber_link.specs.Links.{has_some};
 ghost use Rattle.amber_link.specs.Sides.{AreEnded, have_builders_ended, without_room};
+ghost use Rattle.amber_link.specs.declared.downstreams.Downstream.{Downstream as OneDownstream};
 ghost use Rattle.amber_worker.specs.Links.{AreEndsOf, EmitsFirst, IsSoundRoute, Passes};
 
+use crate::pending::Pending;
 use crate::route::Route;
 use amber_link::{
     Downstream, Upstream, end_all, place_of, place_to, push_at, reserve_at, reserve_ends, settle_at,
 };
-use amber_rows::Row;
 use std::alloc::AllocError;
-use std::collections::VecDeque;
+
+// The place of a receiver, if there is one. Where the numbers of the receivers follow one another it is known by the
+// first of them, without a search.
+fn receiver_place(outs: &[Downstream], number: u32) -> Option<usize>
+    ensures none { IfNone result (list_any (λ one. one.to == number) outs.now ≡ false) }
+    ensures there { IfSome result (λ place. place < length outs.now) }
+    ensures own { IfSome result
+        (λ place. (d : OneDownstream) → (slice_index_or outs.now place d).to ≡ number) }
+{
+    if let Some(first) = outs.first() {
+        let place = number.wrapping_sub(first.to()) as usize;
+        if place < outs.len() && outs[place].to() == number {
+            return Some(place);
+        }
+    }
+    place_to(outs, number)
+}
 
 // Hands the first of these rows on to its receiver, if there is one.
 pub(crate) fn emit_first(
     route: &Route,
-    pending: &mut VecDeque<Row>,
+    pending: &mut Pending,
     outs: &mut [Downstream],
 ) -> Result<(), AllocError>
-    requires some { has_some pending.old.items ≡ true }
+    requires some { has_some pending.old ≡ true }
     requires routed { IsSoundRoute route.now }
     requires few { All (λ one. one.link.kept.made < 2 ^ 40) outs.old }
     requires open { All (λ one. one.link.kept.ended ≡ false) outs.old }
     ensures ok { OnOk result (EmitsFirst route.now
-        (record { pending = pending.old.items; outs = map without_room outs.old })
-        (record { pending = pending.new.items; outs = map without_room outs.new })) }
+        (record { pending = pending.old; outs = map without_room outs.old })
+        (record { pending = pending.new; outs = map without_room outs.new })) }
     ensures open { All (λ one. one.link.kept.ended ≡ false) outs.new }
     ensures few { (n : ℕ) → All (λ one. one.link.kept.made ≤ n) outs.old → All
         (λ one. one.link.kept.made ≤ n + 1) outs.new }
-    ensures pending_on_err { OnErr result (pending.new.items ≡ pending.old.items) }
+    ensures pending_on_err { OnErr result (pending.new ≡ pending.old) }
     ensures outs_on_err { OnErr result (map without_room outs.new ≡ map without_room outs.old) }
 {
     let Some(next) = pending.front() else {
         unreachable!()
     };
     let number = route.number_to(next);
-    let Some(place) = place_to(outs, number) else {
+    let Some(place) = receiver_place(outs, number) else {
         let Some(_row) = pending.pop_front() else {
             unreachable!()
         };

@@ -1,19 +1,22 @@
-//! How a worker takes rows and batches. Rests on `joining` and `grouping`, and on `Share` of `amber_scan`.
+//! How a worker takes rows and batches. Rests on `joining`, `grouping` and `Pending`, and on `Share` of `amber_scan`.
 
-ghost use Rattle.std.specs.Prelude.{◌≡◌, ◌==◌, ◌&&◌, [], if◌then◌else◌, ◌+◌, ◌<◌, ◌++◌, Ok, Some, is_some, true, false, not, length, vec_capacity, vec_len, IfOk, IfSome, OnErr, OnOk};
-ghost use Rattle.std.specs.VecDeque.{deque_capacity, deque_len};
+ghost use Rattle.std.specs.Prelude.{◌≡◌, ◌==◌, ◌&&◌, [], if◌then◌else◌, List, ◌+◌, ◌++◌, ◌<◌, Ok, Some, is_some, true, false, not, drop, length, slice_index_or, take, vec_capacity, vec_len, IfOk, IfSome, OnErr, OnOk};
+ghost use Rattle.amber_rows.specs.declared.column.Column.{Column};
 ghost use Rattle.amber_meaning.specs.Task.{row_in};
 ghost use Rattle.amber_meaning.specs.Refused.{refusal_in};
-ghost use Rattle.amber_link.specs.Links.{has_some};
+ghost use Rattle.amber_scan.specs.Shares.{Suits};
+ghost use Rattle.amber_link.specs.Links.{has_some, starts_empty, waiting};
+ghost use Rattle.amber_link.specs.declared.upstreams.Upstream.{Upstream as OneUpstream};
 ghost use Rattle.amber_link.specs.Sides.{have_all_ended};
 ghost use Rattle.amber_worker.specs.Fields.{arrivals_in};
 ghost use Rattle.amber_worker.specs.RowsTaken.{AreSame, GainsAny, GainsNext, GainsRecord, GainsRow};
-ghost use Rattle.amber_worker.specs.Steps.{Closes, MayTakeRow, gives_if, has_state, held_back_of, keeps_if, passed_of, turned_to};
+ghost use Rattle.amber_worker.specs.Steps.{Closes, MayTakeRow, gives_if, is_group, is_plain, passed_of, turned_to};
 
 use crate::grouping::{rows_of_groups, take_grouped};
 use crate::joining::take_joined;
 use crate::operator_state::OperatorState;
-use amber_link::{Upstream, have_ended};
+use crate::pending::Pending;
+use amber_link::{Upstream, have_ended, is_empty_at};
 use amber_meaning::Refusal;
 use amber_rows::{Row, Schema, suits};
 use amber_scan::{Scanned, Share};
@@ -44,7 +47,7 @@ impl Rest {
         ensures { has_some (arrivals_in self.now) ≡ not result }
     {
         match &self.share {
-            Some(share) => share.left() == 0,
+            Some(share) => share.is_empty(),
             None => self.rows.is_empty(),
         }
     }
@@ -54,7 +57,7 @@ impl Rest {
 // answer.
 #[derive(Drop)]
 pub(crate) struct Gains {
-    pub pending: VecDeque<Row>,
+    pub pending: Pending,
     pub refused: Vec<Refusal>,
     pub kept: Vec<Row>,
 }
@@ -65,16 +68,13 @@ pub(crate) enum Fate {
     Dropped,
     Passed,
     Made(Row),
-    Kept,
 }
 
 // What becomes of a row that suits.
 fn suited_fate(operator_state: &OperatorState, row: &Row) -> Result<Fate, AllocError>
-    requires plain { has_state operator_state.now ≡ false }
-    ensures goes_on { IfOk result (λ fate. passed_of fate row.now
+    requires plain { is_plain operator_state.now ≡ true }
+    ensures { IfOk result (λ fate. passed_of fate row.now
         ≡ gives_if operator_state.now false (Some row.now)) }
-    ensures stays { IfOk result (λ fate. held_back_of fate row.now
-        ≡ keeps_if operator_state.now (Some row.now)) }
 {
     match operator_state {
         OperatorState::Scan => Ok(Fate::Passed),
@@ -86,22 +86,15 @@ fn suited_fate(operator_state: &OperatorState, row: &Row) -> Result<Fate, AllocE
             }
         }
         OperatorState::Project(state) => Ok(Fate::Made(state.pick(row)?)),
-        OperatorState::Sink => Ok(Fate::Kept),
-        OperatorState::Join(_) | OperatorState::Group(_) => unreachable!(),
+        OperatorState::Join(_) | OperatorState::Group(_) | OperatorState::Sink => unreachable!(),
     }
 }
 
 // What becomes of a row; one that does not suit the columns is dropped.
-pub(crate) fn fate_of(
-    operator_state: &OperatorState,
-    columns: &Schema,
-    row: &Row,
-) -> Result<Fate, AllocError>
-    requires plain { has_state operator_state.now ≡ false }
-    ensures goes_on { IfOk result (λ fate. passed_of fate row.now
+fn fate_of(operator_state: &OperatorState, columns: &Schema, row: &Row) -> Result<Fate, AllocError>
+    requires plain { is_plain operator_state.now ≡ true }
+    ensures { IfOk result (λ fate. passed_of fate row.now
         ≡ gives_if operator_state.now false (row_in columns.now (Ok row.now))) }
-    ensures stays { IfOk result (λ fate. held_back_of fate row.now
-        ≡ keeps_if operator_state.now (row_in columns.now (Ok row.now))) }
 {
     if suits(row, columns) {
         suited_fate(operator_state, row)
@@ -111,41 +104,27 @@ pub(crate) fn fate_of(
 }
 
 // Puts a row where it goes.
-pub(crate) fn put(fate: Fate, row: Row, pending: &mut VecDeque<Row>, kept: &mut Vec<Row>)
-    requires room { deque_len pending.old < deque_capacity pending.old }
-    requires room_for_kept { vec_len kept.old < vec_capacity kept.old }
-    ensures goes_on { pending.new.items ≡ pending.old.items ++ passed_of fate row }
-    ensures stays { kept.new.items ≡ kept.old.items ++ held_back_of fate row }
+fn put(fate: Fate, row: Row, pending: &mut Pending)
+    requires none { pending.old ≡ [] }
+    ensures { pending.new ≡ passed_of fate row }
 {
     match fate {
         Fate::Dropped => {}
-        Fate::Passed => pending.push_back_reserved(row),
-        Fate::Made(other) => pending.push_back_reserved(other),
-        Fate::Kept => kept.push_reserved(row),
+        Fate::Passed => pending.put(row),
+        Fate::Made(other) => pending.put(other),
     }
 }
 
-// Puts a scan's record where it goes: a row that suits is passed on, a fault is kept for the
-// answer.
-pub(crate) fn put_record(
-    one: Scanned,
-    op: u32,
-    columns: &Schema,
-    pending: &mut VecDeque<Row>,
-    refused: &mut Vec<Refusal>,
-)
-    requires room { deque_len pending.old < deque_capacity pending.old }
-    requires room_for_refused { vec_len refused.old < vec_capacity refused.old }
-    ensures goes_on { pending.new.items ≡ pending.old.items
-        ++ gives_if OperatorState.Scan false (row_in columns.now one.what) }
+// Puts a scan's record where it goes: a row is passed on, a fault is kept for the answer.
+fn put_record(one: Scanned, op: u32, pending: &mut Pending, refused: &mut Vec<Refusal>)
+    requires none { pending.old ≡ [] }
+    requires room { vec_len refused.old < vec_capacity refused.old }
+    ensures goes_on { (columns : List Column) → Suits columns one.what → pending.new
+        ≡ gives_if OperatorState.Scan false (row_in columns one.what) }
     ensures refused { refused.new.items ≡ refused.old.items ++ refusal_in op one.number one.what }
 {
     match one.what {
-        Ok(row) => {
-            if suits(&row, columns) {
-                pending.push_back_reserved(row);
-            }
-        }
+        Ok(row) => pending.put(row),
         Err(fault) => refused.push_reserved(Refusal::Record {
             op,
             number: one.number,
@@ -155,29 +134,25 @@ pub(crate) fn put_record(
 }
 
 // Takes the next record of a share.
-fn take_record(
-    share: &mut Share,
-    op: u32,
-    columns: &Schema,
-    gains: &mut Gains,
-) -> Result<(), AllocError>
-    requires { has_some share.old ≡ true }
-    ensures ok { OnOk result (GainsRecord op columns.now
-        (record { left = share.old; gains = gains.old })
-        (record { left = share.new; gains = gains.new })) }
+fn take_record(share: &mut Share, op: u32, gains: &mut Gains) -> Result<(), AllocError>
+    requires some { has_some share.old.left ≡ true }
+    requires none { gains.old.pending ≡ [] }
+    ensures ok { OnOk result (GainsRecord op share.old.columns
+        (record { left = share.old.left; gains = gains.old })
+        (record { left = share.new.left; gains = gains.new })) }
+    ensures columns { share.new.columns ≡ share.old.columns }
     ensures share_on_err { OnErr result (share.new ≡ share.old) }
     ensures gains_on_err { OnErr result (AreSame gains.old gains.new) }
 {
-    gains.pending.reserve(1)?;
     gains.refused.reserve(1)?;
-    let Some(one) = share.next() else {
+    let Some(one) = share.next()? else {
         unreachable!()
     };
-    put_record(one, op, columns, &mut gains.pending, &mut gains.refused);
+    put_record(one, op, &mut gains.pending, &mut gains.refused);
     Ok(())
 }
 
-// Takes the next row of a batch, of which a worker keeps nothing but for the answer.
+// Takes the next row of a batch, of which a worker keeps nothing.
 fn take_arrival(
     rows: &mut VecDeque<Row>,
     operator_state: &OperatorState,
@@ -185,15 +160,14 @@ fn take_arrival(
     gains: &mut Gains,
 ) -> Result<(), AllocError>
     requires some { has_some rows.old.items ≡ true }
-    requires plain { has_state operator_state.now ≡ false }
+    requires plain { is_plain operator_state.now ≡ true }
+    requires none { gains.old.pending ≡ [] }
     ensures ok { OnOk result (GainsRow operator_state.now columns.now
         (record { left = rows.old.items; gains = gains.old })
         (record { left = rows.new.items; gains = gains.new })) }
     ensures rows_on_err { OnErr result (rows.new.items ≡ rows.old.items) }
     ensures gains_on_err { OnErr result (AreSame gains.old gains.new) }
 {
-    gains.pending.reserve(1)?;
-    gains.kept.reserve(1)?;
     let Some(next) = rows.front() else {
         unreachable!()
     };
@@ -201,7 +175,30 @@ fn take_arrival(
     let Some(row) = rows.pop_front() else {
         unreachable!()
     };
-    put(fate, row, &mut gains.pending, &mut gains.kept);
+    put(fate, row, &mut gains.pending);
+    Ok(())
+}
+
+// Takes the next row of a batch, which is kept for the answer where it suits the columns.
+fn take_kept(
+    rows: &mut VecDeque<Row>,
+    columns: &Schema,
+    gains: &mut Gains,
+) -> Result<(), AllocError>
+    requires some { has_some rows.old.items ≡ true }
+    ensures ok { OnOk result (GainsRow OperatorState.Sink columns.now
+        (record { left = rows.old.items; gains = gains.old })
+        (record { left = rows.new.items; gains = gains.new })) }
+    ensures rows_on_err { OnErr result (rows.new.items ≡ rows.old.items) }
+    ensures gains_on_err { OnErr result (AreSame gains.old gains.new) }
+{
+    gains.kept.reserve(1)?;
+    let Some(row) = rows.pop_front() else {
+        unreachable!()
+    };
+    if suits(&row, columns) {
+        gains.kept.push_reserved(row);
+    }
     Ok(())
 }
 
@@ -217,6 +214,7 @@ fn take_any(
 ) -> Result<(), AllocError>
     requires some { has_some rows.old.items ≡ true }
     requires may { MayTakeRow operator_state.old builds }
+    requires none { gains.old.pending ≡ [] }
     ensures ok { OnOk result
         (GainsAny (record { columns = columns.now; builds = builds; over = over })
         (record { left = rows.old.items; state = operator_state.old; gains = gains.old })
@@ -226,12 +224,16 @@ fn take_any(
     ensures gains_on_err { OnErr result (AreSame gains.old gains.new) }
 {
     match operator_state {
-        OperatorState::Join(state) => take_joined(rows, columns, builds, state, &mut gains.pending),
-        OperatorState::Group(state) => take_grouped(rows, columns, over, state, &mut gains.pending),
-        OperatorState::Scan
-        | OperatorState::Filter(_)
-        | OperatorState::Project(_)
-        | OperatorState::Sink => take_arrival(rows, operator_state, columns, gains),
+        OperatorState::Join(state) => {
+            take_joined(rows, columns, builds, state, &mut gains.pending.later)
+        }
+        OperatorState::Group(state) => {
+            take_grouped(rows, columns, over, state, &mut gains.pending.later)
+        }
+        OperatorState::Sink => take_kept(rows, columns, gains),
+        OperatorState::Scan | OperatorState::Filter(_) | OperatorState::Project(_) => {
+            take_arrival(rows, operator_state, columns, gains)
+        }
     }
 }
 
@@ -247,18 +249,21 @@ pub(crate) fn take_next(
 ) -> Result<(), AllocError>
     requires some { has_some (arrivals_in rest.old) ≡ true }
     requires scans { IfSome rest.old.share (λ _. operator_state.old ≡ OperatorState.Scan) }
+    requires typed { IfSome rest.old.share (λ share. share.columns ≡ columns.now) }
     requires may { MayTakeRow operator_state.old builds }
+    requires none { gains.old.pending ≡ [] }
     ensures ok { OnOk result
         (GainsNext op (record { columns = columns.now; builds = builds; over = over })
         (record { left = arrivals_in rest.old; state = operator_state.old; gains = gains.old })
         (record { left = arrivals_in rest.new; state = operator_state.new; gains = gains.new })) }
     ensures shares { is_some rest.new.share ≡ is_some rest.old.share }
+    ensures typed { IfSome rest.new.share (λ share. share.columns ≡ columns.now) }
     ensures rest_on_err { OnErr result (arrivals_in rest.new ≡ arrivals_in rest.old) }
     ensures operator_state_on_err { OnErr result (operator_state.new ≡ operator_state.old) }
     ensures gains_on_err { OnErr result (AreSame gains.old gains.new) }
 {
     match &mut rest.share {
-        Some(share) => take_record(share, op, columns, gains),
+        Some(share) => take_record(share, op, gains),
         None => take_any(&mut rest.rows, columns, builds, over, operator_state, gains),
     }
 }
@@ -274,22 +279,43 @@ pub(crate) fn side_columns<'a>(
     if builds { build_columns } else { columns }
 }
 
-// Whether the next row is the last one that can come.
-pub(crate) fn is_last(rest: &Rest, ins: &[Upstream]) -> bool
-    ensures { result ≡ ((length (arrivals_in rest.now) == 1) && have_all_ended ins.now) }
+// Whether what is kept are groups, and the next row is the last one that can come.
+pub(crate) fn is_last(operator_state: &OperatorState, rest: &Rest, ins: &[Upstream]) -> bool
+    requires { IfSome rest.now.share (λ _. operator_state.now ≡ OperatorState.Scan) }
+    ensures { result ≡ (is_group operator_state.now
+        && ((length (arrivals_in rest.now) == 1) && have_all_ended ins.now)) }
 {
-    rest.left() == 1 && have_ended(ins)
+    match operator_state {
+        OperatorState::Group(_) => rest.rows.len() == 1 && have_ended(ins),
+        OperatorState::Scan
+        | OperatorState::Filter(_)
+        | OperatorState::Project(_)
+        | OperatorState::Join(_)
+        | OperatorState::Sink => false,
+    }
 }
 
-// The rows that are given at the end, where a batch is empty; none where it is not.
+// Whether the first batch of the sender at this place is empty, and those of all other senders have ended.
+pub(crate) fn closes_at(ins: &[Upstream], place: usize) -> bool
+    requires there { place < length ins.now }
+    requires waits { (d : OneUpstream)
+        → has_some (waiting (slice_index_or ins.now place d).link) ≡ true }
+    ensures { (d : OneUpstream) → result
+        ≡ (starts_empty (waiting (slice_index_or ins.now place d).link)
+        && (have_all_ended (take place ins.now) && have_all_ended (drop (place + 1) ins.now))) }
+{
+    is_empty_at(ins, place) && have_ended(&ins[..place]) && have_ended(&ins[place + 1..])
+}
+
+// The rows that are given at the end, where they are asked for; else none.
 pub(crate) fn closing_of(
     alloc: Global,
     operator_state: &OperatorState,
-    empty: bool,
+    asked: bool,
 ) -> Result<VecDeque<Row>, AllocError>
-    ensures { IfOk result (λ last. Closes operator_state.now empty last.items) }
+    ensures { IfOk result (λ last. Closes operator_state.now asked last.items) }
 {
-    if !empty {
+    if !asked {
         return Ok(VecDeque::new(alloc));
     }
     match operator_state {
@@ -303,12 +329,12 @@ pub(crate) fn closing_of(
 }
 
 // Where nothing more can come, these rows are pending.
-pub(crate) fn close(pending: &mut VecDeque<Row>, last: VecDeque<Row>, over: bool)
-    requires none { pending.old.items ≡ [] }
-    ensures { pending.new.items ≡ (if over then last.items else []) }
+pub(crate) fn close(pending: &mut Pending, last: VecDeque<Row>, ins: &[Upstream])
+    requires none { pending.old ≡ [] }
+    ensures { pending.new ≡ (if have_all_ended ins.now then last.items else []) }
 {
-    if over && !last.is_empty() {
-        *pending = last;
+    if !last.is_empty() && have_ended(ins) {
+        pending.fill(last);
     }
 }
 

@@ -7,17 +7,17 @@ ghost use Rattle.amber_worker.specs.Steps.{IsExtra};
 
 use crate::flags::Flags;
 use crate::operator_state::OperatorState;
+use crate::pending::Pending;
 use crate::taking_rows::Gains;
 use amber_meaning::{Extra, Stand};
 use amber_rows::Row;
 use std::alloc::AllocError;
-use std::collections::VecDeque;
 
-// A copy of the first row, if there is one.
-pub(crate) fn first_copy(rows: &VecDeque<Row>) -> Result<Option<Row>, AllocError>
-    ensures { IfOk result (λ first. first ≡ first_of rows.now.items) }
+// A copy of the row that is emitted next, if there is one.
+pub(crate) fn first_copy(pending: &Pending) -> Result<Option<Row>, AllocError>
+    ensures { IfOk result (λ first. first ≡ first_of pending.now) }
 {
-    match rows.front() {
+    match pending.front() {
         None => Ok(None),
         Some(row) => Ok(Some(row.clone()?)),
     }

@@ -5,6 +5,7 @@ ghost use Rattle.std.specs.Prelude.{All, false, true, IfNone, IfSome, is_some, m
 ghost use Rattle.std.specs.List.{list_any};
 ghost use Rattle.amber_rows.specs.Topology.{crew_of, op_of, receivers_of, senders_of, what_at};
 ghost use Rattle.amber_rows.specs.Kinds.{is_scan};
+ghost use Rattle.amber_rows.specs.Columns.{columns_at};
 ghost use Rattle.amber_link.specs.Links.{has_some};
 ghost use Rattle.amber_link.specs.declared.downstreams.Downstream.{Downstream as OneDownstream};
 ghost use Rattle.amber_link.specs.declared.upstreams.Upstream.{Upstream as OneUpstream};
@@ -90,6 +91,7 @@ impl Model for Worker {
 
     ghost Value = { WorkerState };
 
+    ghost use Rattle.std.specs.Prelude.{if◌then◌else◌};
     ghost use Rattle.amber_worker.specs.Fields.{AreFew, arrivals_in, restraint_of};
 
     ghost view = { λ a. record {
@@ -100,7 +102,7 @@ impl Model for Worker {
       build_columns = a.build_columns;
       building = a.building;
       rest = arrivals_in a.rest;
-      pending = a.gains.pending.items;
+      pending = a.gains.pending;
       taken = a.taken;
       emitted = a.emitted;
       batches = a.batches;
@@ -117,6 +119,7 @@ impl Model for Worker {
 
     ghost invariant = { λ a. AreFew (record {
       operator_state = a.operator_state;
+      columns = if a.building then a.build_columns else a.columns;
       building = a.building;
       share = a.rest.share;
       taken = a.taken;
@@ -133,8 +136,8 @@ impl Model for Worker {
 
 impl Worker {
     /// The worker of a workflow before it has done anything, by its running number. The rows of a
-    /// batch are 1 to 65,536. A scan's worker is given its share of the records. Each worker is
-    /// given the end of a link for each of its receivers and for each of its senders, by rising
+    /// batch are 1 to 65,536. A scan's worker is given its share of the records, typed by the columns of
+    /// the scan. Each worker is given the end of a link for each of its receivers and for each of its senders, by rising
     /// numbers, through which nothing has gone.
     pub fn new(
         alloc: Global,
@@ -149,6 +152,8 @@ impl Worker {
         requires some { 0 < batch_size }
         requires few { batch_size ≤ 65536 }
         requires shared { is_some share ≡ is_scan (what_at flow.now (op_of flow.now worker)) }
+        requires typed { IfSome share
+            (λ share. share.columns ≡ columns_at flow.now (op_of flow.now worker)) }
         requires all_outs { length outs.items ≡ length (receivers_of flow.now worker) }
         requires all_ins { length ins.items ≡ length (senders_of flow.now worker) }
         requires fresh_outs { All (IsFreshOut batch_size) outs.items }

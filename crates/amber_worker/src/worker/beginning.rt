@@ -7,6 +7,7 @@ ghost use Rattle.amber_worker.specs.Made.{fresh_fields, fresh_worker};
 use super::Worker;
 use crate::flags::Flags;
 use crate::new_worker::{WorkerEnds, WorkerTask};
+use crate::pending::Pending;
 use crate::taking_rows::{Gains, Rest};
 use amber_scan::Share;
 use std::alloc::{AllocError, Global};
@@ -30,7 +31,7 @@ impl Worker {
             rows: VecDeque::new(alloc),
         };
         let gains = Gains {
-            pending: VecDeque::new(alloc),
+            pending: Pending::new(alloc),
             refused: Vec::new(alloc),
             kept: Vec::new(alloc),
         };

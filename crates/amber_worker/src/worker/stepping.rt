@@ -15,9 +15,9 @@ ghost use Rattle.amber_worker.specs.Turning.{HasTurned, IsNextTurn};
 use super::Worker;
 use crate::journal::note_go;
 use crate::links::{emit_first, end_streams};
-use crate::taking_rows::{close, closing_of, is_last, side_columns, take_next, turn_to};
+use crate::taking_rows::{close, closes_at, closing_of, is_last, side_columns, take_next, turn_to};
 use crate::turn::Turn;
-use amber_link::{Found, have_built, have_ended, is_empty_at, ready_place, take_at};
+use amber_link::{Found, have_built, have_ended, ready_place, take_at};
 use amber_log::Entry;
 use std::alloc::AllocError;
 use std::collections::VecDeque;
@@ -41,11 +41,12 @@ impl Worker {
     fn take_row(&mut self) -> Result<(), AllocError>
         requires few { steps_made self.old < 2 ^ 40 }
         requires some { has_some self.old.rest ≡ true }
+        requires none { has_some self.old.pending ≡ false }
         ensures ok { OnOk result (TakesRow self.old self.new) }
         ensures err { OnErr result (self.new ≡ self.old) }
     {
         self.journal.reserve(1)?;
-        let over = is_last(&self.rest, self.ins.as_slice());
+        let over = is_last(&self.operator_state, &self.rest, self.ins.as_slice());
         let columns = side_columns(self.building, &self.build_columns, &self.columns);
         take_next(
             &mut self.rest,
@@ -105,17 +106,16 @@ impl Worker {
             → slice_index_or self.new.ins other d ≡ slice_index_or self.old.ins other d) }
         ensures err { OnErr result (self.new ≡ self.old) }
     {
-        let empty = is_empty_at(self.ins.as_slice(), place);
+        let asked = closes_at(self.ins.as_slice(), place);
         self.journal.reserve(1)?;
-        let last = closing_of(self.alloc, &self.operator_state, empty)?;
+        let last = closing_of(self.alloc, &self.operator_state, asked)?;
         let Found {
             from,
             builds,
             seq,
             batch,
         } = take_at(self.ins.as_mut_slice(), place);
-        let over = have_ended(self.ins.as_slice());
-        close(&mut self.gains.pending, last, over);
+        close(&mut self.gains.pending, last, self.ins.as_slice());
         turn_to(&mut self.operator_state, builds);
         self.building = builds;
         self.journal.push_reserved(Entry::Take { from, batch: seq });
@@ -162,6 +162,7 @@ impl Worker {
 
     /// Makes one step, if there is one to make. The journal says which. If memory runs out all is
     /// as before, but for batches that were seen in a ring.
+    #[inline(always)]
     pub fn turn(&mut self) -> Result<Turn, AllocError>
         requires { steps_made self.old < 2 ^ 40 }
         ensures keeps { Keeps self.old self.new }

@@ -22,7 +22,7 @@ impl Worker {
             taken: self.taken,
             rest: self.rest.left(),
             out: self.emitted,
-            pending: self.gains.pending.len() as u64,
+            pending: self.gains.pending.len(),
             stand: stand_of(self.finished, self.flags),
             next: first_copy(&self.gains.pending)?,
             extra: extra_of(&self.operator_state, &self.gains),

@@ -6,4 +6,4 @@ pub invariant_of-result : goal.invariant_of-result
 invariant_of-result c = rw (c.lowered.ensures, c.new-5.ensures.items) c.requires.few
 
 pub returns : goal.returns
-returns c = rw (c.lowered.ensures, c.new.ensures.items, c.new-2.ensures.items, c.new-3.ensures.items, c.new-4.ensures.items, c.new-5.ensures.items) refl
+returns c = rw (c.lowered.ensures, c.new.ensures.items, c.new-2.ensures, c.new-3.ensures.items, c.new-4.ensures.items, c.new-5.ensures.items) refl

@@ -11,7 +11,7 @@ use Rattle.amber_worker.proofs.worker.Worker.new.Goals as goal
 pub fresh-requires : goal.fresh-requires
 fresh-requires c = record {
   few = few-made c.args.flow.now c.args.worker c.args.batch_size c.args.share c.in_ok-task.task c.in_ok-ends.ends c.in_ok-task.ensures c.in_ok-ends.ensures.numbers
-      (subst (λ (l : List Out). All (IsFreshOut c.args.batch_size) l) (sym c.in_ok-ends.ensures.outs) c.requires.fresh_outs) c.requires.shared;
+      (subst (λ (l : List Out). All (IsFreshOut c.args.batch_size) l) (sym c.in_ok-ends.ensures.outs) c.requires.fresh_outs) c.requires.shared c.requires.typed;
 }
 
 pub returns-clause-stands : goal.returns-clause-stands

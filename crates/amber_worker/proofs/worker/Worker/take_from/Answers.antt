@@ -1,15 +1,20 @@
 -- A batch is taken.
-use Rattle.std.proofs.Common.{◌≡◌, true, subst, ◌<◌, ◌^◌, ◌∙◌, length, ap, arith, rules, refl, sym}
-use Rattle.amber_link.specs.Links.{has_some}
+use Rattle.std.proofs.Common.{◌≡◌, [], if◌then◌else◌, true, ◌&&◌, Bool, false, eqb, get_or, subst, ◌<◌, ◌^◌, ◌∙◌, length, ap, arith, rules, refl, sym}
+use Rattle.amber_link.specs.Links.{has_some, starts_empty, waiting}
 use Rattle.amber_link.specs.Sides.{IsLooked, have_all_ended}
 use Rattle.amber_link.specs.declared.upstreams.Upstream.{Upstream}
 use Rattle.amber_link.proofs.Sides.{looked-same, pairwise-refl}
 use Rattle.amber_worker.specs.Links.{MayTakeAt}
 use Rattle.amber_worker.specs.WorkerState.{WorkerState, has_ready}
 use Rattle.amber_link.proofs.LinkEnds.{none-first}
+use Rattle.amber_worker.proofs.Others.{others-pass}
 use Rattle.amber_worker.proofs.Bounds.{few-batch, no-share, takes-batch, written-back}
 use Rattle.amber_worker.proofs.Unchanged.{err_so, few-taken, same-journal, steps-few}
 use Rattle.amber_worker.proofs.worker.Worker.take_from.Goals as goal
+
+and-true : (b : Bool) → (b && true) ≡ b
+and-true true = refl
+and-true false = refl
 
 pub invariant_of-self-in_err-last : goal.invariant_of-self-in_err-last
 invariant_of-self-in_err-last c = rw c.reserve.ensures.items c.self.invariant
@@ -22,7 +27,7 @@ invariant_of-self-2 c =
     let len : c.self.inside.ins.len ≡ length c.self.inside.ins.items = omega (arith, lent, c.as_mut_slice.ensures.len) in
     let stays : length c.take_at-from.new.ins ≡ length c.self.inside.ins.items = omega (arith, lent, c.take_at-from.auto.ins) in
     rw (c.turn_to.ensures, c.push_reserved.ensures.items, c.reserve.ensures.items, written-back _ _ _ len stays)
-    (few-batch _ _ _ c.args.place _ _ _ _ (rw c.as_mut_slice.ensures.value at c.take_at-from.ensures.taken) refl refl c.self.invariant few there
+    (few-batch _ _ _ _ c.args.place _ _ _ _ (rw c.as_mut_slice.ensures.value at c.take_at-from.ensures.taken) refl refl c.self.invariant few there
     (c.take_at-from.ensures.few c.self.inside.batches (rw c.as_mut_slice.ensures.value c.self.invariant.received)))
 
 pub returns-clause-ok : goal.returns-clause-ok
@@ -35,17 +40,20 @@ returns-clause-ok c =
     let len : c.self.inside.ins.len ≡ length c.self.inside.ins.items = omega (arith, lent, c.as_mut_slice.ensures.len) in
     let stays : length c.take_at-from.new.ins ≡ length c.self.inside.ins.items = omega (arith, lent, c.take_at-from.auto.ins) in
     let d : Upstream = c.take_at-from.ensures.taken.0 in
-    let before = rw c.as_slice.ensures.value at c.is_empty_at-empty.ensures in
+    let before = rw c.as_slice.ensures.value at c.closes_at-asked.ensures in
     let after = rw c.as_mut_slice.ensures.value at c.take_at-from.ensures.empty in
     rw (← c.self.view_is)
     (takes-batch _ c.take_at-from.result.from c.take_at-from.result.seq c.take_at-from.result.builds c.take_at-from.result.batch c.self.inside.ins.items c.take_at-from.new.ins _ _ _
-    c.turn_to.new.operator_state c.in_ok-last.last.items c.close.new.pending.items c.is_empty_at-empty.result c.have_ended-over.result
+    c.turn_to.new.operator_state c.in_ok-last.last.items c.close.new.pending (eqb (length c.take_at-from.result.batch.rows) 0) c.closes_at-asked.result (have_all_ended c.take_at-from.new.ins)
     (rw c.as_mut_slice.ensures.value at c.take_at-from.ensures.taken) (pairwise-refl IsLooked looked-same c.self.inside.ins.items) ready from_small seq_small
     (rw (no-share _ _ c.args.place c.self.invariant.shares there, c.from_vec.ensures.items, c.into_inner.ensures) refl)
     (written-back _ _ _ len stays)
     (rw (c.push_reserved.ensures.items, c.reserve.ensures.items) refl)
-    c.turn_to.ensures (sym (before d) ∙ after d) (c.have_ended-over.ensures ∙ ap have_all_ended (c.as_slice-2.ensures.value ∙ written-back _ _ _ len stays))
-    c.in_ok-last.ensures c.close.ensures)
+    c.turn_to.ensures refl refl
+    (λ all. before d ∙ ap (λ b. starts_empty (waiting (get_or c.self.inside.ins.items c.args.place d).link) && b)
+    (others-pass (λ (one : Upstream). one.ended) c.self.inside.ins.items c.take_at-from.new.ins c.args.place stays (rw c.as_mut_slice.ensures.value at c.take_at-from.ensures.others) all)
+    ∙ and-true _ ∙ after d)
+    c.in_ok-last.ensures (c.close.ensures ∙ ap (λ ins. if have_all_ended ins then c.in_ok-last.last.items else []) (c.as_slice-2.ensures.value ∙ written-back _ _ _ len stays)))
 
 pub returns-clause-others : goal.returns-clause-others
 returns-clause-others c =
@@ -73,4 +81,4 @@ pub take_at-from-requires-clause-few : goal.take_at-from-requires-clause-few
 take_at-from-requires-clause-few c = rw c.as_mut_slice.ensures.value (few-taken _ c.self.invariant)
 
 pub close-requires : goal.close-requires
-close-requires c = record { none = none-first c.self.inside.gains.pending.items (ap (λ (w : WorkerState). has_some w.pending) c.self.view_is ∙ c.requires.none) }
+close-requires c = record { none = none-first c.self.inside.gains.pending (ap (λ (w : WorkerState). has_some w.pending) c.self.view_is ∙ c.requires.none) }

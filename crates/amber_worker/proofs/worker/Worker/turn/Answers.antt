@@ -231,3 +231,6 @@ pub returns-then-ended-clause-moved : goal.returns-then-ended-clause-moved
 returns-then-ended-clause-moved c =
     let looked = not-taken _ c.take_batch.new.self c.in_ok-taken.taken c.if-taken.false c.in_ok-taken.ensures.found in
     step-done c.args.self.now c.take_batch.new.self c.finish.new.self c.in_ok-ended.ended (unfinished c.self.inside c.args.self.now c.self.view_is c.if-self.false) looked c.if-ended.true c.in_ok-ended.ensures.done
+
+pub take_row-requires-clause-none : goal.take_row-requires-clause-none
+take_row-requires-clause-none c = sym c.if-has_pending.ensures
