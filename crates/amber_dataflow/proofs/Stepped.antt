@@ -1,7 +1,7 @@
 -- A turn of one worker, and then its links settled again: all are at work.
-use Rattle.std.proofs.Common.{◌≡◌, ◌≢◌, refl, sym, ap, subst, ◌∙◌, ℕ, suc, ◌+◌, ◌<◌, ◌≤◌, List, [], ◌∷◌, length, get_or, set, nat_eq, Bool, true, false, if◌then◌else◌, arith, length-set}
+use Rattle.std.proofs.Common.{◌≡◌, ◌≢◌, refl, sym, ap, subst, ◌∙◌, ℕ, suc, ◌+◌, ◌<◌, ◌≤◌, List, [], ◌∷◌, length, get_or, set, nat_eq, Bool, true, false, if◌then◌else◌, inl, inr, arith, length-set}
 use Rattle.std.specs.List.{list_any}
-use Rattle.std.proofs.lemmas.Bool.{ne_eqb}
+use Rattle.std.proofs.lemmas.Bool.{false≢true, ne_eqb}
 use Rattle.amber_meaning.specs.Legal.{Query}
 use Rattle.amber_meaning.specs.Position.{Position}
 use Rattle.amber_meaning.specs.State.{State}
@@ -11,6 +11,7 @@ use Rattle.amber_worker.specs.Changes.{wants_batch}
 use Rattle.amber_worker.specs.Links.{HaveSentNothing}
 use Rattle.amber_worker.specs.WorkerState.{WorkerState, steps_made}
 use Rattle.amber_worker.specs.declared.turn.Turn.{Turn}
+use Rattle.amber_worker.specs.declared.turn.Turn.TheVariants as turn
 use Rattle.amber_worker.proofs.StepFacts.{step-steps, step-writes, turned-counts}
 use Rattle.amber_dataflow.specs.AtWork.{AreAtWork, AreJoinedAt, GoesOn, HaveFinished, IsCrew, IsJoinedCrew, MovesOnly, SendsTo, StayPut, steps_by, worker_state_at}
 use Rattle.amber_dataflow.specs.Passing.{AreSameBesides, Come, Settled, SettledStay}
@@ -35,6 +36,19 @@ at-crew crew work = (work.0, work.1, work.2, work.3.at)
 pub not-wanted : (crew : List WorkerState) (number : ℕ) (d e : WorkerState) (b : Bool) → number < length crew → b ≡ wants_batch (get_or crew number d) → b ≡ false
     → wants_batch (get_or crew number e) ≡ false
 not-wanted crew number d e b inside is none = ap wants_batch (read-at crew number e inside ∙ sym (read-at crew number d inside)) ∙ sym is ∙ none
+
+-- a turn that emitted no row, and in which the end was not reached, has left the receivers as they were
+outs-step : (old new : WorkerState) → MakesStep old new → new.emitted ≡ old.emitted → new.finished ≡ false → new.outs ≡ old.outs
+outs-step old new (inl emits) rows unfinished = let more = ap (λ (w : WorkerState). w.emitted) emits.after in absurd (omega arith)
+outs-step old new (inr (inl takes)) rows unfinished = ap (λ (w : WorkerState). w.outs) takes.after
+outs-step old new (inr (inr (inl takes))) rows unfinished = ap (λ (w : WorkerState). w.outs) takes.after
+outs-step old new (inr (inr (inr finishes))) rows unfinished =
+    absurd (false≢true (sym unfinished ∙ ap (λ (w : WorkerState). w.finished) finishes.finishes.after))
+
+outs-kept : (done : Turn) (old new : WorkerState) → HasTurned done old new → new.emitted ≡ old.emitted → new.finished ≡ false → new.outs ≡ old.outs
+outs-kept turn.Moved old new step rows unfinished = outs-step old new step rows unfinished
+outs-kept turn.Idle old new idle rows unfinished = ap (λ (w : WorkerState). w.outs) idle.looked.only
+outs-kept turn.Ended old new same rows unfinished = ap (λ (w : WorkerState). w.outs) same
 
 module _ (crew : List WorkerState) (number : ℕ) (now d : WorkerState) (inside : number < length crew) where
   abbrev turned : List WorkerState
@@ -75,6 +89,18 @@ module _ (crew : List WorkerState) (number : ℕ) (now d : WorkerState) (inside 
         rw (here-now crew number now inside, there-still crew number now inside to apart)
         (come-turned (worker_state_at crew number) (worker_state_at crew to) now (subst (λ w. HasSameEnds w now) here turn.ends) (subst (λ w. HaveSentNothing w.outs now.outs) here turn.unsent)
         (work.3.settled number to one.does))
+
+    -- where no row was emitted and the end was not reached, the links to the receivers are as they were
+    pub settled-then : IsCrew crew → now.emitted ≡ (worker_state_at crew number).emitted → now.finished ≡ false
+        → (to : ℕ) → list_any (λ one. nat_eq one.to to) (worker_state_at turned number).outs ≡ true → Settled turned number to
+    settled-then work rows unfinished to known =
+        let next = on work.0 work.1 work.2 work.3.at in
+        let one = sending-out work.0 work.1 turned (placed work.2 number next.0) next.1 number to (rw length-set inside) known in
+        let apart : to ≢ number = λ same. let before = one.before in absurd (omega arith) in
+        rw (here-now crew number now inside, there-still crew number now inside to apart)
+        (settled-same (worker_state_at crew number) now (worker_state_at crew to) (worker_state_at crew to)
+        (outs-kept done (worker_state_at crew number) now (subst (λ w. HasTurned done w now) here turn.moved) rows unfinished)
+        (turn.ends.number ∙ ap (λ (w : WorkerState). w.number) here) refl refl (work.3.settled number to one.does))
 
     -- one step was made
     pub made-then : IsCrew crew → HaveFinished number crew → (worker_state_at crew number).finished ≡ false → MakesStep (worker_state_at crew number) now

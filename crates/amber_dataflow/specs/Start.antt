@@ -1,7 +1,8 @@
 -- The workers of a run that has not begun, and the links between them.
-use Rattle.std.specs.Prelude.{◌≡◌, ℕ, ◌<◌, ◌≤◌, List, [], ◌∷◌, ◌++◌, All, filter, map, length, slice_index_or, is_some, Option, None, Some, Result, if◌then◌else◌, Bool, true, false}
+use Rattle.std.specs.Prelude.{◌≡◌, ℕ, ◌<◌, ◌≤◌, List, [], ◌∷◌, ◌++◌, All, filter, map, length, slice_index_or, is_some, IfSome, Option, None, Some, Result, Bool, true, false}
 use Rattle.amber_rows.specs.Topology.{crew_of, op_of, sends_to, what_at}
 use Rattle.amber_rows.specs.Kinds.{is_scan}
+use Rattle.amber_rows.specs.Columns.{columns_at}
 use Rattle.amber_rows.specs.Lists.{numbers_below}
 use Rattle.amber_rows.specs.declared.flow.Operator.{Operator}
 use Rattle.amber_link.specs.Links.{AreLinked}
@@ -11,8 +12,7 @@ use Rattle.amber_rows.specs.declared.record.RowFault.{RowFault}
 use Rattle.amber_rows.specs.declared.value.Value.{Value}
 use Rattle.amber_rows.specs.Shares.{share_of}
 use Rattle.amber_meaning.specs.Plan.{role_of}
-use Rattle.amber_scan.specs.Shares.{scanned_number, scanned_records}
-use Rattle.amber_scan.specs.declared.share.Scanned.{Scanned}
+use Rattle.amber_scan.specs.Shares.{ShareState, scanned_number, scanned_records}
 use Rattle.amber_worker.specs.AtPosition.{HasShare}
 use Rattle.amber_worker.specs.Changes.{StandsNew}
 use Rattle.amber_worker.specs.Made.{IsFreshIn, IsFreshOut, end_of, link_of, roomless}
@@ -98,19 +98,22 @@ web_of flow batch_size = record { sends = sends_to flow; batch_size = batch_size
 -- ---- the shares
 
 -- what a worker was given; none where it was given nothing
-abbrev pub share_of_worker : List (Option (List Scanned)) → ℕ → Option (List Scanned)
+abbrev pub share_of_worker : List (Option ShareState) → ℕ → Option ShareState
 share_of_worker shares worker = slice_index_or shares worker None
 
--- what a worker of an operator is given of a file, by its place among the operator's workers
-abbrev pub dealt_share : Operator → List ℕ → ℕ → Option (List Scanned)
-dealt_share operator file place =
-    if is_scan operator.what then Some (share_of scanned_number operator.workers place (scanned_records operator.schema file)) else None
+-- what a worker of an operator is given of a file, by its place among the operator's workers: of a scan its share of the records, typed
+-- by the scan's columns, else nothing
+abbrev pub IsDealtShare : Operator → List ℕ → ℕ → Option ShareState → Type 0
+IsDealtShare operator file place None = is_scan operator.what ≡ false
+IsDealtShare operator file place (Some share) =
+    (is_scan operator.what ≡ true) × (share.left ≡ share_of scanned_number operator.workers place (scanned_records operator.schema file)) × (share.columns ≡ operator.schema)
 
--- each of a scan's workers was given its share of the scan's records, and nobody else was given one
-pub record AreSharesDealt (flow : List Operator) (records : List (List (Result (List Value) RowFault))) (shares : List (Option (List Scanned))) : Type 0 where
+-- each of a scan's workers was given its share of the scan's records, typed by the scan's columns, and nobody else was given one
+pub record AreSharesDealt (flow : List Operator) (records : List (List (Result (List Value) RowFault))) (shares : List (Option ShareState)) : Type 0 where
   pub all : length shares ≡ crew_of flow
   pub scans : (worker : ℕ) → worker < crew_of flow → is_some (share_of_worker shares worker) ≡ is_scan (what_at flow (op_of flow worker))
   pub dealt : (worker : ℕ) → worker < crew_of flow → HasShare (share_of_worker shares worker) (role_of flow records worker)
+  pub typed : (worker : ℕ) → worker < crew_of flow → IfSome (share_of_worker shares worker) (λ share. share.columns ≡ columns_at flow (op_of flow worker))
 
 -- ---- the workers
 
@@ -118,7 +121,7 @@ pub record AreSharesDealt (flow : List Operator) (records : List (List (Result (
 pub record Parts : Type 0 where
   pub flow : List Operator
   pub batch_size : ℕ
-  pub shares : List (Option (List Scanned))
+  pub shares : List (Option ShareState)
   pub outs : List (List Out)
   pub ins : List (List In)
 

@@ -1,6 +1,6 @@
 //! The workers of a run that has not begun. Over `deal_all` of `shares`, and `link_crew` of `linking`.
 
-ghost use Rattle.std.specs.Prelude.{◌≡◌, ◌<◌, ◌≤◌, ℕ, [], IfOk, None, is_some, length};
+ghost use Rattle.std.specs.Prelude.{◌≡◌, ◌<◌, ◌≤◌, ℕ, [], IfOk, IfSome, None, is_some, length};
 ghost use Rattle.amber_meaning.specs.Legal.{query_over};
 ghost use Rattle.amber_meaning.specs.Plain.{wrong_header};
 ghost use Rattle.amber_meaning.specs.Position.{origin};
@@ -8,6 +8,7 @@ ghost use Rattle.amber_meaning.specs.State.{start_of};
 ghost use Rattle.amber_dataflow.specs.AtWork.{AreAtWork, worker_state_at};
 ghost use Rattle.amber_rows.specs.Topology.{crew_of, op_of, what_at};
 ghost use Rattle.amber_rows.specs.Kinds.{is_scan};
+ghost use Rattle.amber_rows.specs.Columns.{columns_at};
 ghost use Rattle.amber_dataflow.specs.Start.{AreEnds, AreNew, share_of_worker, web_of};
 
 use crate::linking::{Ends, link_crew};
@@ -33,6 +34,9 @@ fn make_crew(
     requires dealt { (worker : ℕ) → worker < crew_of flow.now
         → is_some (share_of_worker shares.items worker)
         ≡ is_scan (what_at flow.now (op_of flow.now worker)) }
+    requires typed { (worker : ℕ) → worker < crew_of flow.now
+        → IfSome (share_of_worker shares.items worker)
+        (λ share. share.columns ≡ columns_at flow.now (op_of flow.now worker)) }
     requires ends { AreEnds (web_of flow.now batch_size) outs.items ins.items }
     ensures { IfOk result (λ crew. AreNew (record {
       flow = flow.now;

@@ -1,14 +1,14 @@
-//! The records of all scans, dealt to the workers. Over `deal_checked` of `amber_scan`, and `file_after` of
-//! `amber_meaning`.
+//! The records of all scans, dealt to the workers. Over `deal_checked` of `amber_scan`, and `shared_file_after`
+//! of `amber_meaning`.
 
 ghost use Rattle.std.specs.Prelude.{◌≡◌, ◌+◌, ◌++◌, ◌<◌, ◌≤◌, ◌^◌, ℕ, Some, None};
-ghost use Rattle.std.specs.Prelude.{IfOk, OnOk, length, map, replicate, true};
+ghost use Rattle.std.specs.Prelude.{[], IfOk, OnOk, length, map, option_map, replicate, true, unwrap_or};
 ghost use Rattle.amber_meaning.specs.Plain.{records_of, wrong_header};
 ghost use Rattle.amber_meaning.specs.ScanFiles.{is_headed};
-ghost use Rattle.amber_dataflow.specs.Start.{AreSharesDealt, dealt_share, share_of_worker};
+ghost use Rattle.amber_dataflow.specs.Start.{AreSharesDealt, IsDealtShare, share_of_worker};
 
-use amber_meaning::file_after;
-use amber_rows::{Files, Flow, Operator};
+use amber_meaning::shared_file_after;
+use amber_rows::{FileBytes, Files, Flow, Operator};
 use amber_scan::{Share, deal_checked};
 use std::alloc::{AllocError, Global};
 
@@ -32,28 +32,30 @@ fn push_shares(dealt: Vec<Share>, shares: &mut Vec<Option<Share>>) -> Result<(),
     Ok(())
 }
 
-// Gives each worker of an operator, which come after the others, its share of the file, if it is a scan.
+// Gives each worker of an operator, which come after the others, its share of the file, if it is a scan; a scan has one.
 fn deal_operator(
     alloc: Global,
     operator: &Operator,
-    file: &[u8],
+    file: Option<&FileBytes>,
     shares: &mut Vec<Option<Share>>,
 ) -> Result<(), AllocError>
     requires some { 0 < operator.now.workers }
     requires few { operator.now.workers ≤ 16 }
     requires columns { length operator.now.schema < 2 ^ 32 }
-    requires headed { is_headed operator.now.what operator.now.schema file.now ≡ true }
+    requires headed { is_headed operator.now.what operator.now.schema
+        (unwrap_or (option_map (λ one. one.now) file) []) ≡ true }
     ensures all { OnOk result
         (length shares.new.items ≡ length shares.old.items + operator.now.workers) }
     ensures before { OnOk result ((k : ℕ) → k < length shares.old.items
         → share_of_worker shares.new.items k ≡ share_of_worker shares.old.items k) }
     ensures dealt { OnOk result ((place : ℕ) → place < operator.now.workers
-        → share_of_worker shares.new.items (length shares.old.items + place)
-        ≡ dealt_share operator.now file.now place) }
+        → IsDealtShare operator.now (unwrap_or (option_map (λ one. one.now) file.entry) []) place
+        (share_of_worker shares.new.items (length shares.old.items + place))) }
 {
     if !operator.what.is_scan() {
         return push_none(operator.workers, shares);
     }
+    let Some(file) = file else { unreachable!() };
     let dealt = deal_checked(alloc, file, &operator.schema, operator.workers)?;
     push_shares(dealt, shares)
 }
@@ -72,7 +74,7 @@ pub(crate) fn deal_all(
     let operators = flow.get();
     let mut shares = Vec::new(alloc);
     'operators: for before in 0..operators.len() {
-        let file = file_after(flow, files, before);
+        let file = shared_file_after(flow, files, before);
         deal_operator(alloc, &operators[before], file, &mut shares)?;
     }
     Ok(shares)

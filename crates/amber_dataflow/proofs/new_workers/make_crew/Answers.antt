@@ -15,6 +15,14 @@ new-requires-clause-shared c =
     ∙ get_or_default c.workers.shares.items c.workers.worker _ None (omega (arith, below, c.workers.invariant.shares_all, c.requires.all)) in
     ap (λ share. is_some share) (own_share ∙ c.workers.invariant.shares c.workers.worker (omega arith)) ∙ c.requires.dealt c.workers.worker below
 
+pub new-requires-clause-typed : goal.new-requires-clause-typed
+new-requires-clause-typed c =
+    let below : c.workers.worker < crew_of c.args.flow.now = search rules in
+    let own_share : c.take-share.result ≡ share_of_worker c.workers.shares.items c.workers.worker =
+    c.take-share.ensures.value ∙ c.index_mut.ensures.value
+    ∙ get_or_default c.workers.shares.items c.workers.worker _ None (omega (arith, below, c.workers.invariant.shares_all, c.requires.all)) in
+    rw (own_share ∙ c.workers.invariant.shares c.workers.worker (omega arith)) (c.requires.typed c.workers.worker below)
+
 pub new-requires-clause-all_outs : goal.new-requires-clause-all_outs
 unfolding receivers_of
 new-requires-clause-all_outs c =

@@ -1,7 +1,8 @@
 -- One operator more is dealt to.
-use Rattle.std.proofs.Common.{◌≡◌, ◌∙◌, ◌<◌, ◌≤◌, ap, sym, get_or, length, arith}
+use Rattle.std.proofs.Common.{◌≡◌, ◌∙◌, ◌<◌, ◌≤◌, ap, sym, get_or, length, [], arith}
+use Rattle.std.specs.Prelude.{option_map, unwrap_or}
 use Rattle.amber_meaning.specs.Plain.{records_of}
-use Rattle.amber_dataflow.proofs.Dealing.{all-dealt, crew-start, dealt-more, header-more, header-right, header-start, operator-facts}
+use Rattle.amber_dataflow.proofs.Dealing.{all-dealt, crew-start, dealt-more, header-more, header-right, header-start, next-file, operator-facts}
 use Rattle.amber_dataflow.proofs.shares.deal_all.Goals as goal
 
 pub operators-init : goal.operators-init
@@ -37,19 +38,21 @@ deal_operator-requires-clause-headed c =
     let inside : c.operators.before < length c.args.flow.now = rw c.get-operators.ensures.operators at c.operators-test.true in
     let o = c.index-operators-before.result in
     let is : o ≡ get_or c.args.flow.now c.operators.before o = rw c.get-operators.ensures.operators at c.index-operators-before.is in
-    header-right c.args.flow.now c.args.files.now c.operators.before o inside is c.file_after-file.result.now c.file_after-file.ensures c.operators.invariant.header c.requires.headers
+    let file = unwrap_or (option_map (λ one. one.now) c.shared_file_after-file.result) [] in
+    header-right c.args.flow.now c.args.files.now c.operators.before o inside is file (next-file _ _ c.shared_file_after-file.ensures) c.operators.invariant.header c.requires.headers
 
 pub operators-preserved : goal.operators-preserved
 operators-preserved c =
     let inside : c.operators.before < length c.args.flow.now = rw c.get-operators.ensures.operators at c.operators-test.true in
     let o = c.index-operators-before.result in
     let is : o ≡ get_or c.args.flow.now c.operators.before o = rw c.get-operators.ensures.operators at c.index-operators-before.is in
-    let more = dealt-more c.args.flow.now c.args.files.now c.operators.before o inside is c.file_after-file.result.now c.file_after-file.ensures
+    let file = unwrap_or (option_map (λ one. one.now) c.shared_file_after-file.result) [] in
+    let more = dealt-more c.args.flow.now c.args.files.now c.operators.before o inside is file (next-file _ _ c.shared_file_after-file.ensures)
     c.operators.shares.items c.deal_operator.new.shares.items c.operators.invariant.all c.in_ok-deal_operator.ensures.all c.in_ok-deal_operator.ensures.before
     c.in_ok-deal_operator.ensures.dealt c.operators.invariant.dealt in
     record {
-      header = header-more c.args.flow.now c.args.files.now c.operators.before o inside is c.file_after-file.result.now c.file_after-file.ensures c.operators.invariant.header
-          (header-right c.args.flow.now c.args.files.now c.operators.before o inside is c.file_after-file.result.now c.file_after-file.ensures c.operators.invariant.header c.requires.headers);
+      header = header-more c.args.flow.now c.args.files.now c.operators.before o inside is file (next-file _ _ c.shared_file_after-file.ensures) c.operators.invariant.header
+          (header-right c.args.flow.now c.args.files.now c.operators.before o inside is file (next-file _ _ c.shared_file_after-file.ensures) c.operators.invariant.header c.requires.headers);
       all = more.0;
       dealt = more.1;
     }
