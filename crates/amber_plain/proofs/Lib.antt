@@ -1,5 +1,6 @@
 pub mod Evaluated
 pub mod Inputs
+pub mod LineRecords
 pub mod Passing
 pub mod Records
 pub mod Scans

@@ -1,5 +1,5 @@
 -- Nothing of the file was read when its records are.
-use Rattle.amber_plain.proofs.scan.scan.Goals as goal
+use Rattle.amber_plain.proofs.scan.read_file.Goals as goal
 
 pub returns-clause-moved : goal.returns-clause-moved
 returns-clause-moved c = c.read_records.ensures.moved c.args.file.now c.open-reader.ensures
