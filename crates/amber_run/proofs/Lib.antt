@@ -7,3 +7,5 @@ pub mod Deciding
 pub mod Longing
 pub mod Scripted
 pub mod Answers
+pub mod RunsShown
+pub mod ByChange

@@ -1,3 +1,4 @@
+pub mod AnsweredByChange
 pub mod Answering
 pub mod Outcome
 pub mod RunTask

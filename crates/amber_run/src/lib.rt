@@ -2,7 +2,7 @@
 //!
 //! The crate `amber_course` has the first refusal in the order of work, or the job to do. The definitions in `specs/` say what
 //! comes of the job: `UnderWay` how far a run has come and what it leaves that ended early, and `Outcome` what each status
-//! says and leaves.
+//! says and leaves. `AnsweredByChange` says that last in another way, and `laws` that the two are one.
 #![tactic(auto)]
 
 pub use amber_course::{Failure, Job, Reason, RunWords, ScriptWhy, Status, Words};
@@ -11,6 +11,7 @@ pub use printed::Printed;
 
 mod call;
 mod job;
+pub mod laws;
 mod plain_job;
 mod printed;
 mod runner;

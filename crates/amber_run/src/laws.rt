@@ -1,0 +1,16 @@
+//! What a call answers and leaves, told in two ways. Each function does nothing; its contract is the law, stated
+//! in `specs/AnsweredByChange.antt`.
+
+ghost use Rattle.amber_run.specs.AnsweredByChange.{AnswersAreOne, StopsAreOne};
+
+/// What a call that stopped leaves, with a part of the failure's line, is what it leaves before the line, and then
+/// that part. A sink that failed gets no line.
+pub fn stops_are_one()
+    ensures { StopsAreOne }
+{}
+
+/// What a call answers is the same fact, told by what is shown and has changed, or by what there is before and
+/// after.
+pub fn answers_are_one()
+    ensures { AnswersAreOne }
+{}
