@@ -5,7 +5,7 @@ Usage: bench/generate.py FOLDER [NAME..]
 
 FOLDER gets a folder for each workload (or for those named), with its CSV files (up to 30 MB together),
 `workflow.json` for Amber, an empty `script` and `query.sql` for sqlite3's command line. No text needs
-quotes, so that both print the same bytes.
+quotes, so that both print the same bytes; in `keeps_1_quoted` one has them all the same.
 """
 import json
 import os
@@ -56,6 +56,12 @@ def faulty(rows):
         yield row[:2] + ("x",) + row[3:] if k % 10 == 9 else row
 
 
+def quoted(rows):
+    """The same, with the first row's `item` in quotes."""
+    for k, row in enumerate(rows):
+        yield row[:1] + (f'"{row[1]}"',) + row[2:] if k == 0 else row
+
+
 def scan(name, columns):
     return {"id": name, "kind": "scan", "file": f"{name}.csv", "columns": columns}
 
@@ -101,6 +107,10 @@ def main():
     names = ", ".join(column for column, _ in ORDER)
     write(top, "keeps_1", [("data", ORDER, orders(1_000_000))], [kept("qty", ">=", 99)],
           f"SELECT {names} FROM data WHERE qty >= 99 ORDER BY {names}")
+    write(top, "keeps_1_by_4", [("data", ORDER, orders(1_000_000))], [kept("qty", ">=", 99)],
+          f"SELECT {names} FROM data WHERE qty >= 99 ORDER BY {names}", 4)
+    write(top, "keeps_1_quoted", [("data", ORDER, quoted(orders(1_000_000)))], [kept("qty", ">=", 99)],
+          f"SELECT {names} FROM data WHERE qty >= 99 ORDER BY {names}")
     write(top, "keeps_90", [("data", ORDER, orders(1_000_000))], [kept("qty", ">=", 10)],
           f"SELECT {names} FROM data WHERE qty >= 10 ORDER BY {names}")
     names = ", ".join(column for column, _ in WIDE)
@@ -114,8 +124,14 @@ def main():
     join = {"id": "sold", "kind": "join", "build": "parts", "probe": "sales", "build_keys": ["code"], "probe_keys": ["part"]}
     write(top, "join", [("parts", PART, parts(100_000)), ("sales", SALE, sales(1_000_000, 100_000))], [join],
           "SELECT sale, part, qty, code, name FROM sales JOIN parts ON part = code ORDER BY sale, part, qty, code, name")
-    write(top, "group_10", [("data", ORDER, orders(1_000_000))], [totals("item", ["count", "sum:qty", "max:note"])],
-          'SELECT item, count(*) AS "count", sum(qty) AS "sum:qty", max(note) AS "max:note" FROM data GROUP BY item ORDER BY item')
+    some = {"id": "some", "kind": "filter", "input": "sales", "column": "qty", "op": ">=", "constant": 50}
+    by_name = {"id": "totals", "kind": "group", "input": "sold", "keys": ["name"], "aggregates": ["count", "sum:qty"]}
+    write(top, "chain", [("parts", PART, parts(100_000)), ("sales", SALE, sales(1_000_000, 100_000))],
+          [some, {**join, "probe": "some"}, by_name],
+          'SELECT name, count(*) AS "count", sum(qty) AS "sum:qty" FROM sales JOIN parts ON part = code WHERE qty >= 50 GROUP BY name ORDER BY name')
+    ten = 'SELECT item, count(*) AS "count", sum(qty) AS "sum:qty", max(note) AS "max:note" FROM data GROUP BY item ORDER BY item'
+    for name, workers in (("group_10", 1), ("group_10_by_4", 4)):
+        write(top, name, [("data", ORDER, orders(1_000_000))], [totals("item", ["count", "sum:qty", "max:note"])], ten, workers)
     write(top, "group_100k", [("data", SALE, sales(1_000_000, 100_000))], [totals("part", ["count", "sum:qty", "min:sale"])],
           'SELECT part, count(*) AS "count", sum(qty) AS "sum:qty", min(sale) AS "min:sale" FROM data GROUP BY part ORDER BY part')
     write(top, "group_100k_by_4", [("data", SALE, sales(1_000_000, 100_000))], [totals("part", ["count", "sum:qty", "min:sale"])],
