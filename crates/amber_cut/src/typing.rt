@@ -1,12 +1,12 @@
 //! A line as a typed row, in one pass. Over `next_field` of `fields`, and `put_cell` of `amber_rows`.
 
-ghost use Rattle.std.specs.Prelude.{◌≡◌, ◌≢◌, ◌^◌, ◌<◌, None, length, IfOk};
-ghost use Rattle.amber_rows.specs.Record.{cell_of, row_of};
+ghost use Rattle.std.specs.Prelude.{◌≡◌, ◌≢◌, ◌^◌, ◌<◌, length, IfOk};
+ghost use Rattle.amber_rows.specs.Record.{row_of};
 ghost use Rattle.amber_cut.specs.Lines.{cut};
-ghost use Rattle.amber_cut.specs.Typing.{IsTyped};
+ghost use Rattle.amber_cut.specs.Typing.{fields_if};
 
 use crate::fields::next_field;
-use amber_rows::{ColKind, Row, RowFault, Schema, Value, put_cell};
+use amber_rows::{Row, RowFault, Schema, Value, put_cell};
 use std::alloc::{AllocError, Global};
 
 // So many cells, to be typed over.
@@ -30,27 +30,23 @@ pub fn room_for(alloc: Global, room: Vec<Value>, width: usize) -> Result<Vec<Val
     blank_cells(alloc, width)
 }
 
-// Puts the cell that a field is in a column of this kind and number, from 1, in the place of another cell, and answers
-// the first fault: the one that there was, else that of this field. Where there was one nothing is typed.
-fn type_field(
-    alloc: Global,
-    place: &mut Value,
-    field: &[u8],
-    kind: ColKind,
-    number: u32,
-    fault: Option<RowFault>,
-) -> Result<Option<RowFault>, AllocError>
-    ensures kept { fault ≢ None → IfOk result (λ first. first ≡ fault) }
-    ensures typed { fault ≡ None
-        → IfOk result (λ first. IsTyped first place.new (cell_of number kind field.now)) }
+// The fault of a line in which a field is no cell for this reason, from what stands behind that field, before which a
+// comma stands or not: a wrong number of fields, where there are not as many more as these, else that reason.
+fn fault_of(why: RowFault, line: &[u8], more: bool, fields: usize) -> RowFault
+    ensures same { length (fields_if more line.now) ≡ fields → result ≡ why }
+    ensures width { length (fields_if more line.now) ≢ fields → result ≡ RowFault.Width }
 {
-    if fault.is_some() {
-        return Ok(fault);
+    let mut rest = line;
+    let mut more = more;
+    'fields: for _ in 0..fields {
+        if !more {
+            return RowFault::Width;
+        }
+        let (_, later, comma) = next_field(rest);
+        rest = later;
+        more = comma;
     }
-    match put_cell(alloc, place, field, kind, number)? {
-        Ok(()) => Ok(None),
-        Err(why) => Ok(Some(why)),
-    }
+    if more { RowFault::Width } else { why }
 }
 
 // The row that a line is, in the room of cells of which there are as many as columns. Whether it has as many fields is
@@ -68,31 +64,23 @@ fn retype_line(
     let columns = schema.get();
     let mut rest = line;
     let mut more = true;
-    let mut fault = None;
     'columns: for i in 0..columns.len() {
         if !more {
             return Ok(Err(RowFault::Width));
         }
         let column = &columns[i];
         let (field, later, comma) = next_field(rest);
-        fault = type_field(
-            alloc,
-            &mut cells[i],
-            field,
-            column.kind,
-            i as u32 + 1,
-            fault,
-        )?;
+        match put_cell(alloc, &mut cells[i], field, column.kind, i as u32 + 1)? {
+            Ok(()) => {}
+            Err(why) => return Ok(Err(fault_of(why, later, comma, columns.len() - i - 1))),
+        }
         rest = later;
         more = comma;
     }
     if more {
         return Ok(Err(RowFault::Width));
     }
-    match fault {
-        Some(why) => Ok(Err(why)),
-        None => Ok(Ok(Row::new(cells))),
-    }
+    Ok(Ok(Row::new(cells)))
 }
 
 /// The row that a line is under these columns, or the first fault: a wrong number of fields, else that of the first
