@@ -109,12 +109,27 @@ impl JoinState {
             (λ rows. rows ≡ matches_of self.now.build_keys self.now.probe_keys
             self.now.rows row.now) }
     {
+        self.probe_over(alloc, row, &mut Vec::new(alloc))
+    }
+
+    /// The same, written over rows that are done with, as far as there are any. What these hold means nothing.
+    pub fn probe_over(
+        &self,
+        alloc: Global,
+        row: &Row,
+        used: &mut Vec<Row>,
+    ) -> Result<Rows, AllocError>
+        requires { self.now.sealed ≡ true }
+        ensures { IfOk result
+            (λ rows. rows ≡ matches_of self.now.build_keys self.now.probe_keys
+            self.now.rows row.now) }
+    {
         let key = Key::of(alloc, row, &self.probe_keys)?;
         let Some(place) = self.table.place_of(&key) else {
             return Ok(Rows::new(Vec::new(alloc)));
         };
         let (_, places) = self.table.entry(place);
-        let made = matches(alloc, row, self.rows.as_slice(), places)?;
+        let made = matches(alloc, row, self.rows.as_slice(), places, used)?;
         Ok(Rows::new(made))
     }
 

@@ -3,7 +3,7 @@
 ghost use Rattle.std.specs.Prelude.{◌≡◌, IfOk};
 ghost use Rattle.amber_rows.specs.Operators.{pick_cells};
 
-use amber_rows::{Cols, Row};
+use amber_rows::{Cols, Row, pick_over};
 use std::alloc::{AllocError, Global};
 use std::marker::Model;
 
@@ -50,6 +50,16 @@ impl ProjectState {
         ensures { IfOk result (λ cells. cells ≡ pick_cells self.now row.now) }
     {
         row.pick(self.alloc, &self.from)
+    }
+
+    /// The same row, written over the cells of a row that is done with, if there is one. What that holds means nothing.
+    pub fn pick_over(&self, used: Option<Row>, row: &Row) -> Result<Row, AllocError>
+        ensures { IfOk result (λ cells. cells ≡ pick_cells self.now row.now) }
+    {
+        match used {
+            Some(old) => pick_over(self.alloc, old.into_inner(), row, &self.from),
+            None => self.pick(row),
+        }
     }
 }
 

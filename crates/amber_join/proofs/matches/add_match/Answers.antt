@@ -20,5 +20,5 @@ returns-in_ok-push c =
     let build = c.args.build.now in
     let made = c.args.made.now.items in
     let at = c.in-Some.ensures.lookup in
-    c.in_ok-push.ensures.items ∙ ap (λ row. made ++ row ∷ []) c.in_ok-beside.ensures
+    c.in_ok-push.ensures.items ∙ ap (λ row. made ++ row ∷ []) c.in_ok-beside_in.ensures
     ∙ sym (ap (λ found. made ++ map (λ (other : List Value). c.args.probe.now ++ other) (cons_option found [])) (slice_get_read build (length build) c.args.place c.in-Some.other.now refl at.3.0 at.1))

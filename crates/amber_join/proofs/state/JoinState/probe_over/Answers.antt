@@ -6,7 +6,7 @@ use Rattle.amber_rows.specs.Operators.{matches_of, same_row}
 use Rattle.amber_rows.specs.declared.value.Value.{Value}
 use Rattle.amber_join.specs.Join.{Join}
 use Rattle.amber_join.proofs.PlaceTables.{probe-found, probe-none}
-use Rattle.amber_join.proofs.state.JoinState.probe.Goals as goal
+use Rattle.amber_join.proofs.state.JoinState.probe_over.Goals as goal
 
 pub returns : goal.returns
 returns c =
