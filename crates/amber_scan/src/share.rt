@@ -36,9 +36,12 @@ impl Clone for Scanned {
     }
 }
 
-// Room for the cells of the next row.
-fn room(alloc: Global) -> Vec<Value> {
-    Vec::new(alloc)
+// Room for the cells of a row: those of one that is done with, if there is one.
+fn cells_of(alloc: Global, used: Option<Row>) -> Vec<Value> {
+    match used {
+        Some(row) => row.into_inner(),
+        None => Vec::new(alloc),
+    }
 }
 
 // How many records stand after the header.
@@ -48,13 +51,14 @@ fn count(records: &Records) -> usize
     records.len().saturating_sub(1)
 }
 
-// The record after the header before which so many others stand, typed by these columns, with its number; none where
-// there is none.
+// The record after the header before which so many others stand, typed by these columns in the room of cells that are
+// done with, with its number; none where there is none.
 fn scan_record(
     alloc: Global,
     records: &Records,
     columns: &Schema,
     before: usize,
+    room: Vec<Value>,
 ) -> Result<Option<Scanned>, AllocError>
     requires { length columns.now < 2 ^ 32 }
     ensures few { length records.now - 1 < 2 ^ 64 }
@@ -66,7 +70,7 @@ fn scan_record(
         return Ok(None);
     }
     let number = before + 1;
-    let what = records.typed(alloc, number, room(alloc), columns)?;
+    let what = records.typed(alloc, number, room, columns)?;
     Ok(Some(Scanned {
         number: number as u64,
         what,
@@ -146,8 +150,10 @@ impl Share {
     }
 
     /// Takes the first record that is left, and answers `None` exactly where none is left. Where it wants memory none
-    /// is taken. What was read ahead takes no memory.
-    pub fn next(&mut self) -> Result<Option<Scanned>, AllocError>
+    /// is taken. What was read ahead takes no memory. Any other row is typed over the cells of a row that is done with,
+    /// if there is one: where that has a cell for each column, a text takes no memory that fits where a text was. What
+    /// it holds means nothing.
+    pub fn next(&mut self, used: Option<Row>) -> Result<Option<Scanned>, AllocError>
         ensures took { IfOk result (λ next. MatchOption next
             ((self.old.left ≡ []) × (self.new.left ≡ []))
             (λ one. self.old.left ≡ one ∷ self.new.left)) }
@@ -162,7 +168,8 @@ impl Share {
             return Ok(Some(one));
         }
         let before = self.before;
-        match scan_record(self.alloc, &self.records, &self.columns, before)? {
+        let room = cells_of(self.alloc, used);
+        match scan_record(self.alloc, &self.records, &self.columns, before, room)? {
             Some(one) => {
                 self.before = before.saturating_add(self.step);
                 Ok(Some(one))
@@ -182,7 +189,9 @@ impl Share {
         ensures more { self.old.ready ≤ self.new.ready }
     {
         self.ahead.reserve(1)?;
-        let Some(one) = scan_record(self.alloc, &self.records, &self.columns, self.before)? else {
+        let room = cells_of(self.alloc, None);
+        let Some(one) = scan_record(self.alloc, &self.records, &self.columns, self.before, room)?
+        else {
             return Ok(false);
         };
         self.ahead.push_back_reserved(one);
