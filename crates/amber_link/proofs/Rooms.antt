@@ -17,6 +17,16 @@ room-none batch_size capacity slots some = record {
   free = λ has. absurd (omega arith);
 }
 
+-- more lists are spare
+pub room-spares : (r : Room) (spares : ℕ) → HasRoom r → r.spares ≤ spares → HasRoom (record r { spares = spares })
+room-spares r spares has more = record {
+  some = has.some;
+  few = has.few;
+  own = has.own;
+  more = let enough = has.more in let product = mul-le-mul_left r.batch_size more in omega (arith, enough, product);
+  free = has.free;
+}
+
 -- a row more, that does not fill the batch
 pub room-row : (r : Room) → HasRoom r → 1 < r.room → r.held + 1 < r.batch_size → HasRoom (record r { room = r.room - 1; held = r.held + 1 })
 room-row r has some less = record {

@@ -165,7 +165,7 @@ pub reserved-at : (outs : List Downstream) (i : ℕ) (now : Downstream) → ((d 
     → map without_room (set outs i now) ≡ map without_room outs
 reserved-at outs i now to ring kept = map-set-same without_room outs i now (λ d j. record {
   to = to d j;
-  link = record { ring = ring d j; kept = unroomy (get_or outs i d).link.kept now.link.kept (kept d) j };
+  link = record { ring = ring d j; kept = unroomy (get_or outs i d).link.kept now.link.kept (kept d) j; back = tt };
 })
 
 adds-erased : (old new : Outgoing) (row : List Value) → Adds old row new → Adds (record old { room = 0 }) row (record new { room = 0 })

@@ -9,6 +9,7 @@ ghost use Rattle.amber_link.specs.declared.downstreams.Downstream.{Downstream as
 use crate::ends::Out;
 use amber_rows::Row;
 use std::alloc::AllocError;
+use std::mem;
 
 /// What a worker keeps of one to which it sends: its running number, and the end of the link.
 pub struct Downstream {
@@ -128,5 +129,30 @@ pub fn end_all(outs: &mut [Downstream])
 {
     for one in outs.iter_mut() {
         one.link.end_reserved();
+    }
+}
+
+/// A list of rows that one of the receivers is done with, if one has come back. What they hold means nothing.
+pub fn take_back(outs: &mut [Downstream]) -> Option<Vec<Row>>
+    ensures { outs.new ≡ outs.old }
+{
+    for i in 0..outs.len() {
+        if let Some(rows) = outs[i].link.take_back() {
+            return Some(rows);
+        }
+    }
+    None
+}
+
+/// Puts a list of rows that one of the receivers is done with, if one has come back, in the place of a list, which is
+/// lent for a later batch to that receiver. What the lists hold means nothing.
+pub fn trade_back(outs: &mut [Downstream], list: &mut Vec<Row>)
+    ensures { outs.new ≡ outs.old }
+{
+    for i in 0..outs.len() {
+        if let Some(rows) = outs[i].link.take_back() {
+            outs[i].link.lend(mem::replace(list, rows));
+            return;
+        }
     }
 }

@@ -7,6 +7,7 @@ ghost use Rattle.amber_link.specs.Links.{AreLinked, AreSettled, Forwards, GivesB
 ghost use Rattle.std.specs.VecDeque.{deque_capacity, deque_len};
 ghost use Rattle.amber_link.specs.Outgoing.{Adds, EndsStream};
 
+use crate::back::{Getter, Giver, way_back};
 use crate::outbox::Outbox;
 use amber_rows::{Batch, Row};
 use rtrb::{Consumer, Producer, RingBuffer};
@@ -22,11 +23,16 @@ const ROWS_AHEAD: u64 = 64;
 pub struct Out {
     ring: Producer<Batch>,
     kept: Outbox,
+    back: Getter,
 }
 
 impl Drop for Out {
     fn drop(self) {
-        let Out { ring: _, kept: _ } = self;
+        let Out {
+            ring: _,
+            kept: _,
+            back: _,
+        } = self;
     }
 }
 
@@ -34,11 +40,16 @@ impl Drop for Out {
 pub struct In {
     ring: Consumer<Batch>,
     inbox: VecDeque<Batch>,
+    back: Giver,
 }
 
 impl Drop for In {
     fn drop(self) {
-        let In { ring: _, inbox: _ } = self;
+        let In {
+            ring: _,
+            inbox: _,
+            back: _,
+        } = self;
     }
 }
 
@@ -63,13 +74,16 @@ pub fn link(alloc: Global, batch_size: u32) -> Result<(Out, In), AllocError>
     ensures none_known { IfOk result (λ ends. waiting ends.1 ≡ []) }
 {
     let (producer, consumer) = RingBuffer::new(alloc, SLOTS)?;
+    let (giver, getter) = way_back(alloc, SLOTS)?;
     let out = Out {
         ring: producer,
         kept: Outbox::new(alloc, batch_size),
+        back: getter,
     };
     let into = In {
         ring: consumer,
         inbox: VecDeque::new(alloc),
+        back: giver,
     };
     Ok((out, into))
 }
@@ -179,6 +193,20 @@ impl Out {
         Sent::All
     }
 
+    /// A list of rows that the receiver is done with, if one has come back. What they hold means nothing.
+    pub fn take_back(&mut self) -> Option<Vec<Row>>
+        ensures { self.new ≡ self.old }
+    {
+        self.back.get()
+    }
+
+    /// Keeps a list for a later batch, or drops it. What it holds means nothing.
+    pub fn lend(&mut self, list: Vec<Row>)
+        ensures { self.new ≡ self.old }
+    {
+        self.kept.lend(list);
+    }
+
     /// Whether no batch waits to be sent.
     pub fn is_sent(&self) -> bool
         ensures { has_some self.now.kept.waiting ≡ not result }
@@ -228,6 +256,13 @@ impl In {
             Some(batch) => batch,
             None => self.ring.pop_known(),
         }
+    }
+
+    /// Gives back a list of rows that are done with, and drops it where the way back is full.
+    pub fn give_back(&mut self, rows: Vec<Row>)
+        ensures { self.new ≡ self.old }
+    {
+        self.back.give(rows);
     }
 
     /// Whether the first batch that waits has no row.

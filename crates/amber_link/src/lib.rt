@@ -9,11 +9,16 @@
 //! the pieces of the rows that were pushed. After `reserve` as many pushes, and an end, need no memory. Where
 //! memory runs out, nothing is lost or out of order.
 //!
+//! Each link has a way back, a second ring, by which a receiver gives back the lists of rows that it is done with, for
+//! the sender to write over. What they hold means nothing: no contract speaks of it, a full ring drops them, and no call
+//! wants memory because of them.
+//!
 //! A worker keeps an `Upstream` of each worker that sends to it, and a `Downstream` of each to which it
 //! sends. An `Upstream` of the probe side of a join gives a batch only once the last batches of all of the
 //! build side were taken.
 #![tactic(auto)]
 
+pub mod back;
 pub mod downstreams;
 pub mod ends;
 pub mod outbox;
@@ -21,12 +26,13 @@ pub mod settling_places;
 pub mod upstreams;
 
 pub use downstreams::{
-    Downstream, end_all, has_receiver, place_to, push_at, reserve_at, reserve_ends, waiting_at,
+    Downstream, end_all, has_receiver, place_to, push_at, reserve_at, reserve_ends, take_back,
+    trade_back, waiting_at,
 };
 pub use ends::{In, Out, Sent, link, settle};
 pub use outbox::Outbox;
 pub use settling_places::settle_at;
 pub use std::alloc::AllocError as NoMemory;
 pub use upstreams::{
-    Found, Upstream, have_built, have_ended, is_empty_at, place_of, ready_place, take_at,
+    Found, Upstream, give_back, have_built, have_ended, is_empty_at, place_of, ready_place, take_at,
 };

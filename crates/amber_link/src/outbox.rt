@@ -15,6 +15,8 @@ use std::mem;
 
 // No memory holds as many rows as this.
 const MOST_ROWS: u64 = 1 << 40;
+// How many lists that were lent are kept at most.
+const MOST_SPARE: usize = 8;
 
 // How many batches this many rows fill at most, with one for those that are left.
 fn batches_for(batch_size: u64, rows: u64) -> u64
@@ -47,6 +49,19 @@ fn reserve_spares(
         spare.push(Vec::with_capacity(alloc, batch_size)?)?;
     }
     Ok(())
+}
+
+// Keeps an empty list of rows as a spare one, or drops it where there is no space for it or it takes no batch.
+fn keep_list(spare: &mut Vec<Vec<Row>>, batch_size: usize, list: Vec<Row>)
+    requires spare { AreSpare batch_size spare.old.items }
+    requires empty { list.items ≡ [] }
+    ensures spare { AreSpare batch_size spare.new.items }
+    ensures more { vec_len spare.old ≤ vec_len spare.new }
+{
+    if list.capacity() < batch_size || spare.len() >= MOST_SPARE {
+        return;
+    }
+    let _ = spare.push(list);
 }
 
 // An empty list of rows, a spare one if there is any.
@@ -199,6 +214,14 @@ impl Outbox {
         self.waiting.reserve((batches + 1) as usize)?;
         self.room = self.room.max(rows + 1);
         Ok(())
+    }
+
+    /// Keeps a list for a later batch, or drops it. What it holds means nothing.
+    pub(crate) fn lend(&mut self, mut list: Vec<Row>)
+        ensures { self.new ≡ self.old }
+    {
+        list.clear();
+        keep_list(&mut self.spare, self.batch_size as usize, list);
     }
 
     /// Appends a row, for which there is room; a full batch waits to be sent.

@@ -7,7 +7,7 @@ ghost use Rattle.amber_link.specs.Sides.{AreLooked, IsLooked, IsTaken, have_all_
 ghost use Rattle.amber_link.specs.declared.upstreams.Upstream.{Upstream as OneUpstream};
 
 use crate::ends::In;
-use amber_rows::Batch;
+use amber_rows::{Batch, Row};
 
 /// What a worker keeps of one that sends to it: its running number, whether it is of the build side of a join, how many of
 /// its batches were taken, whether the last was, and the end of the link.
@@ -179,5 +179,18 @@ pub fn take_at(ins: &mut [Upstream], i: usize) -> Found
         builds,
         seq,
         batch,
+    }
+}
+
+/// Gives back a list of rows that are done with to the sender with this number, and drops it where there is none or its
+/// way back is full.
+pub fn give_back(ins: &mut [Upstream], from: u32, rows: Vec<Row>)
+    ensures { ins.new ≡ ins.old }
+{
+    for i in 0..ins.len() {
+        if ins[i].from == from {
+            ins[i].link.give_back(rows);
+            return;
+        }
     }
 }

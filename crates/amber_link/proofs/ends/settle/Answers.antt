@@ -19,8 +19,8 @@ slots_beside-known-requires c = c.requires.0
 pub returns-in_default : goal.returns-in_default
 returns-in_default c =
     let looked = c.slots_beside-known.ensures in
-    let out : Out = record { ring = c.slots_beside-known.new.producer; kept = c.args.out.now.kept } in
-    let into : In = record { ring = c.slots_beside-known.new.self; inbox = c.args.into.now.inbox } in
+    let out : Out = record { ring = c.slots_beside-known.new.producer; kept = c.args.out.now.kept; back = tt } in
+    let into : In = record { ring = c.slots_beside-known.new.self; inbox = c.args.into.now.inbox; back = tt } in
     record {
       linked = linked-still c.args.out.now out c.args.into.now into c.requires looked.producer.0 looked.looked.0;
       forwards = record { ring = looked.producer.0; only = refl; order = ap (λ l. l ++ c.args.out.now.kept.waiting) looked.producer.1 };
@@ -34,13 +34,13 @@ returns-in_default c =
 pub returns-in_err-reserve : goal.returns-in_err-reserve
 returns-in_err-reserve c =
     let looked = c.slots_beside-known.ensures in
-    let out : Out = record { ring = c.slots_beside-known.new.producer; kept = c.args.out.now.kept } in
-    let into : In = record { ring = c.slots_beside-known.new.self; inbox = c.reserve.new.self } in
+    let out : Out = record { ring = c.slots_beside-known.new.producer; kept = c.args.out.now.kept; back = tt } in
+    let into : In = record { ring = c.slots_beside-known.new.self; inbox = c.reserve.new.self; back = tt } in
     record {
       linked = linked-still c.args.out.now out c.args.into.now into c.requires looked.producer.0 looked.looked.0;
       forwards = record { ring = looked.producer.0; only = refl; order = ap (λ l. l ++ c.args.out.now.kept.waiting) looked.producer.1 };
       gives = gives-looked c.args.into.now into looked.looked.0 looked.looked.1 looked.looked.2 c.reserve.ensures.items;
-      whole = whole-by c.args.out.now out c.args.into.now (record { ring = c.slots_beside-known.new.self; inbox = c.args.into.now.inbox }) looked.producer.1 looked.looked.1 looked.looked.2 looked.fifo;
+      whole = whole-by c.args.out.now out c.args.into.now (record { ring = c.slots_beside-known.new.self; inbox = c.args.into.now.inbox; back = tt }) looked.producer.1 looked.looked.1 looked.looked.2 looked.fifo;
       ok = IfOk-from_err _ _ c.from_residual.ensures.0;
       inbox_on_err = err-so c.from_residual.result _ c.reserve.ensures.items;
       out_on_err = err-so c.from_residual.result _ refl;
@@ -73,7 +73,7 @@ loop-batch-smaller c =
 pub loop-batch-init : goal.loop-batch-init
 loop-batch-init c =
     let looked = c.slots_beside-known.ensures in
-    let before : In = record { ring = c.slots_beside-known.new.self; inbox = c.reserve.new.self } in
+    let before : In = record { ring = c.slots_beside-known.new.self; inbox = c.reserve.new.self; back = tt } in
     let drained = c.drain.ensures in
     let known = drained.known in
     let count = c.checked_add.ensures in
@@ -83,7 +83,7 @@ loop-batch-init c =
     omega (arith, all, c.drain.new.into.inbox.ok.0, c.reserve.new.self.ok.0, drained.slots, c.in_ok-reserve.ensures.ok, c.len.ensures, looked.value, c.in-Some.ensures) in
     let both = gives-looked c.args.into.now before looked.looked.0 looked.looked.1 looked.looked.2 c.reserve.ensures.items in
     record {
-      linked = linked-still c.args.out.now (record { ring = c.slots_beside-known.new.producer; kept = c.args.out.now.kept }) c.args.into.now c.drain.new.into c.requires looked.producer.0
+      linked = linked-still c.args.out.now (record { ring = c.slots_beside-known.new.producer; kept = c.args.out.now.kept; back = tt }) c.args.into.now c.drain.new.into c.requires looked.producer.0
           (same-in-then c.args.into.now before c.drain.new.into looked.looked.0 drained.gives.ring);
       forwards = record { ring = looked.producer.0; only = refl; order = ap (λ l. l ++ c.args.out.now.kept.waiting) looked.producer.1 };
       gives = gives-then c.args.into.now before c.drain.new.into [] [] both drained.gives;
@@ -125,9 +125,9 @@ returns c =
         order = ap (λ l. sent c.loop-batch.out.ring ++ l) (sym popped.batch) ∙ inv.forwards.order;
       };
       gives = inv.gives;
-      whole = whole-by c.args.out.now (record { ring = c.slots_beside-known.new.producer; kept = c.args.out.now.kept }) c.args.into.now (record { ring = c.slots_beside-known.new.self; inbox = c.args.into.now.inbox })
+      whole = whole-by c.args.out.now (record { ring = c.slots_beside-known.new.producer; kept = c.args.out.now.kept; back = tt }) c.args.into.now (record { ring = c.slots_beside-known.new.self; inbox = c.args.into.now.inbox; back = tt })
           looked.producer.1 looked.looked.1 looked.looked.2 looked.fifo;
-      ok = settled-by (record { ring = c.loop-batch.out.ring; kept = c.pop.new.self }) c.loop-batch.into (sym popped.batch ∙ none-first _ popped.found) inv.even inv.known;
+      ok = settled-by (record { ring = c.loop-batch.out.ring; kept = c.pop.new.self; back = tt }) c.loop-batch.into (sym popped.batch ∙ none-first _ popped.found) inv.even inv.known;
       inbox_on_err = tt;
       out_on_err = tt;
     }
