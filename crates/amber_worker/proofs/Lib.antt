@@ -7,6 +7,7 @@ pub mod Idle
 pub mod Journals
 pub mod Others
 pub mod KeptPosition
+pub mod ManyTurns
 pub mod Moves
 pub mod Emits
 pub mod Produced

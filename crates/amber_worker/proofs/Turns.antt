@@ -14,7 +14,6 @@ use Rattle.amber_link.proofs.SameEnds.{ended-ends, handed-ends, looked-ends, rec
 use Rattle.amber_link.proofs.Sides.{get_or-any, looked-same, map-set-same, pairwise-refl}
 use Rattle.amber_worker.specs.AtPosition.{HasSameEnds, IsLookedAt, Keeps}
 use Rattle.amber_worker.specs.Links.{IsHandedOn, HaveSentNothing, number_to}
-use Rattle.amber_worker.specs.Changes.{wants_batch}
 use Rattle.amber_worker.specs.Fields.{rows_moved}
 use Rattle.amber_worker.specs.WorkerState.{WorkerState, has_ready, next_turn, steps_made}
 use Rattle.amber_worker.specs.Steps.{EmitsRow, Finishes, TakesBatch, TakesRow, batch_taken}
@@ -162,7 +161,8 @@ pub keeps-idle : (old between new : WorkerState) (ended : Bool) → IsLookedAt o
 keeps-idle old between new true looked so done = absurd (false≢true (sym so))
 keeps-idle old between new false looked so same = subst (λ w. IsLookedAt old w) (sym same) looked
 
-ends-then : (a b c : WorkerState) → HasSameEnds a b → HasSameEnds b c → HasSameEnds a c
+-- one after the other
+pub ends-then : (a b c : WorkerState) → HasSameEnds a b → HasSameEnds b c → HasSameEnds a c
 ends-then a b c one two = record {
   ins = senders-then a.ins b.ins c.ins one.ins two.ins;
   outs = receivers-then a.outs b.outs c.outs one.outs two.outs;
@@ -288,19 +288,6 @@ pub unsent-done : (old between new : WorkerState) (ended : Bool) → IsLookedAt 
 unsent-done old between new true looked done =
     ap (λ (w : WorkerState). map (λ (one : Downstream). one.link.ring) w.outs) done.after ∙ unsent-ended between.outs done.outs done.ends ∙ unsent-looked old between looked
 unsent-done old between new false looked same = unsent-same between new same ∙ unsent-looked old between looked
-
--- ---- no look was made
-
-unwanted-by : (a b c d : Bool) → not ((a || b) || (c || d)) ≡ false → a ≡ false → b ≡ false → c ≡ false → d ≡ false → ⊥
-unwanted-by true b c d h e1 e2 e3 e4 = false≢true (sym e1)
-unwanted-by false true c d h e1 e2 e3 e4 = false≢true (sym e2)
-unwanted-by false false true d h e1 e2 e3 e4 = false≢true (sym e3)
-unwanted-by false false false true h e1 e2 e3 e4 = false≢true (sym e4)
-unwanted-by false false false false h e1 e2 e3 e4 = false≢true (sym h)
-
--- where nothing is pending and nothing is left a look is made
-pub unwanted : (w : WorkerState) (P : Type 0) → IsCalm w → w.finished ≡ false → has_some w.pending ≡ false → has_some w.rest ≡ false → wants_batch w ≡ false → P
-unwanted w P calm unfinished none nothing_left h = absurd (unwanted-by w.finished w.restraint.paused (has_some w.pending) (has_some w.rest) h unfinished (working w calm unfinished).running none nothing_left)
 
 -- ---- the step that was made
 

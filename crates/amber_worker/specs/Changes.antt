@@ -1,11 +1,10 @@
 -- What commands change of a worker between legs.
-use Rattle.std.specs.Prelude.{◌||◌, not, List, [], ◌∷◌, Result, Bool}
+use Rattle.std.specs.Prelude.{List, [], ◌∷◌, Result}
 use Rattle.amber_rows.specs.declared.value.Value.{Value}
 use Rattle.amber_rows.specs.declared.record.RowFault.{RowFault}
 use Rattle.amber_meaning.specs.Plan.{role_of}
 use Rattle.amber_meaning.specs.Position.{Position, origin}
 use Rattle.amber_meaning.specs.State.{let_go, restraint_released}
-use Rattle.amber_link.specs.Links.{has_some}
 use Rattle.amber_worker.specs.AtPosition.{Context, HasShare, IsAtPosition, Shows, first_context}
 use Rattle.amber_worker.specs.Made.{NewWorker}
 use Rattle.amber_worker.specs.WorkerState.{WorkerState}
@@ -16,11 +15,6 @@ use Rattle.amber_worker.specs.declared.operator_state.OperatorState.TheVariants 
 unfoldable pub StandsNew : NewWorker → WorkerState → Type 0
 StandsNew new made = (records : List (List (Result (List Value) RowFault))) → HasShare new.share (role_of new.flow records new.number)
     → IsAtPosition (first_context new.flow records new.batch_size new.number) made origin origin
-
--- a turn begins with a look for a batch: the worker goes on, and has neither a row that is pending nor one that was handed and not
--- taken
-abbrev pub wants_batch : WorkerState → Bool
-wants_batch w = not ((w.finished || w.restraint.paused) || (has_some w.pending || has_some w.rest))
 
 -- a filter with another constant
 abbrev pub with_value : Value → OperatorState → OperatorState

@@ -6,6 +6,7 @@ ghost use Rattle.amber_link.specs.Links.{has_some};
 ghost use Rattle.amber_worker.specs.RowsTaken.{AddsGroups, GroupsRow};
 ghost use Rattle.amber_worker.specs.Steps.{Feeds, GivesGroups};
 
+use crate::used_rows::UsedRows;
 use amber_group::GroupState;
 use amber_rows::{Row, Schema, Value, suits};
 use std::alloc::{AllocError, Global};
@@ -112,6 +113,7 @@ pub(crate) fn take_grouped(
     over: bool,
     state: &mut GroupState,
     pending: &mut VecDeque<Row>,
+    done: &mut UsedRows,
 ) -> Result<(), AllocError>
     requires some { has_some rows.old.items ≡ true }
     requires few { state.old.fed < 2 ^ 40 }
@@ -130,6 +132,8 @@ pub(crate) fn take_grouped(
         unreachable!()
     };
     feed_next(state, columns, next, over, pending)?;
-    rows.pop_front();
+    if let Some(row) = rows.pop_front() {
+        done.keep(row);
+    }
     Ok(())
 }

@@ -4,6 +4,7 @@ ghost use Rattle.std.specs.Prelude.{◌≡◌, [], not, true, false, OnErr, OnOk
 ghost use Rattle.amber_link.specs.Links.{has_some};
 ghost use Rattle.amber_worker.specs.RowsTaken.{Builds, JoinsRow, Probes};
 
+use crate::used_rows::UsedRows;
 use amber_join::JoinState;
 use amber_rows::{Row, Schema, suits};
 use std::alloc::AllocError;
@@ -32,6 +33,8 @@ fn probe_first(
     rows: &mut VecDeque<Row>,
     state: &JoinState,
     pending: &mut VecDeque<Row>,
+    done: &mut UsedRows,
+    free: &mut UsedRows,
 ) -> Result<(), AllocError>
     requires some { has_some rows.old.items ≡ true }
     requires sealed { state.now.sealed ≡ true }
@@ -45,9 +48,11 @@ fn probe_first(
     let Some(next) = rows.front() else {
         unreachable!()
     };
-    let found = state.probe(*pending.allocator(), next)?;
+    let found = free.probe(state, *pending.allocator(), next)?;
     *pending = VecDeque::from_vec(found.into_inner());
-    rows.pop_front();
+    if let Some(row) = rows.pop_front() {
+        done.keep(row);
+    }
     Ok(())
 }
 
@@ -58,6 +63,8 @@ pub(crate) fn take_joined(
     builds: bool,
     state: &mut JoinState,
     pending: &mut VecDeque<Row>,
+    done: &mut UsedRows,
+    free: &mut UsedRows,
 ) -> Result<(), AllocError>
     requires some { has_some rows.old.items ≡ true }
     requires side { state.old.sealed ≡ not builds }
@@ -73,11 +80,13 @@ pub(crate) fn take_joined(
         unreachable!()
     };
     if !suits(next, columns) {
-        rows.pop_front();
+        if let Some(row) = rows.pop_front() {
+            done.keep(row);
+        }
         return Ok(());
     }
     if builds {
         return build_first(rows, state);
     }
-    probe_first(rows, state, pending)
+    probe_first(rows, state, pending, done, free)
 }

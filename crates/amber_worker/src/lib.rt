@@ -5,6 +5,10 @@
 //! the link of the receiver to which it is routed. It writes down what it does in a journal. In
 //! each step what needs memory comes first and changes nothing that is seen.
 //!
+//! Rows that it is done with go back to those that sent them, and those that come back are written over:
+//! a scan types over them, and a projection and a join write theirs over them. What they hold means
+//! nothing, so nothing is said of them.
+//!
 //! A worker of a join takes all batches of its build side before the first of its probe side. One
 //! of a group makes the rows of its groups pending in the very step that takes the last row, or an
 //! empty last batch.
@@ -27,6 +31,7 @@ pub mod route;
 mod setting;
 mod taking_rows;
 pub mod turn;
+mod used_rows;
 mod view_parts;
 pub mod worker;
 

@@ -10,8 +10,10 @@ ghost use Rattle.amber_worker.specs.Links.{AreEndsOf, EmitsFirst, IsSoundRoute, 
 use crate::pending::Pending;
 use crate::route::Route;
 use amber_link::{
-    Downstream, Upstream, end_all, place_of, place_to, push_at, reserve_at, reserve_ends, settle_at,
+    Downstream, Upstream, end_all, give_back, place_of, place_to, push_at, reserve_at,
+    reserve_ends, settle_at, take_back,
 };
+use amber_rows::Row;
 use std::alloc::AllocError;
 
 // The place of a receiver, if there is one. Where the numbers of the receivers follow one another it is known by the
@@ -108,4 +110,18 @@ pub(crate) fn settle_into(
     };
     let k = place_of(ins, from);
     settle_at(outs, j, ins, k)
+}
+
+// A list of rows that a receiver is done with, if one has come back.
+pub(crate) fn rows_back(outs: &mut Vec<Downstream>) -> Option<Vec<Row>>
+    ensures { outs.new.items ≡ outs.old.items }
+{
+    take_back(outs.as_mut_slice())
+}
+
+// Gives a list of rows that are done with back to a sender.
+pub(crate) fn give_rows_back(ins: &mut Vec<Upstream>, from: u32, rows: Vec<Row>)
+    ensures { ins.new.items ≡ ins.old.items }
+{
+    give_back(ins.as_mut_slice(), from, rows);
 }

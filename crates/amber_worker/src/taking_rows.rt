@@ -16,6 +16,7 @@ use crate::grouping::{rows_of_groups, take_grouped};
 use crate::joining::take_joined;
 use crate::operator_state::OperatorState;
 use crate::pending::Pending;
+use crate::used_rows::UsedRows;
 use amber_link::{Upstream, have_ended, is_empty_at};
 use amber_meaning::Refusal;
 use amber_rows::{Row, Schema, suits};
@@ -60,6 +61,9 @@ pub(crate) struct Gains {
     pub pending: Pending,
     pub refused: Vec<Refusal>,
     pub kept: Vec<Row>,
+    // Rows that came and are done with, and rows that came back, over which others are written.
+    pub done: UsedRows,
+    pub free: UsedRows,
 }
 
 // What becomes of a row that was taken.
@@ -71,7 +75,11 @@ pub(crate) enum Fate {
 }
 
 // What becomes of a row that suits.
-fn suited_fate(operator_state: &OperatorState, row: &Row) -> Result<Fate, AllocError>
+fn suited_fate(
+    operator_state: &OperatorState,
+    row: &Row,
+    free: &mut UsedRows,
+) -> Result<Fate, AllocError>
     requires plain { is_plain operator_state.now ≡ true }
     ensures { IfOk result (λ fate. passed_of fate row.now
         ≡ gives_if operator_state.now false (Some row.now)) }
@@ -85,33 +93,41 @@ fn suited_fate(operator_state: &OperatorState, row: &Row) -> Result<Fate, AllocE
                 Ok(Fate::Dropped)
             }
         }
-        OperatorState::Project(state) => Ok(Fate::Made(state.pick(row)?)),
+        OperatorState::Project(state) => Ok(Fate::Made(state.pick_over(free.take(), row)?)),
         OperatorState::Join(_) | OperatorState::Group(_) | OperatorState::Sink => unreachable!(),
     }
 }
 
 // What becomes of a row; one that does not suit the columns is dropped.
-fn fate_of(operator_state: &OperatorState, columns: &Schema, row: &Row) -> Result<Fate, AllocError>
+fn fate_of(
+    operator_state: &OperatorState,
+    columns: &Schema,
+    row: &Row,
+    free: &mut UsedRows,
+) -> Result<Fate, AllocError>
     requires plain { is_plain operator_state.now ≡ true }
     ensures { IfOk result (λ fate. passed_of fate row.now
         ≡ gives_if operator_state.now false (row_in columns.now (Ok row.now))) }
 {
     if suits(row, columns) {
-        suited_fate(operator_state, row)
+        suited_fate(operator_state, row, free)
     } else {
         Ok(Fate::Dropped)
     }
 }
 
 // Puts a row where it goes.
-fn put(fate: Fate, row: Row, pending: &mut Pending)
+fn put(fate: Fate, row: Row, pending: &mut Pending, done: &mut UsedRows)
     requires none { pending.old ≡ [] }
     ensures { pending.new ≡ passed_of fate row }
 {
     match fate {
-        Fate::Dropped => {}
+        Fate::Dropped => done.keep(row),
         Fate::Passed => pending.put(row),
-        Fate::Made(other) => pending.put(other),
+        Fate::Made(other) => {
+            pending.put(other);
+            done.keep(row);
+        }
     }
 }
 
@@ -145,7 +161,7 @@ fn take_record(share: &mut Share, op: u32, gains: &mut Gains) -> Result<(), Allo
     ensures gains_on_err { OnErr result (AreSame gains.old gains.new) }
 {
     gains.refused.reserve(1)?;
-    let Some(one) = share.next()? else {
+    let Some(one) = share.next(gains.free.take())? else {
         unreachable!()
     };
     put_record(one, op, &mut gains.pending, &mut gains.refused);
@@ -171,11 +187,11 @@ fn take_arrival(
     let Some(next) = rows.front() else {
         unreachable!()
     };
-    let fate = fate_of(operator_state, columns, next)?;
+    let fate = fate_of(operator_state, columns, next, &mut gains.free)?;
     let Some(row) = rows.pop_front() else {
         unreachable!()
     };
-    put(fate, row, &mut gains.pending);
+    put(fate, row, &mut gains.pending, &mut gains.done);
     Ok(())
 }
 
@@ -224,12 +240,23 @@ fn take_any(
     ensures gains_on_err { OnErr result (AreSame gains.old gains.new) }
 {
     match operator_state {
-        OperatorState::Join(state) => {
-            take_joined(rows, columns, builds, state, &mut gains.pending.later)
-        }
-        OperatorState::Group(state) => {
-            take_grouped(rows, columns, over, state, &mut gains.pending.later)
-        }
+        OperatorState::Join(state) => take_joined(
+            rows,
+            columns,
+            builds,
+            state,
+            &mut gains.pending.later,
+            &mut gains.done,
+            &mut gains.free,
+        ),
+        OperatorState::Group(state) => take_grouped(
+            rows,
+            columns,
+            over,
+            state,
+            &mut gains.pending.later,
+            &mut gains.done,
+        ),
         OperatorState::Sink => take_kept(rows, columns, gains),
         OperatorState::Scan | OperatorState::Filter(_) | OperatorState::Project(_) => {
             take_arrival(rows, operator_state, columns, gains)

@@ -11,11 +11,12 @@ ghost use Rattle.amber_link.specs.declared.downstreams.Downstream.{Downstream as
 ghost use Rattle.amber_link.specs.declared.upstreams.Upstream.{Upstream as OneUpstream};
 ghost use Rattle.amber_worker.specs.WorkerState.{steps_made};
 ghost use Rattle.amber_worker.specs.Made.{IsFreshIn, IsFreshOut, end_of, link_of, roomless};
-ghost use Rattle.amber_worker.specs.Changes.{ShowsSet, StandsAtLeg, StandsNew, wants_batch, at_leg_start, with_value};
+ghost use Rattle.amber_worker.specs.Changes.{ShowsSet, StandsAtLeg, StandsNew, at_leg_start, with_value};
 
 mod beginning;
 mod linking;
 mod stepping;
+mod turning;
 mod views;
 
 use crate::flags::Flags;
@@ -202,14 +203,6 @@ impl Worker {
         ensures { result ≡ list_any (λ one. one.to == worker) self.now.outs }
     {
         has_receiver(self.outs.as_slice(), worker)
-    }
-
-    /// Whether a turn begins with a look for a batch: the worker has not finished, is not paused,
-    /// and has neither a row that is pending nor one that was handed and not taken.
-    pub fn wants_batch(&self) -> bool
-        ensures { result ≡ wants_batch self.now }
-    {
-        !(self.finished || self.flags.paused || self.has_pending() || self.has_rest())
     }
 
     /// Whether the worker may make another turn: its steps are not yet 2^40.

@@ -9,6 +9,7 @@ use crate::flags::Flags;
 use crate::new_worker::{WorkerEnds, WorkerTask};
 use crate::pending::Pending;
 use crate::taking_rows::{Gains, Rest};
+use crate::used_rows::UsedRows;
 use amber_scan::Share;
 use std::alloc::{AllocError, Global};
 use std::collections::VecDeque;
@@ -34,6 +35,8 @@ impl Worker {
             pending: Pending::new(alloc),
             refused: Vec::new(alloc),
             kept: Vec::new(alloc),
+            done: UsedRows::new(alloc),
+            free: UsedRows::new(alloc),
         };
         Worker {
             alloc,

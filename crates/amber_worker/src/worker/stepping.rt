@@ -8,19 +8,20 @@ ghost use Rattle.amber_link.specs.declared.upstreams.Upstream.{Upstream as OneUp
 ghost use Rattle.amber_worker.specs.WorkerState.{has_ready, steps_made};
 ghost use Rattle.amber_worker.specs.Steps.{EmitsRow, Finishes, TakesBatch, TakesRow};
 ghost use Rattle.amber_worker.specs.AtPosition.{HasSameEnds, IsLookedAt, Keeps};
-ghost use Rattle.amber_worker.specs.Changes.{wants_batch};
 ghost use Rattle.amber_worker.specs.Links.{HaveSentNothing, MayTakeAt};
 ghost use Rattle.amber_worker.specs.Turning.{HasTurned, IsNextTurn};
 
 use super::Worker;
 use crate::journal::note_go;
-use crate::links::{emit_first, end_streams};
+use crate::links::{emit_first, end_streams, give_rows_back, rows_back};
+use crate::operator_state::OperatorState;
 use crate::taking_rows::{close, closes_at, closing_of, is_last, side_columns, take_next, turn_to};
 use crate::turn::Turn;
 use amber_link::{Found, have_built, have_ended, ready_place, take_at};
 use amber_log::Entry;
 use std::alloc::AllocError;
 use std::collections::VecDeque;
+use std::mem;
 
 impl Worker {
     // Whether a row is pending.
@@ -37,8 +38,61 @@ impl Worker {
         !self.rest.is_empty()
     }
 
+    // Whether the rows that it makes are not those that came.
+    fn makes_rows(&self) -> bool {
+        match &self.operator_state {
+            OperatorState::Scan | OperatorState::Project(_) | OperatorState::Join(_) => true,
+            OperatorState::Filter(_) | OperatorState::Group(_) | OperatorState::Sink => false,
+        }
+    }
+
+    // Has rows that a receiver is done with, to write over, where none is left and it is time to look.
+    fn fetch_used(&mut self)
+        ensures { self.new ≡ self.old }
+    {
+        if self.makes_rows() && self.gains.free.is_due() {
+            self.gains.free.trade(&mut self.outs);
+        }
+    }
+
+    // Gives the rows that are done with back to the sender of the batch that was at hand.
+    fn return_used(&mut self)
+        ensures { self.new ≡ self.old }
+    {
+        let from = self.rest.from;
+        if !self.gains.done.is_empty() {
+            let rows = self.gains.done.exchange(Vec::new(self.alloc));
+            give_rows_back(&mut self.ins, from, rows);
+        }
+    }
+
+    // A filter hands the rows on with which a receiver of its own is done.
+    fn pass_used(&mut self)
+        ensures { self.new ≡ self.old }
+    {
+        if !matches!(&self.operator_state, OperatorState::Filter(_)) {
+            return;
+        }
+        let from = self.rest.from;
+        if let Some(rows) = rows_back(&mut self.outs) {
+            give_rows_back(&mut self.ins, from, rows);
+        }
+    }
+
     // Takes the next of what is left.
     fn take_row(&mut self) -> Result<(), AllocError>
+        requires few { steps_made self.old < 2 ^ 40 }
+        requires some { has_some self.old.rest ≡ true }
+        requires none { has_some self.old.pending ≡ false }
+        ensures ok { OnOk result (TakesRow self.old self.new) }
+        ensures err { OnErr result (self.new ≡ self.old) }
+    {
+        self.fetch_used();
+        self.take_left()
+    }
+
+    // The same, over the used rows that it has.
+    fn take_left(&mut self) -> Result<(), AllocError>
         requires few { steps_made self.old < 2 ^ 40 }
         requires some { has_some self.old.rest ≡ true }
         requires none { has_some self.old.pending ≡ false }
@@ -106,6 +160,23 @@ impl Worker {
             → slice_index_or self.new.ins other d ≡ slice_index_or self.old.ins other d) }
         ensures err { OnErr result (self.new ≡ self.old) }
     {
+        self.return_used();
+        self.pass_used();
+        self.take_ready(place)
+    }
+
+    // The same, where the rows that are done with were given back.
+    fn take_ready(&mut self, place: usize) -> Result<(), AllocError>
+        requires few { steps_made self.old < 2 ^ 40 }
+        requires none { has_some self.old.pending ≡ false }
+        requires there { place < length self.old.ins }
+        requires may { MayTakeAt self.old.ins place }
+        requires ready { has_ready self.old.ins ≡ true }
+        ensures ok { OnOk result (TakesBatch self.old self.new) }
+        ensures others { OnOk result ((other : ℕ) (d : OneUpstream) → other ≢ place
+            → slice_index_or self.new.ins other d ≡ slice_index_or self.old.ins other d) }
+        ensures err { OnErr result (self.new ≡ self.old) }
+    {
         let asked = closes_at(self.ins.as_slice(), place);
         self.journal.reserve(1)?;
         let last = closing_of(self.alloc, &self.operator_state, asked)?;
@@ -120,7 +191,9 @@ impl Worker {
         self.building = builds;
         self.journal.push_reserved(Entry::Take { from, batch: seq });
         self.rest.from = from;
-        self.rest.rows = VecDeque::from_vec(batch.rows.into_inner());
+        let rows = VecDeque::from_vec(batch.rows.into_inner());
+        let emptied = mem::replace(&mut self.rest.rows, rows);
+        self.gains.done.fill(Vec::from(emptied));
         self.batches += 1;
         Ok(())
     }
@@ -171,7 +244,6 @@ impl Worker {
         ensures err { OnErr result (IsLookedAt self.old self.new) }
         ensures ends { HasSameEnds self.old self.new }
         ensures unsent { HaveSentNothing self.old.outs self.new.outs }
-        ensures unlooked { wants_batch self.old ≡ false → self.new.ins ≡ self.old.ins }
     {
         if self.finished {
             return Ok(Turn::Ended);

@@ -4,7 +4,7 @@ use Rattle.amber_worker.specs.WorkerState.{WorkerState}
 use Rattle.amber_worker.specs.AtPosition.{HasSameEnds, IsLookedAt, Keeps}
 use Rattle.amber_worker.specs.contracts.worker.Worker.{the_invariant, the_view}
 use Rattle.amber_worker.specs.declared.worker.Worker.TheInside.{Inside}
-use Rattle.amber_worker.proofs.Turns.{IsCalm, ends-done, ends-emitted, ends-looked, ends-same, ends-taken_batch, ends-taken_row, is-idle, keeps-done, keeps-emitted, keeps-idle, keeps-looked, keeps-same, keeps-taken_batch, keeps-taken_row, looked-few, looked-none, looked-unfinished, next-done, next-idle, next-over, next-pending, next-plain, next-rest, next-taken, not-taken, step-batch, step-done, unsent-done, unsent-emitted, unsent-looked, unsent-same, unsent-taken_batch, unsent-taken_row, unwanted}
+use Rattle.amber_worker.proofs.Turns.{IsCalm, ends-done, ends-emitted, ends-looked, ends-same, ends-taken_batch, ends-taken_row, is-idle, keeps-done, keeps-emitted, keeps-idle, keeps-looked, keeps-same, keeps-taken_batch, keeps-taken_row, looked-few, looked-none, looked-unfinished, next-done, next-idle, next-over, next-pending, next-plain, next-rest, next-taken, not-taken, step-batch, step-done, unsent-done, unsent-emitted, unsent-looked, unsent-same, unsent-taken_batch, unsent-taken_row}
 use Rattle.amber_worker.proofs.Unchanged.{err_so}
 use Rattle.amber_worker.proofs.worker.Worker.turn.Goals as goal
 
@@ -162,35 +162,6 @@ pub returns-clause-unsent : goal.returns-clause-unsent
 returns-clause-unsent c =
     let looked = not-taken _ c.take_batch.new.self c.in_ok-taken.taken c.if-taken.false c.in_ok-taken.ensures.found in
     unsent-done _ c.take_batch.new.self c.finish.new.self c.in_ok-ended.ended looked c.in_ok-ended.ensures.done
-
--- ---- no look was made
-
-pub returns-in_err-emit_row-clause-unlooked : goal.returns-in_err-emit_row-clause-unlooked
-returns-in_err-emit_row-clause-unlooked c h = ap (λ (w : WorkerState). w.ins) c.in_err-emit_row.ensures.err
-
-pub returns-then-has_pending-clause-unlooked : goal.returns-then-has_pending-clause-unlooked
-returns-then-has_pending-clause-unlooked c h = ap (λ (w : WorkerState). w.ins) c.in_ok-emit_row.ensures.ok.after
-
-pub returns-in_err-take_row-clause-unlooked : goal.returns-in_err-take_row-clause-unlooked
-returns-in_err-take_row-clause-unlooked c h = ap (λ (w : WorkerState). w.ins) c.in_err-take_row.ensures.err
-
-pub returns-then-has_rest-clause-unlooked : goal.returns-then-has_rest-clause-unlooked
-returns-then-has_rest-clause-unlooked c h = ap (λ (w : WorkerState). w.ins) c.in_ok-take_row.ensures.ok.after
-
-pub returns-in_err-taken-clause-unlooked : goal.returns-in_err-taken-clause-unlooked
-returns-in_err-taken-clause-unlooked c h = unwanted c.args.self.now _ (calm c.self.inside c.args.self.now c.self.view_is c.self.invariant) (unfinished c.self.inside c.args.self.now c.self.view_is c.if-self.false) (sym c.if-has_pending.ensures) (sym c.if-has_rest.ensures) h
-
-pub returns-then-taken-clause-unlooked : goal.returns-then-taken-clause-unlooked
-returns-then-taken-clause-unlooked c h = unwanted c.args.self.now _ (calm c.self.inside c.args.self.now c.self.view_is c.self.invariant) (unfinished c.self.inside c.args.self.now c.self.view_is c.if-self.false) (sym c.if-has_pending.ensures) (sym c.if-has_rest.ensures) h
-
-pub returns-in_err-ended-clause-unlooked : goal.returns-in_err-ended-clause-unlooked
-returns-in_err-ended-clause-unlooked c h = unwanted c.args.self.now _ (calm c.self.inside c.args.self.now c.self.view_is c.self.invariant) (unfinished c.self.inside c.args.self.now c.self.view_is c.if-self.false) (sym c.if-has_pending.ensures) (sym c.if-has_rest.ensures) h
-
-pub returns-then-ended-clause-unlooked : goal.returns-then-ended-clause-unlooked
-returns-then-ended-clause-unlooked c h = unwanted c.args.self.now _ (calm c.self.inside c.args.self.now c.self.view_is c.self.invariant) (unfinished c.self.inside c.args.self.now c.self.view_is c.if-self.false) (sym c.if-has_pending.ensures) (sym c.if-has_rest.ensures) h
-
-pub returns-clause-unlooked : goal.returns-clause-unlooked
-returns-clause-unlooked c h = unwanted c.args.self.now _ (calm c.self.inside c.args.self.now c.self.view_is c.self.invariant) (unfinished c.self.inside c.args.self.now c.self.view_is c.if-self.false) (sym c.if-has_pending.ensures) (sym c.if-has_rest.ensures) h
 
 pub finish-requires-clause-few : goal.finish-requires-clause-few
 finish-requires-clause-few c =

@@ -8,7 +8,7 @@ use Rattle.amber_link.specs.Links.{has_some}
 use Rattle.amber_link.proofs.LinkEnds.{none-first}
 use Rattle.amber_worker.specs.WorkerState.{WorkerState}
 use Rattle.amber_worker.proofs.Unchanged.{err_so, few-noted, few-same, same-journal, same-taking, steps-few}
-use Rattle.amber_worker.proofs.worker.Worker.take_row.Goals as goal
+use Rattle.amber_worker.proofs.worker.Worker.take_left.Goals as goal
 
 pub invariant_of-self-2 : goal.invariant_of-self-2
 invariant_of-self-2 c =

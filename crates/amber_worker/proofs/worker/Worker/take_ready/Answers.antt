@@ -10,7 +10,7 @@ use Rattle.amber_link.proofs.LinkEnds.{none-first}
 use Rattle.amber_worker.proofs.Others.{others-pass}
 use Rattle.amber_worker.proofs.Bounds.{few-batch, no-share, takes-batch, written-back}
 use Rattle.amber_worker.proofs.Unchanged.{err_so, few-taken, same-journal, steps-few}
-use Rattle.amber_worker.proofs.worker.Worker.take_from.Goals as goal
+use Rattle.amber_worker.proofs.worker.Worker.take_ready.Goals as goal
 
 and-true : (b : Bool) → (b && true) ≡ b
 and-true true = refl
@@ -46,7 +46,7 @@ returns-clause-ok c =
     (takes-batch _ c.take_at-from.result.from c.take_at-from.result.seq c.take_at-from.result.builds c.take_at-from.result.batch c.self.inside.ins.items c.take_at-from.new.ins _ _ _
     c.turn_to.new.operator_state c.in_ok-last.last.items c.close.new.pending (eqb (length c.take_at-from.result.batch.rows) 0) c.closes_at-asked.result (have_all_ended c.take_at-from.new.ins)
     (rw c.as_mut_slice.ensures.value at c.take_at-from.ensures.taken) (pairwise-refl IsLooked looked-same c.self.inside.ins.items) ready from_small seq_small
-    (rw (no-share _ _ c.args.place c.self.invariant.shares there, c.from_vec.ensures.items, c.into_inner.ensures) refl)
+    (rw (no-share _ _ c.args.place c.self.invariant.shares there, c.replace-emptied.ensures.after, c.from_vec-rows.ensures.items, c.into_inner.ensures) refl)
     (written-back _ _ _ len stays)
     (rw (c.push_reserved.ensures.items, c.reserve.ensures.items) refl)
     c.turn_to.ensures refl refl
