@@ -82,7 +82,7 @@ others-emitted flow old new number op only apart =
     emitted-same old new (workers_of flow op) (λ worker known.
     ap (λ (w : WorkerState). w.emitted) (only worker (λ same. apart (sym (worker-op flow op worker known) ∙ ap (op_of flow) same))))
 
--- ---- one more row at most
+-- ---- so many more rows at most
 
 -- what so many workers in a row have emitted
 abbrev row_emitted : List WorkerState → ℕ → ℕ → ℕ
@@ -95,9 +95,9 @@ row-none crew first = refl
 row-more : (crew : List WorkerState) (first n : ℕ) → row_emitted crew first n + (worker_state_at crew (first + n)).emitted ≡ row_emitted crew first (suc n)
 row-more crew first n = emitted-more crew first n (row_emitted crew first n) refl ∙ ap (row_emitted crew first) (add-one n)
 
-module _ (old new : List WorkerState) (number : ℕ) (only : MovesOnly old new number) (rows : (worker_state_at new number).emitted ≤ (worker_state_at old number).emitted + 1) where
+module _ (old new : List WorkerState) (number most : ℕ) (only : MovesOnly old new number) (rows : (worker_state_at new number).emitted ≤ (worker_state_at old number).emitted + most) where
   -- whether the one that moved is among them or not
-  emitted-row : (first n : ℕ) → (number < first + n → row_emitted new first n ≤ row_emitted old first n + 1) × (first + n ≤ number → row_emitted new first n ≤ row_emitted old first n)
+  emitted-row : (first n : ℕ) → (number < first + n → row_emitted new first n ≤ row_emitted old first n + most) × (first + n ≤ number → row_emitted new first n ≤ row_emitted old first n)
   emitted-row first zero =
       let before = row-none old first in
       let now = row-none new first in
@@ -119,8 +119,8 @@ module _ (old new : List WorkerState) (number : ℕ) (only : MovesOnly old new n
             (λ below. let less = parts.0 (omega arith) in omega arith, λ above. let less = parts.1 (omega arith) in omega arith)
       ]
 
-  pub emitted-one : (flow : List Operator) (op : ℕ) → emitted_at new (workers_of flow op) ≤ emitted_at old (workers_of flow op) + 1
+  pub own-emitted : (flow : List Operator) (op : ℕ) → emitted_at new (workers_of flow op) ≤ emitted_at old (workers_of flow op) + most
   unfolding workers_of
-  emitted-one flow op =
+  own-emitted flow op =
       let parts = emitted-row (first_worker_of flow op) (worker_count flow op) in
       elim (cases_lt number (first_worker_of flow op + worker_count flow op)) [ inl below ↦ parts.0 below | inr above ↦ let less = parts.1 above in omega arith ]

@@ -1,5 +1,5 @@
 -- What the calls of all workers keep, as the code has it: the workers stand in a slice of a `Vec`, which comes back.
-use Rattle.std.proofs.Common.{◌≡◌, ◌≢◌, refl, sym, ap, subst, ◌∙◌, ℕ, zero, suc, ◌+◌, ◌-◌, ◌<◌, ◌≤◌, ◌^◌, eqb, nat_eq, sum_by, List, [], ◌∷◌, ◌++◌, length, map, take, drop, Bool, true, false, if◌then◌else◌, Result, Ok, Err, None, unwrap_or, append-nil, arith}
+use Rattle.std.proofs.Common.{◌≡◌, ◌≢◌, ◌⊎◌, refl, sym, ap, subst, ◌∙◌, ℕ, zero, suc, ◌+◌, ◌-◌, ◌<◌, ◌≤◌, ◌^◌, eqb, nat_eq, sum_by, List, [], ◌∷◌, ◌++◌, length, map, take, drop, Bool, true, false, if◌then◌else◌, Result, Ok, Err, None, unwrap_or, append-nil, arith}
 use Rattle.std.specs.List.{slice_get}
 use Rattle.std.specs.Result.{IfOk}
 use Rattle.std.proofs.lemmas.Bool.{eq-eqb, ne_eqb}
@@ -21,19 +21,19 @@ use Rattle.amber_meaning.proofs.Crews.{op-within, worker-known}
 use Rattle.amber_meaning.proofs.Numbers.{among, among-first, among-more}
 use Rattle.amber_worker.specs.AtPosition.{placement_of}
 use Rattle.amber_worker.specs.Changes.{at_leg_start}
-use Rattle.amber_worker.specs.Turning.{WritesStep}
-use Rattle.amber_worker.specs.WorkerState.{WorkerState}
+use Rattle.amber_worker.specs.Turning.{HasStopped, WritesStep}
+use Rattle.amber_worker.specs.WorkerState.{WorkerState, steps_made}
 use Rattle.amber_dataflow.specs.Answers.{IsGathered, ShowAll, ShowWorkers}
-use Rattle.amber_dataflow.specs.AtWork.{AreAtWork, GoesOn, HaveFinished, IsCrew, IsQuiet, MovesOnly, state_reached, steps_by, worker_state_at}
-use Rattle.amber_dataflow.specs.Dataflow.{AreAllThere, DataflowState, HaveDoneNothing, IsAnswerOf, IsDataflow, IsFirst, ShowAt, StepsAt, leg_begun, handed_out, has_finished, have_all_finished, journal_of, rows_emitted, step_count, constant_put, worker_set}
+use Rattle.amber_dataflow.specs.AtWork.{AreAtWork, GoesOn, HaveFinished, IsCrew, IsQuiet, MakesTurnsAt, state_reached, steps_by, worker_state_at}
+use Rattle.amber_dataflow.specs.Dataflow.{AreAllThere, DataflowState, FirstHaveFinished, HaveDoneNothing, IsAnswerOf, IsDataflow, IsFirst, IsStarved, ShowAt, TurnsAt, leg_begun, handed_out, has_finished, have_all_finished, journal_of, rows_emitted, step_count, constant_put, worker_set}
 use Rattle.amber_dataflow.specs.Parts.{without_journal}
 use Rattle.amber_dataflow.proofs.Answered.{at-work-show, some-crew}
-use Rattle.amber_dataflow.proofs.Emitted.{crew-few, emitted-one, others-emitted}
+use Rattle.amber_dataflow.proofs.Emitted.{crew-few, others-emitted, own-emitted}
 use Rattle.amber_dataflow.proofs.Numbered.{nth-numbers, quiet-map}
 use Rattle.amber_dataflow.proofs.Reached.{listed-at}
 use Rattle.amber_dataflow.proofs.Said.{all-have}
 use Rattle.amber_dataflow.proofs.Standing.{begun-steps, handed_out-steps, set-steps, stand-begun, stand-handed_out, stand-quiet, stand-set}
-use Rattle.amber_dataflow.proofs.Steps.{steps-none}
+use Rattle.amber_dataflow.proofs.Steps.{steps-none, stopped-finished, sum-member}
 use Rattle.amber_dataflow.proofs.Within.{position-here, steps-reached}
 
 -- a slice of a `Vec` that comes back as long as it was
@@ -45,8 +45,19 @@ written-back old new n same is =
 module _ (d : DataflowState) (keeps : IsDataflow d) where
   -- ---- where workers are left
 
-  pub crew-is : AreAllThere d → IsCrew d.workers
+  crew-is : AreAllThere d → IsCrew d.workers
   crew-is there = let stand = keeps.stand there in (stand.0, stand.1, stand.2, stand.3.work)
+
+  -- as they are lent
+  pub crew-lent : (lent : List WorkerState) → lent ≡ d.workers → AreAllThere d → IsCrew lent
+  crew-lent lent is there = subst IsCrew (sym is) (crew-is there)
+
+  -- each has made few steps, with those to come
+  pub few-lent : (lent : List WorkerState) (worker more : ℕ) → lent ≡ d.workers → step_count d + more ≤ 2 ^ 40 → steps_made (worker_state_at lent worker) + more ≤ 2 ^ 40
+  unfolding step_count
+  few-lent lent worker more is few =
+      let one = sum-member d.workers worker in
+      subst (λ crew. steps_made (worker_state_at crew worker) + more ≤ 2 ^ 40) (sym is) (omega arith)
 
   -- the first that has not finished, as it was found
   pub first-there : (lent : List WorkerState) (worker : ℕ) → lent ≡ d.workers → AreAllThere d → worker < length lent → HaveFinished worker lent
@@ -64,54 +75,79 @@ module _ (d : DataflowState) (keeps : IsDataflow d) where
   unfolding step_count
   none-left workers none = rw none (record { flow = keeps.flow; few = rw steps-none (omega arith); stand = λ there. let some = some-crew d.flow keeps.flow in absurd (omega (arith, there)) })
 
-  -- ---- a step
+  -- ---- turns
 
-  module _ (now : List WorkerState) (worker : ℕ) (there : length now ≡ crew_of d.flow) (on : GoesOn d.workers now worker) (one : steps_by now ≡ steps_by d.workers + 1)
-      (only : MovesOnly d.workers now worker) (rows : (worker_state_at now worker).emitted ≤ (worker_state_at d.workers worker).emitted + 1)
-      (writes : WritesStep (worker_state_at d.workers worker).journal (worker_state_at now worker).journal) where
-    pub stepped : StepsAt d (record d { workers = now }) worker
-    unfolding GoesOn step_count journal_of has_finished rows_emitted
-    stepped = record {
-      flow = refl;
-      there = there;
-      on = λ query start positions stand.
-          let next = on query start positions stand.work in
-          (next.0, record { flow = stand.flow; work = next.1 }, next.2);
-      one = one;
-      writes = writes;
-      others = λ other apart. record {
-        finished = ap (λ (w : WorkerState). w.finished) (only other apart);
-        journal = ap (λ (w : WorkerState). w.journal) (only other apart);
-      };
-      rows = emitted-one d.workers now worker only rows d.flow (op_of d.flow worker);
-      emitted = λ op apart. others-emitted d.flow d.workers now worker op only apart;
-    }
+  -- one of them has made turns
+  turned : (now : List WorkerState) (worker most : ℕ) → length now ≡ crew_of d.flow → MakesTurnsAt most d.workers now worker → TurnsAt most d (record d { workers = now }) worker
+  unfolding GoesOn journal_of has_finished rows_emitted
+  turned now worker most there turns = record {
+    flow = refl;
+    there = there;
+    on = λ query start positions stand.
+        let next = turns.on query start positions stand.work in
+        (next.0, record { flow = stand.flow; work = next.1 }, next.2);
+    writes = turns.writes;
+    others = λ other apart. record {
+      finished = ap (λ (w : WorkerState). w.finished) (turns.only other apart);
+      journal = ap (λ (w : WorkerState). w.journal) (turns.only other apart);
+    };
+    rows = own-emitted d.workers now worker most turns.only turns.rows d.flow (op_of d.flow worker);
+    emitted = λ op apart. others-emitted d.flow d.workers now worker op turns.only apart;
+  }
 
-  pub kept-stepped : (new : DataflowState) (worker : ℕ) → AreAllThere d → step_count d < 2 ^ 40 → StepsAt d new worker → IsDataflow new
-  kept-stepped new worker there few steps =
-      let stand = keeps.stand there in
-      let next = steps.on stand.0 stand.1 stand.2 stand.3 in
-      let one = steps.one in
-      record {
-        flow = rw steps.flow keeps.flow;
-        few = omega arith;
-        stand = λ has. (stand.0, stand.1, next.0, next.1);
-      }
+  -- as they were lent and come back
+  module _ (lent now : List WorkerState) (n worker made : ℕ) (is : lent ≡ d.workers) (long : length now ≡ length lent) (size : n ≡ length d.workers)
+      (there : AreAllThere d) (turns : MakesTurnsAt made lent now worker) where
+    abbrev back : DataflowState
+    back = record d { workers = take n (now ++ drop (length now) d.workers) }
 
-  -- as it was lent and comes back
-  module _ (lent now : List WorkerState) (n worker : ℕ) (is : lent ≡ d.workers) (long : length now ≡ length lent) (size : n ≡ length d.workers)
-      (there : AreAllThere d) (few : step_count d < 2 ^ 40) (on : GoesOn lent now worker) (one : steps_by now ≡ steps_by lent + 1)
-      (only : MovesOnly lent now worker) (rows : (worker_state_at now worker).emitted ≤ (worker_state_at lent worker).emitted + 1)
-      (writes : WritesStep (worker_state_at lent worker).journal (worker_state_at now worker).journal) where
-    pub stepped-back : StepsAt d (record d { workers = take n (now ++ drop (length now) d.workers) }) worker
-    stepped-back =
-        subst (λ crew. StepsAt d (record d { workers = crew }) worker) (sym (written-back d.workers now n (long ∙ ap length is) size))
-        (stepped now worker (long ∙ ap length is ∙ there) (subst (λ crew. GoesOn crew now worker) is on) (one ∙ ap (λ crew. steps_by crew + 1) is) (subst (λ crew. MovesOnly crew now worker) is only)
-        (subst (λ crew. (worker_state_at now worker).emitted ≤ (worker_state_at crew worker).emitted + 1) is rows)
-        (subst (λ crew. WritesStep (worker_state_at crew worker).journal (worker_state_at now worker).journal) is writes))
+    back-is : record d { workers = now } ≡ back
+    back-is = ap (λ crew. record d { workers = crew }) (sym (written-back d.workers now n (long ∙ ap length is) size))
 
-    pub kept-back : IsDataflow (record d { workers = take n (now ++ drop (length now) d.workers) })
-    kept-back = kept-stepped _ worker there few stepped-back
+    -- one has made turns
+    pub turned-back : TurnsAt made d back worker
+    turned-back = subst (λ e. TurnsAt made d e worker) back-is
+        (turned now worker made (long ∙ ap length is ∙ there) (subst (λ crew. MakesTurnsAt made crew now worker) is turns))
+
+    -- a step stands in its journal
+    pub writes-back : WritesStep (worker_state_at lent worker).journal (worker_state_at now worker).journal → WritesStep (journal_of d worker) (journal_of back worker)
+    unfolding journal_of
+    writes-back writes = subst (λ e. WritesStep (journal_of d worker) (journal_of e worker)) back-is
+        (subst (λ crew. WritesStep (worker_state_at crew worker).journal (worker_state_at now worker).journal) is writes)
+
+    module _ (count : steps_by now ≡ steps_by lent + made) where
+      -- so many turns
+      pub count-back : step_count back ≡ step_count d + made
+      unfolding step_count
+      count-back = ap step_count (sym back-is) ∙ count ∙ ap (λ crew. steps_by crew + made) is
+
+      -- what is known of all workers still is
+      pub kept-back : step_count d + made ≤ 2 ^ 40 → IsDataflow back
+      kept-back few =
+          let stand = keeps.stand there in
+          let next = turned-back.on stand.0 stand.1 stand.2 stand.3 in
+          record {
+            flow = keeps.flow;
+            few = rw count-back few;
+            stand = λ has. (stand.0, stand.1, next.0, next.1);
+          }
+
+    -- it has stopped
+    pub stopped-back : HasStopped (worker_state_at now worker) → (has_finished back worker ≡ true) ⊎ IsStarved back worker
+    unfolding has_finished IsStarved
+    stopped-back stopped = subst (λ (e : DataflowState). HasStopped (worker_state_at e.workers worker)) back-is stopped
+
+    -- and has finished where all before it have
+    pub finished-back : worker < crew_of d.flow → HasStopped (worker_state_at now worker) → FirstHaveFinished worker d → has_finished back worker ≡ true
+    unfolding has_finished GoesOn
+    finished-back inside stopped first =
+        let stand = keeps.stand there in
+        let next = turns.on stand.0 stand.1 stand.2 (subst (λ crew. AreAtWork stand.0 stand.1 crew stand.2) (sym is) stand.3.work) in
+        ap (λ e. has_finished e worker) (sym back-is)
+        ∙ stopped-finished now worker (stand.0, stand.1, next.0, next.1) (rw (long, ap length is, there) inside)
+        (λ other below. ap (λ (w : WorkerState). w.finished) (turns.only other (λ same. absurd (omega arith)))
+        ∙ ap (λ crew. (worker_state_at crew other).finished) is ∙ first other below)
+        stopped
 
   -- ---- a leg begins, and journals are handed out
 

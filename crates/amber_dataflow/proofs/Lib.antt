@@ -26,6 +26,7 @@ pub mod Sending
 pub mod SortedRefusals
 pub mod Split
 pub mod Standing
+pub mod Starved
 pub mod Stepped
 pub mod Steps
 pub mod Viewed

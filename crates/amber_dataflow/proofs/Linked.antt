@@ -27,13 +27,13 @@ module _ (a b : WorkerState) (same : HasSameEnds a b) where
   outs-length : length b.outs ≡ length a.outs
   outs-length = pairwise-length IsSameReceiver a.outs b.outs same.outs
 
-  ins-length : length b.ins ≡ length a.ins
+  pub ins-length : length b.ins ≡ length a.ins
   ins-length = pairwise-length IsSameSender a.ins b.ins same.ins
 
   out-at : (j : ℕ) (d e : Downstream) → j < length a.outs → IsSameReceiver (get_or a.outs j d) (get_or b.outs j e)
   out-at j d e less = pairwise-at IsSameReceiver a.outs b.outs j d e less same.outs
 
-  in-at : (k : ℕ) (d e : Upstream) → k < length a.ins → IsSameSender (get_or a.ins k d) (get_or b.ins k e)
+  pub in-at : (k : ℕ) (d e : Upstream) → k < length a.ins → IsSameSender (get_or a.ins k d) (get_or b.ins k e)
   in-at k d e less = pairwise-at IsSameSender a.ins b.ins k d e less same.ins
 
 -- the places of a link are the same where the ends are

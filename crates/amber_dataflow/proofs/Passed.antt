@@ -4,10 +4,11 @@ use Rattle.std.specs.List.{list_any}
 use Rattle.amber_worker.specs.Pairs.{AreJoined}
 use Rattle.amber_worker.specs.WorkerState.{WorkerState}
 use Rattle.amber_dataflow.specs.AtWork.{AreJoinedAt, IsJoinedCrew, IsSameBesides, StayPut, worker_state_at}
-use Rattle.amber_dataflow.specs.Passing.{AreSameBesides, Come, PassedOn, Settled, SettledStay}
+use Rattle.amber_dataflow.specs.Passing.{AreSameBesides, Come, IsSettledAt, PassedOn, Settled, SettledStay}
 use Rattle.amber_dataflow.proofs.Crews.{at-each, here-now, joined-stays, there-still}
 use Rattle.amber_dataflow.proofs.Linked.{come-aside, come-settled, settled-aside, settled-beside, settled-same}
-use Rattle.amber_dataflow.proofs.Sending.{number-shown, sending-out}
+use Rattle.amber_dataflow.proofs.Numbers.{length-put}
+use Rattle.amber_dataflow.proofs.Sending.{number-shown, sending, sending-in, sending-out}
 
 -- ---- nothing has changed
 
@@ -163,3 +164,27 @@ module _ (old new : List WorkerState) (from to : ℕ) (passed : PassedOn old fro
 -- the numbers of workers that are joined
 pub numbers-of : (crew : List WorkerState) → IsJoinedCrew crew → (k : ℕ) → k < length crew → (worker_state_at crew k).number ≡ k
 numbers-of crew joined = number-shown joined.0 joined.1 crew joined.2 joined.3
+
+-- what one worker has made went on, and then what was made for it
+module _ (old between new : List WorkerState) (number : ℕ) (joined : IsJoinedCrew old) (inside : number < length old) (put : StayPut old between)
+    (outs : (to : ℕ) → list_any (λ one. nat_eq one.to to) (worker_state_at old number).outs ≡ true → Settled between number to)
+    (others : SettledStay old between) (aside : AreSameBesides old between) where
+  pub settled-both : StayPut between new → ((from : ℕ) → list_any (λ one. nat_eq one.from from) (worker_state_at between number).ins ≡ true → Settled new from number)
+      → SettledStay between new → AreSameBesides between new → IsSettledAt old new number
+  unfolding StayPut
+  settled-both put-next ins others-next aside-next =
+      let query = joined.0 in
+      let start = joined.1 in
+      let positions = joined.2 in
+      let long = length-put old between joined put in
+      record {
+        put = put-then old between new put put-next;
+        outs = λ to known.
+            let one = sending-out query start old positions joined.3 number to inside known in
+            others-next number to one.before (rw long one.there) (outs to known);
+        ins = λ from known.
+            let one = sending-in query start old positions joined.3 from number inside known in
+            ins from (sending query start between positions (put query start positions joined.3) from number one.does).receives;
+        others = stay-then old between new long others others-next;
+        aside = besides-then old between new aside aside-next;
+      }

@@ -1,4 +1,4 @@
--- A step of the first unfinished worker: it moves. And the steps of all.
+-- A turn of the first unfinished worker: it makes a step. And the steps of all.
 use Rattle.std.proofs.Common.{◌≡◌, refl, sym, ap, ◌∙◌, ℕ, zero, suc, ◌+◌, ◌<◌, ◌≤◌, List, [], ◌∷◌, ◌++◌, length, get_or, set, nat_eq, Bool, true, false, if◌then◌else◌, inl, inr, subst, arith, take, drop, sum_by, zero-add}
 use Rattle.std.proofs.lemmas.Bool.{eq-eqb, false≢true, or_cases, or_left, or_right}
 use Rattle.std.proofs.lemmas.Grind.{take_at_read}
@@ -6,28 +6,31 @@ use Rattle.std.proofs.lemmas.List.{take-append-drop}
 use Rattle.std.proofs.lemmas.List.Sums.{sum_by-append, sum_by-cons}
 use Rattle.std.specs.List.{list_any}
 use Rattle.amber_rows.specs.Topology.{crew_of}
-use Rattle.amber_link.specs.Links.{has_some, waiting}
+use Rattle.amber_link.specs.Links.{come, has_some, waiting}
 use Rattle.amber_link.specs.Sides.{AreLooked, IsLooked, have_all_ended}
 use Rattle.amber_link.proofs.Sides.{pairwise-length}
 use Rattle.amber_link.specs.declared.upstreams.Upstream.{Upstream}
 use Rattle.amber_rows.specs.Chunks.{chunks_of}
 use Rattle.amber_rows.specs.declared.batch.Batch.{Batch}
 use Rattle.amber_meaning.specs.Legal.{Query, role_in}
-use Rattle.amber_meaning.specs.Position.{Position, emitted_rows, taken_from}
+use Rattle.amber_meaning.specs.Position.{Position, emitted_rows, has_last, taken_from}
+use Rattle.amber_meaning.specs.Task.{is_builder}
 use Rattle.amber_meaning.specs.State.{State}
 use Rattle.amber_worker.specs.AtPosition.{placement_of, stream_to}
-use Rattle.amber_worker.specs.Turning.{HasTurned, IsNextTurn, MakesStep}
-use Rattle.amber_worker.specs.Pairs.{OffersAll}
+use Rattle.amber_worker.specs.Turning.{HasStopped, HasTurned, IsNextTurn, MakesStep}
+use Rattle.amber_worker.specs.Pairs.{OffersAll, made_for}
 use Rattle.amber_worker.specs.WorkerState.{WorkerState, has_ready, next_turn, steps_made}
 use Rattle.amber_worker.specs.declared.turn.Turn.{Turn}
 use Rattle.amber_worker.specs.declared.turn.Turn.TheVariants as turn
 use Rattle.amber_worker.proofs.Idle.{has_marked, has_marked-chunks_of, never_idle}
-use Rattle.amber_worker.proofs.PairFacts.{offers-all}
+use Rattle.amber_worker.proofs.PairFacts.{offers-all, receives-at}
 use Rattle.amber_worker.proofs.Settling.{Shows-relinked}
 use Rattle.amber_worker.proofs.Received.{receive_all-looked, sides-looked}
+use Rattle.amber_worker.proofs.Turns.{looked-none}
 use Rattle.amber_dataflow.proofs.Linked.{pairwise-at}
 use Rattle.amber_dataflow.proofs.Sending.{sending-in}
-use Rattle.amber_dataflow.specs.AtWork.{AreAtWork, HaveFinished, IsCrew, context_in, placement_at, steps_by, worker_state_at}
+use Rattle.amber_dataflow.proofs.Split.{read-at}
+use Rattle.amber_dataflow.specs.AtWork.{AreAtWork, AreJoinedAt, HaveFinished, IsCrew, context_in, placement_at, steps_by, worker_state_at}
 
 -- ---- who has something to do
 
@@ -36,53 +39,96 @@ marked-more [] [] zs e = absurd (false≢true e)
 marked-more [] (y ∷ ys) zs e = elim (or_cases y.last _ e) [ inl here ↦ or_left _ _ here | inr there ↦ or_right _ _ (marked-more [] ys zs there) ]
 marked-more (x ∷ xs) ys zs e = elim (or_cases x.last _ e) [ inl here ↦ or_left _ _ here | inr there ↦ or_right _ _ (marked-more xs ys zs there) ]
 
-any-at : (ins : List Upstream) (k n : ℕ) → k < length ins → ((d : Upstream) → (get_or ins k d).from ≡ n) → list_any (λ (one : Upstream). nat_eq one.from n) ins ≡ true
+pub any-at : (ins : List Upstream) (k n : ℕ) → k < length ins → ((d : Upstream) → (get_or ins k d).from ≡ n) → list_any (λ (one : Upstream). nat_eq one.from n) ins ≡ true
 any-at [] k n less own = absurd (omega arith)
 any-at (one ∷ ins) zero n less own = or_left _ _ (eq-eqb one.from n (own one))
 any-at (one ∷ ins) (suc k) n less own = or_right _ _ (any-at ins k n (omega arith) own)
 
+-- what a worker's position says of the sender at a place
+pub record IsReceived (query : Query) (p : Position) (worker sender : ℕ) (one : Upstream) : Type 0 where
+  pub ended : one.ended ≡ has_last p.taken sender
+  pub builds : one.builds ≡ is_builder (role_in query worker).task sender
+  pub come : come one.link ≡ taken_from p.taken sender ++ waiting one.link
+
+module _ (query : Query) (start : State) (crew : List WorkerState) (positions : ℕ → Position) (at : AreJoinedAt query start crew positions)
+    (worker : ℕ) (inside : worker < length crew) where
+  -- the position that a worker shows says so of each sender
+  pub received-at : (k sender : ℕ) (d : Upstream) → k < length (worker_state_at crew worker).ins → (get_or (worker_state_at crew worker).ins k d).from ≡ sender
+      → IsReceived query (positions worker) worker sender (get_or (worker_state_at crew worker).ins k d)
+  unfolding placement_of
+  received-at k sender d less own =
+      let shows = (at.at_positions.each worker (rw (← at.at_positions.all) inside)).shows in
+      let one = receives-at (role_in query worker).senders (λ sender. []) (positions worker).taken (worker_state_at crew worker).ins k sender d less own shows.ins in
+      record {
+        ended = one.ended;
+        builds = shows.sides k d less ∙ ap (is_builder (role_in query worker).task) own;
+        come = one.come.all;
+      }
+
 module _ (query : Query) (start : State) (crew : List WorkerState) (positions : ℕ → Position) (work : AreAtWork query start crew positions)
-    (worker : ℕ) (inside : worker < length crew) (finished : HaveFinished worker crew) where
+    (worker : ℕ) (inside : worker < length crew) where
   abbrev me : WorkerState
   me = worker_state_at crew worker
 
-  -- of each sender the last batch was taken or waits
-  marked : (sender k : ℕ) → k < length me.ins → ((d : Upstream) → (get_or me.ins k d).from ≡ sender) → (d : Upstream)
-      → has_marked (taken_from (positions worker).taken sender ++ waiting (get_or me.ins k d).link) ≡ true
+  -- of each sender all batches that it has made were taken or wait
+  offered : (sender k : ℕ) → k < length me.ins → ((d : Upstream) → (get_or me.ins k d).from ≡ sender) → (d : Upstream)
+      → taken_from (positions worker).taken sender ++ waiting (get_or me.ins k d).link ≡ made_for (placement_at query sender) (positions sender) worker
   unfolding OffersAll placement_of
-  marked sender k less own d =
+  offered sender k less own d =
       let one = sending-in query start crew positions work.at sender worker inside (any-at me.ins k sender less own) in
-      let here : worker < crew_of query.flow = one.does.0 in
       let there : sender < crew_of query.flow = rw (← work.at.at_positions.all) (let before = one.before in omega arith) in
       let sends = work.at.at_positions.each sender there in
-      let takes = work.at.at_positions.each worker here in
-      let done : (positions sender).finished ≡ true = sym sends.shows.finished ∙ finished sender one.before in
-      let all = offers-all (worker_state_at crew sender) me (work.settled sender worker one.does)
+      let takes = work.at.at_positions.each worker one.does.0 in
+      offers-all (worker_state_at crew sender) me (work.settled sender worker one.does)
       (record { context = context_in query start sender; position = positions sender }) (record { context = context_in query start worker; position = positions worker })
       (record { shows = sends.shows; other_shows = takes.shows; earlier = refl })
-      k d less (own d) in
-      rw all (ap (λ b. has_marked (chunks_of query.batch_size (stream_to (placement_at query sender) worker (emitted_rows (role_in query sender) (positions sender))) b)) done
-      ∙ has_marked-chunks_of query.batch_size _)
+      k d less (own d)
 
-  -- the worker finds something to do, whatever it finds in a ring
-  busy : (found : List Upstream) → AreLooked me.ins found → next_turn (record me { ins = found }) ≡ turn.Idle → ⊥
-  unfolding placement_of
-  busy found looked idle =
-      let here : worker < crew_of query.flow = rw (← work.at.at_positions.all) inside in
-      let stands = work.at.at_positions.each worker here in
-      let context = context_in query start worker in
-      let shows = Shows-relinked context me (positions worker) found me.outs me.journal stands.shows
-      (receive_all-looked (λ sender. []) (positions worker).taken context.placement.role.senders me.ins found looked stands.shows.ins)
-      (sides-looked context.placement.role.task me.ins found looked stands.shows.sides) stands.shows.outs in
-      let long : length found ≡ length me.ins = pairwise-length IsLooked me.ins found looked in
-      never_idle context (record me { ins = found }) (positions worker) shows
-      (λ sender k less own d.
-      let k_less : k < length me.ins = rw (← long) less in
-      let seen : (e : Upstream) → IsLooked (get_or me.ins k e) (get_or found k d) = λ e. pairwise-at IsLooked me.ins found k e d k_less looked in
-      let same : (e : Upstream) → (get_or me.ins k e).from ≡ sender = λ e. sym (ap (λ (s : Upstream). s.from) (seen e).only) ∙ own d in
-      subst (λ batches. has_marked (taken_from (positions worker).taken sender ++ batches) ≡ true) ((seen d).gives.waiting_more)
-      (marked-more (taken_from (positions worker).taken sender) (waiting (get_or me.ins k d).link) (seen d).gives.more (marked sender k k_less same d)))
-      idle
+  -- and these have come
+  pub all-come : (sender k : ℕ) → k < length me.ins → ((d : Upstream) → (get_or me.ins k d).from ≡ sender) → (d : Upstream)
+      → come (get_or me.ins k d).link ≡ made_for (placement_at query sender) (positions sender) worker
+  all-come sender k less own d = (received-at query start crew positions work.at worker inside k sender d less (own d)).come ∙ offered sender k less own d
+
+  module _ (finished : HaveFinished worker crew) where
+    -- of each sender the last batch was taken or waits
+    marked : (sender k : ℕ) → k < length me.ins → ((d : Upstream) → (get_or me.ins k d).from ≡ sender) → (d : Upstream)
+        → has_marked (taken_from (positions worker).taken sender ++ waiting (get_or me.ins k d).link) ≡ true
+    unfolding placement_of
+    marked sender k less own d =
+        let one = sending-in query start crew positions work.at sender worker inside (any-at me.ins k sender less own) in
+        let there : sender < crew_of query.flow = rw (← work.at.at_positions.all) (let before = one.before in omega arith) in
+        let done : (positions sender).finished ≡ true = sym (work.at.at_positions.each sender there).shows.finished ∙ finished sender one.before in
+        rw (offered sender k less own d)
+        (ap (λ b. has_marked (chunks_of query.batch_size (stream_to (placement_at query sender) worker (emitted_rows (role_in query sender) (positions sender))) b)) done
+        ∙ has_marked-chunks_of query.batch_size _)
+
+    -- the worker finds something to do, whatever it finds in a ring
+    busy : (found : List Upstream) → AreLooked me.ins found → next_turn (record me { ins = found }) ≡ turn.Idle → ⊥
+    unfolding placement_of
+    busy found looked idle =
+        let here : worker < crew_of query.flow = rw (← work.at.at_positions.all) inside in
+        let stands = work.at.at_positions.each worker here in
+        let context = context_in query start worker in
+        let shows = Shows-relinked context me (positions worker) found me.outs me.journal stands.shows
+        (receive_all-looked (λ sender. []) (positions worker).taken context.placement.role.senders me.ins found looked stands.shows.ins)
+        (sides-looked context.placement.role.task me.ins found looked stands.shows.sides) stands.shows.outs in
+        let long : length found ≡ length me.ins = pairwise-length IsLooked me.ins found looked in
+        never_idle context (record me { ins = found }) (positions worker) shows
+        (λ sender k less own d.
+        let k_less : k < length me.ins = rw (← long) less in
+        let seen : (e : Upstream) → IsLooked (get_or me.ins k e) (get_or found k d) = λ e. pairwise-at IsLooked me.ins found k e d k_less looked in
+        let same : (e : Upstream) → (get_or me.ins k e).from ≡ sender = λ e. sym (ap (λ (s : Upstream). s.from) (seen e).only) ∙ own d in
+        subst (λ batches. has_marked (taken_from (positions worker).taken sender ++ batches) ≡ true) ((seen d).gives.waiting_more)
+        (marked-more (taken_from (positions worker).taken sender) (waiting (get_or me.ins k d).link) (seen d).gives.more (marked sender k k_less same d)))
+        idle
+
+-- a worker that has stopped, and whose senders have all finished, has finished
+pub stopped-finished : (crew : List WorkerState) (worker : ℕ) → IsCrew crew → worker < length crew → HaveFinished worker crew
+    → HasStopped (worker_state_at crew worker) → (worker_state_at crew worker).finished ≡ true
+stopped-finished crew worker work inside finished (inl done) = done
+stopped-finished crew worker work inside finished (inr idle) =
+    let ins = (worker_state_at crew worker).ins in
+    absurd (busy work.0 work.1 crew work.2 work.3 worker inside finished ins (looked-none (worker_state_at crew worker) (worker_state_at crew worker) refl).looked idle)
 
 ended-finished : (a b c d e : Bool)
     → (if a then turn.Ended else if b then turn.Moved else if c then turn.Moved else if d then turn.Moved else if e then turn.Moved else turn.Idle) ≡ turn.Ended → a ≡ true
@@ -94,14 +140,18 @@ ended-finished false false false false true h = cc
 ended-finished false false false false false h = cc
 
 -- an unfinished worker whose senders have all finished makes a step
-pub moves : (crew : List WorkerState) (worker : ℕ) (now : WorkerState) (done : Turn) → IsCrew crew → worker < length crew → HaveFinished worker crew
-    → (worker_state_at crew worker).finished ≡ false → IsNextTurn (worker_state_at crew worker) done → HasTurned done (worker_state_at crew worker) now
+pub moves : (crew : List WorkerState) (worker : ℕ) (now d : WorkerState) (done : Turn) → IsCrew crew → worker < length crew → HaveFinished worker crew
+    → (worker_state_at crew worker).finished ≡ false → IsNextTurn (get_or crew worker d) done → HasTurned done (get_or crew worker d) now
     → MakesStep (worker_state_at crew worker) now
-moves crew worker now turn.Moved work inside finished not-yet is turned = turned
-moves crew worker now turn.Idle work inside finished not-yet is turned = absurd (busy work.0 work.1 crew work.2 work.3 worker inside finished is.found is.looked (sym is.is))
-moves crew worker now turn.Ended work inside finished not-yet is turned =
-    let w = worker_state_at crew worker in
-    absurd (false≢true (sym not-yet ∙ ended-finished w.finished (has_some w.pending) (has_some w.rest) (has_ready is.found) (have_all_ended is.found) (sym is.is)))
+moves crew worker now d done work inside finished not-yet is turned =
+    by done (subst (λ w. IsNextTurn w done) (read-at crew worker d inside) is) (subst (λ w. HasTurned done w now) (read-at crew worker d inside) turned)
+  where
+    by : (done : Turn) → IsNextTurn (worker_state_at crew worker) done → HasTurned done (worker_state_at crew worker) now → MakesStep (worker_state_at crew worker) now
+    by turn.Moved is turned = turned
+    by turn.Idle is turned = absurd (busy work.0 work.1 crew work.2 work.3 worker inside finished is.found is.looked (sym is.is))
+    by turn.Ended is turned =
+        let w = worker_state_at crew worker in
+        absurd (false≢true (sym not-yet ∙ ended-finished w.finished (has_some w.pending) (has_some w.rest) (has_ready is.found) (have_all_ended is.found) (sym is.is)))
 
 -- ---- sums of steps
 
@@ -117,11 +167,8 @@ sum-set (x ∷ xs) (suc i) w h =
     let rest = sum-set xs i w (omega arith) in
     rw (steps-cons x (set xs i w), steps-cons x xs) (omega arith)
 
-pub sum-more : (crew : List WorkerState) (i : ℕ) (w : WorkerState) → i < length crew → steps_made w ≡ steps_made (worker_state_at crew i) + 1 → steps_by (set crew i w) ≡ steps_by crew + 1
-sum-more crew i w h more = let sum = sum-set crew i w h in omega arith
-
-pub sum-same : (crew : List WorkerState) (i : ℕ) (w : WorkerState) → i < length crew → steps_made w ≡ steps_made (worker_state_at crew i) → steps_by (set crew i w) ≡ steps_by crew
-sum-same crew i w h same = let sum = sum-set crew i w h in omega arith
+pub sum-more : (crew : List WorkerState) (i n : ℕ) (w : WorkerState) → i < length crew → steps_made w ≡ steps_made (worker_state_at crew i) + n → steps_by (set crew i w) ≡ steps_by crew + n
+sum-more crew i n w h more = let sum = sum-set crew i w h in omega arith
 
 pub sum-member : (crew : List WorkerState) (i : ℕ) → steps_made (worker_state_at crew i) ≤ steps_by crew
 sum-member [] i = omega arith

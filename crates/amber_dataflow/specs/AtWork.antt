@@ -1,5 +1,5 @@
 -- Where workers stand, one by one, and who sends to whom.
-use Rattle.std.specs.Prelude.{◌≡◌, ◌≢◌, ℕ, ◌<◌, ◌==◌, List, [], map, slice_index_or, length, sum_by, None, true}
+use Rattle.std.specs.Prelude.{◌≡◌, ◌≢◌, ℕ, ◌+◌, ◌<◌, ◌≤◌, ◌==◌, List, [], map, slice_index_or, length, sum_by, None, true}
 use Rattle.std.specs.List.{list_any}
 use Rattle.rtrb.specs.Ring.{known_items, received, sent}
 use Rattle.amber_rows.specs.Topology.{crew_of, senders_of}
@@ -14,6 +14,7 @@ use Rattle.amber_meaning.specs.Position.{Position}
 use Rattle.amber_meaning.specs.State.{Arms, State, arms_at, position_at}
 use Rattle.amber_worker.specs.AtPosition.{Context, IsAtPosition, Placement, no_base, placement_of}
 use Rattle.amber_worker.specs.Pairs.{AreJoined, AreSettledAt, IsLinkAt}
+use Rattle.amber_worker.specs.Turning.{other_entries}
 use Rattle.amber_worker.specs.WorkerState.{WorkerState, empty_worker_state, steps_made}
 
 -- ---- one of the workers
@@ -103,6 +104,13 @@ IsSameBesides old new = new ≡ record old { ins = new.ins; outs = new.outs }
 -- none but this worker has done anything
 abbrev pub MovesOnly : List WorkerState → List WorkerState → ℕ → Type 0
 MovesOnly old new worker = (other : ℕ) → other ≢ worker → IsSameBesides (worker_state_at old other) (worker_state_at new other)
+
+-- a worker has made turns, so many or fewer, of which its journal tells, and the others have done nothing
+pub record MakesTurnsAt (most : ℕ) (old new : List WorkerState) (worker : ℕ) : Type 0 where
+  pub on : GoesOn old new worker
+  pub only : MovesOnly old new worker
+  pub rows : (worker_state_at new worker).emitted ≤ (worker_state_at old worker).emitted + most
+  pub writes : other_entries (worker_state_at new worker).journal ≡ other_entries (worker_state_at old worker).journal
 
 -- the rows that these of them have emitted
 abbrev pub emitted_at : List WorkerState → List ℕ → ℕ

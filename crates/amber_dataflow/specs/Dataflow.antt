@@ -14,8 +14,9 @@ use Rattle.amber_meaning.specs.Views.{answer_in, inspected_of}
 use Rattle.amber_meaning.specs.declared.answer.Answer.{Answer}
 use Rattle.amber_meaning.specs.declared.view.WorkerView.{WorkerView}
 use Rattle.amber_worker.specs.Changes.{at_leg_start, with_value}
-use Rattle.amber_worker.specs.Turning.{WritesStep}
-use Rattle.amber_worker.specs.WorkerState.{WorkerState}
+use Rattle.amber_worker.specs.Turning.{WritesStep, other_entries}
+use Rattle.amber_worker.specs.WorkerState.{WorkerState, next_turn}
+use Rattle.amber_worker.specs.declared.turn.Turn.TheVariants as turn
 use Rattle.amber_dataflow.specs.AtWork.{AreAtWork, emitted_at, state_reached, steps_by, worker_state_at}
 use Rattle.amber_dataflow.specs.Parts.{parts_from, without_journal}
 
@@ -96,6 +97,29 @@ pub record IsDataflow (d : DataflowState) : Type 0 where
   pub few : step_count d ≤ 2 ^ 40
   pub stand : AreAllThere d → (query : Query) × (start : State) × (positions : ℕ → Position) × StandAt query start d positions
 
+-- ---- turns
+
+-- a worker has done nothing
+pub record IsUnmoved (old new : DataflowState) (worker : ℕ) : Type 0 where
+  pub finished : has_finished new worker ≡ has_finished old worker
+  pub journal : journal_of new worker ≡ journal_of old worker
+
+-- a worker has made turns, so many or fewer, what it has written tells of steps alone, and the others have done nothing
+pub record TurnsAt (most : ℕ) (old new : DataflowState) (worker : ℕ) : Type 0 where
+  pub flow : new.flow ≡ old.flow
+  pub there : AreAllThere new
+  pub on : (query : Query) (start : State) (positions : ℕ → Position) → StandAt query start old positions
+      → (later : ℕ → Position) × StandAt query start new later × ((other : ℕ) → other ≢ worker → later other ≡ positions other)
+  pub writes : other_entries (journal_of new worker) ≡ other_entries (journal_of old worker)
+  pub others : (other : ℕ) → other ≢ worker → IsUnmoved old new other
+  -- of the rows that operators have emitted at most so many more at its own
+  pub rows : rows_emitted new (op_of old.flow worker) ≤ rows_emitted old (op_of old.flow worker) + most
+  pub emitted : (op : ℕ) → op ≢ op_of old.flow worker → rows_emitted new op ≡ rows_emitted old op
+
+-- a worker can do nothing until a batch comes
+unfoldable pub IsStarved : DataflowState → ℕ → Type 0
+IsStarved d worker = next_turn (worker_state_at d.workers worker) ≡ turn.Idle
+
 -- ---- a step
 
 -- a worker has not finished, and all before it have
@@ -104,23 +128,11 @@ pub record IsFirst (d : DataflowState) (worker : ℕ) : Type 0 where
   pub first : FirstHaveFinished worker d
   pub unfinished : has_finished d worker ≡ false
 
--- a worker has done nothing
-pub record IsUnmoved (old new : DataflowState) (worker : ℕ) : Type 0 where
-  pub finished : has_finished new worker ≡ has_finished old worker
-  pub journal : journal_of new worker ≡ journal_of old worker
-
 -- a worker has made a step, which its journal has, and the others have done nothing
 pub record StepsAt (old new : DataflowState) (worker : ℕ) : Type 0 where
-  pub flow : new.flow ≡ old.flow
-  pub there : AreAllThere new
-  pub on : (query : Query) (start : State) (positions : ℕ → Position) → StandAt query start old positions
-      → (later : ℕ → Position) × StandAt query start new later × ((other : ℕ) → other ≢ worker → later other ≡ positions other)
+  pub turns : TurnsAt 1 old new worker
   pub one : step_count new ≡ step_count old + 1
   pub writes : WritesStep (journal_of old worker) (journal_of new worker)
-  pub others : (other : ℕ) → other ≢ worker → IsUnmoved old new other
-  -- of the rows that operators have emitted at most one more at its own
-  pub rows : rows_emitted new (op_of old.flow worker) ≤ rows_emitted old (op_of old.flow worker) + 1
-  pub emitted : (op : ℕ) → op ≢ op_of old.flow worker → rows_emitted new op ≡ rows_emitted old op
 
 -- the first that has not finished has made a step
 pub record FirstSteps (old new : DataflowState) : Type 0 where

@@ -1,9 +1,10 @@
 -- What it comes to that batches go on from one worker to another.
-use Rattle.std.specs.Prelude.{◌≡◌, ℕ, ◌<◌, List, length, slice_set}
+use Rattle.std.specs.Prelude.{◌≡◌, ℕ, ◌<◌, ◌==◌, List, length, slice_set, true}
+use Rattle.std.specs.List.{list_any}
 use Rattle.amber_worker.specs.AtPosition.{HasSameEnds}
 use Rattle.amber_worker.specs.Pairs.{AreSettledAt, PassesOn, StaysAt}
 use Rattle.amber_worker.specs.WorkerState.{WorkerState}
-use Rattle.amber_dataflow.specs.AtWork.{AllHasCome, IsSameBesides, worker_state_at}
+use Rattle.amber_dataflow.specs.AtWork.{AllHasCome, IsSameBesides, StayPut, worker_state_at}
 
 -- the link of two of these workers is settled
 abbrev pub Settled : List WorkerState → ℕ → ℕ → Type 0
@@ -34,3 +35,11 @@ SettledStay old new = (from to : ℕ) → from < to → to < length old → Sett
 -- the workers are as they were, but for batches at the ends of their links
 abbrev pub AreSameBesides : List WorkerState → List WorkerState → Type 0
 AreSameBesides old new = (worker : ℕ) → IsSameBesides (worker_state_at old worker) (worker_state_at new worker)
+
+-- all that a worker has made, and all that was made for it, is in the inboxes, and nothing else has changed
+pub record IsSettledAt (old new : List WorkerState) (worker : ℕ) : Type 0 where
+  pub put : StayPut old new
+  pub outs : (to : ℕ) → list_any (λ one. one.to == to) (worker_state_at old worker).outs ≡ true → Settled new worker to
+  pub ins : (from : ℕ) → list_any (λ one. one.from == from) (worker_state_at old worker).ins ≡ true → Settled new from worker
+  pub others : SettledStay old new
+  pub aside : AreSameBesides old new

@@ -1,14 +1,14 @@
 //! The workers of a run and their workflow: how they begin, what a step does, and what is read of them. Over
 //! the functions of the other files, each of which does one of these for all workers.
 
-ghost use Rattle.std.specs.Prelude.{◌≡◌, ◌^◌, ◌<◌, ◌≤◌, ℕ, IfOk, None, OnErr, OnOk, false, length, replicate, true};
+ghost use Rattle.std.specs.Prelude.{◌≡◌, ◌⊎◌, ◌+◌, ◌^◌, ◌<◌, ◌≤◌, ℕ, IfOk, None, OnErr, OnOk, false, length, replicate, true};
 ghost use Rattle.amber_rows.specs.Topology.{crew_of};
 ghost use Rattle.amber_meaning.specs.Legal.{query_over};
 ghost use Rattle.amber_meaning.specs.Plain.{wrong_header};
 ghost use Rattle.amber_meaning.specs.Position.{origin};
 ghost use Rattle.amber_meaning.specs.State.{start_of};
 ghost use Rattle.amber_dataflow.specs.Dataflow as dataflow;
-ghost use Rattle.amber_dataflow.specs.Dataflow.{AreAllThere, FirstSteps, HaveDoneNothing, IsAnswerOf, IsFirst, ShowAt, StandAt, StepsAt};
+ghost use Rattle.amber_dataflow.specs.Dataflow.{AreAllThere, FirstHaveFinished, FirstSteps, HaveDoneNothing, IsAnswerOf, IsStarved, ShowAt, StandAt, TurnsAt};
 ghost use Rattle.amber_dataflow.specs.Dataflow.{leg_begun, handed_out, leg_parts, step_count, constant_put, without_workers};
 
 use crate::counts::{emitted_by, have_finished, steps_of};
@@ -16,7 +16,7 @@ use crate::gathering::{gather, gather_all};
 use crate::journals::take_parts;
 use crate::new_workers::start_crew;
 use crate::setting::{begin_all, copies_of, set_workers};
-use crate::stepping::{first_unfinished, step_worker};
+use crate::stepping::{first_unfinished, step_worker, turn_worker};
 use crate::views::views_of;
 use amber_log::Parts;
 use amber_meaning::{Answer, Views};
@@ -82,17 +82,24 @@ impl Dataflow {
         begin_all(self.workers.as_mut_slice());
     }
 
-    /// One step of a worker, where all before it have finished. What it has made goes on to its receivers.
-    /// After running out of memory no worker is left.
-    pub fn step(&mut self, worker: u32) -> Result<(), AllocError>
+    /// Turns of a worker, until so many are made, it has finished, or it can do nothing until a batch comes. What it
+    /// has made goes on to its receivers. The answer is how many turns were made. After running out of memory no worker
+    /// is left.
+    pub fn turns(&mut self, worker: u32, most: u64) -> Result<u64, AllocError>
         requires workers { AreAllThere self.old }
-        requires first { IsFirst self.old worker }
-        requires few { step_count self.old < 2 ^ 40 }
-        ensures steps { OnOk result (StepsAt self.old self.new worker) }
+        requires there { worker < crew_of self.old.flow }
+        requires few { step_count self.old + most ≤ 2 ^ 40 }
+        ensures turns { IfOk result (λ made. TurnsAt made self.old self.new worker) }
+        ensures made { IfOk result (λ made. step_count self.new ≡ step_count self.old + made) }
+        ensures within { IfOk result (λ made. made ≤ most) }
+        ensures stops { IfOk result (λ made. made < most
+            → (dataflow.has_finished self.new worker ≡ true) ⊎ IsStarved self.new worker) }
+        ensures first { IfOk result (λ made. made < most → FirstHaveFinished worker self.old
+            → dataflow.has_finished self.new worker ≡ true) }
         ensures err { OnErr result (self.new ≡ without_workers self.old) }
     {
-        match step_worker(self.workers.as_mut_slice(), worker as usize) {
-            Ok(()) => Ok(()),
+        match turn_worker(self.workers.as_mut_slice(), worker as usize, most) {
+            Ok(made) => Ok(made),
             Err(error) => {
                 self.workers.clear();
                 Err(error)
@@ -100,7 +107,8 @@ impl Dataflow {
         }
     }
 
-    /// One step of the first worker that has not finished. After running out of memory no worker is left.
+    /// One step of the first worker that has not finished. What it has made goes on to its receivers. After running out
+    /// of memory no worker is left.
     pub fn step_first(&mut self) -> Result<(), AllocError>
         requires workers { AreAllThere self.old }
         requires unfinished { dataflow.have_all_finished self.old ≡ false }
@@ -109,7 +117,13 @@ impl Dataflow {
         ensures err { OnErr result (self.new ≡ without_workers self.old) }
     {
         let worker = first_unfinished(self.workers.as_slice());
-        self.step(worker as u32)
+        match step_worker(self.workers.as_mut_slice(), worker) {
+            Ok(()) => Ok(()),
+            Err(error) => {
+                self.workers.clear();
+                Err(error)
+            }
+        }
     }
 
     /// Hands out what the workers have done, as the parts of a leg. After running out of memory no worker is

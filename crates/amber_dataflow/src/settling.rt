@@ -5,7 +5,7 @@ ghost use Rattle.std.specs.Prelude.{◌≡◌, ◌≢◌, ◌<◌, ◌==◌, ℕ
 ghost use Rattle.std.specs.List.{list_any};
 ghost use Rattle.amber_link.specs.declared.downstreams.Downstream.{Downstream};
 ghost use Rattle.amber_dataflow.specs.AtWork.{IsJoinedCrew, StayPut, worker_state_at};
-ghost use Rattle.amber_dataflow.specs.Passing.{AreSameBesides, Come, PassedOn, Settled, SettledStay};
+ghost use Rattle.amber_dataflow.specs.Passing.{AreSameBesides, Come, IsSettledAt, PassedOn, Settled, SettledStay};
 
 use amber_worker::{Worker, settle_workers};
 use std::alloc::AllocError;
@@ -46,8 +46,8 @@ fn pass_waiting(crew: &mut [Worker], number: usize, place: usize) -> Result<(), 
     }
 }
 
-/// Moves on all that a worker has made.
-pub(crate) fn settle_outputs(crew: &mut [Worker], number: usize) -> Result<(), AllocError>
+// Moves on all that a worker has made.
+fn settle_outputs(crew: &mut [Worker], number: usize) -> Result<(), AllocError>
     requires crew { IsJoinedCrew crew.old }
     requires there { number < length crew.old }
     requires come { (to : ℕ)
@@ -66,8 +66,8 @@ pub(crate) fn settle_outputs(crew: &mut [Worker], number: usize) -> Result<(), A
     Ok(())
 }
 
-/// Moves the batches that were made for a worker into its inboxes.
-pub(crate) fn settle_inputs(crew: &mut [Worker], number: usize) -> Result<(), AllocError>
+// Moves the batches that were made for a worker into its inboxes.
+fn settle_inputs(crew: &mut [Worker], number: usize) -> Result<(), AllocError>
     requires crew { IsJoinedCrew crew.old }
     requires there { number < length crew.old }
     ensures put { OnOk result (StayPut crew.old crew.new) }
@@ -82,4 +82,17 @@ pub(crate) fn settle_inputs(crew: &mut [Worker], number: usize) -> Result<(), Al
         pass_on(crew, from as usize, number)?;
     }
     Ok(())
+}
+
+/// Moves on all that a worker has made, and all that was made for it.
+pub(crate) fn settle_worker(crew: &mut [Worker], number: usize) -> Result<(), AllocError>
+    requires crew { IsJoinedCrew crew.old }
+    requires there { number < length crew.old }
+    requires come { (to : ℕ)
+        → list_any (λ one. one.to == to) (worker_state_at crew.old number).outs ≡ true
+        → Come crew.old number to }
+    ensures { OnOk result (IsSettledAt crew.old crew.new number) }
+{
+    settle_outputs(crew, number)?;
+    settle_inputs(crew, number)
 }

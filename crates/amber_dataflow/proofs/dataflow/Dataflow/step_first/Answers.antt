@@ -1,10 +1,10 @@
--- The first that has not finished makes the step.
-use Rattle.std.proofs.Common.{sym, ap, subst, ◌∙◌, ◌<◌, length, arith}
+-- The first that has not finished makes a step, or none is left.
+use Rattle.std.proofs.Common.{◌<◌, ◌^◌, sym, ap, subst, ◌∙◌, length, take, drop, ◌++◌, arith}
 use Rattle.std.specs.List.{list_all}
-use Rattle.std.proofs.lemmas.Result.{on_ok_weaker}
 use Rattle.amber_worker.specs.WorkerState.{WorkerState}
-use Rattle.amber_dataflow.specs.Dataflow.{AreAllThere, DataflowState, IsFirst, have_all_finished}
-use Rattle.amber_dataflow.proofs.Kept.{few-workers, first-there}
+use Rattle.amber_dataflow.specs.AtWork.{HaveFinished}
+use Rattle.amber_dataflow.specs.Dataflow.{AreAllThere, DataflowState, FirstSteps, have_all_finished, step_count}
+use Rattle.amber_dataflow.proofs.Kept.{count-back, crew-lent, few-lent, first-there, kept-back, none-left, turned-back, writes-back}
 use Rattle.amber_dataflow.proofs.dataflow.Dataflow.step_first.Goals as goal
 
 pub first_unfinished-worker-requires : goal.first_unfinished-worker-requires
@@ -15,24 +15,57 @@ first_unfinished-worker-requires c = record {
       ∙ ap (λ (e : DataflowState). list_all (λ (w : WorkerState). w.finished) e.workers) c.self.view_is ∙ c.requires.unfinished;
 }
 
-pub overflow_cast-worker : goal.overflow_cast-worker
-overflow_cast-worker c =
+pub step_worker-requires-clause-there : goal.step_worker-requires-clause-there
+step_worker-requires-clause-there c =
+    subst (λ crew. c.first_unfinished-worker.result < length crew) (c.as_slice.ensures.value ∙ sym c.as_mut_slice.ensures.value) c.first_unfinished-worker.ensures.there
+
+pub step_worker-requires-clause-crew : goal.step_worker-requires-clause-crew
+step_worker-requires-clause-crew c =
+    crew-lent (record { flow = c.self.inside.flow; workers = c.self.inside.workers.items }) c.self.invariant c.as_mut_slice.result.now c.as_mut_slice.ensures.value
+    (subst AreAllThere (sym c.self.view_is) c.requires.workers)
+
+pub step_worker-requires-clause-first : goal.step_worker-requires-clause-first
+step_worker-requires-clause-first c =
+    subst (λ crew. HaveFinished c.first_unfinished-worker.result crew) (c.as_slice.ensures.value ∙ sym c.as_mut_slice.ensures.value) c.first_unfinished-worker.ensures.first
+
+pub step_worker-requires-clause-few : goal.step_worker-requires-clause-few
+step_worker-requires-clause-few c =
+    let d : DataflowState = record { flow = c.self.inside.flow; workers = c.self.inside.workers.items } in
+    let few : step_count d < 2 ^ 40 = subst (λ e. step_count e < 2 ^ 40) (sym c.self.view_is) c.requires.few in
+    let one = few-lent d c.self.invariant c.as_mut_slice.result.now c.first_unfinished-worker.result 1 c.as_mut_slice.ensures.value (omega arith) in
+    omega arith
+
+pub invariant_of-self : goal.invariant_of-self
+invariant_of-self c =
     let i = c.self.inside in
-    let few = few-workers (record { flow = i.flow; workers = i.workers.items }) (subst AreAllThere (sym c.self.view_is) c.requires.workers) c.self.invariant in
-    let there = subst (λ crew. c.first_unfinished-worker.result < length crew) c.as_slice.ensures.value c.first_unfinished-worker.ensures.there in
-    search (arith, few, there)
+    let d : DataflowState = record { flow = i.flow; workers = i.workers.items } in
+    let few : step_count d < 2 ^ 40 = subst (λ e. step_count e < 2 ^ 40) (sym c.self.view_is) c.requires.few in
+    let s = c.in-Ok.ensures in
+    kept-back d c.self.invariant c.as_mut_slice.result.now c.step_worker.new.crew i.workers.len c.first_unfinished-worker.result 1 c.as_mut_slice.ensures.value c.step_worker.auto.crew i.workers.ok.0
+    (subst AreAllThere (sym c.self.view_is) c.requires.workers) s.turns s.one (omega arith)
 
-pub step-requires-clause-first : goal.step-requires-clause-first
-step-requires-clause-first c =
+pub returns-in-Ok-clause-steps : goal.returns-in-Ok-clause-steps
+returns-in-Ok-clause-steps c =
+    let i = c.self.inside in
+    let d : DataflowState = record { flow = i.flow; workers = i.workers.items } in
+    let worker = c.first_unfinished-worker.result in
     let f = c.first_unfinished-worker.ensures in
-    subst (λ (e : DataflowState). IsFirst e c.first_unfinished-worker.result) c.self.view_is
-    (first-there (record { flow = c.self.inside.flow; workers = c.self.inside.workers.items }) c.self.invariant c.as_slice.result.now c.first_unfinished-worker.result
-    c.as_slice.ensures.value (subst AreAllThere (sym c.self.view_is) c.requires.workers) f.there f.first f.unfinished)
+    let s = c.in-Ok.ensures in
+    let there : AreAllThere d = subst AreAllThere (sym c.self.view_is) c.requires.workers in
+    subst (λ e. FirstSteps e (record { flow = i.flow; workers = take i.workers.len (c.step_worker.new.crew ++ drop (length c.step_worker.new.crew) i.workers.items) })) c.self.view_is
+    (record {
+      worker = worker;
+      is = first-there d c.self.invariant c.as_slice.result.now worker c.as_slice.ensures.value there f.there f.first f.unfinished;
+      steps = record {
+        turns = turned-back d c.self.invariant c.as_mut_slice.result.now c.step_worker.new.crew i.workers.len worker 1 c.as_mut_slice.ensures.value c.step_worker.auto.crew i.workers.ok.0 there s.turns;
+        one = count-back d c.self.invariant c.as_mut_slice.result.now c.step_worker.new.crew i.workers.len worker 1 c.as_mut_slice.ensures.value c.step_worker.auto.crew i.workers.ok.0
+            there s.turns s.one;
+        writes = writes-back d c.self.invariant c.as_mut_slice.result.now c.step_worker.new.crew i.workers.len worker 1 c.as_mut_slice.ensures.value c.step_worker.auto.crew i.workers.ok.0
+            there s.turns s.writes;
+      };
+    })
 
-pub returns-clause-steps : goal.returns-clause-steps
-returns-clause-steps c =
-    let f = c.first_unfinished-worker.ensures in
-    let is = subst (λ (e : DataflowState). IsFirst e c.first_unfinished-worker.result) c.self.view_is
-    (first-there (record { flow = c.self.inside.flow; workers = c.self.inside.workers.items }) c.self.invariant c.as_slice.result.now c.first_unfinished-worker.result
-    c.as_slice.ensures.value (subst AreAllThere (sym c.self.view_is) c.requires.workers) f.there f.first f.unfinished) in
-    on_ok_weaker c.step.result (λ steps. record { worker = c.first_unfinished-worker.result; is = is; steps = steps }) c.step.ensures.steps
+pub invariant_of-self-in-Err : goal.invariant_of-self-in-Err
+invariant_of-self-in-Err c =
+    let i = c.self.inside in
+    none-left (record { flow = i.flow; workers = i.workers.items }) c.self.invariant c.clear.new.self.items c.clear.ensures.items
