@@ -30,9 +30,6 @@ use Rattle.amber_home.proofs.Stopped.{stops-are, stops-none}
 
 -- ---- of the workers
 
-pub in-time-same : (arms : List Arms) (d : DataflowState) → IsLegInTime arms d d
-in-time-same arms d = record { at_once = λ some. refl; pauses = λ op n is. omega arith }
-
 -- where no pause stood they have gone on until none was late
 pub in-time-moved : (arms : List Arms) (old new : DataflowState) → NonePaused arms old → NoneIsLate arms new → (have_all_finished old ≡ true → new ≡ old) → IsLegInTime arms old new
 in-time-moved arms old new none late still = record {

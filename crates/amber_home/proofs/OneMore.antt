@@ -46,13 +46,13 @@ module _ (query : Query) (start : State) (d after : DataflowState) (old : ℕ �
   others-reached : (worker : ℕ) → worker ≢ first_unfinished (state_reached query start old).positions
       → position_at (after_leg query start (leg_parts after)).positions worker ≡ position_at (state_reached query start old).positions worker
   others-reached worker other =
-      let next = on.steps.on query start old stand in
+      let next = on.steps.turns.on query start old stand in
       ap (λ (s : State). position_at s.positions worker) (stand-after query start after next.0 next.1)
       ∙ listed-same old next.0 (crew_of query.flow) worker (next.2 worker (λ same. other (same ∙ sym first-reached)))
 
 -- what a worker has written
 journal-same : (d after : DataflowState) (worker other : ℕ) → StepsAt d after worker → other ≢ worker → entries_of (leg_parts after) other ≡ entries_of (leg_parts d) other
-journal-same d after worker other steps apart = journal-entries after other ∙ (steps.others other apart).journal ∙ sym (journal-entries d other)
+journal-same d after worker other steps apart = journal-entries after other ∙ (steps.turns.others other apart).journal ∙ sym (journal-entries d other)
 
 journal-more : (d after : DataflowState) (worker : ℕ) → WritesStep (journal_of d worker) (journal_of after worker) → WritesStep (entries_of (leg_parts d) worker) (entries_of (leg_parts after) worker)
 journal-more d after worker writes = rw (journal-entries d worker, journal-entries after worker) writes
@@ -93,10 +93,10 @@ module _ (e : HomeState) (live : LiveState) (now : Phase) (home : IsHome (record
   within-most = let made = steps-open e live now home within in let one = on.steps.one in omega arith
 
   pub home-stepped : IsHome (record e { flow = after.flow; phase = now; parts = open_parts now after }) (record live { dataflow = after })
-  home-stepped = home-ran e live now home within after (one-on live.dataflow after on.worker on.steps) same within-most
+  home-stepped = home-ran e live now home within after (one-on live.dataflow after on.worker 1 on.steps.turns) same within-most
 
   flow-same : after.flow ≡ e.flow
-  flow-same = on.steps.flow ∙ same
+  flow-same = on.steps.turns.flow ∙ same
 
   pub steps-stepped : StepsOn (in_phase e live.dataflow now) (record e { flow = after.flow; phase = now; parts = open_parts now after })
   steps-stepped =

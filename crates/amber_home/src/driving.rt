@@ -1,22 +1,53 @@
-//! Driving a leg: the workers make their steps, one worker after the other, until a stop stands or the budget
-//! is spent. Where a stop stands already nobody does anything. Over `Dataflow::step`, and the tests for a
-//! stop of `stopping`.
+//! Driving a leg: it goes in rounds, in each of which each worker makes some turns, until a stop stands or the
+//! budget is spent. Where a stop stands already nobody does anything. Over `Dataflow::turns`, and what
+//! `stopping` tells of pauses.
 
-ghost use Rattle.std.specs.Prelude.{◌≡◌, ◌+◌, ◌^◌, ◌<◌, ◌≤◌, IfOk, OnErr, OnOk, false, length, true};
-ghost use Rattle.amber_dataflow.specs.Dataflow.{AreAllThere, FirstHaveFinished, has_finished, step_count, without_workers};
+ghost use Rattle.std.specs.Prelude.{◌≡◌, ◌⊎◌, ◌+◌, ◌^◌, ◌<◌, ◌≤◌, IfOk, OnErr, OnOk, false, length, true};
+ghost use Rattle.amber_dataflow.specs.Dataflow.{AreAllThere, FirstHaveFinished, has_finished, have_all_finished, step_count, without_workers};
 ghost use Rattle.amber_rows.specs.Topology.{crew_of, op_of};
 ghost use Rattle.amber_home.specs.Going.{GoOn, MovesAlone};
-ghost use Rattle.amber_home.specs.Leg.{IsLegDone, IsLegInTime, NoneIsLate, is_paused};
+ghost use Rattle.amber_home.specs.Leg.{IsLegDone, IsLegInTime, NoneIsLate, NonePaused, is_paused};
 
 use crate::in_force::InForce;
-use crate::stopping::{any_paused, is_paused};
+use crate::stopping::{any_paused, is_paused, rows_left};
 use amber_dataflow::Dataflow;
 use amber_log::Close;
 use std::alloc::AllocError;
 
-// Steps of a worker whose senders have all finished, until it has nothing to do or its budget is spent. The
-// answer is what is left of the budget. No operator emits more rows than its pause asks for, and a worker
-// that has finished does nothing.
+// How many turns a worker makes in a round at most.
+const ROUND: u64 = 1024;
+
+// Turns of a worker, this many at most, and no more than rows are left to its operator's pause, so that this operator
+// emits no more rows than that asks for. The answer is how many were made.
+fn take_turns(
+    arms: &InForce,
+    dataflow: &mut Dataflow,
+    worker: u32,
+    most: u64,
+) -> Result<u64, AllocError>
+    requires workers { AreAllThere dataflow.old }
+    requires there { worker < crew_of dataflow.old.flow }
+    requires few { step_count dataflow.old + most ≤ 2 ^ 40 }
+    ensures on { OnOk result (GoOn dataflow.old dataflow.new) }
+    ensures made { IfOk result (λ made. step_count dataflow.new ≡ step_count dataflow.old + made) }
+    ensures within { IfOk result (λ made. made ≤ most) }
+    ensures only { OnOk result (MovesAlone dataflow.old dataflow.new worker) }
+    ensures moves { IfOk result (λ made. 0 < most
+        → is_paused arms.now dataflow.old (op_of dataflow.old.flow worker) ≡ false
+        → FirstHaveFinished worker dataflow.old
+        → (0 < made) ⊎ (has_finished dataflow.new worker ≡ true)) }
+    ensures in_time { OnOk result (NoneIsLate arms.now dataflow.old
+        → NoneIsLate arms.now dataflow.new) }
+    ensures err { OnErr result (dataflow.new ≡ without_workers dataflow.old) }
+{
+    let op = dataflow.flow().op_of(worker);
+    let allowed = most.min(rows_left(arms, dataflow, op));
+    let made = dataflow.turns(worker, allowed)?;
+    Ok(made)
+}
+
+// A worker's turns of a round: it takes turns until it has made so many, or makes none, since its operator's pause
+// stands or it has nothing to do. The answer is what is left of the budget.
 fn drive_worker(
     arms: &InForce,
     dataflow: &mut Dataflow,
@@ -25,33 +56,60 @@ fn drive_worker(
 ) -> Result<u64, AllocError>
     requires workers { AreAllThere dataflow.old }
     requires there { worker < crew_of dataflow.old.flow }
-    requires first { FirstHaveFinished worker dataflow.old }
     requires few { step_count dataflow.old + budget ≤ 2 ^ 40 }
     ensures on { OnOk result (GoOn dataflow.old dataflow.new) }
     ensures left { IfOk result (λ left. step_count dataflow.new + left
         ≡ step_count dataflow.old + budget) }
+    ensures within { IfOk result (λ left. left ≤ budget) }
     ensures only { OnOk result (MovesAlone dataflow.old dataflow.new worker) }
-    ensures stops { IfOk result (λ left. has_finished dataflow.new worker ≡ false
-        → is_paused arms.now dataflow.new (op_of dataflow.new.flow worker) ≡ false
-        → left ≡ 0) }
+    ensures moves { IfOk result (λ left. 0 < budget
+        → is_paused arms.now dataflow.old (op_of dataflow.old.flow worker) ≡ false
+        → FirstHaveFinished worker dataflow.old
+        → (left < budget) ⊎ (has_finished dataflow.new worker ≡ true)) }
     ensures in_time { OnOk result (NoneIsLate arms.now dataflow.old
         → NoneIsLate arms.now dataflow.new) }
-    ensures still { OnOk result (has_finished dataflow.old worker ≡ true
-        → dataflow.new ≡ dataflow.old) }
     ensures err { OnErr result (dataflow.new ≡ without_workers dataflow.old) }
 {
-    let op = dataflow.flow().op_of(worker);
-    'steps: for made in 0..budget {
-        if dataflow.has_finished(worker) || is_paused(arms, dataflow, op) {
+    let most = budget.min(ROUND);
+    let mut made = 0;
+    'calls: while made < most {
+        let more = take_turns(arms, dataflow, worker, most - made)?;
+        if more == 0 {
             return Ok(budget - made);
         }
-        dataflow.step(worker)?;
+        made += more;
     }
-    Ok(0)
+    Ok(budget - made)
 }
 
-/// Steps of the workers until a stop stands or the budget is spent; none where a stop stands already. The
-/// answer says how the leg may be closed.
+// A round: turns of each worker, in their order. It ends where a pause stands. The answer is what is left of
+// the budget.
+fn drive_round(arms: &InForce, dataflow: &mut Dataflow, budget: u64) -> Result<u64, AllocError>
+    requires workers { AreAllThere dataflow.old }
+    requires none { NonePaused arms.now dataflow.old }
+    requires some { 0 < budget }
+    requires few { step_count dataflow.old + budget ≤ 2 ^ 40 }
+    ensures on { OnOk result (GoOn dataflow.old dataflow.new) }
+    ensures left { IfOk result (λ left. step_count dataflow.new + left
+        ≡ step_count dataflow.old + budget) }
+    ensures within { IfOk result (λ left. left ≤ budget) }
+    ensures moves { IfOk result (λ left. NonePaused arms.now dataflow.new
+        → (left < budget) ⊎ (have_all_finished dataflow.new ≡ true)) }
+    ensures in_time { OnOk result (NoneIsLate arms.now dataflow.new) }
+    ensures err { OnErr result (dataflow.new ≡ without_workers dataflow.old) }
+{
+    let mut left = budget;
+    'workers: for worker in 0..dataflow.flow().workers() {
+        left = drive_worker(arms, dataflow, worker, left)?;
+        if is_paused(arms, dataflow, dataflow.flow().op_of(worker)) {
+            return Ok(left);
+        }
+    }
+    Ok(left)
+}
+
+/// Rounds until a stop stands or the budget is spent; none where a stop stands already. The answer says how
+/// the leg may be closed.
 pub(crate) fn drive_workers(
     arms: &InForce,
     dataflow: &mut Dataflow,
@@ -71,13 +129,13 @@ pub(crate) fn drive_workers(
         return Ok(Close::Cut);
     }
     let mut left = budget;
-    'workers: for worker in 0..dataflow.flow().workers() {
-        left = drive_worker(arms, dataflow, worker, left)?;
-        if is_paused(arms, dataflow, dataflow.flow().op_of(worker)) {
-            return Ok(Close::Cut);
-        }
-        if !dataflow.has_finished(worker) {
+    'rounds: while !dataflow.have_all_finished() {
+        if left == 0 {
             return Ok(Close::Long);
+        }
+        left = drive_round(arms, dataflow, left)?;
+        if any_paused(arms, dataflow) {
+            return Ok(Close::Cut);
         }
     }
     Ok(Close::Cut)

@@ -1,7 +1,8 @@
 //! The home of a run: all of its workers at rest, with the log of what was done.
 //!
 //! A home keeps its log legal, and while a run can go on its workers stand where the log says, whatever
-//! commands were given. It runs without threads: a step is one step of the unfinished worker with the
+//! commands were given. It runs without threads: a leg goes in rounds, in each of which each worker makes up to
+//! 1,024 turns, one worker after the other. `home_step` makes one step, of the unfinished worker with the
 //! smallest number.
 //!
 //! For instance, a home of a workflow of a scan of five records, a filter that passes three of them and a

@@ -1,7 +1,7 @@
-//! The stops that stand, and what a close takes away of them. Over `InForce`, which has the pauses, and the
-//! rows that `Dataflow` counts.
+//! The stops that stand, how far a pause is away, and what a close takes away of the stops. Over `InForce`,
+//! which has the pauses, and the rows that `Dataflow` counts.
 
-ghost use Rattle.std.specs.Prelude.{◌≡◌, ◌++◌, ◌<◌, ◌≤◌, ℕ, IfOk, None, OnOk, false, if◌then◌else◌, length, true};
+ghost use Rattle.std.specs.Prelude.{◌≡◌, ◌+◌, ◌++◌, ◌<◌, ◌≤◌, ℕ, IfOk, None, OnOk, Some, false, if◌then◌else◌, length, max, true};
 ghost use Rattle.amber_dataflow.specs.Dataflow.{AreAllThere, rows_emitted};
 ghost use Rattle.amber_rows.specs.Lists.{changed_at};
 ghost use Rattle.amber_home.specs.Leg.{NonePaused, closed_arms, cut_arms, is_paused, pause_at, paused_stop, stops_by};
@@ -22,6 +22,22 @@ pub(crate) fn is_paused(arms: &InForce, dataflow: &Dataflow, op: u32) -> bool
     match arms.pause_at(op) {
         None => false,
         Some(rows) => rows <= dataflow.rows_emitted(op),
+    }
+}
+
+/// How many rows an operator may emit until its pause stands: 0 where it stands, the most that there are where
+/// none is armed.
+pub(crate) fn rows_left(arms: &InForce, dataflow: &Dataflow, op: u32) -> u64
+    requires workers { AreAllThere dataflow.now }
+    requires some { 0 < op }
+    requires within { op ≤ length dataflow.now.flow }
+    ensures some { is_paused arms.now dataflow.now op ≡ false → 0 < result }
+    ensures in_time { (n : ℕ) → pause_at arms.now op ≡ Some n
+        → rows_emitted dataflow.now op + result ≤ max n (rows_emitted dataflow.now op) }
+{
+    match arms.pause_at(op) {
+        None => u64::MAX,
+        Some(rows) => rows.saturating_sub(dataflow.rows_emitted(op)),
     }
 }
 

@@ -1,15 +1,18 @@
--- The workers so far have finished, and no pause stands.
-use Rattle.std.proofs.Common.{◌≡◌, ◌+◌, true}
-use Rattle.amber_dataflow.specs.Dataflow.{FirstHaveFinished, have_all_finished, step_count}
+-- No pause stands, and where all had finished nobody has moved.
+use Rattle.std.proofs.Common.{◌≡◌, ◌+◌, if◌then◌else◌, true}
+use Rattle.amber_dataflow.specs.Dataflow.{have_all_finished, step_count}
 use Rattle.amber_home.specs.Going.{GoOn}
 use Rattle.amber_home.specs.Leg.{NonePaused}
 use Rattle.amber_home.proofs.driving.drive_workers.Given as goal
 
-abbrev pub invariant-workers : goal.invariant-workers
-invariant-workers l = record {
+abbrev pub invariant-rounds : goal.invariant-rounds
+invariant-rounds l = record {
   on : GoOn l.initial.dataflow l.dataflow;
-  made : step_count l.dataflow + l.left ≡ step_count l.initial.dataflow + l.budget;
-  first : FirstHaveFinished l.worker l.dataflow;
+  left : step_count l.dataflow + l.left ≡ step_count l.initial.dataflow + l.budget;
   none : NonePaused l.arms l.dataflow;
   still : have_all_finished l.initial.dataflow ≡ true → l.dataflow ≡ l.initial.dataflow;
 }
+
+-- a round makes a turn, or all have finished after it
+abbrev pub decreases-rounds : goal.decreases-rounds
+decreases-rounds l = l.left + (if have_all_finished l.dataflow then 0 else 1)
