@@ -32,25 +32,22 @@ pub(crate) fn number_and_rest<'a>(written: &'a str, end: &str) -> Result<(u64, &
     }
 }
 
-/// A line with a range in braces: what stands before it, its two numbers, and what follows it.
-pub(crate) struct RangeLine<'a> {
+/// A range in braces, of which the second is left out: what stands before it, and its two numbers.
+pub(crate) struct Range<'a> {
     pub before: &'a str,
     pub least: u64,
     pub most: u64,
-    pub behind: &'a str,
 }
 
-/// Reads a line with a range.
-pub(crate) fn ranged(written: &str) -> Result<RangeLine<'_>, Why> {
+/// Reads what comes before the second brace of a range.
+pub(crate) fn ranged(written: &str) -> Result<Range<'_>, Why> {
     let Some((before, rest)) = written.split_once('{') else {
         return Err(Why::Number);
     };
     let (least, rest) = number_and_rest(rest, "..")?;
-    let (most, behind) = number_and_rest(rest, "}")?;
-    Ok(RangeLine {
+    Ok(Range {
         before,
         least,
-        most,
-        behind,
+        most: number(rest)?,
     })
 }

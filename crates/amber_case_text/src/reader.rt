@@ -5,7 +5,7 @@ use crate::case_text::{CaseText, Piece};
 use crate::escapes::{unescaped, words};
 use crate::fault::{Broken, Why, push};
 use crate::names::add_name;
-use crate::numbers::{RangeLine, add_numbers, number_and_rest, ranged};
+use crate::numbers::{Range, add_numbers, number_and_rest, ranged};
 use std::alloc::Global;
 use std::collections::BTreeSet;
 use std::mem;
@@ -92,7 +92,7 @@ impl Reader {
                 }
             }
             "=" => self.add_shared(rest),
-            "~" => self.add_range(rest),
+            "~" => self.add_ranges(rest),
             _ => self.add_piece(read_piece(self.alloc, head, rest)?),
         }
     }
@@ -180,19 +180,28 @@ impl Reader {
         Ok(())
     }
 
-    // Adds a line with a number in a range.
-    fn add_range(&mut self, rest: &str) -> Result<(), Why> {
-        let RangeLine {
+    // Adds a line with numbers in ranges.
+    fn add_ranges(&mut self, line: &str) -> Result<(), Why> {
+        let Some((ranges, behind)) = line.rsplit_once('}') else {
+            return Err(Why::Number);
+        };
+        for one in ranges.split('}') {
+            self.add_range(one)?;
+        }
+        let behind = whole_line(self.alloc, behind)?;
+        self.add_piece(Piece::Bytes(behind))
+    }
+
+    // Adds a number in a range, and what stands before it.
+    fn add_range(&mut self, written: &str) -> Result<(), Why> {
+        let Range {
             before,
             least,
             most,
-            behind,
-        } = ranged(rest)?;
+        } = ranged(written)?;
         let before = Vec::from_slice(self.alloc, before.as_bytes())?;
         self.add_piece(Piece::Bytes(before))?;
-        self.add_piece(Piece::Number { least, most })?;
-        let behind = whole_line(self.alloc, behind)?;
-        self.add_piece(Piece::Bytes(behind))
+        self.add_piece(Piece::Number { least, most })
     }
 
     // Adds a piece to the text that has begun.

@@ -103,3 +103,24 @@ fn settling_goes_through_the_ring(rt: HostRuntime) -> Result<(), Fail> {
         "0: 1 2 | 1: 3 4 | 2: 5 6 | 3: 7 8 | 4: 9 10 | 5: 11 12 | 6: 13 14 | 7: 15 16 | 8: 17 18 | 9: 19 20 | 10: 21 22 | 11: 23 24 | 12: 25 last | ",
     )
 }
+
+#[test]
+fn rows_that_were_given_back_come_back(rt: HostRuntime) -> Result<(), Fail> {
+    let alloc = rt.alloc();
+    let (mut out, mut into) = link(alloc, 1)?;
+    assert!(rt; out.take_back().is_none());
+    push(alloc, &mut out, 7)?;
+    settle(&mut out, &mut into)?;
+    let Some(batch) = into.take() else {
+        return Err(Fail::from(NoMemory));
+    };
+    into.give_back(batch.rows.into_inner());
+    let Some(rows) = out.take_back() else {
+        return Err(Fail::from(NoMemory));
+    };
+    assert!(rt; rows.len() == 1 && out.take_back().is_none());
+    out.lend(rows);
+    push(alloc, &mut out, 8)?;
+    settle(&mut out, &mut into)?;
+    expect_text(given(alloc, &mut into)?, "1: 8 | ")
+}

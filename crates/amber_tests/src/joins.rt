@@ -5,6 +5,7 @@ ghost use Rattle.std.specs.Prelude.{◌≡◌, false, true, IfOk};
 use crate::expected::expect_text;
 use crate::written::{cols, rows, rows_text};
 use amber_join::{JoinState, NoMemory};
+use amber_rows::Row;
 use std::alloc::Global;
 use std::test::Fail;
 
@@ -28,6 +29,23 @@ fn probed(alloc: Global, state: &JoinState, written: &str) -> Result<String, NoM
     let mut made = String::new(alloc);
     for row in &rows(alloc, written)? {
         let found = state.probe(alloc, row)?;
+        made.push_str(&rows_text(alloc, found.get())?)?;
+    }
+    Ok(made)
+}
+
+// The same, where matches are written over other rows.
+fn probed_over(
+    alloc: Global,
+    state: &JoinState,
+    written: &str,
+    used: &mut Vec<Row>,
+) -> Result<String, NoMemory>
+    requires { state.now.sealed ≡ true }
+{
+    let mut made = String::new(alloc);
+    for row in &rows(alloc, written)? {
+        let found = state.probe_over(alloc, row, used)?;
         made.push_str(&rows_text(alloc, found.get())?)?;
     }
     Ok(made)
@@ -100,6 +118,12 @@ fn a_probe_row_stands_before_each_build_row_with_its_key(rt: HostRuntime) -> Res
         let state = sealed(alloc, case)?;
         assert!(rt; state.keys() == case.keys && state.rows() == case.rows);
         expect_text(probed(alloc, &state, case.probe)?, case.matches)?;
+        let mut used = rows(
+            alloc,
+            "'long-enough-to-have-room-of-its-own 2 3 / 1 2 3 / 1 / 1 2 / ",
+        )?;
+        let over = probed_over(alloc, &state, case.probe, &mut used)?;
+        expect_text(over, case.matches)?;
     }
     Ok(())
 }

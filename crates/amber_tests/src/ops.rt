@@ -42,6 +42,17 @@ fn projected(alloc: Global, project: &mut ProjectState, fed: &str) -> Result<Str
     row_text(alloc, &found)
 }
 
+// The same, written over another row.
+fn projected_over(
+    alloc: Global,
+    project: &ProjectState,
+    fed: &str,
+    used: &str,
+) -> Result<String, NoMemory> {
+    let found = project.pick_over(Some(row(alloc, used)?), &row(alloc, fed)?)?;
+    row_text(alloc, &found)
+}
+
 #[test]
 fn a_projection_gives_the_cells_in_the_order_of_its_columns(rt: HostRuntime) -> Result<(), Fail> {
     let alloc = rt.alloc();
@@ -50,6 +61,9 @@ fn a_projection_gives_the_cells_in_the_order_of_its_columns(rt: HostRuntime) -> 
     for (fed, want) in [("7 'pear 12", "12 7 12 "), ("'x 0 'y 1", "'y 'x 'y ")] {
         expect_text(projected(alloc, &mut project, fed)?, want)?;
         expect_text(projected(alloc, &mut copy, fed)?, want)?;
+        for used in ["'long-enough-to-have-room-of-its-own 2 3", "1"] {
+            expect_text(projected_over(alloc, &project, fed, used)?, want)?;
+        }
     }
     Ok(())
 }

@@ -3,8 +3,8 @@
 ghost use Rattle.std.specs.Prelude.{◌≤◌};
 
 use crate::expected::expect_text;
-use crate::written::{append_typed, two_columns};
-use amber_rows::{Bytes, FileBytes};
+use crate::written::{append_typed, row, two_columns};
+use amber_rows::{Bytes, FileBytes, Row};
 use amber_scan::{NoMemory, ScanErr, Scanned, Share, deal};
 use std::alloc::Global;
 use std::test::Fail;
@@ -18,7 +18,7 @@ fn append_record(alloc: Global, text: &mut String, one: &Scanned) -> Result<(), 
 
 // The next record of a share.
 fn append_next(alloc: Global, text: &mut String, share: &mut Share) -> Result<(), NoMemory> {
-    match share.next()? {
+    match share.next(None)? {
         Some(one) => append_record(alloc, text, &one),
         None => text.push_str("none; "),
     }
@@ -86,13 +86,13 @@ fn copies(alloc: Global, share: &mut Share) -> Result<bool, NoMemory> {
     let same = copy.left() == share.left();
     let text = taken(alloc, &mut copy)?;
     let of_share = taken(alloc, share)?;
-    Ok(same && text == of_share && share.next()?.is_none() && copy.left() == 0)
+    Ok(same && text == of_share && share.next(None)?.is_none() && copy.left() == 0)
 }
 
 // Takes the next record of a share. Whether one less is left.
 fn takes_one(share: &mut Share) -> Result<bool, NoMemory> {
     let before = share.left();
-    let found = share.next()?.is_some();
+    let found = share.next(None)?.is_some();
     Ok(found && share.left() + 1 == before)
 }
 
@@ -123,6 +123,60 @@ fn records_that_were_read_ahead_are_left_as_before(rt: HostRuntime) -> Result<()
             ahead.read_ahead(count)?;
             assert!(rt; ahead.left() == share.left());
             assert!(rt; taken(alloc, &mut ahead)? == taken(alloc, &mut share)?);
+        }
+    }
+    Ok(())
+}
+
+// The next record of a share, typed over this row. The row that it gives comes back.
+fn append_over(
+    alloc: Global,
+    text: &mut String,
+    share: &mut Share,
+    used: Option<Row>,
+) -> Result<Option<Row>, NoMemory> {
+    let Some(one) = share.next(used)? else {
+        return Ok(None);
+    };
+    append_record(alloc, text, &one)?;
+    match one.what {
+        Ok(row) => Ok(Some(row)),
+        Err(_) => Ok(None),
+    }
+}
+
+// Takes all that is left of a share, each record over the row of the one before, the first over this row.
+fn taken_over(alloc: Global, share: &mut Share, first: Row) -> Result<String, NoMemory> {
+    let mut text = String::new(alloc);
+    let mut used = Some(first);
+    for _ in 0..share.left() {
+        used = append_over(alloc, &mut text, share, used)?;
+    }
+    Ok(text)
+}
+
+const LONG_WORDS: &str =
+    "number,word\r\n1,a word of more than twenty-two bytes\r\n2,b\r\n3,another word of so many \
+    bytes\r\n4,\r\n";
+
+#[test]
+fn a_record_typed_over_another_row_is_typed_as_anew(rt: HostRuntime) -> Result<(), Fail> {
+    let alloc = rt.alloc();
+    let schema = two_columns(alloc)?;
+    let used = [
+        "7 'a-text-that-stood-here-before",
+        "'a-text-that-stood-here-before 7",
+        "1 2 3",
+    ];
+    for file in [SEVEN, LONG_WORDS] {
+        let Ok(shares) = deal(alloc, &file_of(alloc, file)?, &schema, 1) else {
+            return Err(Fail::from(NoMemory));
+        };
+        for share in &shares {
+            for cells in used {
+                let over = taken_over(alloc, &mut share.clone()?, row(alloc, cells)?)?;
+                assert!(rt; over == taken(alloc, &mut share.clone()?)?);
+            }
         }
     }
     Ok(())
