@@ -48,7 +48,8 @@ unfolding places_from
 none_by test n x xs true e h rest = absurd (cc)
 none_by test n x xs false e h rest = rw e (rest h)
 
-places-none : {A : Type 0} (test : A → Bool) (n : ℕ) (xs : List A) → list_any test xs ≡ false → places_from test n xs ≡ []
+-- no place where none passes
+pub places-none : {A : Type 0} (test : A → Bool) (n : ℕ) (xs : List A) → list_any test xs ≡ false → places_from test n xs ≡ []
 unfolding places_from
 places-none test n [] h = refl
 places-none test n (x ∷ xs) h = none_by test n x xs (test x) refl h (places-none test (n + 1) xs)
@@ -78,13 +79,15 @@ read-places test xs = read-from test [] xs
 -- ---- the table
 
 module _ (keys : List ℕ) (rows : List Row) (row : Row) where
-  agree : (x : Row) → same_row (pick_cells keys row) x ≡ false → places_of keys (rows ++ row ∷ []) x ≡ places_of keys rows x
+  -- other keys keep their places
+  pub agree : (x : Row) → same_row (pick_cells keys row) x ≡ false → places_of keys (rows ++ row ∷ []) x ≡ places_of keys rows x
   agree x e =
       places-push (λ other. same_row (pick_cells keys other) x) 0 rows row
       ∙ ap (λ t. places_of keys rows x ++ cond t ((0 + length rows) ∷ []) []) e
       ∙ append-nil (places_of keys rows x)
 
-  own : places_of keys (rows ++ row ∷ []) (pick_cells keys row) ≡ places_of keys rows (pick_cells keys row) ++ length rows ∷ []
+  -- its key has one more
+  pub own : places_of keys (rows ++ row ∷ []) (pick_cells keys row) ≡ places_of keys rows (pick_cells keys row) ++ length rows ∷ []
   own =
       let same : 0 + length rows ≡ length rows = omega arith in
       places-push (λ other. same_row (pick_cells keys other) (pick_cells keys row)) 0 rows row

@@ -5,6 +5,9 @@
 //! state is seen as just that: the columns of both sides, the list of build rows, and whether it is sealed; the
 //! contracts say what a probe gives in the words of the list function of `amber_rows`.
 //!
+//! A build row that was staged can be taken out again, the last one first. This takes no memory, so
+//! a step that took in a row can be undone whatever happens after it.
+//!
 //! Inside is a hashed table from each key to the places of its rows, so a build row costs one look-up, and a probe
 //! row one look-up and its matches. No contract speaks of the table. Where memory runs out, the state is as before.
 #![tactic(auto)]
@@ -13,5 +16,5 @@ mod matches;
 pub mod places;
 pub mod state;
 
-pub use state::JoinState;
+pub use state::{JoinState, Staged};
 pub use std::alloc::AllocError as NoMemory;

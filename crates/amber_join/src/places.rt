@@ -1,6 +1,6 @@
 //! Where the build rows with a key are. Over `KeyTable` of `amber_keys`.
 
-ghost use Rattle.std.specs.Prelude.{◌≡◌, ◌^◌, ◌-◌, ◌++◌, ◌∷◌, [], ℕ, List, OnErr, OnOk, length, min};
+ghost use Rattle.std.specs.Prelude.{◌≡◌, ◌^◌, ◌<◌, ◌-◌, ◌++◌, ◌∷◌, [], ℕ, List, IfNone, OnErr, OnOk, length, min, option_to_list};
 ghost use Rattle.amber_rows.specs.Operators.{pick_cells};
 ghost use Rattle.amber_rows.specs.declared.value.Value.{Value as Cell};
 ghost use Rattle.amber_join.specs.Places.{table_of};
@@ -38,6 +38,15 @@ impl Places {
     {
         self.more.push(place)?;
         Ok(())
+    }
+
+    // Takes the last place away, unless it is the only one.
+    fn drop_last(&mut self) -> Option<usize>
+        ensures last { self.old ≡ self.new ++ option_to_list result }
+        ensures only { IfNone result (length self.new ≡ 1) }
+        ensures some { 0 < length self.new }
+    {
+        self.more.pop()
     }
 
     /// How many places there are.
@@ -88,5 +97,20 @@ pub fn note(
             };
             table.add(key, places)
         }
+    }
+}
+
+/// Forgets where the row that came last stands, which has this key. So a table of some rows becomes
+/// that of these rows without the last one. It takes no memory.
+pub fn forget(table: &mut KeyTable<Places>, key: &Key)
+    ensures { (keys : List ℕ) (rows : List (List Cell)) (row : List Cell)
+        → table.old.entries ≡ table_of keys (rows ++ row ∷ []) → key.now ≡ pick_cells keys row
+        → table.new.entries ≡ table_of keys rows }
+{
+    let Some(at) = table.place_of(key) else {
+        return;
+    };
+    if table.value_mut(at).drop_last().is_none() {
+        table.take_last();
     }
 }

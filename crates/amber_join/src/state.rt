@@ -1,10 +1,11 @@
 //! The state of a join, which keeps build rows and takes probe rows. Rests on `places` and `matches`.
 
 ghost use Rattle.std.specs.Prelude.{◌≡◌, ◌++◌, ◌∷◌, [], IfErr, IfOk, OnErr, OnOk, false, length, true};
-ghost use Rattle.amber_rows.specs.Operators.{first_keys, matches_of};
+ghost use Rattle.amber_rows.specs.Operators.{first_keys, matches_of, pick_cells};
+ghost use Rattle.amber_join.specs.Join.{CameLast};
 
 use crate::matches::matches;
-use crate::places::{Places, note};
+use crate::places::{Places, forget, note};
 use amber_keys::{Key, KeyTable};
 use amber_rows::{Cols, Row, Rows};
 use std::alloc::{AllocError, Global};
@@ -52,6 +53,26 @@ impl Model for JoinState {
     ghost invariant = { λ a. a.table.entries ≡ table_of a.build_keys a.rows.items };
 }
 
+/// By which a row that a join keeps is taken out of it again. It is seen as the row's key.
+pub struct Staged {
+    key: Key,
+}
+
+impl Drop for Staged {
+    fn drop(self) {
+        let Staged { key: _ } = self;
+    }
+}
+
+impl Model for Staged {
+    ghost use Rattle.std.specs.Prelude.{List};
+    ghost use Rattle.amber_rows.specs.declared.value.Value.{Value as Cell};
+
+    ghost Value = { List Cell };
+
+    ghost view = { λ a. a.key };
+}
+
 impl JoinState {
     /// The state of a join on these columns of its two sides, with no build row. Columns are numbered from 1.
     pub fn new(alloc: Global, build_keys: Cols, probe_keys: Cols) -> Self
@@ -92,6 +113,35 @@ impl JoinState {
             }
             Err(_) => Err(row),
         }
+    }
+
+    /// Keeps a build row, as `build` does, and gives what takes it out again as long as no other
+    /// row has come after it. This costs room for its key, so a row that stays is for `build`.
+    pub fn stage(&mut self, row: Row) -> Result<Staged, Row>
+        requires { self.old.sealed ≡ false }
+        ensures ok { OnOk result (self.new ≡ record self.old { rows = self.old.rows ++ row ∷ [] }) }
+        ensures key { IfOk result (λ staged. staged ≡ pick_cells self.old.build_keys row) }
+        ensures err { IfErr result (λ back. back ≡ row) }
+        ensures same_on_err { OnErr result (self.new ≡ self.old) }
+    {
+        let Ok(key) = Key::of(self.alloc, &row, &self.build_keys) else {
+            return Err(row);
+        };
+        self.build(row)?;
+        Ok(Staged { key })
+    }
+
+    /// Takes out the row that was staged last, and gives it back. It takes no memory.
+    pub fn unstage(&mut self, staged: Staged) -> Row
+        requires { CameLast staged self.old }
+        ensures row { self.old.rows ≡ self.new.rows ++ result ∷ [] }
+        ensures only { self.new ≡ record self.old { rows = self.new.rows } }
+    {
+        forget(&mut self.table, &staged.key);
+        let Some(row) = self.rows.pop() else {
+            unreachable!()
+        };
+        row
     }
 
     /// Says that the build rows so far are all. From now on the join may be probed.

@@ -3,7 +3,7 @@
 ghost use Rattle.std.specs.Prelude.{◌≡◌, false, true, IfOk};
 
 use crate::expected::expect_text;
-use crate::written::{cols, rows, rows_text};
+use crate::written::{cols, row, row_text, rows, rows_text};
 use amber_join::{JoinState, NoMemory};
 use amber_rows::Row;
 use std::alloc::Global;
@@ -124,6 +124,31 @@ fn a_probe_row_stands_before_each_build_row_with_its_key(rt: HostRuntime) -> Res
         )?;
         let over = probed_over(alloc, &state, case.probe, &mut used)?;
         expect_text(over, case.matches)?;
+    }
+    Ok(())
+}
+
+// A row that is staged and then unstaged comes back as it was.
+fn stage_once(alloc: Global, state: &mut JoinState, written: &str) -> Result<String, NoMemory>
+    requires { state.old.sealed ≡ false }
+{
+    let Ok(staged) = state.stage(row(alloc, written)?) else {
+        return Err(NoMemory);
+    };
+    row_text(alloc, &state.unstage(staged))
+}
+
+#[test]
+fn a_staged_row_comes_back(rt: HostRuntime) -> Result<(), Fail> {
+    let alloc = rt.alloc();
+    for written in ["7 'z ", "9 'z "] {
+        let mut state = JoinState::new(alloc, cols(alloc, &[1])?, cols(alloc, &[1])?);
+        build_all(alloc, &mut state, "7 'x / 8 'y /")?;
+        expect_text(stage_once(alloc, &mut state, written)?, written)?;
+        assert!(rt; state.keys() == 2 && state.rows() == 2);
+        state.seal();
+        let found = probed(alloc, &state, "7 / 9 /")?;
+        expect_text(found, "7 7 'x / ")?;
     }
     Ok(())
 }
