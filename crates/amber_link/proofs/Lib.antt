@@ -4,5 +4,6 @@ mod Examples
 pub mod LinkEnds
 mod Rooms
 pub mod SameEnds
+pub mod SentOn
 pub mod Settled
 pub mod Sides

@@ -1,8 +1,9 @@
 -- Lists of senders and of receivers, of which one is changed.
-use Rattle.std.proofs.Common.{◌≡◌, ℕ, zero, suc, ◌+◌, ◌<◌, ◌≤◌, List, [], ◌∷◌, ◌++◌, length, get_or, map, take, drop, set, Bool, true, false, ◌||◌, ◌&&◌, not, refl, sym, ap, ◌∙◌, arith}
+use Rattle.std.proofs.Common.{◌≡◌, All, ℕ, zero, suc, ◌+◌, ◌<◌, ◌≤◌, List, [], ◌∷◌, ◌++◌, length, get_or, map, take, drop, set, Bool, true, false, ◌||◌, ◌&&◌, not, refl, sym, ap, ◌∙◌, arith}
 use Rattle.std.specs.List.{list_any}
 use Rattle.std.proofs.Math.Seq.{split_at}
 use Rattle.std.proofs.lemmas.Bool.{and_parts, false≢true}
+use Rattle.std.proofs.lemmas.List.Elements.{All-from_get_or, All-get_or, All-nil}
 use Rattle.amber_rows.specs.declared.value.Value.{Value}
 use Rattle.amber_rows.specs.declared.batch.Batch.{Batch}
 use Rattle.amber_link.specs.Links.{GivesBatches, has_some, waiting}
@@ -70,6 +71,21 @@ pairwise-each R [] [] same h = tt
 pairwise-each R [] (y ∷ ys) same h = absurd (omega (arith, same))
 pairwise-each R (x ∷ xs) [] same h = absurd (omega (arith, same))
 pairwise-each R (x ∷ xs) (y ∷ ys) same h = (h 0 x y (omega arith), pairwise-each R xs ys (omega (arith, same)) (λ k d e less. h (suc k) d e (omega arith)))
+
+pub pairwise-at : {A : Type 0} (R : A → A → Type 0) → (xs ys : List A) → Pairwise R xs ys → (k : ℕ) (d e : A) → k < length xs → R (get_or xs k d) (get_or ys k e)
+unfolding Pairwise
+pairwise-at R [] ys h k d e less = absurd (omega arith)
+pairwise-at R (x ∷ xs) [] h k d e less = absurd h
+pairwise-at R (x ∷ xs) (y ∷ ys) h zero d e less = h.0
+pairwise-at R (x ∷ xs) (y ∷ ys) h (suc k) d e less = pairwise-at R xs ys h.1 k d e (omega arith)
+
+-- what holds of each of the first holds of each of the second
+pub pairwise-all : {A : Type 0} (R : A → A → Type 0) (P Q : A → Type 0) → ((x y : A) → R x y → P x → Q y) → (xs ys : List A) → Pairwise R xs ys → All P xs → All Q ys
+pairwise-all R P Q to xs [] h all = All-nil Q
+pairwise-all R P Q to xs (y ∷ ys) h all =
+    let long : length (y ∷ ys) ≡ length xs = pairwise-length R xs (y ∷ ys) h in
+    All-from_get_or Q (y ∷ ys) y
+    (λ k less. to (get_or xs k y) (get_or (y ∷ ys) k y) (pairwise-at R xs (y ∷ ys) h k y y (omega (arith, long, less))) (All-get_or P xs k y (omega (arith, long, less)) all))
 
 pub pairwise-map : {A B : Type 0} (R : A → A → Type 0) (S : B → B → Type 0) (f : A → B) → ((x y : A) → R x y → S (f x) (f y)) → (xs ys : List A) → Pairwise R xs ys → Pairwise S (map f xs) (map f ys)
 unfolding Pairwise
@@ -212,7 +228,7 @@ get_or-any [] k d e less = absurd (omega arith)
 get_or-any (x ∷ xs) zero d e less = refl
 get_or-any (x ∷ xs) (suc k) d e less = get_or-any xs k d e (omega arith)
 
--- those so far are ended, and the others are none
-pub each-ended : (outs after : List Downstream) (n : ℕ) → length after ≡ length outs → length outs ≤ n → ((k : ℕ) (d : Downstream) → k < n → IsEnded (get_or outs k d) (get_or after k d))
-    → Pairwise IsEnded outs after
-each-ended outs after n same all h = pairwise-each IsEnded outs after same (λ k d e less. rw (get_or-any after k e d (omega (arith, same))) (h k d (omega arith)))
+-- those so far stand so to each other, and there are no others
+pub each-so_far : (R : Downstream → Downstream → Type 0) (outs after : List Downstream) (n : ℕ) → length after ≡ length outs → length outs ≤ n
+    → ((k : ℕ) (d : Downstream) → k < n → R (get_or outs k d) (get_or after k d)) → Pairwise R outs after
+each-so_far R outs after n same all h = pairwise-each R outs after same (λ k d e less. rw (get_or-any after k e d (omega (arith, same))) (h k d (omega arith)))

@@ -1,6 +1,7 @@
 -- The ends that one worker holds: of those that send to it, and of those to which it sends.
-use Rattle.std.specs.Prelude.{◌≡◌, ℕ, ◌+◌, ◌<◌, ◌&&◌, ◌||◌, not, List, [], ◌∷◌, ◌++◌, length, slice_index_or, slice_set, Bool, true, false}
+use Rattle.std.specs.Prelude.{◌≡◌, ℕ, ◌+◌, ◌<◌, ◌&&◌, ◌||◌, ◌⊎◌, not, List, [], ◌∷◌, ◌++◌, length, slice_index_or, slice_set, Bool, true, false}
 use Rattle.std.specs.List.{list_all}
+use Rattle.rtrb.specs.Ring.{known_free}
 use Rattle.amber_rows.specs.declared.value.Value.{Value}
 use Rattle.amber_rows.specs.declared.batch.Batch.{Batch}
 use Rattle.amber_link.specs.Links.{AreLinked, AreSettled, Forwards, GivesBatches, IsWhole, SameIn, SameOut, has_some, waiting}
@@ -72,6 +73,18 @@ pub record IsEnded (old new : Downstream) : Type 0 where
 
 abbrev pub AreEnded : List Downstream → List Downstream → Type 0
 AreEnded old new = Pairwise IsEnded old new
+
+-- of the batches that wait for a receiver some were sent, in their order, and all else stays
+pub record HasSentOn (old new : Downstream) : Type 0 where
+  pub to : new.to ≡ old.to
+  pub link : Forwards old.link new.link
+
+abbrev pub HaveSentOn : List Downstream → List Downstream → Type 0
+HaveSentOn old new = Pairwise HasSentOn old new
+
+-- nothing waits for a receiver, or no free slot of its ring is known
+abbrev pub CanSendNoMore : Downstream → Type 0
+CanSendNoMore one = (one.link.kept.waiting ≡ []) ⊎ (known_free one.link.ring ≡ 0)
 
 -- ---- both
 

@@ -3,7 +3,7 @@
 ghost use Rattle.std.specs.Prelude.{◌≡◌, ◌==◌, ◌+◌, ◌^◌, ◌<◌, ◌≤◌, ℕ, Bool, All, true, false, length, map, slice_index_or, take, IfNone, IfSome, OnErr, OnOk};
 ghost use Rattle.std.specs.List.{list_any};
 ghost use Rattle.amber_link.specs.Links.{has_some};
-ghost use Rattle.amber_link.specs.Sides.{AreEnded, HandsOn, without_room};
+ghost use Rattle.amber_link.specs.Sides.{AreEnded, CanSendNoMore, HandsOn, HaveSentOn, without_room};
 ghost use Rattle.amber_link.specs.declared.downstreams.Downstream.{Downstream as OneDownstream};
 
 use crate::ends::Out;
@@ -129,6 +129,17 @@ pub fn end_all(outs: &mut [Downstream])
 {
     for one in outs.iter_mut() {
         one.link.end_reserved();
+    }
+}
+
+/// Sends what waits to each receiver in turn, as far as free slots of its ring are known. A full
+/// ring keeps no other receiver waiting. It takes no memory, and does not wait for a receiver.
+pub fn send_all(outs: &mut [Downstream])
+    ensures forwards { HaveSentOn outs.old outs.new }
+    ensures sent { All CanSendNoMore outs.new }
+{
+    for one in outs.iter_mut() {
+        one.link.send();
     }
 }
 

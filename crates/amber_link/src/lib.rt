@@ -26,8 +26,8 @@ pub mod settling_places;
 pub mod upstreams;
 
 pub use downstreams::{
-    Downstream, end_all, has_receiver, place_to, push_at, reserve_at, reserve_ends, take_back,
-    trade_back, waiting_at,
+    Downstream, end_all, has_receiver, place_to, push_at, reserve_at, reserve_ends, send_all,
+    take_back, trade_back, waiting_at,
 };
 pub use ends::{In, Out, Sent, link, settle};
 pub use outbox::Outbox;
