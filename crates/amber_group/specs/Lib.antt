@@ -4,3 +4,4 @@ pub mod Running
 pub mod Steps
 pub mod Taking
 pub mod Totals
+pub mod Undoing

@@ -6,6 +6,9 @@
 //! bits, and only the final sum is tested. A group whose final sum 64 bits do not hold has no row; its key is
 //! given separately.
 //!
+//! A row that came by `take` can be taken out again, the last one first. This takes no memory, so a
+//! step that took in a row can be undone whatever happens after it.
+//!
 //! The rows themselves are not kept. So the contracts say what a state stands for: `IsFedWith` ties it to a
 //! list of rows. A new state stands for no row, each row that is fed makes it stand for one more row, and
 //! what it gives is what the list functions of `amber_rows` make of the rows for which it stands. Where
@@ -18,7 +21,9 @@ mod last_row;
 mod running;
 pub mod state;
 mod totals;
+mod undoing;
 
 pub use finish::Grouped;
 pub use state::GroupState;
 pub use std::alloc::AllocError as NoMemory;
+pub use undoing::Taken;

@@ -4,9 +4,11 @@ ghost use Rattle.std.specs.Prelude.{◌≡◌, ◌^◌, ◌<◌, ◌++◌, [], L
 ghost use Rattle.amber_rows.specs.Operators.{first_keys, refused_keys};
 ghost use Rattle.amber_rows.specs.declared.value.Value.{Value as Cell};
 ghost use Rattle.amber_group.specs.Group.{AreRowsOf, FeedsRow, IsFedWith};
+ghost use Rattle.amber_group.specs.Undoing.{CanUndo, TakesBack, restored};
 
 use crate::finish::Grouped;
 use crate::groups::Groups;
+use crate::undoing::Taken;
 use amber_keys::Key;
 use amber_rows::{Aggs, Cols, Row, Value};
 use std::alloc::{AllocError, Global};
@@ -108,6 +110,32 @@ impl GroupState {
             .take_last(self.alloc, key, &self.aggs, row, &mut self.changes, out)?;
         self.fed += 1;
         Ok(())
+    }
+
+    /// Takes in a row, as `feed` does, and gives what takes it out again as long as no other row
+    /// has come after it. This costs a copy of what was kept for its key, so a row that stays is
+    /// for `feed`.
+    pub fn take(&mut self, row: &Row) -> Result<Taken, AllocError>
+        requires { self.old.fed < 2 ^ 40 }
+        ensures ok { OnOk result (FeedsRow row.now self.old self.new) }
+        ensures back { IfOk result (λ taken. TakesBack taken self.old self.new) }
+        ensures same_on_err { OnErr result (self.new ≡ self.old) }
+    {
+        let key = Key::of(self.alloc, row, &self.keys)?;
+        let taken = self
+            .groups
+            .take(self.alloc, key, &self.aggs, row, &mut self.changes)?;
+        self.fed += 1;
+        Ok(taken)
+    }
+
+    /// Takes out the row that was taken in last. It takes no memory.
+    pub fn undo(&mut self, taken: Taken)
+        requires { CanUndo taken self.old }
+        ensures { self.new ≡ restored taken self.old }
+    {
+        self.groups.undo(taken);
+        self.fed -= 1;
     }
 
     /// A row for each key of the rows that it was fed: the key, and then its aggregates. A key with a sum

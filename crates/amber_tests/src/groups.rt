@@ -137,3 +137,25 @@ fn a_last_row_gives_the_rows_of_all_groups(rt: HostRuntime) -> Result<(), Fail> 
     }
     Ok(())
 }
+
+// Takes in a row, and takes it out again.
+fn take_once(alloc: Global, state: &mut GroupState, written: &str) -> Result<(), NoMemory> {
+    if state.fed() < 1 << 40 {
+        let taken = state.take(&row(alloc, written)?)?;
+        state.undo(taken);
+    }
+    Ok(())
+}
+
+#[test]
+fn a_row_that_is_taken_out_leaves_no_trace(rt: HostRuntime) -> Result<(), Fail> {
+    let alloc = rt.alloc();
+    for case in &GROUPS {
+        let mut state = full(alloc, case)?;
+        take_once(alloc, &mut state, case.last)?;
+        take_once(alloc, &mut state, "'new 3 'z")?;
+        assert!(rt; state.groups() == case.groups);
+        expect_group(alloc, &state, case)?;
+    }
+    Ok(())
+}
