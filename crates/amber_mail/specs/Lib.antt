@@ -1,0 +1,3 @@
+-- What contracts say of mails.
+pub mod Controls
+pub mod Rings

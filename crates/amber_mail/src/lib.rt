@@ -1,0 +1,38 @@
+//! Mail: what a coordinator tells a worker between two rows, what the worker says to it, and the
+//! gate that each turn passes.
+//!
+//! A worker looks once before each turn, at something that is a `Mail`. A look is counted, and so
+//! is each that was answered by a pause: of a worker that makes at most a step for each look the
+//! counts say how far it may have gone. A mail may tell its plan, the answers of all looks in
+//! order; then each answer is known. What a worker notes is a hint: no clause rests on its truth,
+//! and it is dropped where there is no room.
+//!
+//! | A mail | Its looks answer | Its plan |
+//! |---|---|---|
+//! | `RingMail` | what was pushed at its `Post`, by another thread too | is not told |
+//! | `PlannedMail` | what its `Plan` says, and then nothing | is that `Plan` |
+//! | `SilentMail` | nothing | is empty |
+//!
+//! A turn passes a `Gate`, which promises nothing: it may hold a thread for a while. `OpenGate`
+//! holds none, and `MeetGate` lets a test have two threads meet.
+//!
+//! # Example
+//!
+//! A coordinator and a worker hold the two ends that `mail_rings` made. The coordinator pushes
+//! `Claim`, and then `Pause`. The worker's first look is answered by `Claim`, its second by `Pause`
+//! and its third by nothing: three looks, of which one was a pause. It notes `Held`; the
+//! coordinator hears `Held`, and then nothing. Had the coordinator pushed 65 controls before the
+//! first look, the last would have been handed back, since a ring has 64 slots.
+#![tactic(auto)]
+
+mod gate;
+mod mail;
+mod plan;
+mod rings;
+#[cfg(test)]
+mod tests;
+
+pub use gate::{Gate, MeetGate, OpenGate};
+pub use mail::{Control, Mail, Note, is_pause};
+pub use plan::{Plan, PlannedMail, SilentMail};
+pub use rings::{Post, RingMail, mail_rings};
