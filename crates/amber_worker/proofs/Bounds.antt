@@ -9,7 +9,7 @@ use Rattle.amber_rows.specs.declared.batch.Batch.{Batch}
 use Rattle.amber_rows.specs.declared.column.Column.{Column}
 use Rattle.amber_log.specs.declared.entry.Entry.{Entry}
 use Rattle.amber_log.specs.declared.entry.Entry.TheVariants as entry
-use Rattle.amber_meaning.specs.Position.{one_if, no_restraint}
+use Rattle.amber_meaning.specs.Position.{one_if}
 use Rattle.amber_meaning.specs.Task.{Arrival, row_in}
 use Rattle.amber_meaning.specs.Refused.{refusal_in}
 use Rattle.amber_scan.specs.Shares.{ShareState}
@@ -17,12 +17,14 @@ use Rattle.amber_link.specs.Sides.{IsTaken, have_all_ended, have_builders_ended}
 use Rattle.amber_link.specs.declared.upstreams.Upstream.{Upstream}
 use Rattle.amber_link.specs.declared.downstreams.Downstream.{Downstream}
 use Rattle.amber_link.specs.Sides.{AreEnded, AreLooked}
-use Rattle.amber_worker.specs.Links.{EmitsFirst}
-use Rattle.amber_worker.specs.Fields.{AreFew, WorkerFields, restraint_of, row_from, rows_moved}
+use Rattle.amber_link.specs.Links.{has_some}
+use Rattle.amber_worker.specs.Fields.{AreFew, WorkerFields, row_from, rows_moved}
 use Rattle.amber_worker.specs.WorkerState.{WorkerState, has_ready}
-use Rattle.amber_worker.specs.Steps.{Becomes, Closes, EmitsRow, Finishes, TakesBatch, TakesRow, columns_at_hand, gives_if, gone_on, is_group, keeps_if, turned_to, with_go}
+use Rattle.amber_worker.specs.Steps.{Becomes, Closes, Finishes, TakesBatch, TakesRow, columns_at_hand, gives_if, gone_on, is_group, keeps_if, turned_to, with_go}
 use Rattle.amber_worker.proofs.States.{closes-asked, closes-group, in_order-batch, in_order-row, in_order-settled}
-use Rattle.amber_worker.specs.declared.flags.Flags.{Flags}
+use Rattle.amber_worker.specs.Counting.{DealsUnits, SeatSide, hand_in}
+use Rattle.amber_worker.specs.declared.counting.Dealing.{Dealing}
+use Rattle.amber_worker.specs.declared.counting.Dealing.TheVariants as dealing
 use Rattle.amber_worker.specs.declared.operator_state.OperatorState.{OperatorState}
 use Rattle.amber_worker.specs.declared.operator_state.OperatorState.TheVariants as operator_state
 
@@ -85,7 +87,6 @@ few-row f now found later becomes few less same typed = record {
   scans = scans-so f.operator_state now later (scans-more f.operator_state now f.building found becomes) (same-some (f.operator_state ≡ operator_state.Scan) f.share later same few.scans);
   shares = same-some (f.ins ≡ []) f.share later same few.shares;
   typed = typed;
-  lowered = few.lowered;
   steps = omega arith;
   received = few.received;
   sent = few.sent;
@@ -96,16 +97,17 @@ few-row f now found later becomes few less same typed = record {
 
 pub takes-row : (w : WorkerState) (one : Arrival) (later : List Arrival) (now : OperatorState) (last : List (List Value)) (rest : List Arrival) (pending : List (List Value)) (refused : List _)
     (kept : List (List Value)) (journal : List Entry) (columns : List _) (over : Bool)
-    → columns ≡ columns_at_hand w → over ≡ (is_group w.operator_state && (eqb (length w.rest) 1 && have_all_ended w.ins))
+    → has_some w.pending ≡ false → columns ≡ columns_at_hand w → over ≡ (is_group w.operator_state && (eqb (length w.rest) 1 && have_all_ended w.ins))
     → w.rest ≡ one ∷ later → rest ≡ later → Becomes w.operator_state w.building (row_in columns one.what) now → Closes now over last
     → pending ≡ (w.pending ++ gives_if w.operator_state w.building (row_in columns one.what)) ++ last → refused ≡ w.refused ++ refusal_in w.op one.from one.what
     → kept ≡ w.kept ++ keeps_if w.operator_state (row_in columns one.what) → journal ≡ with_go w.journal 1 0
     → TakesRow w (record w { operator_state = now; rest = rest; pending = pending; taken = w.taken + 1; refused = refused; kept = kept; journal = journal })
-takes-row w one later now last rest pending refused kept journal columns over columns_is over_is first rest_is becomes closes pending_is refused_is kept_is journal_is = record {
+takes-row w one later now last rest pending refused kept journal columns over drained columns_is over_is first rest_is becomes closes pending_is refused_is kept_is journal_is = record {
   one = one;
   later = later;
   now = now;
   last = last;
+  drained = drained;
   first = first;
   becomes = subst (λ columns. Becomes w.operator_state w.building (row_in columns one.what) now) columns_is becomes;
   closes = closes-group w.operator_state now w.building (row_in columns one.what) (eqb (length w.rest) 1 && have_all_ended w.ins) last becomes (subst (λ b. Closes now b last) over_is closes);
@@ -122,7 +124,6 @@ few-emitted f after unfinished few less made over = record {
   scans = few.scans;
   shares = few.shares;
   typed = few.typed;
-  lowered = few.lowered;
   steps = omega arith;
   received = few.received;
   sent = λ e. made f.emitted (few.sent e);
@@ -140,7 +141,6 @@ few-done f after few less over = record {
   scans = few.scans;
   shares = few.shares;
   typed = few.typed;
-  lowered = few.lowered;
   steps = omega arith;
   received = few.received;
   sent = λ e. absurd (false≢true (sym e));
@@ -168,7 +168,6 @@ few-batch f columns found later place from number builds batch so built same few
   scans = scans-so f.operator_state (turned_to builds f.operator_state) f.share (turned-scan f.operator_state builds) few.scans;
   shares = none f.share few.shares;
   typed = unshared f.share few.shares;
-  lowered = few.lowered;
   steps = omega arith;
   received = received;
   sent = few.sent;
@@ -192,12 +191,15 @@ no-share (Some x) ins place h less = let empty = ap length h in absurd (omega ar
 
 pub takes-batch : (w : WorkerState) (from number : ℕ) (builds : Bool) (batch : Batch) (looked ins found : List Upstream) (rest : List Arrival) (journal : List Entry) (now : OperatorState)
     (closing pending : List (List Value)) (empty asked over : Bool)
+    → has_some w.pending ≡ false → has_some w.rest ≡ false
     → ((one : Upstream) × (one.from ≡ from) × (one.taken ≡ number) × (one.builds ≡ builds) × IsTaken looked one batch ins) → AreLooked w.ins looked → has_ready looked ≡ true → from < 2 ^ 32 → number < 2 ^ 64
     → rest ≡ map (row_from from) batch.rows → found ≡ ins → journal ≡ w.journal ++ entry.Take from number ∷ [] → now ≡ turned_to builds w.operator_state
     → empty ≡ eqb (length batch.rows) 0 → over ≡ have_all_ended ins → (over ≡ true → asked ≡ empty)
     → Closes w.operator_state asked closing → pending ≡ (if over then closing else [])
     → TakesBatch w (record w { operator_state = now; building = builds; rest = rest; pending = pending; batches = w.batches + 1; ins = found; journal = journal })
-takes-batch w from number builds batch looked ins found rest journal now closing pending empty asked over taken seen ready few small rest_is ins_is journal_is now_is empty_is over_is same closes pending_is = record {
+takes-batch w from number builds batch looked ins found rest journal now closing pending empty asked over drained used taken seen ready few small rest_is ins_is journal_is now_is empty_is over_is same closes pending_is = record {
+  drained = drained;
+  used = used;
   one = taken.0;
   batch = batch;
   found = looked;
@@ -220,7 +222,6 @@ few-settled f later few same received built = record {
   scans = few.scans;
   shares = none f.share few.shares;
   typed = few.typed;
-  lowered = few.lowered;
   steps = few.steps;
   received = received;
   sent = few.sent;
@@ -241,7 +242,6 @@ few-sent f later few made over = record {
   scans = few.scans;
   shares = few.shares;
   typed = few.typed;
-  lowered = few.lowered;
   steps = few.steps;
   received = few.received;
   sent = made;
@@ -251,14 +251,12 @@ few-sent f later few made over = record {
 }
 
 -- a leg begins
-pub few-begun : (f : WorkerFields) (flags : Flags) (journal : List Entry) → AreFew f → restraint_of 0 flags ≡ no_restraint → journal ≡ []
-    → AreFew (record f { flags = flags; journal = journal })
-few-begun f flags journal few lowered none = record {
+pub few-begun : (f : WorkerFields) (journal : List Entry) → AreFew f → journal ≡ [] → AreFew (record f { journal = journal })
+few-begun f journal few none = record {
   in_order = few.in_order;
   scans = few.scans;
   shares = few.shares;
   typed = few.typed;
-  lowered = lowered;
   steps = few.steps;
   received = few.received;
   sent = few.sent;
@@ -267,21 +265,48 @@ few-begun f flags journal few lowered none = record {
   moved = rw none (none-within (f.taken + f.emitted));
 }
 
--- ---- rows that are emitted
+-- ---- units are dealt with
 
-pub emits-row : (w : WorkerState) (later : List (List Value)) (outs after : List Downstream) (journal : List Entry) → EmitsFirst w.route (record { pending = w.pending; outs = w.outs }) (record { pending = later; outs = after }) → outs ≡ after
-    → journal ≡ with_go w.journal 0 1 → w.restraint ≡ no_restraint → EmitsRow false w (record w { pending = later; emitted = w.emitted + 1; outs = outs; journal = journal })
-emits-row w later outs after journal emits outs_is journal_is restraint = record {
-  row = emits.row;
-  later = later;
-  outs = after;
-  first = emits.first;
-  handed = emits.handed;
-  after = rw (restraint, outs_is, journal_is) refl;
+within-dealt : (n : ℕ) (how : Dealing) (old new : SeatSide) → DealsUnits how old new → AreWithin n old.journal → AreWithin n new.journal
+within-dealt n dealing.Nothing old new deals within = subst (λ (side : SeatSide). AreWithin n side.journal) (sym deals) within
+within-dealt n dealing.Claims old new deals within = subst (AreWithin n) (sym deals.journal) (by (eqb deals.units 0))
+  where
+    by : (b : Bool) → AreWithin n (if b then old.journal else old.journal ++ entry.Grant deals.units ∷ [])
+    by true = within
+    by false = All-push (λ one. rows_moved one ≤ n) old.journal (entry.Grant deals.units) within (omega arith)
+within-dealt n dealing.Returns old new deals within = subst (AreWithin n) (sym deals.journal) (by (eqb (hand_in old.seat) 0))
+  where
+    by : (b : Bool) → AreWithin n (if b then old.journal else old.journal ++ entry.Back (hand_in old.seat) ∷ [])
+    by true = within
+    by false = All-push (λ one. rows_moved one ≤ n) old.journal (entry.Back (hand_in old.seat)) within (omega arith)
+
+-- an entry more that speaks of no row
+with-journal : (f : WorkerFields) (journal : List Entry) → AreFew f → AreWithin (f.taken + f.emitted) journal → AreFew (record f { journal = journal })
+with-journal f journal few within = record {
+  in_order = few.in_order;
+  scans = few.scans;
+  shares = few.shares;
+  typed = few.typed;
+  steps = few.steps;
+  received = few.received;
+  sent = few.sent;
+  over = few.over;
+  routed = few.routed;
+  moved = within;
 }
+
+pub few-dealt : (f : WorkerFields) (how : Dealing) (old new : SeatSide) → DealsUnits how old new → old.journal ≡ f.journal → AreFew f → AreFew (record f { journal = new.journal })
+few-dealt f how old new deals same few =
+    with-journal f new.journal few (within-dealt (f.taken + f.emitted) how old new deals (subst (AreWithin (f.taken + f.emitted)) (sym same) few.moved))
+
+pub few-written : (f : WorkerFields) (one : Entry) → rows_moved one ≡ 0 → AreFew f → AreFew (record f { journal = f.journal ++ one ∷ [] })
+few-written f one none few =
+    with-journal f (f.journal ++ one ∷ []) few (All-push (λ e. rows_moved e ≤ f.taken + f.emitted) f.journal one few.moved (omega arith))
 
 -- ---- all streams are ended
 
-pub finishes : (w : WorkerState) (outs after : List Downstream) (journal : List Entry) → AreEnded w.outs after → outs ≡ after → journal ≡ w.journal ++ entry.Finish ∷ []
+pub finishes : (w : WorkerState) (outs after : List Downstream) (journal : List Entry) → has_some w.pending ≡ false → has_some w.rest ≡ false → have_all_ended w.ins ≡ true
+    → AreEnded w.outs after → outs ≡ after → journal ≡ w.journal ++ entry.Finish ∷ []
     → Finishes w (record w { finished = true; outs = outs; journal = journal })
-finishes w outs after journal ends outs_is journal_is = record { outs = after; ends = ends; after = rw (outs_is, journal_is) refl }
+finishes w outs after journal drained used ended ends outs_is journal_is =
+    record { drained = drained; used = used; ended = ended; outs = after; ends = ends; after = rw (outs_is, journal_is) refl }

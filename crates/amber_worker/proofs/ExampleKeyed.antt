@@ -22,7 +22,8 @@ use Rattle.amber_worker.specs.Made.{AreFreshSenders, IsFresh, IsFreshIn, IsFresh
 use Rattle.amber_worker.specs.WorkerState.{WorkerState, empty_worker_state}
 use Rattle.amber_worker.specs.declared.operator_state.OperatorState.TheVariants as operator_state
 use Rattle.amber_worker.specs.declared.route.Route.TheVariants as route
-use Rattle.amber_worker.proofs.Commands.{stands-watched, with_when}
+use Rattle.amber_worker.proofs.Commands.{stands-watched}
+use Rattle.amber_worker.specs.Changes.{with_when}
 use Rattle.amber_worker.proofs.FreshStands.{fresh-stands}
 
 -- ---- the workflow: the different numbers of a file, and the different ones of these
@@ -127,6 +128,7 @@ is-fresh e = record {
   refused = refl;
   kept = refl;
   when = refl;
+  seat = refl;
   restraint = refl;
   finished = refl;
   senders = sym senders;

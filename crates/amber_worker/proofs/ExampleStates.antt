@@ -195,6 +195,7 @@ module _ (e : Ends) where
         later = row_from 0 (cell 0) ∷ [];
         now = operator_state.Filter two_or_more;
         last = [];
+        drained = refl;
         first = refl;
         becomes = refl;
         closes = refl;

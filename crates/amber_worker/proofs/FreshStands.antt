@@ -181,7 +181,6 @@ few-fresh kind flow batch_size share task ends building is shared scans typed fr
   scans = scan share shared;
   shares = alone share shared;
   typed = typed;
-  lowered = refl;
   steps = omega arith;
   received = λ k e less. let same = (fresh k e less).0 in omega arith;
   sent = λ _ k e less. let same = ap (λ (o : Outgoing). o.made) (out_ends k e less).1 in omega arith;
@@ -239,6 +238,7 @@ made-fresh flow worker batch_size share task ends is numbered outs ins = record 
   refused = refl;
   kept = refl;
   when = refl;
+  seat = refl;
   restraint = refl;
   finished = refl;
   senders = numbered.senders;

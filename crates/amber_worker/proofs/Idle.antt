@@ -1,5 +1,5 @@
 -- When a worker has something to do.
-use Rattle.std.proofs.Common.{◌≡◌, ℕ, suc, arith, ap, All, ◌/◌, eqb, ◌||◌, List, [], ◌∷◌, ◌++◌, length, get_or, ◌<◌, map, not, ◌⊎◌, inl, inr, subst, ◌&&◌, Bool, true, false, if◌then◌else◌, refl, sym, ◌∙◌}
+use Rattle.std.proofs.Common.{◌≡◌, ℕ, suc, arith, ap, All, ◌/◌, eqb, ◌||◌, List, [], ◌∷◌, ◌++◌, length, get_or, ◌<◌, map, not, ◌⊎◌, inl, inr, subst, ◌&&◌, Bool, true, false, refl, sym, ◌∙◌}
 use Rattle.std.specs.List.{list_any}
 use Rattle.std.proofs.lemmas.Bool.{and_from, eq-eqb, eqb-true, false≢true, or_cases, or_left, or_right}
 use Rattle.std.proofs.lemmas.List.{append-nil}
@@ -14,8 +14,9 @@ use Rattle.amber_link.specs.declared.upstreams.Upstream.{Upstream}
 use Rattle.amber_link.specs.Links.{has_some, waiting}
 use Rattle.amber_link.specs.Links.{HasGiven}
 use Rattle.amber_worker.specs.AtPosition.{Context, ReceiveAll, Shows}
-use Rattle.amber_worker.specs.WorkerState.{WorkerState, next_turn, has_ready}
+use Rattle.amber_worker.specs.WorkerState.{WorkerState, next_turn, has_ready, is_starved, must_hold}
 use Rattle.amber_worker.specs.declared.turn.Turn.TheVariants as turn
+use Rattle.amber_worker.proofs.TurnCases.{turn_by}
 
 -- one of these batches is a last one
 abbrev pub has_marked : List Batch → Bool
@@ -121,22 +122,25 @@ all_ended had taken (first ∷ more) [] h last = absurd h
 all_ended had taken (first ∷ more) (one ∷ ins) h last =
     and_from _ _ (h.0.ended ∙ last first (or_left _ _ (eq-eqb first first refl))) (all_ended had taken more ins h.2 (λ sender member. last sender (or_right _ _ member)))
 
-idle_parts : (a b c d e : Bool)
-    → (if a then turn.Ended else if b then turn.Moved else if c then turn.Moved else if d then turn.Moved else if e then turn.Moved else turn.Idle) ≡ turn.Idle
-    → (d ≡ false) × (e ≡ false)
-idle_parts true b c d e h = cc
-idle_parts false true c d e h = cc
-idle_parts false false true d e h = cc
-idle_parts false false false true e h = cc
-idle_parts false false false false true h = cc
-idle_parts false false false false false h = (refl, refl)
+idle_parts : (a b c d e f g h i : Bool) → turn_by a b c d e f g h i ≡ turn.Idle → (h ≡ false) × (i ≡ false)
+idle_parts true b c d e f g h i is = cc
+idle_parts false true c d e f g h i is = cc
+idle_parts false false true d e f g h i is = cc
+idle_parts false false false true true f g h i is = cc
+idle_parts false false false true false true g h i is = cc
+idle_parts false false false true false false g h i is = cc
+idle_parts false false false false true f true h i is = cc
+idle_parts false false false false false f true h i is = cc
+idle_parts false false false false e f false true i is = cc
+idle_parts false false false false e f false false true is = cc
+idle_parts false false false false e f false false false is = (refl, refl)
 
 -- a worker of whose senders each last batch was taken or waits is never idle
 pub never_idle : (context : Context) (w : WorkerState) (p : Position) → Shows context w p
     → ((sender k : ℕ) → k < length w.ins → ((d : Upstream) → (get_or w.ins k d).from ≡ sender) → (d : Upstream) → has_marked (taken_from p.taken sender ++ waiting (get_or w.ins k d).link) ≡ true)
     → next_turn w ≡ turn.Idle → ⊥
 never_idle context w p shows marked idle =
-    let parts = idle_parts w.finished (has_some w.pending) (has_some w.rest) (has_ready w.ins) (have_all_ended w.ins) idle in
+    let parts = idle_parts w.finished w.restraint.paused w.restraint.held (has_some w.pending) (is_starved w) (must_hold w) (has_some w.rest) (has_ready w.ins) (have_all_ended w.ins) idle in
     let built = built_so context.base.had context.placement.role.task p.taken context.placement.role.senders w.ins shows.ins shows.sides
     (λ sender member builds. last (have_builders_ended w.ins) parts.0 sender member (or_left _ _ builds) (has_last p.taken sender) refl) in
     let ended = all_ended context.base.had p.taken context.placement.role.senders w.ins shows.ins

@@ -1,5 +1,8 @@
 pub mod Both
+pub mod Apart
 pub mod Bounds
+pub mod Dealt
+pub mod Stills
 pub mod Unchanged
 pub mod Fresh
 pub mod GoOn
@@ -8,6 +11,8 @@ pub mod Journals
 pub mod Others
 pub mod KeptPosition
 pub mod ManyTurns
+pub mod Selves
+pub mod Drives
 pub mod Moves
 pub mod Emits
 pub mod Produced
@@ -19,7 +24,10 @@ pub mod States
 pub mod StepFacts
 pub mod Received
 pub mod Takes
+pub mod TurnCases
 pub mod Turns
+pub mod Told
+pub mod Dealings
 pub mod Commands
 pub mod Roomless
 pub mod PairFacts

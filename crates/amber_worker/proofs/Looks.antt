@@ -1,6 +1,7 @@
 -- What a look for batches leaves.
-use Rattle.std.proofs.Common.{◌≡◌, ℕ, suc, ◌≤◌, eqb, ◌&&◌, ◌||◌, not, arith, All, List, [], ◌∷◌, length, refl, ap, ◌∙◌, subst}
+use Rattle.std.proofs.Common.{◌≡◌, ℕ, suc, ◌≤◌, eqb, ◌&&◌, ◌||◌, not, false, arith, All, List, [], ◌∷◌, length, refl, ap, ◌∙◌, subst}
 use Rattle.std.proofs.lemmas.List.Elements.{All-cons}
+use Rattle.amber_link.specs.Links.{has_some}
 use Rattle.amber_link.specs.Sides.{AreLooked, IsLooked, Pairwise, have_all_ended, have_builders_ended}
 use Rattle.amber_link.specs.declared.upstreams.Upstream.{Upstream}
 use Rattle.amber_link.proofs.Sides.{looked-then, pairwise-then}
@@ -30,6 +31,8 @@ looked-built (x ∷ xs) (y ∷ ys) h = ap (λ (one : Upstream). (not one.builds 
 -- a batch is taken after a look
 pub takes-looked : (old between new : WorkerState) → IsLookedAt old between → TakesBatch between new → TakesBatch old new
 takes-looked old between new looked takes = record {
+  drained = subst (λ (w : WorkerState). has_some w.pending ≡ false) looked.only takes.drained;
+  used = subst (λ (w : WorkerState). has_some w.rest ≡ false) looked.only takes.used;
   one = takes.one;
   batch = takes.batch;
   found = takes.found;

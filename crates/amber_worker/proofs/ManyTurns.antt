@@ -1,25 +1,42 @@
 -- What one turn of a worker after another comes to.
-use Rattle.std.proofs.Common.{◌≡◌, ℕ, ◌+◌, ◌≤◌, ◌⊎◌, ◌++◌, List, [], ◌∷◌, not, Bool, true, false, if◌then◌else◌, refl, sym, ap, ◌∙◌, subst, inl, inr, append_assoc, arith}
+use Rattle.std.proofs.Common.{◌≡◌, ℕ, ◌+◌, ◌≤◌, ◌&&◌, ◌||◌, ◌++◌, List, [], ◌∷◌, Option, Some, None, not, Bool, true, false, if◌then◌else◌, refl, sym, ap, ◌∙◌, subst, inl, inr, append_assoc, arith}
 use Rattle.std.proofs.lemmas.List.{append-nil}
 use Rattle.std.proofs.lemmas.List.Elements.{filter-append}
+use Rattle.std.specs.Option.{is_some}
+use Rattle.std.proofs.lemmas.Bool.{false≢true}
+use Rattle.amber_board.specs.declared.types.WorkSeat.{WorkSeat}
+use Rattle.amber_mail.specs.Controls.{is_pause}
+use Rattle.amber_mail.specs.declared.mail.Control.{Control}
+use Rattle.amber_mail.specs.declared.mail.Control.TheVariants as control
+use Rattle.amber_meaning.specs.Position.{Restraint, no_restraint}
+use Rattle.amber_meaning.specs.Rules.{first_is_watched, restraint_used}
+use Rattle.amber_rows.specs.declared.value.Value.{Value}
 use Rattle.amber_rows.specs.declared.batch.Batch.{Batch}
 use Rattle.amber_log.specs.declared.entry.Entry.{Entry}
 use Rattle.amber_log.specs.declared.entry.Entry.TheVariants as entry
 use Rattle.amber_link.specs.Links.{come, has_some}
-use Rattle.amber_link.specs.Sides.{AreLooked, IsLooked, IsTaken, Pairwise, have_all_ended}
+use Rattle.amber_link.specs.Sides.{AreLooked, HaveSentOn, IsLooked, IsTaken, Pairwise, have_all_ended}
 use Rattle.amber_link.specs.declared.upstreams.Upstream.{Upstream}
-use Rattle.amber_link.proofs.SameEnds.{pairwise-weaker}
+use Rattle.amber_link.specs.declared.downstreams.Downstream.{Downstream}
+use Rattle.amber_link.proofs.LinkEnds.{carries-forwards}
+use Rattle.amber_link.proofs.SameEnds.{pairwise-weaker, senders-same}
+use Rattle.amber_link.proofs.SentOn.{on-keeps, sent_on-ends}
 use Rattle.amber_link.proofs.Sides.{pairwise-refl, pairwise-then}
-use Rattle.amber_worker.specs.AtPosition.{HasSameEnds, IsLookedAt, Keeps}
-use Rattle.amber_worker.specs.Links.{HaveSentNothing}
-use Rattle.amber_worker.specs.Steps.{gone_on, with_go}
-use Rattle.amber_worker.specs.Turning.{HasStopped, HasTurned, HaveMoreCome, IsIdleAt, IsNextTurn, MakesStep, MakesTurns, WritesStep, other_entries, tells_steps}
-use Rattle.amber_worker.specs.WorkerState.{WorkerState, has_ready}
+use Rattle.amber_worker.specs.AtPosition.{HasSameEnds, IsLookedAt, KeepsUnder, Output, Placement, SendAll, output_at, stream_to}
+use Rattle.amber_worker.specs.Driving.{HasSent}
+use Rattle.amber_worker.specs.Counting.{CountsOne}
+use Rattle.amber_worker.specs.Steps.{gone_on, held_at, with_go}
+use Rattle.amber_worker.specs.Turning.{HasTurned, HaveMoreCome, IsCalm, IsNextTurn, MakesStep, MakesTurn, MakesTurns, StaysCalm, TurnsUnder, WritesStep, other_entries, tells_steps}
+use Rattle.amber_worker.specs.WorkerState.{WorkerState, has_ready, is_armed, is_starved, must_hold, steps_made}
 use Rattle.amber_worker.specs.declared.turn.Turn.{Turn}
 use Rattle.amber_worker.specs.declared.turn.Turn.TheVariants as turn
+use Rattle.amber_worker.proofs.Dealt.{Keeps-apart}
 use Rattle.amber_worker.proofs.KeptPosition.{Keeps-then}
+use Rattle.amber_worker.proofs.Settling.{Shows-relinked}
+use Rattle.amber_worker.proofs.Selves.{acts-self, pauses-stand, seat-armed, seat-same, seat-then, self-looked, self-then, turned-self}
 use Rattle.amber_worker.proofs.StepFacts.{step-steps, step-writes, turned-counts}
-use Rattle.amber_worker.proofs.Turns.{ends-looked, ends-then, keeps-looked, looked-none, unsent-looked}
+use Rattle.amber_worker.proofs.TurnCases.{holds-by, turn_by}
+use Rattle.amber_worker.proofs.Turns.{ends-looked, ends-then, keeps-looked, looked-none}
 
 -- ---- the batches that have come
 
@@ -95,104 +112,292 @@ same-step old new (inr (inl takes)) = rw takes (same-with_go old 1 0)
 same-step old new (inr (inr (inl takes))) = rw takes.2 (same-push old (entry.Take takes.0 takes.1) refl)
 same-step old new (inr (inr (inr finishes))) = rw finishes (same-push old entry.Finish refl)
 
--- ---- turns
+-- ---- a turn
+
+turned-come : (done : Turn) (old new : WorkerState) → HasTurned done old new → Pairwise HaveMoreCome old.ins new.ins
+turned-come turn.Moved old new step = step-come old new step
+turned-come turn.Idle old new idle = all-looked old.ins new.ins idle.looked.looked
+turned-come turn.Held old new is = subst (λ (w : WorkerState). Pairwise HaveMoreCome old.ins w.ins) (sym is) (by old.restraint.held)
+  where
+    by : (b : Bool) → Pairwise HaveMoreCome old.ins (if b then old else held_at old).ins
+    by true = all-same old.ins
+    by false = all-same old.ins
+turned-come turn.Starved old new same = subst (λ (w : WorkerState). Pairwise HaveMoreCome old.ins w.ins) (sym same) (all-same old.ins)
+turned-come turn.Paused old new same = subst (λ (w : WorkerState). Pairwise HaveMoreCome old.ins w.ins) (sym same) (all-same old.ins)
+turned-come turn.Ended old new same = subst (λ (w : WorkerState). Pairwise HaveMoreCome old.ins w.ins) (sym same) (all-same old.ins)
+
+-- how many steps a turn makes
+abbrev pub steps_in : Turn → ℕ
+steps_in turn.Moved = 1
+steps_in turn.Idle = 0
+steps_in turn.Held = 0
+steps_in turn.Starved = 0
+steps_in turn.Paused = 0
+steps_in turn.Ended = 0
+
+pub turned-steps : (done : Turn) (old new : WorkerState) → HasTurned done old new → steps_made new ≡ steps_made old + steps_in done
+turned-steps turn.Moved old new step = step-steps old new step
+turned-steps turn.Idle old new idle = rw idle.looked.only (omega arith)
+turned-steps turn.Held old new is = rw is (by old.restraint.held)
+  where
+    by : (b : Bool) → steps_made (if b then old else held_at old) ≡ steps_made old + 0
+    by true = omega arith
+    by false = omega arith
+turned-steps turn.Starved old new same = rw same (omega arith)
+turned-steps turn.Paused old new same = rw same (omega arith)
+turned-steps turn.Ended old new same = rw same (omega arith)
+
+-- rows rise with steps
+pub turned-rows : (done : Turn) (old new : WorkerState) → HasTurned done old new → new.taken + new.emitted ≤ old.taken + old.emitted + steps_in done
+turned-rows turn.Moved old new step = (turned-counts turn.Moved old new step).rows
+turned-rows turn.Idle old new idle = rw idle.looked.only (omega arith)
+turned-rows turn.Held old new is = rw is (by old.restraint.held)
+  where
+    by : (b : Bool) → (if b then old else held_at old).taken + (if b then old else held_at old).emitted ≤ old.taken + old.emitted + 0
+    by true = omega arith
+    by false = omega arith
+turned-rows turn.Starved old new same = rw same (omega arith)
+turned-rows turn.Paused old new same = rw same (omega arith)
+turned-rows turn.Ended old new same = rw same (omega arith)
+
+-- ---- many turns
 
 -- a look makes no turn
 pub makes-looked : (old new : WorkerState) → IsLookedAt old new → MakesTurns 0 old new
-makes-looked old new looked = record {
-  keeps = keeps-looked old new looked;
-  ends = ends-looked old new looked;
-  unsent = unsent-looked old new looked;
-  come = all-looked old.ins new.ins looked.looked;
-  taken = rw looked.only (omega arith);
-  emitted = rw looked.only (omega arith);
-  batches = rw looked.only (omega arith);
-  rows = rw looked.only (omega arith);
-  steps = rw looked.only (omega arith);
-  writes = ap (λ (w : WorkerState). other_entries w.journal) looked.only;
-}
+makes-looked old new looked =
+    let self = self-looked old new looked in
+    record {
+      keeps = keeps-looked (is_armed old) old new looked;
+      ends = ends-looked old new looked;
+      constants = self.constants;
+      seat = self.seat;
+      mine = self.mine;
+      reserved = self.reserved;
+      come = all-looked old.ins new.ins looked.looked;
+      taken = rw looked.only (omega arith);
+      emitted = rw looked.only (omega arith);
+      batches = rw looked.only (omega arith);
+      rows = rw looked.only (omega arith);
+      steps = rw looked.only (omega arith);
+    }
 
 -- nor does nothing
 pub makes-same : (old : WorkerState) → MakesTurns 0 old old
 makes-same old = makes-looked old old (looked-none old old refl)
 
 -- so many were made, and then so many more
-pub makes-then : (m n : ℕ) (a b c : WorkerState) → MakesTurns m a b → MakesTurns n b c → MakesTurns (m + n) a c
-makes-then m n a b c one two = record {
-  keeps = Keeps-then false a b c one.keeps two.keeps;
+pub makes-then : (m n : ℕ) (a b c : WorkerState) → is_armed b ≡ is_armed a → MakesTurns m a b → MakesTurns n b c → MakesTurns (m + n) a c
+makes-then m n a b c armed one two = record {
+  keeps = Keeps-then (is_armed a) a b c one.keeps (subst (λ t. KeepsUnder t b c) armed two.keeps);
   ends = ends-then a b c one.ends two.ends;
-  unsent = two.unsent ∙ one.unsent;
+  constants = two.constants ∙ one.constants;
+  seat = seat-then a.seat b.seat c.seat one.seat two.seat;
+  mine = λ so. let first = one.mine so in let second = two.mine (armed ∙ so) in omega (arith, first, second);
+  reserved = two.reserved ∙ one.reserved;
   come = all-then a.ins b.ins c.ins one.come two.come;
   taken = omega (arith, one.taken, two.taken);
   emitted = omega (arith, one.emitted, two.emitted);
   batches = omega (arith, one.batches, two.batches);
   rows = omega (arith, one.rows, two.rows);
   steps = omega (arith, one.steps, two.steps);
-  writes = two.writes ∙ one.writes;
 }
+
+-- batches that were sent
+receivers-sent : (placement : Placement) (receivers : List ℕ) (output : Output) (outs after : List Downstream) → HaveSentOn outs after → SendAll placement receivers output outs
+    → SendAll placement receivers output after
+unfolding Pairwise SendAll
+receivers-sent placement [] output [] [] sent sends = tt
+receivers-sent placement [] output [] (y ∷ after) sent sends = absurd sent
+receivers-sent placement [] output (x ∷ outs) after sent sends = absurd sends
+receivers-sent placement (receiver ∷ receivers) output [] after sent sends = absurd sends
+receivers-sent placement (receiver ∷ receivers) output (x ∷ outs) [] sent sends = absurd sent
+receivers-sent placement (receiver ∷ receivers) output (x ∷ outs) (y ∷ after) sent sends =
+    let keeps = on-keeps x y sent.0 in (
+      record {
+        to = sent.0.to ∙ sends.0.to;
+        batch_size = keeps.batch_size ∙ sends.0.batch_size;
+        over = keeps.ended ∙ sends.0.over;
+        carries = carries-forwards x.link y.link (output.gave receiver) (stream_to placement receiver output.rows) sent.0.link sends.0.carries;
+      },
+      sends.1,
+      receivers-sent placement receivers output outs after sent.1 sends.2,
+    )
+
+keeps-sent : (counted : Bool) (w : WorkerState) (outs : List Downstream) → HaveSentOn w.outs outs → KeepsUnder counted w (record w { outs = outs })
+unfolding KeepsUnder
+keeps-sent counted w outs sent context start p armed stands = (
+  p,
+  record {
+    leads = stands.leads;
+    text = stands.text;
+    shows = Shows-relinked context w p w.ins outs w.journal stands.shows stands.shows.ins stands.shows.sides
+        (receivers-sent context.placement context.placement.receivers (output_at context p) w.outs outs sent stands.shows.outs);
+  },
+)
+
+-- a turn more was driven, and batches were sent
+pub makes-sent : (old new : WorkerState) (turned : ℕ) → HasSent (record old { turned = turned }) new → MakesTurns 0 old new
+makes-sent old new turned sent = subst (MakesTurns 0 old) (sym sent.only) (record {
+  keeps = Keeps-then (is_armed old) old (record old { turned = turned }) (record old { turned = turned; outs = new.outs }) (Keeps-apart (is_armed old) old old.seat old.reserved turned)
+      (keeps-sent (is_armed old) (record old { turned = turned }) new.outs sent.sent);
+  ends = record { ins = senders-same old.ins; outs = sent_on-ends old.outs new.outs sent.sent; number = refl; when = refl; route = refl };
+  constants = refl;
+  seat = seat-same old.seat;
+  mine = λ so. refl;
+  reserved = refl;
+  come = all-same old.ins;
+  taken = omega arith;
+  emitted = omega arith;
+  batches = omega arith;
+  rows = omega arith;
+  steps = omega arith;
+})
 
 -- where so many were made, no more than a greater number were
 pub makes-more : (m n : ℕ) (old new : WorkerState) → m ≤ n → MakesTurns m old new → MakesTurns n old new
 makes-more m n old new within makes = record {
   keeps = makes.keeps;
   ends = makes.ends;
-  unsent = makes.unsent;
+  constants = makes.constants;
+  seat = makes.seat;
+  mine = makes.mine;
+  reserved = makes.reserved;
   come = makes.come;
   taken = makes.taken;
   emitted = makes.emitted;
   batches = makes.batches;
   rows = omega (arith, makes.rows);
   steps = omega (arith, makes.steps);
-  writes = makes.writes;
 }
 
--- and then there was a look
-pub makes-then-look : (most : ℕ) (a b c : WorkerState) → MakesTurns most a b → IsLookedAt b c → MakesTurns most a c
-makes-then-look most a b c makes looked = makes-more (most + 0) most a c (omega arith) (makes-then most 0 a b c makes (makes-looked b c looked))
+-- a count stays armed or not
+pub makes-armed : (n : ℕ) (old new : WorkerState) → MakesTurns n old new → is_armed new ≡ is_armed old
+makes-armed n old new makes = seat-armed old.seat new.seat makes.seat
+
+-- how many turns are made that a control leaves to it: none where it is a pause
+abbrev pub moves_under : Option Control → ℕ
+moves_under told = if is_pause told then 0 else 1
+
+few-steps : (done : Turn) → steps_in done ≤ 1
+few-steps turn.Moved = omega arith
+few-steps turn.Idle = omega arith
+few-steps turn.Held = omega arith
+few-steps turn.Starved = omega arith
+few-steps turn.Paused = omega arith
+few-steps turn.Ended = omega arith
+
+-- one that has finished or is paused does not move
+stays_put : (a b c d e f g h i : Bool) → (a || b) ≡ true → (done : Turn) → done ≡ turn_by a b c d e f g h i → steps_in done ≤ 0
+stays_put true b c d e f g h i so done is = rw is (omega arith)
+stays_put false true c d e f g h i so done is = rw is (omega arith)
+stays_put false false c d e f g h i so done is = absurd (false≢true so)
+
+paused-steps : (old new : WorkerState) (done : Turn) → TurnsUnder (Some control.Pause) old new done → steps_in done ≤ 0
+paused-steps old new done turns =
+    let w = turns.between in
+    let next = turns.makes.next in
+    stays_put w.finished w.restraint.paused w.restraint.held (has_some w.pending) (is_starved w) (must_hold w) (has_some w.rest) (has_ready next.found) (have_all_ended next.found)
+    (ap (λ (v : WorkerState). v.finished || v.restraint.paused) turns.acts ∙ pauses-stand old) done next.is
+
+-- one that is told to pause makes no step
+no-step : (told : Option Control) (old new : WorkerState) (done : Turn) → TurnsUnder told old new done → steps_in done ≤ moves_under told
+no-step None old new done turns = few-steps done
+no-step (Some control.Pause) old new done turns = paused-steps old new done turns
+no-step (Some control.Claim) old new done turns = few-steps done
+no-step (Some control.Return) old new done turns = few-steps done
 
 -- a turn is one at most
-pub makes-turn : (done : Turn) (old new : WorkerState) → Keeps old new → HasSameEnds old new → HaveSentNothing old.outs new.outs → HasTurned done old new
-    → MakesTurns 1 old new
-makes-turn turn.Moved old new keeps ends unsent step =
-    let counts = turned-counts turn.Moved old new step in
+pub makes-turn : (told : Option Control) (old new : WorkerState) (done : Turn) → KeepsUnder (is_armed old) old new → HasSameEnds old new → TurnsUnder told old new done
+    → MakesTurns (moves_under told) old new
+makes-turn told old new done keeps ends turns =
+    let acted = acts-self told old turns.between turns.acts in
+    let self = self-then old turns.between new acted.self (turned-self done turns.between new turns.makes.turned) in
+    let counts = turned-counts done turns.between new turns.makes.turned in
+    let rows = turned-rows done turns.between new turns.makes.turned in
+    let steps = turned-steps done turns.between new turns.makes.turned in
+    let few = no-step told old new done turns in
     record {
       keeps = keeps;
       ends = ends;
-      unsent = unsent;
-      come = step-come old new step;
-      taken = counts.taken;
-      emitted = counts.emitted;
-      batches = counts.batches;
-      rows = counts.rows;
-      steps = let more = step-steps old new step in omega arith;
-      writes = same-step old.journal new.journal (step-writes old new step);
+      constants = self.constants;
+      seat = self.seat;
+      mine = self.mine;
+      reserved = self.reserved;
+      come = subst (λ ins. Pairwise HaveMoreCome ins new.ins) acted.ins (turned-come done turns.between new turns.makes.turned);
+      taken = omega (arith, acted.taken, counts.taken);
+      emitted = omega (arith, acted.emitted, counts.emitted);
+      batches = omega (arith, acted.batches, counts.batches);
+      rows = omega (arith, acted.taken, acted.emitted, rows, few);
+      steps = omega (arith, acted.steps, steps, few);
     }
-makes-turn turn.Idle old new keeps ends unsent idle = makes-more 0 1 old new (omega arith) (makes-looked old new idle.looked)
-makes-turn turn.Ended old new keeps ends unsent same = makes-more 0 1 old new (omega arith) (makes-looked old new (looked-none old new same))
 
--- ---- where turns stop
+-- ---- a calm worker
 
--- of all that a worker finds, that it has finished comes first
-ended-by : (a b c d e : Bool)
-    → (if a then turn.Ended else if b then turn.Moved else if c then turn.Moved else if d then turn.Moved else if e then turn.Moved else turn.Idle) ≡ turn.Ended → a ≡ true
-ended-by true b c d e is = refl
-ended-by false true c d e is = cc
-ended-by false false true d e is = cc
-ended-by false false false true e is = cc
-ended-by false false false false true is = cc
-ended-by false false false false false is = cc
+restraint-calm : (w : WorkerState) → IsCalm w → (w.restraint.paused ≡ false) × (w.restraint.held ≡ false) × (w.restraint.waved ≡ false)
+restraint-calm w calm = (
+  ap (λ (r : Restraint). r.paused) calm.loose,
+  ap (λ (r : Restraint). r.held) calm.loose,
+  ap (λ (r : Restraint). r.waved) calm.loose,
+)
 
--- a worker whose turn it is to end has finished
-pub ended-finished : (w : WorkerState) → IsNextTurn w turn.Ended → w.finished ≡ true
-ended-finished w next = ended-by w.finished (has_some w.pending) (has_some w.rest) (has_ready next.found) (have_all_ended next.found) (sym next.is)
+nothing-watched : (rows : List (List Value)) → first_is_watched None rows ≡ false
+nothing-watched [] = refl
+nothing-watched (row ∷ rows) = refl
 
--- a turn that makes no step is a look at most
-pub rests-looked : (done : Turn) (old new : WorkerState) → (done ≡ turn.Idle) ⊎ (done ≡ turn.Ended) → HasTurned done old new → IsLookedAt old new
-rests-looked done old new (inl is) turned = let idle : IsIdleAt old new = subst (λ t. HasTurned t old new) is turned in idle.looked
-rests-looked done old new (inr is) turned = looked-none old new (subst (λ t. HasTurned t old new) is turned)
+no_matter : (b : Bool) → (b && false) ≡ false
+no_matter true = refl
+no_matter false = refl
 
--- where a turn makes no step the worker has stopped
-pub rests-stopped : (done : Turn) (old new : WorkerState) → (done ≡ turn.Idle) ⊎ (done ≡ turn.Ended) → IsNextTurn old done → HasTurned done old new → HasStopped new
-rests-stopped done old new (inl is) next turned = let idle : IsIdleAt old new = subst (λ t. HasTurned t old new) is turned in inr idle.idle
-rests-stopped done old new (inr is) next turned =
-    inl (ap (λ (w : WorkerState). w.finished) (subst (λ t. HasTurned t old new) is turned) ∙ ended-finished old (subst (IsNextTurn old) is next))
+calm-passes : (w : WorkerState) → IsCalm w → must_hold w ≡ false
+calm-passes w calm =
+    ap (λ when. not w.restraint.waved && first_is_watched when w.pending) calm.unwatched ∙ ap (λ b. not w.restraint.waved && b) (nothing-watched w.pending) ∙ no_matter (not w.restraint.waved)
+
+unarmed-still : (seat now : Option WorkSeat) → seat ≡ None → CountsOne seat now → now ≡ None
+unarmed-still None now none counts = counts
+unarmed-still (Some seat) now none counts = absurd (false≢true (sym (ap (λ (s : Option WorkSeat). is_some s) none)))
+
+used-calm : (counted : Bool) (r : Restraint) → counted ≡ false → r ≡ no_restraint → restraint_used counted 1 r ≡ no_restraint
+used-calm counted r unarmed is = ap (λ b. restraint_used b 1 r) unarmed ∙ ap (λ (q : Restraint). restraint_used false 1 q) is
+
+calm-step : (old new : WorkerState) → IsCalm old → MakesStep old new → IsCalm new
+calm-step old new calm (inl emits) = subst IsCalm (sym emits.after) (record {
+  unwatched = calm.unwatched;
+  unarmed = unarmed-still old.seat emits.seat calm.unarmed emits.counts;
+  loose = used-calm (is_armed old) old.restraint (ap (λ (s : Option WorkSeat). is_some s) calm.unarmed) calm.loose;
+})
+calm-step old new calm (inr (inl takes)) = subst IsCalm (sym takes.after) (record { unwatched = calm.unwatched; unarmed = calm.unarmed; loose = calm.loose })
+calm-step old new calm (inr (inr (inl takes))) = subst IsCalm (sym takes.after) (record { unwatched = calm.unwatched; unarmed = calm.unarmed; loose = calm.loose })
+calm-step old new calm (inr (inr (inr ends))) =
+    subst IsCalm (sym ends.finishes.after ∙ refl)
+    (record {
+      unwatched = ap (λ (w : WorkerState). w.when) ends.looked.only ∙ calm.unwatched;
+      unarmed = ap (λ (w : WorkerState). w.seat) ends.looked.only ∙ calm.unarmed;
+      loose = ap (λ (w : WorkerState). w.restraint) ends.looked.only ∙ calm.loose;
+    })
+
+calm-looked : (old new : WorkerState) → IsCalm old → IsLookedAt old new → IsCalm new
+calm-looked old new calm looked = subst IsCalm (sym looked.only) (record { unwatched = calm.unwatched; unarmed = calm.unarmed; loose = calm.loose })
+
+-- no row holds it
+never-held : (old : WorkerState) → IsCalm old → IsNextTurn old turn.Held → ⊥
+never-held old calm next =
+    let parts = restraint-calm old calm in
+    let held =
+    holds-by old.finished old.restraint.paused old.restraint.held (has_some old.pending) (is_starved old) (must_hold old) (has_some old.rest) (has_ready next.found) (have_all_ended next.found) next.is parts.1 in
+    false≢true (sym (calm-passes old calm) ∙ held.must)
+
+-- it stays calm, and what is written tells of steps alone
+pub calm-turn : (old new : WorkerState) (done : Turn) → IsCalm old → MakesTurn old new done → StaysCalm old new
+calm-turn old new turn.Moved calm makes = record { calm = calm-step old new calm makes.turned; writes = same-step old.journal new.journal (step-writes old new makes.turned) }
+calm-turn old new turn.Idle calm makes =
+    record { calm = calm-looked old new calm makes.turned.looked; writes = ap (λ (w : WorkerState). other_entries w.journal) makes.turned.looked.only }
+calm-turn old new turn.Held calm makes = absurd (never-held old calm makes.next)
+calm-turn old new turn.Starved calm makes = record { calm = subst IsCalm (sym makes.turned) calm; writes = ap (λ (w : WorkerState). other_entries w.journal) makes.turned }
+calm-turn old new turn.Paused calm makes = record { calm = subst IsCalm (sym makes.turned) calm; writes = ap (λ (w : WorkerState). other_entries w.journal) makes.turned }
+calm-turn old new turn.Ended calm makes = record { calm = subst IsCalm (sym makes.turned) calm; writes = ap (λ (w : WorkerState). other_entries w.journal) makes.turned }
+
+pub calm-then : (a b c : WorkerState) → StaysCalm a b → StaysCalm b c → StaysCalm a c
+calm-then a b c one two = record { calm = two.calm; writes = two.writes ∙ one.writes }
+
+pub calm-broken : (old new : WorkerState) → IsCalm old → IsLookedAt old new → StaysCalm old new
+calm-broken old new calm looked = record { calm = calm-looked old new calm looked; writes = ap (λ (w : WorkerState). other_entries w.journal) looked.only }

@@ -1,7 +1,8 @@
 -- What a step of a worker changes of its counts and of its journal.
-use Rattle.std.proofs.Common.{◌≡◌, ◌+◌, ◌≤◌, ◌++◌, ◌∷◌, [], ap, ◌∙◌, inl, inr, arith}
+use Rattle.std.proofs.Common.{◌≡◌, ◌+◌, ◌≤◌, ◌++◌, ◌∷◌, [], Bool, true, false, if◌then◌else◌, sym, ap, ◌∙◌, inl, inr, arith, subst}
 use Rattle.amber_log.specs.declared.entry.Entry.TheVariants as entry
 use Rattle.amber_meaning.specs.Position.{one_if}
+use Rattle.amber_worker.specs.Steps.{held_at}
 use Rattle.amber_worker.specs.Turning.{FinishesAt, HasTurned, MakesStep, WritesStep}
 use Rattle.amber_worker.specs.WorkerState.{WorkerState, steps_made}
 use Rattle.amber_worker.specs.declared.turn.Turn.{Turn}
@@ -64,4 +65,11 @@ step-writes old new (inr (inr (inr finishes))) =
 pub turned-counts : (done : Turn) (old new : WorkerState) → HasTurned done old new → CountsUp old new
 turned-counts turn.Moved old new step = step-counts old new step
 turned-counts turn.Idle old new idle = rw idle.looked.only (record { taken = omega arith; emitted = omega arith; batches = omega arith; rows = omega arith })
+turned-counts turn.Held old new is = subst (CountsUp old) (sym is) (by old.restraint.held)
+  where
+    by : (b : Bool) → CountsUp old (if b then old else held_at old)
+    by true = record { taken = omega arith; emitted = omega arith; batches = omega arith; rows = omega arith }
+    by false = record { taken = omega arith; emitted = omega arith; batches = omega arith; rows = omega arith }
+turned-counts turn.Starved old new same = rw same (record { taken = omega arith; emitted = omega arith; batches = omega arith; rows = omega arith })
+turned-counts turn.Paused old new same = rw same (record { taken = omega arith; emitted = omega arith; batches = omega arith; rows = omega arith })
 turned-counts turn.Ended old new same = rw same (record { taken = omega arith; emitted = omega arith; batches = omega arith; rows = omega arith })

@@ -1,5 +1,5 @@
 -- A worker that stays as it was after an error.
-use Rattle.std.proofs.Common.{◌≡◌, ◌+◌, ◌<◌, ◌^◌, ℕ, List, All, Option, false, Result, Ok, Err, ap, sym, ◌∙◌, arith, subst}
+use Rattle.std.proofs.Common.{◌≡◌, ◌+◌, ◌<◌, ◌^◌, ℕ, List, All, Option, Bool, false, Result, Ok, Err, ap, sym, ◌∙◌, arith, subst}
 use Rattle.std.specs.Option.{IfSome, is_some}
 use Rattle.std.specs.Result.{OnErr}
 use Rattle.amber_rows.specs.declared.value.Value.{Value}
@@ -20,28 +20,25 @@ err_so (Ok x) P h = tt
 err_so (Err x) P h = h
 
 -- its journal alone was written anew
-pub same-journal : (w now : WorkerState) (journal : List Entry) → journal ≡ w.journal → w ≡ now → record w { journal = journal } ≡ now
-same-journal w now journal e is = ap (λ l. record w { journal = l }) e ∙ is
+pub same-journal : (w now : WorkerState) (journal : List Entry) (reserved : Bool) → journal ≡ w.journal → reserved ≡ w.reserved → w ≡ now
+    → record w { journal = journal; reserved = reserved } ≡ now
+same-journal w now journal reserved e f is = ap (λ l. record w { journal = l; reserved = reserved }) e ∙ ap (λ b. record w { reserved = b }) f ∙ is
 
 -- its receivers too
-pub same-outs : (w now : WorkerState) (journal : List Entry) (outs : List Downstream) → journal ≡ w.journal → outs ≡ w.outs → w ≡ now → record w { outs = outs; journal = journal } ≡ now
-same-outs w now journal outs e f is = ap (λ l. record w { outs = outs; journal = l }) e ∙ ap (λ l. record w { outs = l }) f ∙ is
-
--- its receivers, and the rows that are pending
-pub same-emitting : (w now : WorkerState) (journal : List Entry) (outs : List Downstream) (pending : List (List Value)) → journal ≡ w.journal → outs ≡ w.outs → pending ≡ w.pending → w ≡ now
-    → record w { pending = pending; outs = outs; journal = journal } ≡ now
-same-emitting w now journal outs pending e f g is = ap (λ l. record w { pending = l; outs = outs; journal = journal }) g ∙ same-outs w now journal outs e f is
+pub same-outs : (w now : WorkerState) (journal : List Entry) (reserved : Bool) (outs : List Downstream) → journal ≡ w.journal → reserved ≡ w.reserved → outs ≡ w.outs → w ≡ now
+    → record w { outs = outs; journal = journal; reserved = reserved } ≡ now
+same-outs w now journal reserved outs e f g is = ap (λ l. record w { outs = l; journal = journal; reserved = reserved }) g ∙ same-journal w now journal reserved e f is
 
 -- what it is about to take, and what rows have given
-pub same-taking : (w now : WorkerState) (does : OperatorState) (rest : List Arrival) (pending : List (List Value)) (refused : List Refusal) (kept : List (List Value)) (journal : List Entry)
-    → does ≡ w.operator_state → rest ≡ w.rest → pending ≡ w.pending → refused ≡ w.refused → kept ≡ w.kept → journal ≡ w.journal → w ≡ now
-    → record w { operator_state = does; rest = rest; pending = pending; refused = refused; kept = kept; journal = journal } ≡ now
-same-taking w now does rest pending refused kept journal a b c d e f is =
-    ap (λ x. record w { operator_state = x; rest = rest; pending = pending; refused = refused; kept = kept; journal = journal }) a
-    ∙ ap (λ x. record w { rest = x; pending = pending; refused = refused; kept = kept; journal = journal }) b
-    ∙ ap (λ x. record w { pending = x; refused = refused; kept = kept; journal = journal }) c
-    ∙ ap (λ x. record w { refused = x; kept = kept; journal = journal }) d
-    ∙ ap (λ x. record w { kept = x; journal = journal }) e ∙ same-journal w now journal f is
+pub same-taking : (w now : WorkerState) (does : OperatorState) (rest : List Arrival) (pending : List (List Value)) (refused : List Refusal) (kept : List (List Value)) (journal : List Entry) (reserved : Bool)
+    → does ≡ w.operator_state → rest ≡ w.rest → pending ≡ w.pending → refused ≡ w.refused → kept ≡ w.kept → journal ≡ w.journal → reserved ≡ w.reserved → w ≡ now
+    → record w { operator_state = does; rest = rest; pending = pending; refused = refused; kept = kept; journal = journal; reserved = reserved } ≡ now
+same-taking w now does rest pending refused kept journal reserved a b c d e f g is =
+    ap (λ x. record w { operator_state = x; rest = rest; pending = pending; refused = refused; kept = kept; journal = journal; reserved = reserved }) a
+    ∙ ap (λ x. record w { rest = x; pending = pending; refused = refused; kept = kept; journal = journal; reserved = reserved }) b
+    ∙ ap (λ x. record w { pending = x; refused = refused; kept = kept; journal = journal; reserved = reserved }) c
+    ∙ ap (λ x. record w { refused = x; kept = kept; journal = journal; reserved = reserved }) d
+    ∙ ap (λ x. record w { kept = x; journal = journal; reserved = reserved }) e ∙ same-journal w now journal reserved f g is
 
 -- what is within bounds stays so
 pub few-same : (f : WorkerFields) (now : OperatorState) (later : Option ShareState) → now ≡ f.operator_state → is_some later ≡ is_some f.share
@@ -54,7 +51,6 @@ few-same f now later e same typed few =
       scans = same-some (f.operator_state ≡ operator_state.Scan) f.share later same few.scans;
       shares = same-some (f.ins ≡ _) f.share later same few.shares;
       typed = typed;
-      lowered = few.lowered;
       steps = few.steps;
       received = few.received;
       sent = few.sent;

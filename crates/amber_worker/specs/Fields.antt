@@ -1,10 +1,10 @@
 -- What a worker's fields mean.
-use Rattle.std.specs.Prelude.{◌≡◌, ℕ, not, false, true, ◌+◌, ◌^◌, ◌≤◌, All, List, [], map, IfSome, Option, Some, None, Ok, Bool}
+use Rattle.std.specs.Prelude.{◌≡◌, ℕ, not, false, true, ◌+◌, ◌^◌, ◌<◌, ◌≤◌, All, List, [], map, IfSome, Option, Some, None, Ok, Bool}
 use Rattle.amber_rows.specs.declared.value.Value.{Value}
 use Rattle.amber_rows.specs.declared.column.Column.{Column}
 use Rattle.amber_log.specs.declared.entry.Entry.{Entry}
 use Rattle.amber_log.specs.declared.entry.Entry.TheVariants as entry
-use Rattle.amber_meaning.specs.Position.{Restraint, one_if, no_restraint}
+use Rattle.amber_meaning.specs.Position.{Restraint, one_if}
 use Rattle.amber_meaning.specs.Task.{Arrival}
 use Rattle.amber_scan.specs.Shares.{ShareState}
 use Rattle.amber_scan.specs.declared.share.Scanned.{Scanned}
@@ -42,6 +42,10 @@ rows_moved entry.Resume = 0
 rows_moved entry.Hold = 0
 rows_moved entry.Finish = 0
 
+-- no entry speaks of very many rows
+abbrev pub AreShort : List Entry → Type 0
+AreShort journal = All (λ one. rows_moved one < 2 ^ 63) journal
+
 -- what is kept of a join is sealed once the batches at hand are of the probe side, and then the build side has ended; a group was
 -- fed no more rows than were taken
 abbrev pub IsInOrder : OperatorState → Bool → ℕ → List Upstream → Type 0
@@ -69,7 +73,6 @@ pub record WorkerFields : Type 0 where
   pub taken : ℕ
   pub emitted : ℕ
   pub batches : ℕ
-  pub flags : Flags
   pub finished : Bool
   pub ins : List Upstream
   pub outs : List Downstream
@@ -77,13 +80,12 @@ pub record WorkerFields : Type 0 where
   pub journal : List Entry
 
 -- what a worker counts is within its steps, and these are few; one that has a share is a scan's and has no senders, and its records
--- are typed by these columns; no flag is raised, since nothing raises one yet
+-- are typed by these columns
 pub record AreFew (f : WorkerFields) : Type 0 where
   pub in_order : IsInOrder f.operator_state f.building f.taken f.ins
   pub scans : IfSome f.share (λ _. f.operator_state ≡ operator_state.Scan)
   pub shares : IfSome f.share (λ _. f.ins ≡ [])
   pub typed : IfSome f.share (λ share. share.columns ≡ f.columns)
-  pub lowered : restraint_of 0 f.flags ≡ no_restraint
   pub steps : f.taken + f.emitted + f.batches + one_if f.finished ≤ 2 ^ 40
   pub received : All (λ one. one.taken ≤ f.batches) f.ins
   pub sent : f.finished ≡ false → All (λ one. one.link.kept.made ≤ f.emitted) f.outs

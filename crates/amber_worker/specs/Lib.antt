@@ -4,8 +4,13 @@ pub mod Links
 pub mod Made
 pub mod AtPosition
 pub mod WorkerState
+pub mod Journals
+pub mod Counting
+pub mod Acting
 pub mod Steps
 pub mod RowsTaken
+pub mod Readied
 pub mod Turning
+pub mod Driving
 pub mod Pairs
 pub mod Changes

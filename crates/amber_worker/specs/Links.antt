@@ -39,6 +39,12 @@ pub record EmitsFirst (to : Route) (old new : OutputSide) : Type 0 where
   pub first : old.pending ≡ row ∷ new.pending
   pub handed : IsHandedOn (number_to to row) row old.outs new.outs
 
+-- the place of the receiver to which the first of the pending rows goes, if there is one
+unfoldable pub IsFirstPlace : Route → OutputSide → Option ℕ → Type 0
+IsFirstPlace to side place = (row : List Value) (later : List (List Value)) → side.pending ≡ row ∷ later
+    → MatchOption place (list_any (λ one. one.to == number_to to row) side.outs ≡ false)
+    (λ i. (i < length side.outs) × ((d : Downstream) → (slice_index_or side.outs i d).to ≡ number_to to row))
+
 -- nothing was sent: the rings of the receivers are as they were
 abbrev pub HaveSentNothing : List Downstream → List Downstream → Type 0
 HaveSentNothing old new = map (λ one. one.link.ring) new ≡ map (λ one. one.link.ring) old

@@ -18,7 +18,7 @@ use Rattle.amber_link.specs.declared.upstreams.Upstream.{Upstream}
 use Rattle.amber_link.specs.declared.downstreams.Downstream.{Downstream}
 use Rattle.amber_link.specs.Sides.{without_room}
 use Rattle.amber_worker.specs.Links.{IsSoundRoute, number_to}
-use Rattle.amber_worker.specs.Fields.{WorkerFields, no_flags, rest_in}
+use Rattle.amber_worker.specs.Fields.{WorkerFields, rest_in}
 use Rattle.amber_worker.specs.WorkerState.{WorkerState, empty_worker_state}
 use Rattle.amber_worker.specs.declared.new_worker.WorkerEnds.{WorkerEnds}
 use Rattle.amber_worker.specs.declared.new_worker.WorkerTask.{WorkerTask}
@@ -120,6 +120,7 @@ pub record IsFresh (new : NewWorker) (w : WorkerState) : Type 0 where
   pub refused : w.refused ≡ []
   pub kept : w.kept ≡ []
   pub when : w.when ≡ None
+  pub seat : w.seat ≡ None
   pub restraint : w.restraint ≡ no_restraint
   pub finished : w.finished ≡ false
   pub senders : map from_of w.ins ≡ senders_of new.flow new.number
@@ -156,7 +157,6 @@ fresh_fields share task ends = record {
   taken = 0;
   emitted = 0;
   batches = 0;
-  flags = no_flags;
   finished = false;
   ins = ends.ins.items;
   outs = ends.outs.items;

@@ -20,12 +20,15 @@ use Rattle.amber_meaning.specs.declared.view.Extra.{Extra}
 use Rattle.amber_meaning.specs.declared.view.Extra.TheVariants as extra
 use Rattle.amber_meaning.specs.declared.view.Stand.TheVariants as stand
 use Rattle.amber_meaning.specs.declared.view.WorkerView.{WorkerView}
+use Rattle.amber_board.specs.declared.types.WorkSeat.{WorkSeat}
+use Rattle.amber_link.specs.Links.{has_some}
 use Rattle.amber_link.specs.Sides.{AreEnded, AreLooked, IsTaken, have_all_ended}
 use Rattle.amber_link.specs.declared.upstreams.Upstream.{Upstream}
 use Rattle.amber_link.specs.declared.downstreams.Downstream.{Downstream}
+use Rattle.amber_worker.specs.Counting.{CountsOne}
 use Rattle.amber_worker.specs.Fields.{row_from}
 use Rattle.amber_worker.specs.Links.{IsHandedOn, number_to}
-use Rattle.amber_worker.specs.WorkerState.{WorkerState, has_ready}
+use Rattle.amber_worker.specs.WorkerState.{WorkerState, has_ready, is_armed}
 use Rattle.amber_worker.specs.declared.operator_state.OperatorState.{OperatorState}
 use Rattle.amber_worker.specs.declared.operator_state.OperatorState.TheVariants as operator_state
 use Rattle.amber_worker.specs.declared.taking_rows.Fate.{Fate}
@@ -180,6 +183,7 @@ pub record TakesRow (old new : WorkerState) : Type 0 where
   pub later : List Arrival
   pub now : OperatorState
   pub last : List (List Value)
+  pub drained : has_some old.pending ≡ false
   pub first : old.rest ≡ one ∷ later
   pub becomes : Becomes old.operator_state old.building (row_in (columns_at_hand old) one.what) now
   pub closes : Closes now ((length old.rest == 1) && have_all_ended old.ins) last
@@ -195,14 +199,20 @@ row_emitted counted later outs w = record w {
   journal = with_go w.journal 0 1;
 }
 
--- the first pending row was emitted
-pub record EmitsRow (counted : Bool) (old new : WorkerState) : Type 0 where
+-- the first pending row was emitted, and counted where a count is armed
+pub record EmitsRow (old new : WorkerState) : Type 0 where
   pub row : List Value
   pub later : List (List Value)
   pub outs : List Downstream
+  pub seat : Option WorkSeat
   pub first : old.pending ≡ row ∷ later
   pub handed : IsHandedOn (number_to old.route row) row old.outs outs
-  pub after : new ≡ row_emitted counted later outs old
+  pub counts : CountsOne old.seat seat
+  pub after : new ≡ record (row_emitted (is_armed old) later outs old) { seat = seat }
+
+-- the first pending row holds the worker from now on
+abbrev pub held_at : WorkerState → WorkerState
+held_at w = record w { restraint = record w.restraint { held = true }; journal = w.journal ++ entry.Hold ∷ [] }
 
 -- a batch of this sender was taken; these rows are given at the end
 abbrev pub batch_taken : Upstream → Batch → List Upstream → List (List Value) → WorkerState → WorkerState
@@ -226,12 +236,17 @@ all_done outs w = record w {
 
 -- the end was reached, and all streams were ended
 pub record Finishes (old new : WorkerState) : Type 0 where
+  pub drained : has_some old.pending ≡ false
+  pub used : has_some old.rest ≡ false
+  pub ended : have_all_ended old.ins ≡ true
   pub outs : List Downstream
   pub ends : AreEnded old.outs outs
   pub after : new ≡ all_done outs old
 
 -- a batch of one of its senders was taken
 pub record TakesBatch (old new : WorkerState) : Type 0 where
+  pub drained : has_some old.pending ≡ false
+  pub used : has_some old.rest ≡ false
   pub one : Upstream
   pub batch : Batch
   pub found : List Upstream

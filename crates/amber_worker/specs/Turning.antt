@@ -1,15 +1,22 @@
 -- What a turn of a worker has done.
-use Rattle.std.specs.Prelude.{◌≡◌, ◌⊎◌, ℕ, ◌+◌, ◌≤◌, List, [], ◌∷◌, ◌++◌, filter, not, Bool, true, false}
+use Rattle.std.specs.Prelude.{◌≡◌, ◌⊎◌, ℕ, ◌+◌, ◌≤◌, List, [], ◌∷◌, ◌++◌, filter, not, Option, None, Bool, true, false, if◌then◌else◌}
 use Rattle.amber_rows.specs.declared.batch.Batch.{Batch}
+use Rattle.amber_rows.specs.declared.value.Value.{Value}
 use Rattle.amber_log.specs.declared.entry.Entry.{Entry}
 use Rattle.amber_log.specs.declared.entry.Entry.TheVariants as entry
+use Rattle.amber_meaning.specs.Position.{no_restraint}
 use Rattle.amber_link.specs.Links.{come}
 use Rattle.amber_link.specs.Sides.{AreLooked, Pairwise}
 use Rattle.amber_link.specs.declared.upstreams.Upstream.{Upstream}
-use Rattle.amber_worker.specs.AtPosition.{HasSameEnds, IsLookedAt, Keeps}
-use Rattle.amber_worker.specs.Links.{HaveSentNothing}
-use Rattle.amber_worker.specs.Steps.{EmitsRow, Finishes, TakesBatch, TakesRow, with_go}
-use Rattle.amber_worker.specs.WorkerState.{WorkerState, next_turn, steps_made}
+use Rattle.amber_worker.specs.Acting.{Acts, DealsAt}
+use Rattle.amber_worker.specs.AtPosition.{HasSameEnds, IsLookedAt, KeepsUnder}
+use Rattle.amber_worker.specs.Counting.{IsSameSeat, mine_in}
+use Rattle.amber_worker.specs.Steps.{EmitsRow, Finishes, TakesBatch, TakesRow, held_at, with_go}
+use Rattle.amber_worker.specs.WorkerState.{WorkerState, is_armed, next_turn, steps_made}
+use Rattle.amber_worker.specs.declared.counting.Dealing.{Dealing}
+use Rattle.amber_mail.specs.declared.mail.Control.{Control}
+use Rattle.amber_worker.specs.declared.operator_state.OperatorState.{OperatorState}
+use Rattle.amber_worker.specs.declared.operator_state.OperatorState.TheVariants as operator_state
 use Rattle.amber_worker.specs.declared.turn.Turn.{Turn}
 use Rattle.amber_worker.specs.declared.turn.Turn.TheVariants as turn
 
@@ -28,7 +35,7 @@ pub record FinishesAt (old new : WorkerState) : Type 0 where
 
 -- one step was made: the first pending row was emitted, the next row was taken, a batch was taken, or the end was reached
 abbrev pub MakesStep : WorkerState → WorkerState → Type 0
-MakesStep old new = EmitsRow false old new ⊎ (TakesRow old new ⊎ (TakesBatch old new ⊎ FinishesAt old new))
+MakesStep old new = EmitsRow old new ⊎ (TakesRow old new ⊎ (TakesBatch old new ⊎ FinishesAt old new))
 
 -- what a step writes into a journal: a row was emitted, a row was taken, a batch was taken, or the end was reached
 abbrev pub WritesStep : List Entry → List Entry → Type 0
@@ -41,11 +48,43 @@ pub record IsIdleAt (old new : WorkerState) : Type 0 where
   pub looked : IsLookedAt old new
   pub idle : next_turn new ≡ turn.Idle
 
--- a turn has made a step, or nothing but a look, or nothing
+-- a turn has made a step, or nothing but a look, or held the worker before its next row, or nothing
 abbrev pub HasTurned : Turn → WorkerState → WorkerState → Type 0
 HasTurned turn.Moved old new = MakesStep old new
 HasTurned turn.Idle old new = IsIdleAt old new
+HasTurned turn.Held old new = new ≡ (if old.restraint.held then old else held_at old)
+HasTurned turn.Starved old new = new ≡ old
+HasTurned turn.Paused old new = new ≡ old
 HasTurned turn.Ended old new = new ≡ old
+
+-- the turn that comes was made
+pub record MakesTurn (old new : WorkerState) (turn : Turn) : Type 0 where
+  pub next : IsNextTurn old turn
+  pub turned : HasTurned turn old new
+
+-- units were dealt with so, and then the turn that comes was made
+pub record TurnsDealing (how : Dealing) (old new : WorkerState) (turn : Turn) : Type 0 where
+  pub between : WorkerState
+  pub deals : DealsAt how old between
+  pub makes : MakesTurn between new turn
+
+-- units were dealt with so, and then a batch was taken
+pub record TakesDealing (how : Dealing) (old new : WorkerState) : Type 0 where
+  pub between : WorkerState
+  pub deals : DealsAt how old between
+  pub takes : TakesBatch between new
+
+-- units were dealt with so, and then the end was reached
+pub record FinishesDealing (how : Dealing) (old new : WorkerState) : Type 0 where
+  pub between : WorkerState
+  pub deals : DealsAt how old between
+  pub finishes : Finishes between new
+
+-- the worker did what it was told, and then made the turn that comes
+pub record TurnsUnder (told : Option Control) (old new : WorkerState) (turn : Turn) : Type 0 where
+  pub between : WorkerState
+  pub acts : Acts told old between
+  pub makes : MakesTurn between new turn
 
 -- ---- a number of turns
 
@@ -68,20 +107,39 @@ other_entries journal = filter (λ one. not (tells_steps one)) journal
 abbrev pub HaveMoreCome : Upstream → Upstream → Type 0
 HaveMoreCome old new = (more : List Batch) × (come new.link ≡ come old.link ++ more)
 
--- turns were made, this many or fewer: the worker keeps what it stands for and its ends, has sent nothing, no count falls, rows taken
--- and emitted and steps rise by at most so many, and what is written tells of steps alone
+-- the constant that rows are compared with
+abbrev pub constants_in : OperatorState → List Value
+constants_in operator_state.Scan = []
+constants_in (operator_state.Filter cond) = cond.constant ∷ []
+constants_in (operator_state.Project from) = []
+constants_in (operator_state.Join state) = []
+constants_in (operator_state.Group state) = []
+constants_in operator_state.Sink = []
+
+-- turns were made, this many or fewer: the worker keeps what it stands for, its ends, its constant, its seat and the room of its
+-- journal; no count falls, rows taken and emitted and steps rise by at most so many, and under a count as many units were counted as
+-- rows were emitted
 pub record MakesTurns (most : ℕ) (old new : WorkerState) : Type 0 where
-  pub keeps : Keeps old new
+  pub keeps : KeepsUnder (is_armed old) old new
   pub ends : HasSameEnds old new
-  pub unsent : HaveSentNothing old.outs new.outs
+  pub constants : constants_in new.operator_state ≡ constants_in old.operator_state
+  pub seat : IsSameSeat old.seat new.seat
+  pub mine : is_armed old ≡ true → mine_in new.seat + old.emitted ≡ mine_in old.seat + new.emitted
+  pub reserved : new.reserved ≡ old.reserved
   pub come : Pairwise HaveMoreCome old.ins new.ins
   pub taken : old.taken ≤ new.taken
   pub emitted : old.emitted ≤ new.emitted
   pub batches : old.batches ≤ new.batches
   pub rows : new.taken + new.emitted ≤ old.taken + old.emitted + most
   pub steps : steps_made new ≤ steps_made old + most
-  pub writes : other_entries new.journal ≡ other_entries old.journal
 
--- fewer turns were made than might have been only where the worker has finished, or can do nothing until a batch comes
-abbrev pub HasStopped : WorkerState → Type 0
-HasStopped w = (w.finished ≡ true) ⊎ (next_turn w ≡ turn.Idle)
+-- nothing is watched, no count is armed, and nothing holds it back or lets it on
+pub record IsCalm (w : WorkerState) : Type 0 where
+  pub unwatched : w.when ≡ None
+  pub unarmed : w.seat ≡ None
+  pub loose : w.restraint ≡ no_restraint
+
+-- a calm worker that was told nothing is calm still, and what was written tells of steps alone
+pub record StaysCalm (old new : WorkerState) : Type 0 where
+  pub calm : IsCalm new
+  pub writes : other_entries new.journal ≡ other_entries old.journal

@@ -1,13 +1,15 @@
 -- What a worker keeps, as lists, numbers and flags.
-use Rattle.std.specs.Prelude.{ℕ, ◌+◌, List, [], Option, None, Bool, false, if◌then◌else◌}
+use Rattle.std.specs.Prelude.{◌≡◌, ℕ, ◌+◌, ◌==◌, ◌&&◌, not, List, [], Option, None, is_some, Bool, true, false, if◌then◌else◌}
 use Rattle.std.specs.List.{list_any}
 use Rattle.amber_rows.specs.declared.value.Value.{Value}
 use Rattle.amber_rows.specs.declared.column.Column.{Column}
 use Rattle.amber_log.specs.declared.entry.Entry.{Entry}
 use Rattle.amber_meaning.specs.Position.{Restraint, one_if, no_restraint}
+use Rattle.amber_meaning.specs.Rules.{first_is_watched}
 use Rattle.amber_meaning.specs.Task.{Arrival}
 use Rattle.amber_meaning.specs.declared.answer.Refusal.{Refusal}
 use Rattle.amber_rows.specs.declared.cond.Cond.{Cond}
+use Rattle.amber_board.specs.declared.types.WorkSeat.{WorkSeat}
 use Rattle.amber_link.specs.Links.{has_some}
 use Rattle.amber_link.specs.Sides.{have_all_ended, have_builders_ended, may_come}
 use Rattle.amber_link.specs.declared.upstreams.Upstream.{Upstream}
@@ -41,15 +43,20 @@ pub record WorkerState : Type 0 where
   pub kept : List (List Value)
   -- the condition in force
   pub when : Option Cond
-  -- what holds it back, or lets it on
+  -- its seat on the board of its operator's count, where that is armed
+  pub seat : Option WorkSeat
+  -- what holds it back, or lets it on; its hand is that of the seat
   pub restraint : Restraint
   pub finished : Bool
   -- its senders, its receivers, and to which of them a row goes
   pub ins : List Upstream
   pub outs : List Downstream
   pub route : Route
-  -- what it did since the journal was handed out
+  -- what it did since the journal was handed out, and whether room for an entry more is kept
   pub journal : List Entry
+  pub reserved : Bool
+  -- for how many turns it was driven since its leg began
+  pub turned : ℕ
 
 -- a worker of nothing: of no operator and with no links, that has done nothing and keeps nothing
 abbrev pub empty_worker_state : WorkerState
@@ -68,12 +75,15 @@ empty_worker_state = record {
   refused = [];
   kept = [];
   when = None;
+  seat = None;
   restraint = no_restraint;
   finished = false;
   ins = [];
   outs = [];
   route = route.One 0;
   journal = [];
+  reserved = false;
+  turned = 0;
 }
 
 -- its steps so far
@@ -86,13 +96,43 @@ steps_made w = w.taken + w.emitted + w.batches + one_if w.finished
 abbrev pub has_ready : List Upstream → Bool
 has_ready ins = list_any (may_come (have_builders_ended ins)) ins
 
--- the turn that a worker makes: it moves where a row is pending, where a row is left, where a batch may be taken, and where nothing
--- more can come
+-- a count is armed
+abbrev pub is_armed : WorkerState → Bool
+is_armed w = is_some w.seat
+
+-- a count is armed, and no unit is in hand
+abbrev pub is_starved : WorkerState → Bool
+is_starved w = is_armed w && (w.restraint.hand == 0)
+
+-- the first pending row meets the condition, and was not waved on
+abbrev pub must_hold : WorkerState → Bool
+must_hold w = not w.restraint.waved && first_is_watched w.when w.pending
+
+-- the turn that a worker makes. It stands still where it is paused or held, where it has no unit for what comes next, and where the
+-- next row holds it; else it moves where a row is pending, where a row is left, where a batch may be taken, and where nothing more can
+-- come
 abbrev pub next_turn : WorkerState → Turn
 next_turn w =
     if w.finished then turn.Ended
-    else if has_some w.pending then turn.Moved
-    else if has_some w.rest then turn.Moved
+    else if w.restraint.paused then turn.Paused
+    else if w.restraint.held then turn.Held
+    else if has_some w.pending then (if is_starved w then turn.Starved else if must_hold w then turn.Held else turn.Moved)
+    else if has_some w.rest then (if is_starved w then turn.Starved else turn.Moved)
     else if has_ready w.ins then turn.Moved
     else if have_all_ended w.ins then turn.Moved
     else turn.Idle
+
+-- neither finished nor paused nor held
+pub record IsFree (w : WorkerState) : Type 0 where
+  pub unfinished : w.finished ≡ false
+  pub running : w.restraint.paused ≡ false
+  pub loose : w.restraint.held ≡ false
+
+-- it stands still whatever comes, and this is why
+abbrev pub StandsStill : WorkerState → Turn → Type 0
+StandsStill w turn.Moved = ⊥
+StandsStill w turn.Idle = ⊥
+StandsStill w turn.Held = (w.finished ≡ false) × (w.restraint.paused ≡ false) × (w.restraint.held ≡ true)
+StandsStill w turn.Starved = ⊥
+StandsStill w turn.Paused = (w.finished ≡ false) × (w.restraint.paused ≡ true)
+StandsStill w turn.Ended = w.finished ≡ true

@@ -13,20 +13,34 @@
 //! of a group makes the rows of its groups pending in the very step that takes the last row, or an
 //! empty last batch.
 //!
+//! Before a turn it may be told to pause, to claim what was allotted to it of its operator's count, or to give its units
+//! back. A row that meets the condition in force holds it, and where a count is armed a row is emitted with a unit in hand,
+//! which is counted. `drive` makes many turns, each after a look into a mail, and sends between them.
+//!
 //! What a worker keeps is seen as a `WorkerState`, lists, numbers and flags. Wherever it stands
 //! after a call, its journal leads there by the rules of a run: `specs/AtPosition.antt` says what
 //! it is for a worker to stand at a position.
+//!
+//! # Example
+//!
+//! A filter of which 400 rows are in the inbox is driven, and its mail answers nothing, nothing, and pause. It makes three
+//! turns: it takes the batch (`t 0 0`), takes a row (`g 1 0`), and is paused (`p`). Then 399 rows are left and one is
+//! pending. In the next leg, told nothing, it goes on to its end.
 #![tactic(auto)]
 
+mod counting;
+pub mod driving;
 mod flags;
 pub mod given;
 mod grouping;
+mod holding;
 mod joining;
 mod journal;
 mod links;
 mod new_worker;
 pub mod operator_state;
 mod pending;
+mod readied;
 pub mod route;
 mod setting;
 mod taking_rows;
@@ -35,6 +49,7 @@ mod used_rows;
 mod view_parts;
 pub mod worker;
 
+pub use driving::Drove;
 pub use given::Given;
 pub use operator_state::OperatorState;
 pub use route::Route;

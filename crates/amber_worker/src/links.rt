@@ -1,11 +1,12 @@
 //! What a worker does with its links. Rests on `Route` and `Pending`, and on `Downstream` and `Upstream` of `amber_link`.
 
-ghost use Rattle.std.specs.Prelude.{All, ◌≡◌, ◌==◌, ◌+◌, ◌^◌, ◌<◌, ◌≤◌, ℕ, Bool, false, true, is_ok, length, map, slice_index_or, IfNone, IfSome, OnErr, OnOk};
+ghost use Rattle.std.specs.Prelude.{All, ◌≡◌, ◌==◌, ◌+◌, ◌^◌, ◌<◌, ◌≤◌, ℕ, Bool, false, true, is_ok, length, map, slice_index_or, IfNone, IfOk, IfSome, OnErr, OnOk};
 ghost use Rattle.std.specs.List.{list_any};
 ghost use Rattle.amber_link.specs.Links.{has_some};
 ghost use Rattle.amber_link.specs.Sides.{AreEnded, have_builders_ended, without_room};
 ghost use Rattle.amber_link.specs.declared.downstreams.Downstream.{Downstream as OneDownstream};
-ghost use Rattle.amber_worker.specs.Links.{AreEndsOf, EmitsFirst, IsSoundRoute, Passes};
+ghost use Rattle.amber_worker.specs.Links.{AreEndsOf, EmitsFirst, IsFirstPlace, IsSoundRoute, Passes};
+ghost use Rattle.amber_worker.specs.declared.route.Route.{Route as OneRoute};
 
 use crate::pending::Pending;
 use crate::route::Route;
@@ -33,41 +34,59 @@ fn receiver_place(outs: &[Downstream], number: u32) -> Option<usize>
     place_to(outs, number)
 }
 
-// Hands the first of these rows on to its receiver, if there is one.
-pub(crate) fn emit_first(
+// The place of the receiver to which the first of these rows goes, if there is one, with room for the row.
+pub(crate) fn first_place(
     route: &Route,
-    pending: &mut Pending,
+    pending: &Pending,
     outs: &mut [Downstream],
-) -> Result<(), AllocError>
-    requires some { has_some pending.old ≡ true }
+) -> Result<Option<usize>, AllocError>
+    requires some { has_some pending.now ≡ true }
     requires routed { IsSoundRoute route.now }
-    requires few { All (λ one. one.link.kept.made < 2 ^ 40) outs.old }
     requires open { All (λ one. one.link.kept.ended ≡ false) outs.old }
-    ensures ok { OnOk result (EmitsFirst route.now
-        (record { pending = pending.old; outs = map without_room outs.old })
-        (record { pending = pending.new; outs = map without_room outs.new })) }
+    ensures place { IfOk result (IsFirstPlace route.now
+        (record { pending = pending.now; outs = map without_room outs.new })) }
+    ensures there { IfOk result (λ place. IfSome place (λ i. i < length outs.new)) }
+    ensures room { IfOk result (λ place. IfSome place (λ i. (d : OneDownstream)
+        → 1 < (slice_index_or outs.new i d).link.kept.room)) }
+    ensures same { map without_room outs.new ≡ map without_room outs.old }
     ensures open { All (λ one. one.link.kept.ended ≡ false) outs.new }
-    ensures few { (n : ℕ) → All (λ one. one.link.kept.made ≤ n) outs.old → All
-        (λ one. one.link.kept.made ≤ n + 1) outs.new }
-    ensures pending_on_err { OnErr result (pending.new ≡ pending.old) }
-    ensures outs_on_err { OnErr result (map without_room outs.new ≡ map without_room outs.old) }
+    ensures made { (n : ℕ) → All (λ one. one.link.kept.made ≤ n) outs.old → All
+        (λ one. one.link.kept.made ≤ n) outs.new }
 {
     let Some(next) = pending.front() else {
         unreachable!()
     };
     let number = route.number_to(next);
-    let Some(place) = receiver_place(outs, number) else {
-        let Some(_row) = pending.pop_front() else {
-            unreachable!()
-        };
-        return Ok(());
-    };
-    reserve_at(outs, place)?;
+    let place = receiver_place(outs, number);
+    if let Some(i) = place {
+        reserve_at(outs, i)?;
+    }
+    Ok(place)
+}
+
+// Hands the first of these rows on to the receiver at this place, if there is one.
+pub(crate) fn emit_first(place: Option<usize>, pending: &mut Pending, outs: &mut [Downstream])
+    requires some { has_some pending.old ≡ true }
+    requires there { IfSome place (λ i. i < length outs.old) }
+    requires room { IfSome place (λ i. (d : OneDownstream)
+        → 1 < (slice_index_or outs.old i d).link.kept.room) }
+    requires few { All (λ one. one.link.kept.made < 2 ^ 40) outs.old }
+    requires open { All (λ one. one.link.kept.ended ≡ false) outs.old }
+    ensures emits { (to : OneRoute)
+        → IsFirstPlace to (record { pending = pending.old; outs = map without_room outs.old }) place
+        → EmitsFirst to
+        (record { pending = pending.old; outs = map without_room outs.old })
+        (record { pending = pending.new; outs = map without_room outs.new }) }
+    ensures open { All (λ one. one.link.kept.ended ≡ false) outs.new }
+    ensures few { (n : ℕ) → All (λ one. one.link.kept.made ≤ n) outs.old → All
+        (λ one. one.link.kept.made ≤ n + 1) outs.new }
+{
     let Some(row) = pending.pop_front() else {
         unreachable!()
     };
-    push_at(outs, place, row);
-    Ok(())
+    if let Some(i) = place {
+        push_at(outs, i, row);
+    }
 }
 
 // Ends all streams.

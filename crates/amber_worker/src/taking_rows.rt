@@ -99,7 +99,7 @@ fn suited_fate(
 }
 
 // What becomes of a row; one that does not suit the columns is dropped.
-fn fate_of(
+pub(crate) fn fate_of(
     operator_state: &OperatorState,
     columns: &Schema,
     row: &Row,
@@ -117,7 +117,7 @@ fn fate_of(
 }
 
 // Puts a row where it goes.
-fn put(fate: Fate, row: Row, pending: &mut Pending, done: &mut UsedRows)
+pub(crate) fn put(fate: Fate, row: Row, pending: &mut Pending, done: &mut UsedRows)
     requires none { pending.old ≡ [] }
     ensures { pending.new ≡ passed_of fate row }
 {
@@ -132,7 +132,7 @@ fn put(fate: Fate, row: Row, pending: &mut Pending, done: &mut UsedRows)
 }
 
 // Puts a scan's record where it goes: a row is passed on, a fault is kept for the answer.
-fn put_record(one: Scanned, op: u32, pending: &mut Pending, refused: &mut Vec<Refusal>)
+pub(crate) fn put_record(one: Scanned, op: u32, pending: &mut Pending, refused: &mut Vec<Refusal>)
     requires none { pending.old ≡ [] }
     requires room { vec_len refused.old < vec_capacity refused.old }
     ensures goes_on { (columns : List Column) → Suits columns one.what → pending.new

@@ -7,6 +7,12 @@ pub enum Turn {
     Moved,
     /// It can do nothing until a batch comes.
     Idle,
+    /// It stands before a row that meets its operator's condition.
+    Held,
+    /// A count is armed, and it has no unit for what comes next.
+    Starved,
+    /// It is paused.
+    Paused,
     /// It had finished before.
     Ended,
 }

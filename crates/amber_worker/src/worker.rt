@@ -1,7 +1,7 @@
 //! A worker: what it keeps, how it is made, and what it says of itself. Its steps, links and views stand in
 //! the modules below it.
 
-ghost use Rattle.std.specs.Prelude.{All, false, true, IfNone, IfSome, is_some, map, length, nat_lt, slice_index_or, IfOk, ◌≡◌, ◌^◌, ◌<◌, ◌≤◌, ◌==◌, []};
+ghost use Rattle.std.specs.Prelude.{All, false, true, IfNone, IfSome, None, is_some, map, length, nat_lt, slice_index_or, IfOk, ◌≡◌, ◌^◌, ◌<◌, ◌≤◌, ◌==◌, []};
 ghost use Rattle.std.specs.List.{list_any};
 ghost use Rattle.amber_rows.specs.Topology.{crew_of, op_of, receivers_of, senders_of, what_at};
 ghost use Rattle.amber_rows.specs.Kinds.{is_scan};
@@ -14,25 +14,28 @@ ghost use Rattle.amber_worker.specs.Made.{IsFreshIn, IsFreshOut, end_of, link_of
 ghost use Rattle.amber_worker.specs.Changes.{ShowsSet, StandsAtLeg, StandsNew, at_leg_start, with_value};
 
 mod beginning;
+mod driven;
 mod linking;
+mod orders;
 mod stepping;
 mod turning;
 mod views;
 
 use crate::flags::Flags;
+use crate::journal::Journal;
 use crate::new_worker::{ends_of, task_of};
 use crate::operator_state::OperatorState;
 use crate::route::Route;
 use crate::setting::set_value;
 use crate::taking_rows::{Gains, Rest};
+use amber_board::WorkSeat;
 use amber_link::{Downstream, In, Out, Upstream, has_receiver, waiting_at};
 use amber_log::{Entries, Entry};
-use amber_rows::{Flow, Schema, Value};
+use amber_rows::{Cond, Flow, Schema, Value};
 use amber_scan::Share;
 pub use linking::settle_workers;
 use std::alloc::{AllocError, Global};
 use std::marker::Model;
-use std::mem;
 
 // How many steps a worker makes at most.
 const MOST_STEPS: u64 = 1 << 40;
@@ -51,13 +54,17 @@ pub struct Worker {
     emitted: u64,
     batches: u64,
     gains: Gains,
-    // Nothing raises one yet, as the invariant says.
+    // The condition in force, and the seat where a count is armed.
+    when: Option<Cond>,
+    seat: Option<WorkSeat>,
     flags: Flags,
     finished: bool,
     ins: Vec<Upstream>,
     outs: Vec<Downstream>,
     route: Route,
-    journal: Vec<Entry>,
+    journal: Journal,
+    // How many turns it was driven for since its leg began.
+    turned: u64,
 }
 
 impl Drop for Worker {
@@ -75,24 +82,28 @@ impl Drop for Worker {
             emitted: _,
             batches: _,
             gains: _,
+            when: _,
+            seat: _,
             flags: _,
             finished: _,
             ins: _,
             outs: _,
             route: _,
             journal: _,
+            turned: _,
         } = self;
     }
 }
 
 impl Model for Worker {
-    ghost use Rattle.std.specs.Prelude.{None, map};
+    ghost use Rattle.std.specs.Prelude.{map};
     ghost use Rattle.amber_link.specs.Sides.{without_room};
     ghost use Rattle.amber_worker.specs.WorkerState.{WorkerState};
 
     ghost Value = { WorkerState };
 
     ghost use Rattle.std.specs.Prelude.{if◌then◌else◌};
+    ghost use Rattle.amber_worker.specs.Counting.{hand_in};
     ghost use Rattle.amber_worker.specs.Fields.{AreFew, arrivals_in, restraint_of};
 
     ghost view = { λ a. record {
@@ -109,13 +120,16 @@ impl Model for Worker {
       batches = a.batches;
       refused = a.gains.refused.items;
       kept = a.gains.kept.items;
-      when = None;
-      restraint = restraint_of 0 a.flags;
+      when = a.when;
+      seat = a.seat;
+      restraint = restraint_of (hand_in a.seat) a.flags;
       finished = a.finished;
       ins = a.ins.items;
       outs = map without_room a.outs.items;
       route = a.route;
-      journal = a.journal.items;
+      journal = a.journal.entries;
+      reserved = a.journal.reserved;
+      turned = a.turned;
     } };
 
     ghost invariant = { λ a. AreFew (record {
@@ -126,12 +140,11 @@ impl Model for Worker {
       taken = a.taken;
       emitted = a.emitted;
       batches = a.batches;
-      flags = a.flags;
       finished = a.finished;
       ins = a.ins.items;
       outs = a.outs.items;
       route = a.route;
-      journal = a.journal.items;
+      journal = a.journal.entries;
     }) };
 }
 
@@ -164,6 +177,7 @@ impl Worker {
         ensures outs { IfOk result (λ made. map link_of made.outs ≡ map roomless outs.items) }
         ensures ins { IfOk result (λ made. map end_of made.ins ≡ ins.items) }
         ensures journal { IfOk result (λ made. made.journal ≡ []) }
+        ensures unarmed { IfOk result (λ made. made.seat ≡ None) }
     {
         let ends = ends_of(alloc, flow, worker, outs, ins)?;
         let task = task_of(alloc, flow, worker)?;
@@ -258,16 +272,15 @@ impl Worker {
     pub fn journal(&self) -> &[Entry]
         ensures { result.now ≡ self.now.journal }
     {
-        self.journal.as_slice()
+        self.journal.entries()
     }
 
-    /// Hands out what the worker has done since its journal was handed out last.
+    /// Hands out what the worker has done since its journal was handed out last. No room is kept for an entry then.
     pub fn take_journal(&mut self) -> Entries
         ensures journal { result ≡ self.old.journal }
-        ensures rest { self.new ≡ record self.old { journal = [] } }
+        ensures rest { self.new ≡ record self.old { journal = []; reserved = false } }
     {
-        let empty = Vec::new(self.alloc);
-        Entries::new(mem::replace(&mut self.journal, empty))
+        self.journal.take(self.alloc)
     }
 
     /// Puts a value in place of the constant of a filter. Other operators have none, and nothing changes.
@@ -279,13 +292,14 @@ impl Worker {
         set_value(&mut self.operator_state, value);
     }
 
-    /// Begins a leg: pauses end, a row before which the worker is held may go, and the journal is
-    /// empty.
+    /// Begins a leg: pauses end, a row before which the worker is held may go, the journal is empty, and no turn was
+    /// driven.
     pub fn begin(&mut self)
         ensures only { self.new ≡ at_leg_start self.old }
         ensures stands { StandsAtLeg self.old self.new }
     {
         self.flags.release();
         self.journal.clear();
+        self.turned = 0;
     }
 }

@@ -6,6 +6,7 @@ ghost use Rattle.amber_worker.specs.Made.{fresh_fields, fresh_worker};
 
 use super::Worker;
 use crate::flags::Flags;
+use crate::journal::Journal;
 use crate::new_worker::{WorkerEnds, WorkerTask};
 use crate::pending::Pending;
 use crate::taking_rows::{Gains, Rest};
@@ -51,12 +52,15 @@ impl Worker {
             emitted: 0,
             batches: 0,
             gains,
+            when: None,
+            seat: None,
             flags: Flags::lowered(),
             finished: false,
             ins: ends.ins,
             outs: ends.outs,
             route: task.route,
-            journal: Vec::new(alloc),
+            journal: Journal::new(alloc),
+            turned: 0,
         }
     }
 }

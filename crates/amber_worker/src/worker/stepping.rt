@@ -1,22 +1,28 @@
-//! The steps that a worker makes, and the turn that makes one of them. Rests on `taking_rows`, `links` and
-//! `journal`.
+//! The steps that a worker makes, each after it has dealt with its hand of units, and the turn that makes one of them.
+//! Rests on `taking_rows`, `links`, `counting` and `journal`.
 
-ghost use Rattle.std.specs.Prelude.{false, true, IfNone, IfSome, MatchBool, length, slice_index_or, IfOk, OnErr, OnOk, ◌≡◌, ◌≢◌, ◌^◌, ◌<◌, ℕ};
+ghost use Rattle.std.specs.Prelude.{false, true, IfNone, IfSome, length, slice_index_or, IfOk, OnErr, OnOk, ◌≡◌, ◌≢◌, ◌^◌, ◌<◌, ℕ};
+ghost use Rattle.std.specs.Option.{option_copied};
 ghost use Rattle.amber_link.specs.Links.{has_some};
 ghost use Rattle.amber_link.specs.Sides.{have_all_ended};
 ghost use Rattle.amber_link.specs.declared.upstreams.Upstream.{Upstream as OneUpstream};
-ghost use Rattle.amber_worker.specs.WorkerState.{has_ready, steps_made};
-ghost use Rattle.amber_worker.specs.Steps.{EmitsRow, Finishes, TakesBatch, TakesRow};
-ghost use Rattle.amber_worker.specs.AtPosition.{HasSameEnds, IsLookedAt, Keeps};
-ghost use Rattle.amber_worker.specs.Links.{HaveSentNothing, MayTakeAt};
-ghost use Rattle.amber_worker.specs.Turning.{HasTurned, IsNextTurn};
+ghost use Rattle.amber_worker.specs.Acting.{DealsAt, MayDeal};
+ghost use Rattle.amber_worker.specs.Counting.{IsBoardOf};
+ghost use Rattle.amber_worker.specs.WorkerState.{IsFree, StandsStill, WorkerState, has_ready, must_hold, steps_made};
+ghost use Rattle.amber_worker.specs.Steps.{TakesRow};
+ghost use Rattle.amber_worker.specs.AtPosition.{IsLookedAt};
+ghost use Rattle.amber_worker.specs.Links.{MayTakeAt};
+ghost use Rattle.amber_worker.specs.Turning.{FinishesDealing, TakesDealing, TurnsDealing};
 
 use super::Worker;
-use crate::journal::note_go;
-use crate::links::{emit_first, end_streams, give_rows_back, rows_back};
+use crate::counting::{Dealing, count_one, deal, is_starved};
+use crate::holding::is_first_watched;
+use crate::links::{emit_first, end_streams, first_place, give_rows_back, rows_back};
 use crate::operator_state::OperatorState;
+use crate::readied::{leave_readied, ready_next, take_readied};
 use crate::taking_rows::{close, closes_at, closing_of, is_last, side_columns, take_next, turn_to};
 use crate::turn::Turn;
+use amber_board::Board;
 use amber_link::{Found, have_built, have_ended, ready_place, take_at};
 use amber_log::Entry;
 use std::alloc::AllocError;
@@ -79,19 +85,93 @@ impl Worker {
         }
     }
 
-    // Takes the next of what is left.
-    fn take_row(&mut self) -> Result<(), AllocError>
-        requires few { steps_made self.old < 2 ^ 40 }
-        requires some { has_some self.old.rest ≡ true }
-        requires none { has_some self.old.pending ≡ false }
-        ensures ok { OnOk result (TakesRow self.old self.new) }
-        ensures err { OnErr result (self.new ≡ self.old) }
+    // Why the worker stands still whatever comes: it has finished, it is paused, or it is held.
+    #[inline(always)]
+    fn standing(&self) -> Option<Turn>
+        ensures some { IfSome result (StandsStill self.now) }
+        ensures none { IfNone result (IsFree self.now) }
     {
-        self.fetch_used();
-        self.take_left()
+        if self.finished {
+            return Some(Turn::Ended);
+        }
+        if self.flags.paused {
+            return Some(Turn::Paused);
+        }
+        if self.flags.held {
+            return Some(Turn::Held);
+        }
+        None
     }
 
-    // The same, over the used rows that it has.
+    // Whether the next row holds the worker: it meets the condition, and was not waved on.
+    #[inline(always)]
+    fn must_hold(&self) -> bool
+        ensures { result ≡ must_hold self.now }
+    {
+        !self.flags.waved && is_first_watched(&self.when, &self.gains.pending)
+    }
+
+    // Deals with the hand so, and makes no step.
+    fn deal_with(&mut self, board: Option<&Board>, how: Dealing) -> Result<(), AllocError>
+        requires { IsBoardOf (option_copied board) self.old.seat }
+        ensures own { IsBoardOf (option_copied board.entry) self.new.seat }
+        ensures ok { OnOk result (DealsAt how self.old self.new) }
+        ensures err { OnErr result (self.new ≡ self.old) }
+    {
+        self.journal.reserve(2)?;
+        deal(how, &mut self.seat, &mut self.journal, board);
+        Ok(())
+    }
+
+    // Deals with the hand so, and stands before the next row, which meets the condition.
+    fn hold(&mut self, board: Option<&Board>, how: Dealing) -> Result<Turn, AllocError>
+        requires own { IsBoardOf (option_copied board) self.old.seat }
+        requires may { MayDeal how self.old }
+        requires free { IsFree self.old }
+        requires some { has_some self.old.pending ≡ true }
+        requires must { must_hold self.old ≡ true }
+        ensures own { IsBoardOf (option_copied board.entry) self.new.seat }
+        ensures ok { IfOk result (TurnsDealing how self.old self.new) }
+        ensures err { OnErr result (self.new ≡ self.old) }
+    {
+        self.journal.reserve(2)?;
+        deal(how, &mut self.seat, &mut self.journal, board);
+        if is_starved(&self.seat) {
+            return Ok(Turn::Starved);
+        }
+        self.journal.push(Entry::Hold);
+        self.flags.held = true;
+        Ok(Turn::Held)
+    }
+
+    // Deals with the hand so, and emits the first pending row, where it has a unit for it.
+    fn emit_row(&mut self, board: Option<&Board>, how: Dealing) -> Result<Turn, AllocError>
+        requires few { steps_made self.old < 2 ^ 40 }
+        requires own { IsBoardOf (option_copied board) self.old.seat }
+        requires may { MayDeal how self.old }
+        requires free { IsFree self.old }
+        requires some { has_some self.old.pending ≡ true }
+        requires must { must_hold self.old ≡ false }
+        ensures own { IsBoardOf (option_copied board.entry) self.new.seat }
+        ensures ok { IfOk result (TurnsDealing how self.old self.new) }
+        ensures err { OnErr result (self.new ≡ self.old) }
+    {
+        self.journal.reserve(2)?;
+        let outs = self.outs.as_mut_slice();
+        let place = first_place(&self.route, &self.gains.pending, outs)?;
+        deal(how, &mut self.seat, &mut self.journal, board);
+        if is_starved(&self.seat) {
+            return Ok(Turn::Starved);
+        }
+        emit_first(place, &mut self.gains.pending, outs);
+        count_one(&mut self.seat, board);
+        self.journal.note_go(0, 1);
+        self.emitted += 1;
+        self.flags.waved = false;
+        Ok(Turn::Moved)
+    }
+
+    // Takes the next of what is left, over the used rows that it has.
     fn take_left(&mut self) -> Result<(), AllocError>
         requires few { steps_made self.old < 2 ^ 40 }
         requires some { has_some self.old.rest ≡ true }
@@ -111,27 +191,8 @@ impl Worker {
             &mut self.operator_state,
             &mut self.gains,
         )?;
-        note_go(&mut self.journal, 1, 0);
+        self.journal.note_go(1, 0);
         self.taken += 1;
-        Ok(())
-    }
-
-    // Emits the first pending row.
-    fn emit_row(&mut self) -> Result<(), AllocError>
-        requires few { steps_made self.old < 2 ^ 40 }
-        requires some { has_some self.old.pending ≡ true }
-        requires unfinished { self.old.finished ≡ false }
-        ensures ok { OnOk result (EmitsRow false self.old self.new) }
-        ensures err { OnErr result (self.new ≡ self.old) }
-    {
-        self.journal.reserve(1)?;
-        emit_first(
-            &self.route,
-            &mut self.gains.pending,
-            self.outs.as_mut_slice(),
-        )?;
-        note_go(&mut self.journal, 0, 1);
-        self.emitted += 1;
         Ok(())
     }
 
@@ -148,38 +209,30 @@ impl Worker {
         ready_place(self.ins.as_mut_slice(), built)
     }
 
-    // Takes the first batch of the sender at this place.
-    fn take_from(&mut self, place: usize) -> Result<(), AllocError>
+    // Deals with the hand so, and takes the first batch of the sender at this place.
+    fn take_from(
+        &mut self,
+        board: Option<&Board>,
+        how: Dealing,
+        place: usize,
+    ) -> Result<(), AllocError>
         requires few { steps_made self.old < 2 ^ 40 }
+        requires own { IsBoardOf (option_copied board) self.old.seat }
         requires none { has_some self.old.pending ≡ false }
+        requires used { has_some self.old.rest ≡ false }
         requires there { place < length self.old.ins }
-        requires may { MayTakeAt self.old.ins place }
+        requires from { MayTakeAt self.old.ins place }
         requires ready { has_ready self.old.ins ≡ true }
-        ensures ok { OnOk result (TakesBatch self.old self.new) }
-        ensures others { OnOk result ((other : ℕ) (d : OneUpstream) → other ≢ place
-            → slice_index_or self.new.ins other d ≡ slice_index_or self.old.ins other d) }
-        ensures err { OnErr result (self.new ≡ self.old) }
-    {
-        self.return_used();
-        self.pass_used();
-        self.take_ready(place)
-    }
-
-    // The same, where the rows that are done with were given back.
-    fn take_ready(&mut self, place: usize) -> Result<(), AllocError>
-        requires few { steps_made self.old < 2 ^ 40 }
-        requires none { has_some self.old.pending ≡ false }
-        requires there { place < length self.old.ins }
-        requires may { MayTakeAt self.old.ins place }
-        requires ready { has_ready self.old.ins ≡ true }
-        ensures ok { OnOk result (TakesBatch self.old self.new) }
+        ensures own { IsBoardOf (option_copied board.entry) self.new.seat }
+        ensures ok { OnOk result (TakesDealing how self.old self.new) }
         ensures others { OnOk result ((other : ℕ) (d : OneUpstream) → other ≢ place
             → slice_index_or self.new.ins other d ≡ slice_index_or self.old.ins other d) }
         ensures err { OnErr result (self.new ≡ self.old) }
     {
         let asked = closes_at(self.ins.as_slice(), place);
-        self.journal.reserve(1)?;
+        self.journal.reserve(2)?;
         let last = closing_of(self.alloc, &self.operator_state, asked)?;
+        deal(how, &mut self.seat, &mut self.journal, board);
         let Found {
             from,
             builds,
@@ -189,7 +242,7 @@ impl Worker {
         close(&mut self.gains.pending, last, self.ins.as_slice());
         turn_to(&mut self.operator_state, builds);
         self.building = builds;
-        self.journal.push_reserved(Entry::Take { from, batch: seq });
+        self.journal.push(Entry::Take { from, batch: seq });
         self.rest.from = from;
         let rows = VecDeque::from_vec(batch.rows.into_inner());
         let emptied = mem::replace(&mut self.rest.rows, rows);
@@ -198,72 +251,147 @@ impl Worker {
         Ok(())
     }
 
-    // Takes a batch of a sender from which one may be taken, and says whether one was known.
-    fn take_batch(&mut self) -> Result<bool, AllocError>
+    // Deals with the hand so, and finishes, where the last batches of all senders were taken.
+    fn finish(&mut self, board: Option<&Board>, how: Dealing) -> Result<(), AllocError>
         requires few { steps_made self.old < 2 ^ 40 }
-        requires none { has_some self.old.pending ≡ false }
-        ensures found { IfOk result (λ found. MatchBool found (TakesBatch self.old self.new)
-            (IsLookedAt self.old self.new)) }
-        ensures none { IfOk result (λ found. found ≡ false → has_ready self.new.ins ≡ false) }
-        ensures err { OnErr result (IsLookedAt self.old self.new) }
-    {
-        let Some(place) = self.ready() else {
-            return Ok(false);
-        };
-        self.take_from(place)?;
-        Ok(true)
-    }
-
-    // Finishes where the last batches of all senders were taken, and says whether they were.
-    fn finish(&mut self) -> Result<bool, AllocError>
-        requires few { steps_made self.old < 2 ^ 40 }
+        requires own { IsBoardOf (option_copied board) self.old.seat }
         requires unfinished { self.old.finished ≡ false }
-        ensures ended { IfOk result (λ ended. ended ≡ have_all_ended self.old.ins) }
-        ensures done { IfOk result (λ ended. MatchBool ended (Finishes self.old self.new) (self.new
-            ≡ self.old)) }
+        requires none { has_some self.old.pending ≡ false }
+        requires used { has_some self.old.rest ≡ false }
+        requires ended { have_all_ended self.old.ins ≡ true }
+        ensures own { IsBoardOf (option_copied board.entry) self.new.seat }
+        ensures ok { OnOk result (FinishesDealing how self.old self.new) }
         ensures err { OnErr result (self.new ≡ self.old) }
     {
-        if !have_ended(self.ins.as_slice()) {
-            return Ok(false);
-        }
-        self.journal.reserve(1)?;
+        self.journal.reserve(2)?;
         end_streams(self.outs.as_mut_slice())?;
-        self.journal.push_reserved(Entry::Finish);
+        deal(how, &mut self.seat, &mut self.journal, board);
+        self.journal.push(Entry::Finish);
         self.finished = true;
-        Ok(true)
+        Ok(())
     }
 
-    /// Makes one step, if there is one to make. The journal says which. If memory runs out all is
-    /// as before, but for batches that were seen in a ring.
-    #[inline(always)]
-    pub fn turn(&mut self) -> Result<Turn, AllocError>
-        requires { steps_made self.old < 2 ^ 40 }
-        ensures keeps { Keeps self.old self.new }
-        ensures answer { IfOk result (IsNextTurn self.old) }
-        ensures moved { IfOk result (λ turn. HasTurned turn self.old self.new) }
+    // Deals with the hand so, and takes a batch where one is known, or finishes where nothing more can come.
+    fn go_on(&mut self, board: Option<&Board>, how: Dealing) -> Result<Turn, AllocError>
+        requires few { steps_made self.old < 2 ^ 40 }
+        requires own { IsBoardOf (option_copied board) self.old.seat }
+        requires may { MayDeal how self.old }
+        requires free { IsFree self.old }
+        requires none { has_some self.old.pending ≡ false }
+        requires used { has_some self.old.rest ≡ false }
+        ensures own { IsBoardOf (option_copied board.entry) self.new.seat }
+        ensures ok { IfOk result (TurnsDealing how self.old self.new) }
         ensures err { OnErr result (IsLookedAt self.old self.new) }
-        ensures ends { HasSameEnds self.old self.new }
-        ensures unsent { HaveSentNothing self.old.outs self.new.outs }
     {
-        if self.finished {
-            return Ok(Turn::Ended);
+        if let Some(place) = self.ready() {
+            self.return_used();
+            self.pass_used();
+            self.take_from(board, how, place)?;
+            return Ok(Turn::Moved);
+        }
+        if have_ended(self.ins.as_slice()) {
+            self.finish(board, how)?;
+            return Ok(Turn::Moved);
+        }
+        self.deal_with(board, how)?;
+        Ok(Turn::Idle)
+    }
+
+    // Claims, and takes the next of what is left, where it has a unit then.
+    fn take_claiming(&mut self, board: Option<&Board>) -> Result<Turn, AllocError>
+        requires few { steps_made self.old < 2 ^ 40 }
+        requires own { IsBoardOf (option_copied board) self.old.seat }
+        requires may { MayDeal Dealing.Claims self.old }
+        requires free { IsFree self.old }
+        requires none { has_some self.old.pending ≡ false }
+        requires some { has_some self.old.rest ≡ true }
+        ensures own { IsBoardOf (option_copied board.entry) self.new.seat }
+        ensures ok { IfOk result (TurnsDealing Dealing.Claims self.old self.new) }
+        ensures err { OnErr result (self.new ≡ self.old) }
+    {
+        self.journal.reserve(2)?;
+        let over = is_last(&self.operator_state, &self.rest, self.ins.as_slice());
+        let columns = side_columns(self.building, &self.build_columns, &self.columns);
+        let readied = ready_next(
+            &mut self.rest,
+            columns,
+            self.building,
+            over,
+            &mut self.operator_state,
+            &mut self.gains,
+        )?;
+        deal(Dealing::Claims, &mut self.seat, &mut self.journal, board);
+        if is_starved(&self.seat) {
+            leave_readied(
+                readied,
+                &mut self.rest,
+                &mut self.operator_state,
+                &mut self.gains,
+            );
+            return Ok(Turn::Starved);
+        }
+        take_readied(readied, &mut self.rest, self.op, &mut self.gains);
+        self.journal.note_go(1, 0);
+        self.taken += 1;
+        Ok(Turn::Moved)
+    }
+
+    // Deals with the hand so, and takes the next of what is left, where it has a unit.
+    fn take_row(&mut self, board: Option<&Board>, how: Dealing) -> Result<Turn, AllocError>
+        requires few { steps_made self.old < 2 ^ 40 }
+        requires own { IsBoardOf (option_copied board) self.old.seat }
+        requires may { MayDeal how self.old }
+        requires free { IsFree self.old }
+        requires none { has_some self.old.pending ≡ false }
+        requires some { has_some self.old.rest ≡ true }
+        ensures own { IsBoardOf (option_copied board.entry) self.new.seat }
+        ensures ok { IfOk result (TurnsDealing how self.old self.new) }
+        ensures err { OnErr result (self.new ≡ self.old) }
+    {
+        match how {
+            Dealing::Nothing => {
+                if is_starved(&self.seat) {
+                    return Ok(Turn::Starved);
+                }
+                self.fetch_used();
+                self.take_left()?;
+                Ok(Turn::Moved)
+            }
+            Dealing::Claims => self.take_claiming(board),
+            Dealing::Returns => {
+                self.deal_with(board, how)?;
+                Ok(Turn::Starved)
+            }
+        }
+    }
+
+    // Deals with the hand so, and makes one step, if there is one to make. The journal says which.
+    #[inline(always)]
+    pub(super) fn make_turn(
+        &mut self,
+        board: Option<&Board>,
+        how: Dealing,
+    ) -> Result<Turn, AllocError>
+        requires few { steps_made self.old < 2 ^ 40 }
+        requires own { IsBoardOf (option_copied board) self.old.seat }
+        requires may { MayDeal how self.old }
+        ensures own { IsBoardOf (option_copied board.entry) self.new.seat }
+        ensures ok { IfOk result (TurnsDealing how self.old self.new) }
+        ensures err { OnErr result (IsLookedAt self.old self.new) }
+    {
+        if let Some(turn) = self.standing() {
+            self.deal_with(board, how)?;
+            return Ok(turn);
         }
         if self.has_pending() {
-            self.emit_row()?;
-            return Ok(Turn::Moved);
+            if self.must_hold() {
+                return self.hold(board, how);
+            }
+            return self.emit_row(board, how);
         }
         if self.has_rest() {
-            self.take_row()?;
-            return Ok(Turn::Moved);
+            return self.take_row(board, how);
         }
-        let taken = self.take_batch()?;
-        if taken {
-            return Ok(Turn::Moved);
-        }
-        let ended = self.finish()?;
-        if ended {
-            return Ok(Turn::Moved);
-        }
-        Ok(Turn::Idle)
+        self.go_on(board, how)
     }
 }

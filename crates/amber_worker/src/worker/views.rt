@@ -57,12 +57,15 @@ impl Worker {
             emitted: _,
             batches: _,
             gains,
+            when: _,
+            seat: _,
             flags: _,
             finished,
             ins: _,
             outs: _,
             route: _,
             journal: _,
+            turned: _,
         } = self;
         gains_given(alloc, op, finished, &operator_state, gains)
     }

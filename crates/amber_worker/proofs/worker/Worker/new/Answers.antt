@@ -31,3 +31,6 @@ returns-clause-outs c = ap (λ (w : WorkerState). map link_of w.outs) c.fresh.en
 
 pub returns-clause-ins : goal.returns-clause-ins
 returns-clause-ins c = ap (λ (w : WorkerState). map end_of w.ins) c.fresh.ensures ∙ c.in_ok-ends.ensures.ins
+
+pub returns-clause-unarmed : goal.returns-clause-unarmed
+returns-clause-unarmed c = ap (λ (w : WorkerState). w.seat) c.fresh.ensures

@@ -14,7 +14,7 @@ pub invariant_of-self-2 : goal.invariant_of-self-2
 invariant_of-self-2 c =
     let few = rw (← c.self.view_is) at c.requires.few in
     let gains = c.in_ok-take_next.ensures.ok in
-    rw (c.note_go.ensures, c.reserve.ensures.items) (few-row _ _ _ _ gains.becomes c.self.invariant few c.take_next.ensures.shares (rw c.side_columns-columns.ensures at c.take_next.ensures.typed))
+    rw (c.note_go.ensures.items, c.reserve.ensures.items) (few-row _ _ _ _ gains.becomes c.self.invariant few c.take_next.ensures.shares (rw c.side_columns-columns.ensures at c.take_next.ensures.typed))
 
 pub take_next-requires-clause-may : goal.take_next-requires-clause-may
 take_next-requires-clause-may c =
@@ -25,22 +25,23 @@ take_next-requires-clause-may c =
 pub returns-clause-ok : goal.returns-clause-ok
 returns-clause-ok c =
     let gains = c.in_ok-take_next.ensures.ok in
-    rw (← c.self.view_is)
+    let none = rw (← c.self.view_is) at c.requires.none in
+    rw (← c.self.view_is, c.note_go.ensures.reserved, c.reserve.ensures.reserved)
     (takes-row _ gains.one (arrivals_in c.take_next.new.rest) c.take_next.new.operator_state gains.last (arrivals_in c.take_next.new.rest) c.take_next.new.gains.pending
-    c.take_next.new.gains.refused.items c.take_next.new.gains.kept.items c.note_go.new.journal.items c.side_columns-columns.result.now c.is_last-over.result
+    c.take_next.new.gains.refused.items c.take_next.new.gains.kept.items c.note_go.new.self.entries c.side_columns-columns.result.now c.is_last-over.result none
     c.side_columns-columns.ensures
     (c.is_last-over.ensures ∙ ap (λ ins. is_group c.self.inside.operator_state && (eqb (length (arrivals_in c.self.inside.rest)) 1 && have_all_ended ins)) c.as_slice.ensures.value)
     gains.first refl gains.becomes gains.closes gains.pending gains.refused gains.kept
-    (c.note_go.ensures ∙ ap (λ l. with_go l 1 0) c.reserve.ensures.items))
+    (c.note_go.ensures.items ∙ ap (λ l. with_go l 1 0) c.reserve.ensures.items))
 
 pub returns-in_err-reserve-clause-err : goal.returns-in_err-reserve-clause-err
-returns-in_err-reserve-clause-err c = err_so c.from_residual.result _ (same-journal _ _ _ c.reserve.ensures.items c.self.view_is)
+returns-in_err-reserve-clause-err c = err_so c.from_residual.result _ (same-journal _ _ _ _ c.reserve.ensures.items c.reserve.ensures.reserved c.self.view_is)
 
 pub returns-in_err-take_next-clause-err : goal.returns-in_err-take_next-clause-err
 returns-in_err-take_next-clause-err c =
     let same = c.in_err-take_next.ensures.gains_on_err in
     err_so c.from_residual-in_err-take_next.result _
-    (same-taking _ _ _ _ _ _ _ _ c.in_err-take_next.ensures.operator_state_on_err c.in_err-take_next.ensures.rest_on_err same.pending same.refused same.kept c.reserve.ensures.items
+    (same-taking _ _ _ _ _ _ _ _ _ c.in_err-take_next.ensures.operator_state_on_err c.in_err-take_next.ensures.rest_on_err same.pending same.refused same.kept c.reserve.ensures.items c.reserve.ensures.reserved
     c.self.view_is)
 
 pub invariant_of-self : goal.invariant_of-self

@@ -1,0 +1,263 @@
+-- Turns that are driven one after the other.
+use Rattle.std.proofs.Common.{◌≡◌, ℕ, ◌+◌, ◌-◌, ◌≤◌, not, List, [], ◌∷◌, length, count_by, Option, Some, None, Bool, true, false, if◌then◌else◌, refl, sym, ap, ◌∙◌, subst, arith}
+use Rattle.std.specs.List.{list_all}
+use Rattle.std.specs.Option.{IfSome, option_map}
+use Rattle.std.proofs.lemmas.Bool.{and_from}
+use Rattle.std.proofs.lemmas.List.Sums.{sum_by-cons}
+use Rattle.amber_rows.specs.Lists.{first_of}
+use Rattle.amber_link.proofs.SentOn.{sent_on-same, sent_on-then}
+use Rattle.amber_mail.specs.Controls.{answer_at, is_pause}
+use Rattle.amber_mail.specs.declared.mail.Control.{Control}
+use Rattle.amber_worker.specs.Acting.{Acts}
+use Rattle.amber_worker.specs.Steps.{held_at}
+use Rattle.amber_worker.specs.declared.driving.Drove.{Drove}
+use Rattle.amber_worker.specs.Driving.{AreAnswers, BreaksOff, Driven, Drives, DrivesOnce, Driving, HasDriven, HasSent, OnlyLooks, RanBy, StandsAfter, stops, turned_once}
+use Rattle.amber_worker.specs.Turning.{IsCalm, MakesTurn, MakesTurns, StaysCalm}
+use Rattle.amber_worker.specs.WorkerState.{WorkerState, is_starved, next_turn, steps_made}
+use Rattle.amber_worker.specs.declared.turn.Turn.{Turn}
+use Rattle.amber_worker.specs.declared.turn.Turn.TheVariants as turn
+use Rattle.amber_worker.proofs.TurnCases.{ends-by, pauses-by, starves-by}
+use Rattle.amber_worker.proofs.ManyTurns.{calm-broken, calm-then, calm-turn, makes-armed, makes-looked, makes-more, makes-same, makes-sent, makes-then}
+
+-- ---- batches that are sent
+
+pub sent-same : (w : WorkerState) → HasSent w w
+sent-same w = record { sent = sent_on-same w.outs; only = refl }
+
+pub sent-then : (a b c : WorkerState) → HasSent a b → HasSent b c → HasSent a c
+sent-then a b c one two = record {
+  sent = sent_on-then a.outs b.outs c.outs one.sent two.sent;
+  only = two.only ∙ ap (λ (w : WorkerState). record w { outs = c.outs }) one.only;
+}
+
+ran-sent : (turns : List Driven) (old mid new : WorkerState) → RanBy turns old mid → HasSent mid new → RanBy turns old new
+unfolding RanBy
+ran-sent [] old mid new ran sent = sent-then old mid new ran sent
+ran-sent (one ∷ earlier) old mid new ran sent = (ran.0, ran.1, ran.2, ran.3, sent-then (turned_once ran.1) mid new ran.4 sent)
+
+-- what a worker stands on after a turn does not depend on what was sent
+stands-sent : (old new : WorkerState) (done : Turn) → HasSent old new → StandsAfter old done → StandsAfter new done
+stands-sent old new turn.Moved sent stands = tt
+stands-sent old new turn.Idle sent stands = ap next_turn sent.only ∙ stands
+stands-sent old new turn.Held sent stands = ap (λ (w : WorkerState). w.restraint.held) sent.only ∙ stands
+stands-sent old new turn.Starved sent stands = ap is_starved sent.only ∙ stands
+stands-sent old new turn.Paused sent stands = ap (λ (w : WorkerState). w.restraint.paused) sent.only ∙ stands
+stands-sent old new turn.Ended sent stands = ap (λ (w : WorkerState). w.finished) sent.only ∙ stands
+
+pub if-sent : (old new : WorkerState) (last : Option Turn) → HasSent old new → IfSome last (StandsAfter old) → IfSome last (StandsAfter new)
+if-sent old new None sent stands = tt
+if-sent old new (Some done) sent stands = stands-sent old new done sent stands
+
+-- ---- turns so far
+
+-- so many turns were driven, and the last of them came to this
+pub record Reached (made : ℕ) (old new : Driving) (last : Option Turn) : Type 0 where
+  pub turns : List Driven
+  pub driven : HasDriven turns old new
+  pub long : length turns ≡ made
+  pub last_is : last ≡ option_map (λ one. one.done) (first_of turns)
+  pub makes : (n : ℕ) → n + old.looks + new.pauses ≡ new.looks + old.pauses → MakesTurns n old.worker new.worker
+  pub few : new.pauses + old.looks ≤ new.looks + old.pauses
+  pub calm : IsCalm old.worker → old.plan ≡ Some [] → StaysCalm old.worker new.worker
+  pub stands : IfSome last (StandsAfter new.worker)
+
+-- and none of them stops
+pub record UnderWay (made : ℕ) (old new : Driving) (last : Option Turn) : Type 0 where
+  pub reached : Reached made old new last
+  pub on : list_all (λ one. not (stops one.done)) reached.turns ≡ true
+
+-- none was made
+pub begins : (old : Driving) → UnderWay 0 old old None
+unfolding RanBy
+begins old = record {
+  reached = record {
+    turns = [];
+    driven = record {
+      ran = sent-same old.worker;
+      looks = omega arith;
+      pauses = omega arith;
+      plan = refl;
+      answers = none old.plan;
+      on = refl;
+    };
+    long = refl;
+    last_is = refl;
+    makes = λ n same. makes-more 0 n old.worker old.worker (omega arith) (makes-same old.worker);
+    few = omega arith;
+    calm = λ calm plan. record { calm = calm; writes = refl };
+    stands = tt;
+  };
+  on = refl;
+}
+  where
+    none : (plan : Option (List (Option Control))) → IfSome plan (λ answers. AreAnswers answers old.looks [])
+    none None = tt
+    none (Some answers) = tt
+
+answers-more : (plan was : Option (List (Option Control))) (looks now : ℕ) (turns : List Driven) (one : Driven) → was ≡ plan → now ≡ looks + length turns
+    → IfSome plan (λ answers. AreAnswers answers looks turns) → IfSome was (λ answers. one.told ≡ answer_at answers now) → IfSome plan (λ answers. AreAnswers answers looks (one ∷ turns))
+answers-more None was looks now turns one same at earlier answer = tt
+answers-more (Some plan) was looks now turns one same at earlier answer =
+    let here : one.told ≡ answer_at plan now = subst (λ p. IfSome p (λ answers. one.told ≡ answer_at answers now)) same answer in
+    (here ∙ ap (answer_at plan) at, earlier)
+
+-- under a mail that says nothing
+silent : (plan : Option (List (Option Control))) (told : Option Control) (looks : ℕ) → plan ≡ Some [] → IfSome plan (λ answers. told ≡ answer_at answers looks) → told ≡ None
+silent plan told looks is answer = subst (λ p. IfSome p (λ answers. told ≡ answer_at answers looks)) is answer
+
+-- how it stands after a turn
+stands-turned : (old new : WorkerState) (done : Turn) → MakesTurn old new done → StandsAfter new done
+stands-turned old new turn.Moved makes = tt
+stands-turned old new turn.Idle makes = makes.turned.idle
+stands-turned old new turn.Held makes = subst (λ (w : WorkerState). w.restraint.held ≡ true) (sym makes.turned) (by old.restraint.held refl)
+  where
+    by : (b : Bool) → old.restraint.held ≡ b → (if b then old else held_at old).restraint.held ≡ true
+    by true e = e
+    by false e = refl
+stands-turned old new turn.Starved makes = ap is_starved makes.turned ∙ starves-by old makes.next
+stands-turned old new turn.Paused makes = ap (λ (w : WorkerState). w.restraint.paused) makes.turned ∙ pauses-by old makes.next
+stands-turned old new turn.Ended makes = ap (λ (w : WorkerState). w.finished) makes.turned ∙ ends-by old makes.next
+
+stands-once : (w : WorkerState) (done : Turn) → StandsAfter w done → StandsAfter (turned_once w) done
+stands-once w turn.Moved stands = tt
+stands-once w turn.Idle stands = stands
+stands-once w turn.Held stands = stands
+stands-once w turn.Starved stands = stands
+stands-once w turn.Paused stands = stands
+stands-once w turn.Ended stands = stands
+
+-- a turn more was driven
+pub drives-more : (made : ℕ) (old mid new : Driving) (last : Option Turn) (done : Turn) → UnderWay made old mid last → DrivesOnce mid new done → Reached (made + 1) old new (Some done)
+unfolding RanBy
+drives-more made old mid new last done way once =
+    let before = way.reached in
+    let one : Driven = record { told = once.told; done = done } in
+    let driven = before.driven in
+    let whole : new.worker ≡ turned_once once.after = once.counted in
+    record {
+      turns = one ∷ before.turns;
+      driven = record {
+        ran = (mid.worker, once.after, driven.ran, once.turns, subst (HasSent (turned_once once.after)) (sym whole) (sent-same (turned_once once.after)));
+        looks = omega (arith, once.looks, driven.looks);
+        pauses = by (is_pause once.told) refl ∙ ap (λ n. old.pauses + n) (sym (sum_by-cons (λ (other : Driven). if is_pause other.told then 1 else 0) one before.turns));
+        plan = once.plan ∙ driven.plan;
+        answers = answers-more old.plan mid.plan old.looks mid.looks before.turns one driven.plan driven.looks driven.answers once.answer;
+        on = way.on;
+      };
+      long = omega (arith, before.long);
+      last_is = refl;
+      makes = λ n same. adds (is_pause once.told) refl n same;
+      few = more (is_pause once.told) refl;
+      calm = λ calm plan. stays calm plan;
+      stands = subst (λ w. StandsAfter w done) (sym whole) (stands-once once.after done (stands-turned once.turns.between once.after done once.turns.makes));
+    }
+  where
+    by : (b : Bool) → is_pause once.told ≡ b → new.pauses ≡ old.pauses + ((if is_pause once.told then 1 else 0) + count_by (λ (other : Driven). is_pause other.told) way.reached.turns)
+    by true e = let now = rw e at once.pauses in let before = way.reached.driven.pauses in rw e (omega (arith, now, before))
+    by false e = let now = rw e at once.pauses in let before = way.reached.driven.pauses in rw e (omega (arith, now, before))
+
+    adds : (b : Bool) → is_pause once.told ≡ b → (n : ℕ) → n + old.looks + new.pauses ≡ new.looks + old.pauses → MakesTurns n old.worker new.worker
+    adds true e n same =
+        let now = rw e at once.pauses in
+        let first = way.reached.makes n (omega (arith, now, once.looks, same)) in
+        subst (λ k. MakesTurns k old.worker new.worker) (omega arith)
+        (makes-then n 0 old.worker mid.worker new.worker (makes-armed n old.worker mid.worker first) first (rw e at once.makes))
+    adds false e n same =
+        let now = rw e at once.pauses in
+        let few = way.reached.few in
+        let first = way.reached.makes (n - 1) (omega (arith, now, once.looks, same, few)) in
+        let at_least : 1 ≤ n = omega (arith, now, once.looks, same, few) in
+        subst (λ k. MakesTurns k old.worker new.worker) (omega arith)
+        (makes-then (n - 1) 1 old.worker mid.worker new.worker (makes-armed (n - 1) old.worker mid.worker first) first (rw e at once.makes))
+
+    more : (b : Bool) → is_pause once.told ≡ b → new.pauses + old.looks ≤ new.looks + old.pauses
+    more true e = let now = rw e at once.pauses in let few = way.reached.few in omega (arith, now, once.looks, few)
+    more false e = let now = rw e at once.pauses in let few = way.reached.few in omega (arith, now, once.looks, few)
+
+    stays : IsCalm old.worker → old.plan ≡ Some [] → StaysCalm old.worker new.worker
+    stays calm plan =
+        let first = way.reached.calm calm plan in
+        let told = silent mid.plan once.told mid.looks (way.reached.driven.plan ∙ plan) once.answer in
+        let acts : once.turns.between ≡ mid.worker = subst (λ t. Acts t mid.worker once.turns.between) told once.turns.acts in
+        let turned = calm-turn mid.worker once.after done first.calm (subst (λ w. MakesTurn w once.after done) acts once.turns.makes) in
+        calm-then old.worker mid.worker new.worker first
+        (subst (StaysCalm mid.worker) (sym once.counted)
+        (record { calm = record { unwatched = turned.calm.unwatched; unarmed = turned.calm.unarmed; loose = turned.calm.loose }; writes = turned.writes }))
+
+-- and is under way where it does not stop
+pub goes-on : (made : ℕ) (old mid new : Driving) (last : Option Turn) (done : Turn) → (way : UnderWay made old mid last) → DrivesOnce mid new done → stops done ≡ false
+    → UnderWay (made + 1) old new (Some done)
+unfolding drives-more
+goes-on made old mid new last done way once goes =
+    record { reached = drives-more made old mid new last done way once; on = and_from _ _ (ap not goes) way.on }
+
+-- and then batches were sent
+pub reached-sent : (made : ℕ) (old mid new : Driving) (last : Option Turn) → Reached made old mid last → HasSent mid.worker new.worker → new.looks ≡ mid.looks → new.pauses ≡ mid.pauses
+    → new.plan ≡ mid.plan → Reached made old new last
+reached-sent made old mid new last reached sent looks pauses plan = record {
+  turns = reached.turns;
+  driven = record {
+    ran = ran-sent reached.turns old.worker mid.worker new.worker reached.driven.ran sent;
+    looks = looks ∙ reached.driven.looks;
+    pauses = pauses ∙ reached.driven.pauses;
+    plan = plan ∙ reached.driven.plan;
+    answers = reached.driven.answers;
+    on = reached.driven.on;
+  };
+  long = reached.long;
+  last_is = reached.last_is;
+  makes = λ n same.
+      let first = reached.makes n (rw (looks, pauses) at same) in
+      subst (λ k. MakesTurns k old.worker new.worker) (omega arith)
+      (makes-then n 0 old.worker mid.worker new.worker (makes-armed n old.worker mid.worker first) first (makes-sent mid.worker new.worker mid.worker.turned sent));
+  few = rw (looks, pauses) reached.few;
+  calm = λ calm is.
+      let first = reached.calm calm is in
+      calm-then old.worker mid.worker new.worker first
+      (subst (StaysCalm mid.worker) (sym sent.only)
+      (record { calm = record { unwatched = first.calm.unwatched; unarmed = first.calm.unarmed; loose = first.calm.loose }; writes = refl }));
+  stands = if-sent mid.worker new.worker last sent reached.stands;
+}
+
+pub way-sent : (made : ℕ) (old mid new : Driving) (last : Option Turn) → UnderWay made old mid last → HasSent mid.worker new.worker → new.looks ≡ mid.looks → new.pauses ≡ mid.pauses
+    → new.plan ≡ mid.plan → UnderWay made old new last
+unfolding reached-sent
+way-sent made old mid new last way sent looks pauses plan = record { reached = reached-sent made old mid new last way.reached sent looks pauses plan; on = way.on }
+
+-- ---- what a drive answers
+
+pub tells-all : (made : ℕ) (old new : Driving) (last : Option Turn) (drove : Drove) → Reached made old new last → drove.turns ≡ made → drove.last ≡ last → Drives old new drove
+tells-all made old new last drove reached turns_are last_is = record {
+  turns = reached.turns;
+  driven = reached.driven;
+  tells = record { turns_made = turns_are ∙ sym reached.long; last = last_is ∙ reached.last_is };
+}
+
+pub breaks-off : (made : ℕ) (old mid new : Driving) (last : Option Turn) → UnderWay made old mid last → OnlyLooks mid new → BreaksOff old new
+breaks-off made old mid new last way looked = record { turns = way.reached.turns; between = mid; driven = way.reached.driven; on = way.on; looked = looked }
+
+-- it makes no more turns than looks that were no pause, also where it breaks off
+pub breaks-makes : (made : ℕ) (old mid new : Driving) (last : Option Turn) → UnderWay made old mid last → OnlyLooks mid new
+    → (n : ℕ) → n + old.looks + new.pauses ≡ new.looks + old.pauses → MakesTurns n old.worker new.worker
+breaks-makes made old mid new last way looked n same =
+    let few = way.reached.few in
+    let pauses = looked.pauses in
+    let m : ℕ = (mid.looks + old.pauses) - (old.looks + mid.pauses) in
+    let first = way.reached.makes m (omega (arith, few)) in
+    makes-more (m + 0) n old.worker new.worker (omega (arith, few, pauses, looked.looks, same))
+    (makes-then m 0 old.worker mid.worker new.worker (makes-armed m old.worker mid.worker first) first (makes-looked mid.worker new.worker looked.worker))
+
+pub breaks-calm : (made : ℕ) (old mid new : Driving) (last : Option Turn) → UnderWay made old mid last → OnlyLooks mid new → IsCalm old.worker → old.plan ≡ Some []
+    → StaysCalm old.worker new.worker
+breaks-calm made old mid new last way looked calm plan =
+    let first = way.reached.calm calm plan in
+    calm-then old.worker mid.worker new.worker first (calm-broken mid.worker new.worker first.calm looked.worker)
+
+-- ---- what a drive needs
+
+-- no more steps were made than turns
+pub steps-within : (made : ℕ) (old new : Driving) (last : Option Turn) → Reached made old new last → steps_made new.worker ≤ steps_made old.worker + made
+steps-within made old new last reached =
+    let n : ℕ = (new.looks + old.pauses) - (old.looks + new.pauses) in
+    let makes = reached.makes n (omega (arith, reached.few)) in
+    omega (arith, makes.steps, reached.driven.looks, reached.driven.pauses, reached.long)

@@ -1,0 +1,11 @@
+-- A seat goes.
+use Rattle.std.proofs.Common.{rules, true, sym, subst}
+use Rattle.amber_worker.specs.AtPosition.{KeepsUnder}
+use Rattle.amber_worker.proofs.Dealt.{Keeps-disarmed_at}
+use Rattle.amber_worker.proofs.worker.Worker.disarm.Goals as goal
+
+pub returns-clause-only : goal.returns-clause-only
+returns-clause-only c = search rules
+
+pub returns-clause-keeps : goal.returns-clause-keeps
+returns-clause-keeps c = subst (KeepsUnder true c.args.self.now) (sym (returns-clause-only c)) (Keeps-disarmed_at c.args.self.now (search rules))

@@ -1,0 +1,19 @@
+//! Tests of what computes, called by hand: workers which feed a group of four, or whose senders, two a side of a join, end in an
+//! order of their own; workers that are told to pause, held before a row, and counted; and links with both ends in one hand. No call
+//! above a worker shows these, since a home lets its workers work in one order and tells them nothing.
+//!
+//! They stand beside the tests of the crates below, so that both are proved side by side.
+#![tactic(auto)]
+
+#[cfg(test)]
+mod both_ends;
+#[cfg(test)]
+mod driven;
+#[cfg(test)]
+mod ends;
+#[cfg(test)]
+mod expected;
+#[cfg(test)]
+mod journals;
+#[cfg(test)]
+mod workers;
