@@ -28,6 +28,7 @@ use Rattle.amber_worker.specs.AtPosition.{IsAtPosition, Output, Placement, Recei
 use Rattle.amber_worker.specs.Changes.{StandsNew}
 use Rattle.amber_worker.specs.Made.{end_of, link_of, roomless}
 use Rattle.amber_worker.specs.Pairs.{AreJoined, AreSettledAt, IsLinkAt}
+use Rattle.amber_worker.specs.Turning.{IsCalm}
 use Rattle.amber_worker.specs.WorkerState.{WorkerState}
 use Rattle.amber_worker.proofs.PairFacts.{joined-made}
 use Rattle.amber_dataflow.specs.AtWork.{AreAtWork, AreJoinedAt, IsQuiet, SendsTo, context_in, no_worker_state, worker_state_at}
@@ -115,6 +116,12 @@ module _ (flow : List Operator) (files : List (List ℕ)) (parts : Parts) (crew 
   unfolding StandsNew
   stands worker below = subst (λ f. StandsNew (record { flow = f; number = worker; batch_size = parts.batch_size; share = share_of_worker parts.shares worker }) (worker_state_at crew worker)) flow_is (new.each worker (within worker below)).stands (records_of files flow) (dealt.dealt worker below)
 
+  calm : (worker : ℕ) → worker < crew_of flow → IsCalm (worker_state_at crew worker)
+  unfolding first_orders
+  calm worker below =
+      let shows = (stands worker below).shows in
+      record { unwatched = shows.when; unarmed = (new.each worker (within worker below)).unarmed; loose = shows.restraint }
+
   number-is : (worker : ℕ) → worker < crew_of flow → (worker_state_at crew worker).number ≡ worker
   unfolding placement_of
   number-is worker below = (stands worker below).shows.number
@@ -196,6 +203,7 @@ module _ (flow : List Operator) (files : List (List ℕ)) (parts : Parts) (crew 
             (subst (λ orders. IsAtPosition (record (context_in query (start_of flow) worker) { orders = orders }) (worker_state_at crew worker) origin origin)
             (sym (start-orders flow worker)) (stands worker below));
       };
+      calm = calm;
       joined = joined;
     }
 

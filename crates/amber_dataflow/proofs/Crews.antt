@@ -7,12 +7,19 @@ use Rattle.amber_lines.specs.Moving.{orders_in}
 use Rattle.amber_meaning.specs.Legal.{Query}
 use Rattle.amber_meaning.specs.Position.{Position}
 use Rattle.amber_meaning.specs.State.{State, position_at}
-use Rattle.amber_worker.specs.AtPosition.{HasSameEnds, IsAtPosition, Keeps, KeepsUnder}
+use Rattle.amber_worker.specs.AtPosition.{HasSameEnds, IsAtPosition, KeepsUnder}
 use Rattle.amber_worker.specs.Pairs.{AreJoined, StaysAt}
-use Rattle.amber_worker.specs.WorkerState.{WorkerState}
+use Rattle.amber_worker.specs.Turning.{IsCalm}
+use Rattle.amber_worker.specs.WorkerState.{WorkerState, is_armed}
 use Rattle.amber_worker.proofs.Turns.{ends-same}
 use Rattle.amber_dataflow.specs.AtWork.{AreJoinedAt, context_in, no_worker_state, worker_state_at}
 use Rattle.amber_dataflow.proofs.Linked.{joined-still}
+
+-- ---- a calm worker
+
+-- no count is armed at it
+unarmed-calm : (w : WorkerState) → IsCalm w → is_armed w ≡ false
+unarmed-calm w calm = ap (λ seat. is_some seat) calm.unarmed
 
 -- ---- positions
 
@@ -36,6 +43,13 @@ module _ (crew : List WorkerState) (worker : ℕ) (now : WorkerState) (inside : 
   pub there-still : (other : ℕ) → other ≢ worker → worker_state_at (set crew worker now) other ≡ worker_state_at crew other
   there-still other ne = get_or-set_other crew worker other now no_worker_state ne
 
+  -- all are calm, where this one is
+  pub calm-each : (many : ℕ) → ((k : ℕ) → k < many → IsCalm (worker_state_at crew k)) → IsCalm now
+      → (k : ℕ) → k < many → IsCalm (worker_state_at (set crew worker now) k)
+  calm-each many calm here = at-each (λ k. k < many → IsCalm (worker_state_at (set crew worker now) k)) worker
+      (λ h. rw here-now here)
+      (λ k ne h. rw (there-still k ne) (calm k h))
+
   -- all have the same ends, where this one has
   pub ends-each : HasSameEnds (worker_state_at crew worker) now → (k : ℕ) → HasSameEnds (worker_state_at crew k) (worker_state_at (set crew worker now) k)
   ends-each same = at-each (λ k. HasSameEnds (worker_state_at crew k) (worker_state_at (set crew worker now) k)) worker
@@ -54,13 +68,15 @@ module _ (query : Query) (start : State) (crew : List WorkerState) (positions : 
   uncounted : AreJoinedAt query start crew positions → (orders_in query start worker).counted ≡ false
   uncounted at = ap (λ count. is_some count) (at.quiet (op_of query.flow worker)).uncounted
 
-  -- a worker that kept standing, with the same ends, may take the place of what it was
-  pub joined-turned : AreJoinedAt query start crew positions → worker < length crew → Keeps (worker_state_at crew worker) now → HasSameEnds (worker_state_at crew worker) now
+  -- a worker that kept standing, with the same ends, and is calm, may take the place of what it was
+  pub joined-turned : AreJoinedAt query start crew positions → worker < length crew
+      → KeepsUnder (is_armed (worker_state_at crew worker)) (worker_state_at crew worker) now → HasSameEnds (worker_state_at crew worker) now → IsCalm now
       → (q : Position) × AreJoinedAt query start (set crew worker now) (placed positions worker q)
   unfolding KeepsUnder
-  joined-turned at inside keeps same =
+  joined-turned at inside keeps same calm =
       let here : worker < crew_of query.flow = rw (← at.at_positions.all) inside in
-      let moved = keeps (context_in query start worker) (position_at start.positions worker) (positions worker) (uncounted at)
+      let moved = keeps (context_in query start worker) (position_at start.positions worker) (positions worker)
+      (uncounted at ∙ sym (unarmed-calm (worker_state_at crew worker) (at.calm worker here)))
       (at.at_positions.each worker here) in
       let q = moved.0 in (
         q,
@@ -74,6 +90,7 @@ module _ (query : Query) (start : State) (crew : List WorkerState) (positions : 
                 (λ h. rw (here-now crew worker now inside, same-place worker) moved.1)
                 (λ k ne h. rw (there-still crew worker now inside k ne, ne_eqb k worker ne) (at.at_positions.each k h));
           };
+          calm = calm-each crew worker now inside (crew_of query.flow) at.calm calm;
           joined = λ from to from-in to-in.
               joined-each crew (set crew worker now) (ends-each crew worker now inside same) from to (at.joined from to from-in to-in);
         },
@@ -82,11 +99,11 @@ module _ (query : Query) (start : State) (crew : List WorkerState) (positions : 
 -- ---- batches go on
 
 module _ (query : Query) (start : State) (crew : List WorkerState) (positions : ℕ → Position) (worker : ℕ) (now : WorkerState) where
-  -- a worker that stays where it stood, with the same ends, may take the place of what it was
+  -- a worker that stays where it stood, with the same ends, and is as calm, may take the place of what it was
   pub joined-stays : AreJoinedAt query start crew positions → worker < length crew → StaysAt (worker_state_at crew worker) now → HasSameEnds (worker_state_at crew worker) now
-      → AreJoinedAt query start (set crew worker now) positions
+      → (IsCalm (worker_state_at crew worker) → IsCalm now) → AreJoinedAt query start (set crew worker now) positions
   unfolding StaysAt
-  joined-stays at inside stays same = record {
+  joined-stays at inside stays same calm = record {
     flow = at.flow;
     quiet = at.quiet;
     at_positions = record {
@@ -97,6 +114,7 @@ module _ (query : Query) (start : State) (crew : List WorkerState) (positions : 
           (stays (context_in query start worker) (position_at start.positions worker) (positions worker) (at.at_positions.each worker h)))
           (λ k ne h. rw (there-still crew worker now inside k ne) (at.at_positions.each k h));
     };
+    calm = calm-each crew worker now inside (crew_of query.flow) at.calm (calm (at.calm worker (rw (← at.at_positions.all) inside)));
     joined = λ from to from-in to-in.
         joined-each crew (set crew worker now) (ends-each crew worker now inside same) from to (at.joined from to from-in to-in);
   }

@@ -21,12 +21,13 @@ use Rattle.amber_meaning.proofs.Crews.{op-within, worker-known}
 use Rattle.amber_meaning.proofs.Numbers.{among, among-first, among-more}
 use Rattle.amber_worker.specs.AtPosition.{placement_of}
 use Rattle.amber_worker.specs.Changes.{at_leg_start}
-use Rattle.amber_worker.specs.Turning.{HasStopped, WritesStep}
+use Rattle.amber_worker.specs.Turning.{WritesStep}
 use Rattle.amber_worker.specs.WorkerState.{WorkerState, steps_made}
 use Rattle.amber_dataflow.specs.Answers.{IsGathered, ShowAll, ShowWorkers}
 use Rattle.amber_dataflow.specs.AtWork.{AreAtWork, GoesOn, HaveFinished, IsCrew, IsQuiet, MakesTurnsAt, state_reached, steps_by, worker_state_at}
 use Rattle.amber_dataflow.specs.Dataflow.{AreAllThere, DataflowState, FirstHaveFinished, HaveDoneNothing, IsAnswerOf, IsDataflow, IsFirst, IsStarved, ShowAt, TurnsAt, leg_begun, handed_out, has_finished, have_all_finished, journal_of, rows_emitted, step_count, constant_put, worker_set}
 use Rattle.amber_dataflow.specs.Parts.{without_journal}
+use Rattle.amber_dataflow.specs.Stopping.{HasStopped}
 use Rattle.amber_dataflow.proofs.Answered.{at-work-show, some-crew}
 use Rattle.amber_dataflow.proofs.Emitted.{crew-few, others-emitted, own-emitted}
 use Rattle.amber_dataflow.proofs.Numbered.{nth-numbers, quiet-map}

@@ -1,5 +1,6 @@
 pub mod Answered
 pub mod Begun
+pub mod Calm
 pub mod Changed
 pub mod Copies
 pub mod Crews

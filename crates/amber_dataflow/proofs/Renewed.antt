@@ -7,18 +7,20 @@ use Rattle.amber_meaning.specs.Legal.{Query}
 use Rattle.amber_meaning.specs.Position.{Position}
 use Rattle.amber_meaning.specs.State.{State, arms_at, position_at}
 use Rattle.amber_worker.specs.AtPosition.{HasSameEnds, IsAtPosition}
+use Rattle.amber_worker.specs.Turning.{IsCalm}
 use Rattle.amber_worker.specs.WorkerState.{WorkerState}
 use Rattle.amber_dataflow.specs.AtWork.{AreAtWork, IsQuiet, context_in, worker_state_at}
 use Rattle.amber_dataflow.proofs.Crews.{joined-each}
 use Rattle.amber_dataflow.proofs.Linked.{settled-same}
 
--- the same ends, just as they were
+-- the same ends, just as they were, and as calm
 pub record HasItsEnds (old new : WorkerState) : Type 0 where
   pub number : new.number ≡ old.number
   pub ins : new.ins ≡ old.ins
   pub outs : new.outs ≡ old.outs
   pub when : new.when ≡ old.when
   pub route : new.route ≡ old.route
+  pub calm : IsCalm old → IsCalm new
 
 own-ends : (old new : WorkerState) → HasItsEnds old new → HasSameEnds old new
 own-ends old new same = record {
@@ -39,6 +41,7 @@ module _ (query : Query) (start now : State) (crew after : List WorkerState) (po
       flow = work.at.flow;
       quiet = quiet;
       at_positions = record { all = long ∙ work.at.at_positions.all; each = each };
+      calm = λ worker inside. (same worker).calm (work.at.calm worker inside);
       joined = λ from to from-in to-in.
           joined-each crew after (λ k. own-ends (worker_state_at crew k) (worker_state_at after k) (same k)) from to (work.at.joined from to from-in to-in);
     };

@@ -14,13 +14,12 @@ use Rattle.amber_meaning.specs.Legal.{IsWorked, Query, assignment_in, entries_of
 use Rattle.amber_meaning.specs.Position.{Position, origin}
 use Rattle.amber_meaning.specs.Replay.{after_leg}
 use Rattle.amber_meaning.specs.Rules.{Leads}
-use Rattle.amber_meaning.specs.State.{State, arms_at, emitted_by, have_finished, let_go, position_at, steps_in}
+use Rattle.amber_meaning.specs.State.{State, arms_at, emitted_by, have_finished, let_go, position_at, restraint_released, steps_in}
 use Rattle.amber_meaning.proofs.OneState.{position-get_or}
 use Rattle.amber_worker.specs.AtPosition.{Context, IsAtPosition, placement_of}
 use Rattle.amber_worker.specs.Changes.{ShowsSet, StandsAtLeg, at_leg_start, with_value}
 use Rattle.amber_worker.specs.WorkerState.{WorkerState, steps_made}
 use Rattle.amber_worker.proofs.Commands.{shows-set, stands-at_leg}
-use Rattle.amber_worker.proofs.Settling.{IsAtPosition-without_journal}
 use Rattle.amber_dataflow.specs.AtWork.{AreAtWork, IsQuiet, context_in, emitted_at, state_reached, steps_by, worker_state_at}
 use Rattle.amber_dataflow.specs.Dataflow.{AreAllThere, DataflowState, FirstHaveFinished, HaveDoneNothing, StandAt, leg_begun, handed_out, has_finished, have_all_finished, journal_of, leg_parts, rows_emitted, step_count, constant_put, worker_set}
 use Rattle.amber_dataflow.specs.Parts.{parts_from, without_journal}
@@ -54,8 +53,8 @@ begun-at (w ∷ crew) zero less = refl
 begun-at (w ∷ crew) (suc k) less = begun-at crew k (omega arith)
 
 ends-begun : (crew : List WorkerState) (k : ℕ) → HasItsEnds (worker_state_at crew k) (worker_state_at (map at_leg_start crew) k)
-ends-begun [] k = record { number = refl; ins = refl; outs = refl; when = refl; route = refl }
-ends-begun (w ∷ crew) zero = record { number = refl; ins = refl; outs = refl; when = refl; route = refl }
+ends-begun [] k = record { number = refl; ins = refl; outs = refl; when = refl; route = refl; calm = λ c. c }
+ends-begun (w ∷ crew) zero = record { number = refl; ins = refl; outs = refl; when = refl; route = refl; calm = λ c. record { unwatched = c.unwatched; unarmed = c.unarmed; loose = ap restraint_released c.loose } }
 ends-begun (w ∷ crew) (suc k) = ends-begun crew k
 
 -- a change that leaves each one's steps
@@ -70,8 +69,42 @@ handed-at [] k = refl
 handed-at (w ∷ crew) zero = refl
 handed-at (w ∷ crew) (suc k) = handed-at crew k
 
+-- a worker stands where it stood, with nothing done since
+stands-handed : (context : Context) (w : WorkerState) (start p : Position) → IsAtPosition context w start p → IsAtPosition context (without_journal w) p p
+unfolding Leads AreEntries
+stands-handed context w start p stands = record {
+  leads = refl;
+  text = tt;
+  shows = record {
+    op = stands.shows.op;
+    number = stands.shows.number;
+    operator_state = stands.shows.operator_state;
+    state = stands.shows.state;
+    columns = stands.shows.columns;
+    build_columns = stands.shows.build_columns;
+    sides = stands.shows.sides;
+    builders = stands.shows.builders;
+    building = stands.shows.building;
+    when = stands.shows.when;
+    rest = stands.shows.rest;
+    pending = stands.shows.pending;
+    taken = stands.shows.taken;
+    emitted = stands.shows.emitted;
+    batches = stands.shows.batches;
+    within = stands.shows.within;
+    produced = stands.shows.produced;
+    refused = stands.shows.refused;
+    kept = stands.shows.kept;
+    restraint = stands.shows.restraint;
+    finished = stands.shows.finished;
+    ins = stands.shows.ins;
+    outs = stands.shows.outs;
+    route = stands.shows.route;
+  };
+}
+
 ends-handed : (crew : List WorkerState) (k : ℕ) → HasItsEnds (worker_state_at crew k) (worker_state_at (map without_journal crew) k)
-ends-handed crew k = rw (handed-at crew k) (record { number = refl; ins = refl; outs = refl; when = refl; route = refl })
+ends-handed crew k = rw (handed-at crew k) (record { number = refl; ins = refl; outs = refl; when = refl; route = refl; calm = λ c. record { unwatched = c.unwatched; unarmed = c.unarmed; loose = c.loose } })
 
 -- ---- another constant
 
@@ -82,12 +115,12 @@ module _ (op : ℕ) (value : Value) where
   set-at (w ∷ crew) (suc k) less = set-at crew k (omega arith)
 
   ends-set : (crew : List WorkerState) (k : ℕ) → HasItsEnds (worker_state_at crew k) (worker_state_at (map (worker_set op value) crew) k)
-  ends-set [] k = record { number = refl; ins = refl; outs = refl; when = refl; route = refl }
+  ends-set [] k = record { number = refl; ins = refl; outs = refl; when = refl; route = refl; calm = λ c. c }
   ends-set (w ∷ crew) zero = by (eqb w.op op)
     where
       by : (b : Bool) → HasItsEnds w (if b then record w { operator_state = with_value value w.operator_state } else w)
-      by true = record { number = refl; ins = refl; outs = refl; when = refl; route = refl }
-      by false = record { number = refl; ins = refl; outs = refl; when = refl; route = refl }
+      by true = record { number = refl; ins = refl; outs = refl; when = refl; route = refl; calm = λ c. record { unwatched = c.unwatched; unarmed = c.unarmed; loose = c.loose } }
+      by false = record { number = refl; ins = refl; outs = refl; when = refl; route = refl; calm = λ c. c }
   ends-set (w ∷ crew) (suc k) = ends-set crew k
 
   journal-set : (crew : List WorkerState) (k : ℕ) → (worker_state_at (map (worker_set op value) crew) k).journal ≡ (worker_state_at crew k).journal
@@ -189,6 +222,7 @@ module _ (query : Query) (start : State) (d : DataflowState) (positions : ℕ �
           all = work.at.at_positions.all;
           each = λ worker inside. rw (same worker inside) (work.at.at_positions.each worker inside);
         };
+        calm = work.at.calm;
         joined = work.at.joined;
       };
       settled = work.settled;
@@ -222,7 +256,7 @@ module _ (query : Query) (start : State) (d : DataflowState) (positions : ℕ �
           (length-map d.workers without_journal) (ends-handed d.workers) quiet
           (λ worker inside.
           rw (handed-at d.workers worker, orders worker inside, at worker inside)
-          (IsAtPosition-without_journal (context_in query start worker) (worker_state_at d.workers worker) (position_at start.positions worker) (positions worker)
+          (stands-handed (context_in query start worker) (worker_state_at d.workers worker) (position_at start.positions worker) (positions worker)
           (work.at.at_positions.each worker inside)));
     }
 
@@ -260,7 +294,7 @@ module _ (query : Query) (start : State) (d : DataflowState) (positions : ℕ �
     unfolding journal_of Leads AreEntries
     stand-kept none orders at = record {
       flow = stand.flow;
-      work = renewed query start now d.workers d.workers positions positions work refl (λ k. record { number = refl; ins = refl; outs = refl; when = refl; route = refl }) quiet
+      work = renewed query start now d.workers d.workers positions positions work refl (λ k. record { number = refl; ins = refl; outs = refl; when = refl; route = refl; calm = λ c. c }) quiet
           (λ worker inside.
           rw (orders worker inside, at worker inside)
           (record { leads = rw (none worker) refl; text = rw (none worker) tt; shows = (work.at.at_positions.each worker inside).shows }));

@@ -1,6 +1,6 @@
 -- A worker that could do nothing until a batch came still can do nothing once its links are settled: no more have
 -- come than it had seen.
-use Rattle.std.proofs.Common.{◌≡◌, ◌≢◌, refl, sym, ap, ◌∙◌, ℕ, ◌<◌, ◌||◌, ◌&&◌, not, List, [], ◌∷◌, ◌++◌, length, get_or, Bool, true, false, if◌then◌else◌, arith, length-append}
+use Rattle.std.proofs.Common.{◌≡◌, ◌≢◌, refl, sym, ap, ◌∙◌, ℕ, ◌<◌, ◌||◌, ◌&&◌, not, List, [], ◌∷◌, ◌++◌, length, get_or, Bool, true, false, arith, length-append}
 use Rattle.std.specs.List.{list_any}
 use Rattle.std.proofs.lemmas.List.{nil_from_length}
 use Rattle.amber_rows.specs.declared.batch.Batch.{Batch}
@@ -15,8 +15,9 @@ use Rattle.amber_link.proofs.Sides.{get_or-any, pairwise-each}
 use Rattle.amber_worker.specs.AtPosition.{HasSameEnds}
 use Rattle.amber_worker.specs.Pairs.{made_for}
 use Rattle.amber_worker.specs.Turning.{HaveMoreCome}
-use Rattle.amber_worker.specs.WorkerState.{WorkerState, has_ready, next_turn}
+use Rattle.amber_worker.specs.WorkerState.{WorkerState, has_ready, is_starved, must_hold, next_turn}
 use Rattle.amber_worker.specs.declared.turn.Turn.TheVariants as turn
+use Rattle.amber_worker.proofs.TurnCases.{turn_by}
 use Rattle.amber_dataflow.specs.AtWork.{AreAtWork, AreJoinedAt, IsSameBesides, StayPut, placement_at, worker_state_at}
 use Rattle.amber_dataflow.proofs.Linked.{in-at, ins-length, pairwise-at}
 use Rattle.amber_dataflow.proofs.Numbers.{from-same, ins-long}
@@ -69,20 +70,23 @@ ready-still built (x ∷ old) (y ∷ new) same none =
     (ready-still built old new same.1) none
 
 -- a worker is idle with other tests of its senders, which are as false as before
-idle-with : (a b c d e f g : Bool) → (d ≡ false → f ≡ false) → g ≡ e
-    → (if a then turn.Ended else if b then turn.Moved else if c then turn.Moved else if d then turn.Moved else if e then turn.Moved else turn.Idle) ≡ turn.Idle
-    → (if a then turn.Ended else if b then turn.Moved else if c then turn.Moved else if f then turn.Moved else if g then turn.Moved else turn.Idle) ≡ turn.Idle
-idle-with true b c d e f g ready ended idle = cc
-idle-with false true c d e f g ready ended idle = cc
-idle-with false false true d e f g ready ended idle = cc
-idle-with false false false true e f g ready ended idle = cc
-idle-with false false false false e f g ready ended idle = rw (ready refl, ended) idle
+idle-with : (a b c d e f g h i j k : Bool) → (h ≡ false → j ≡ false) → k ≡ i → turn_by a b c d e f g h i ≡ turn.Idle → turn_by a b c d e f g j k ≡ turn.Idle
+idle-with true b c d e f g h i j k ready ended idle = cc
+idle-with false true c d e f g h i j k ready ended idle = cc
+idle-with false false true d e f g h i j k ready ended idle = cc
+idle-with false false false true true f g h i j k ready ended idle = cc
+idle-with false false false true false true g h i j k ready ended idle = cc
+idle-with false false false true false false g h i j k ready ended idle = cc
+idle-with false false false false true f true h i j k ready ended idle = cc
+idle-with false false false false false f true h i j k ready ended idle = cc
+idle-with false false false false e f false true i j k ready ended idle = cc
+idle-with false false false false e f false false i j k ready ended idle = rw (ready refl, ended) idle
 
 -- a worker with other batches at the ends of its links, but none where none waited
 pub idle-still : (old new : WorkerState) → IsSameBesides old new → Pairwise StaysEmpty old.ins new.ins → next_turn old ≡ turn.Idle → next_turn new ≡ turn.Idle
 idle-still old new besides same idle =
     ap next_turn besides
-    ∙ idle-with old.finished (has_some old.pending) (has_some old.rest) (has_ready old.ins) (have_all_ended old.ins) (has_ready new.ins) (have_all_ended new.ins)
+    ∙ idle-with old.finished old.restraint.paused old.restraint.held (has_some old.pending) (is_starved old) (must_hold old) (has_some old.rest) (has_ready old.ins) (have_all_ended old.ins) (has_ready new.ins) (have_all_ended new.ins)
     (λ none. ap (λ built. list_any (may_come built) new.ins) (builders-still old.ins new.ins same) ∙ ready-still (have_builders_ended old.ins) old.ins new.ins same none)
     (ended-still old.ins new.ins same) idle
 

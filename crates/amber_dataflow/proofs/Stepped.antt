@@ -7,10 +7,12 @@ use Rattle.amber_meaning.specs.Position.{Position}
 use Rattle.amber_meaning.specs.State.{State}
 use Rattle.amber_link.specs.Sides.{Pairwise}
 use Rattle.amber_worker.specs.AtPosition.{HasSameEnds}
-use Rattle.amber_worker.specs.Turning.{HasStopped, HaveMoreCome, MakesTurns, other_entries}
+use Rattle.amber_worker.specs.Links.{HaveSentNothing}
+use Rattle.amber_worker.specs.Turning.{HaveMoreCome, IsCalm, MakesTurns, StaysCalm, other_entries}
 use Rattle.amber_worker.specs.WorkerState.{WorkerState, steps_made}
 use Rattle.amber_dataflow.specs.AtWork.{AreAtWork, AreJoinedAt, GoesOn, IsCrew, IsJoinedCrew, MakesTurnsAt, MovesOnly, SendsTo, StayPut, steps_by, worker_state_at}
 use Rattle.amber_dataflow.specs.Passing.{AreSameBesides, Come, IsSettledAt, Settled}
+use Rattle.amber_dataflow.specs.Stopping.{HasStopped}
 use Rattle.amber_dataflow.proofs.Crews.{at-each, here-now, joined-turned, placed, there-still}
 use Rattle.amber_dataflow.proofs.Linked.{come-turned}
 use Rattle.amber_dataflow.proofs.Numbers.{length-put}
@@ -31,19 +33,32 @@ steps-besides (w ∷ old) (v ∷ new) long same =
 pub at-crew : (crew : List WorkerState) → IsCrew crew → IsJoinedCrew crew
 at-crew crew work = (work.0, work.1, work.2, work.3.at)
 
--- turns of a worker, as it was read
-pub at-place : (crew : List WorkerState) (number most : ℕ) (now d : WorkerState) → number < length crew → MakesTurns most (get_or crew number d) now
-    → MakesTurns most (worker_state_at crew number) now
-at-place crew number most now d inside makes = subst (λ w. MakesTurns most w now) (read-at crew number d inside) makes
+-- turns of a calm worker: nothing was sent, and it is calm still
+pub record TurnsCalmly (most : ℕ) (old new : WorkerState) : Type 0 where
+  pub makes : MakesTurns most old new
+  pub unsent : HaveSentNothing old.outs new.outs
+  pub calm : StaysCalm old new
 
-module _ (crew : List WorkerState) (number : ℕ) (now : WorkerState) (inside : number < length crew) (most : ℕ) (makes : MakesTurns most (worker_state_at crew number) now) where
+-- those of a worker, as it was read
+pub at-place : (crew : List WorkerState) (number most : ℕ) (now d : WorkerState) → number < length crew → TurnsCalmly most (get_or crew number d) now
+    → TurnsCalmly most (worker_state_at crew number) now
+at-place crew number most now d inside turns = subst (λ w. TurnsCalmly most w now) (read-at crew number d inside) turns
+
+-- one that is read is calm
+pub calm-read : (crew : List WorkerState) (number : ℕ) (d : WorkerState) → IsCrew crew → number < length crew → IsCalm (get_or crew number d)
+calm-read crew number d work inside = subst IsCalm (sym (read-at crew number d inside)) (work.3.at.calm number (rw (← work.3.at.at_positions.all) inside))
+
+module _ (crew : List WorkerState) (number : ℕ) (now : WorkerState) (inside : number < length crew) (most : ℕ) (turns : TurnsCalmly most (worker_state_at crew number) now) where
+  abbrev makes : MakesTurns most (worker_state_at crew number) now
+  makes = turns.makes
+
   abbrev turned : List WorkerState
   turned = set crew number now
 
   -- wherever they stood, they stand again
   on : (query : Query) (start : State) (positions : ℕ → Position) → AreJoinedAt query start crew positions
       → (q : Position) × AreJoinedAt query start turned (placed positions number q)
-  on query start positions at = joined-turned query start crew positions number now at inside makes.keeps makes.ends
+  on query start positions at = joined-turned query start crew positions number now at inside makes.keeps makes.ends turns.calm.calm
 
   -- they are joined again
   pub joined-then : IsJoinedCrew crew → IsJoinedCrew turned
@@ -56,7 +71,7 @@ module _ (crew : List WorkerState) (number : ℕ) (now : WorkerState) (inside : 
       let one = sending-out work.0 work.1 turned (placed work.2 number next.0) next.1 number to (rw length-set inside) known in
       let apart : to ≢ number = λ same. let before = one.before in absurd (omega arith) in
       rw (here-now crew number now inside, there-still crew number now inside to apart)
-      (come-turned (worker_state_at crew number) (worker_state_at crew to) now makes.ends makes.unsent (work.3.settled number to one.does))
+      (come-turned (worker_state_at crew number) (worker_state_at crew to) now makes.ends turns.unsent (work.3.settled number to one.does))
 
   -- ---- the links are settled again
 
@@ -133,7 +148,7 @@ module _ (crew : List WorkerState) (number : ℕ) (now : WorkerState) (inside : 
           let rows = makes.rows in
           let same = ap (λ (w : WorkerState). w.emitted) here-after in
           omega arith;
-      writes = ap (λ (w : WorkerState). other_entries w.journal) here-after ∙ makes.writes;
+      writes = ap (λ (w : WorkerState). other_entries w.journal) here-after ∙ turns.calm.writes;
     }
 
     -- what it has done stands in its journal

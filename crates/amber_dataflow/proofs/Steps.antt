@@ -1,35 +1,38 @@
 -- A turn of the first unfinished worker: it makes a step. And the steps of all.
-use Rattle.std.proofs.Common.{◌≡◌, refl, sym, ap, ◌∙◌, ℕ, zero, suc, ◌+◌, ◌<◌, ◌≤◌, List, [], ◌∷◌, ◌++◌, length, get_or, set, nat_eq, Bool, true, false, if◌then◌else◌, inl, inr, subst, arith, take, drop, sum_by, zero-add}
+use Rattle.std.proofs.Common.{◌≡◌, refl, sym, ap, ◌∙◌, ℕ, zero, suc, ◌+◌, ◌<◌, ◌≤◌, List, [], ◌∷◌, ◌++◌, length, get_or, set, nat_eq, ◌&&◌, true, false, is_some, inl, inr, subst, arith, take, drop, sum_by, zero-add}
 use Rattle.std.proofs.lemmas.Bool.{eq-eqb, false≢true, or_cases, or_left, or_right}
 use Rattle.std.proofs.lemmas.Grind.{take_at_read}
 use Rattle.std.proofs.lemmas.List.{take-append-drop}
 use Rattle.std.proofs.lemmas.List.Sums.{sum_by-append, sum_by-cons}
 use Rattle.std.specs.List.{list_any}
 use Rattle.amber_rows.specs.Topology.{crew_of}
-use Rattle.amber_link.specs.Links.{come, has_some, waiting}
-use Rattle.amber_link.specs.Sides.{AreLooked, IsLooked, have_all_ended}
+use Rattle.amber_link.specs.Links.{come, waiting}
+use Rattle.amber_link.specs.Sides.{AreLooked, IsLooked}
 use Rattle.amber_link.proofs.Sides.{pairwise-length}
 use Rattle.amber_link.specs.declared.upstreams.Upstream.{Upstream}
 use Rattle.amber_rows.specs.Chunks.{chunks_of}
 use Rattle.amber_rows.specs.declared.batch.Batch.{Batch}
 use Rattle.amber_meaning.specs.Legal.{Query, role_in}
-use Rattle.amber_meaning.specs.Position.{Position, emitted_rows, has_last, taken_from}
+use Rattle.amber_meaning.specs.Position.{Position, Restraint, emitted_rows, has_last, taken_from}
 use Rattle.amber_meaning.specs.Task.{is_builder}
 use Rattle.amber_meaning.specs.State.{State}
 use Rattle.amber_worker.specs.AtPosition.{placement_of, stream_to}
-use Rattle.amber_worker.specs.Turning.{HasStopped, HasTurned, IsNextTurn, MakesStep}
+use Rattle.amber_worker.specs.Turning.{HasTurned, IsCalm, IsNextTurn, MakesStep}
 use Rattle.amber_worker.specs.Pairs.{OffersAll, made_for}
-use Rattle.amber_worker.specs.WorkerState.{WorkerState, has_ready, next_turn, steps_made}
+use Rattle.amber_worker.specs.WorkerState.{WorkerState, next_turn, steps_made}
 use Rattle.amber_worker.specs.declared.turn.Turn.{Turn}
 use Rattle.amber_worker.specs.declared.turn.Turn.TheVariants as turn
 use Rattle.amber_worker.proofs.Idle.{has_marked, has_marked-chunks_of, never_idle}
 use Rattle.amber_worker.proofs.PairFacts.{offers-all, receives-at}
 use Rattle.amber_worker.proofs.Settling.{Shows-relinked}
 use Rattle.amber_worker.proofs.Received.{receive_all-looked, sides-looked}
+use Rattle.amber_worker.proofs.TurnCases.{ends-by, pauses-by, starves-by}
 use Rattle.amber_worker.proofs.Turns.{looked-none}
+use Rattle.amber_dataflow.proofs.Calm.{never-held}
 use Rattle.amber_dataflow.proofs.Linked.{pairwise-at}
 use Rattle.amber_dataflow.proofs.Sending.{sending-in}
 use Rattle.amber_dataflow.proofs.Split.{read-at}
+use Rattle.amber_dataflow.specs.Stopping.{HasStopped}
 use Rattle.amber_dataflow.specs.AtWork.{AreAtWork, AreJoinedAt, HaveFinished, IsCrew, context_in, placement_at, steps_by, worker_state_at}
 
 -- ---- who has something to do
@@ -130,15 +133,6 @@ stopped-finished crew worker work inside finished (inr idle) =
     let ins = (worker_state_at crew worker).ins in
     absurd (busy work.0 work.1 crew work.2 work.3 worker inside finished ins (looked-none (worker_state_at crew worker) (worker_state_at crew worker) refl).looked idle)
 
-ended-finished : (a b c d e : Bool)
-    → (if a then turn.Ended else if b then turn.Moved else if c then turn.Moved else if d then turn.Moved else if e then turn.Moved else turn.Idle) ≡ turn.Ended → a ≡ true
-ended-finished true b c d e h = refl
-ended-finished false true c d e h = cc
-ended-finished false false true d e h = cc
-ended-finished false false false true e h = cc
-ended-finished false false false false true h = cc
-ended-finished false false false false false h = cc
-
 -- an unfinished worker whose senders have all finished makes a step
 pub moves : (crew : List WorkerState) (worker : ℕ) (now d : WorkerState) (done : Turn) → IsCrew crew → worker < length crew → HaveFinished worker crew
     → (worker_state_at crew worker).finished ≡ false → IsNextTurn (get_or crew worker d) done → HasTurned done (get_or crew worker d) now
@@ -146,12 +140,18 @@ pub moves : (crew : List WorkerState) (worker : ℕ) (now d : WorkerState) (done
 moves crew worker now d done work inside finished not-yet is turned =
     by done (subst (λ w. IsNextTurn w done) (read-at crew worker d inside) is) (subst (λ w. HasTurned done w now) (read-at crew worker d inside) turned)
   where
+    calm : IsCalm (worker_state_at crew worker)
+    calm = work.3.at.calm worker (rw (← work.3.at.at_positions.all) inside)
+
     by : (done : Turn) → IsNextTurn (worker_state_at crew worker) done → HasTurned done (worker_state_at crew worker) now → MakesStep (worker_state_at crew worker) now
     by turn.Moved is turned = turned
     by turn.Idle is turned = absurd (busy work.0 work.1 crew work.2 work.3 worker inside finished is.found is.looked (sym is.is))
-    by turn.Ended is turned =
+    by turn.Held is turned = absurd (never-held (worker_state_at crew worker) calm is)
+    by turn.Starved is turned =
         let w = worker_state_at crew worker in
-        absurd (false≢true (sym not-yet ∙ ended-finished w.finished (has_some w.pending) (has_some w.rest) (has_ready is.found) (have_all_ended is.found) (sym is.is)))
+        absurd (false≢true (sym (ap (λ s. is_some s && nat_eq w.restraint.hand 0) calm.unarmed) ∙ starves-by w is))
+    by turn.Paused is turned = absurd (false≢true (sym (ap (λ (r : Restraint). r.paused) calm.loose) ∙ pauses-by (worker_state_at crew worker) is))
+    by turn.Ended is turned = absurd (false≢true (sym not-yet ∙ ends-by (worker_state_at crew worker) is))
 
 -- ---- sums of steps
 

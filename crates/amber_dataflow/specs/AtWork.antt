@@ -14,7 +14,7 @@ use Rattle.amber_meaning.specs.Position.{Position}
 use Rattle.amber_meaning.specs.State.{Arms, State, arms_at, position_at}
 use Rattle.amber_worker.specs.AtPosition.{Context, IsAtPosition, Placement, no_base, placement_of}
 use Rattle.amber_worker.specs.Pairs.{AreJoined, AreSettledAt, IsLinkAt}
-use Rattle.amber_worker.specs.Turning.{other_entries}
+use Rattle.amber_worker.specs.Turning.{IsCalm, other_entries}
 use Rattle.amber_worker.specs.WorkerState.{WorkerState, empty_worker_state, steps_made}
 
 -- ---- one of the workers
@@ -66,11 +66,13 @@ pub record AreAtPositions (query : Query) (start : State) (crew : List WorkerSta
   pub each : (worker : ℕ) → worker < crew_of query.flow
       → IsAtPosition (context_in query start worker) (worker_state_at crew worker) (position_at start.positions worker) (positions worker)
 
--- the workers of a workflow stand somewhere, and who sends to whom hold the two ends of a link
+-- the workers of a workflow stand somewhere, who sends to whom hold the two ends of a link, and nothing is watched, counted or held
+-- back at any of them
 pub record AreJoinedAt (query : Query) (start : State) (crew : List WorkerState) (positions : ℕ → Position) : Type 0 where
   pub flow : IsFlow query.flow
   pub quiet : (op : ℕ) → IsQuiet (arms_at start op)
   pub at_positions : AreAtPositions query start crew positions
+  pub calm : (worker : ℕ) → worker < crew_of query.flow → IsCalm (worker_state_at crew worker)
   pub joined : (from to : ℕ) → from < crew_of query.flow → to < crew_of query.flow → AreJoined (worker_state_at crew from) (worker_state_at crew to)
 
 -- and all that they made is in the inboxes

@@ -1,5 +1,5 @@
 -- What workers have done, as the parts of a leg.
-use Rattle.std.specs.Prelude.{ℕ, ◌+◌, List, [], ◌∷◌, ◌++◌, if◌then◌else◌}
+use Rattle.std.specs.Prelude.{ℕ, ◌+◌, List, [], ◌∷◌, ◌++◌, false, if◌then◌else◌}
 use Rattle.amber_log.specs.declared.entry.Entry.{Entry}
 use Rattle.amber_log.specs.declared.leg.Part.{Part}
 use Rattle.amber_link.specs.Links.{has_some}
@@ -16,4 +16,4 @@ parts_from number (w ∷ more) = part_if_any number w.journal ++ parts_from (num
 
 -- a worker whose journal was handed out
 abbrev pub without_journal : WorkerState → WorkerState
-without_journal w = record w { journal = [] }
+without_journal w = record w { journal = []; reserved = false }

@@ -131,6 +131,7 @@ pub record IsNew (parts : Parts) (worker : ℕ) (made : WorkerState) : Type 0 wh
   pub outs : map link_of made.outs ≡ map roomless (ends_at parts.outs worker)
   pub ins : map end_of made.ins ≡ ends_at parts.ins worker
   pub journal : made.journal ≡ []
+  pub unarmed : made.seat ≡ None
 
 -- all of them
 pub record AreNew (parts : Parts) (crew : List WorkerState) : Type 0 where

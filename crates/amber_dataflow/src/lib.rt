@@ -23,6 +23,7 @@ mod setting;
 mod settling;
 mod shares;
 mod stepping;
+mod turning;
 mod views;
 
 pub use dataflow::Dataflow;

@@ -1,13 +1,15 @@
-//! Turns of one worker, one or many, after which its links are settled again. Over `Worker::turn` and
-//! `Worker::turns` of `amber_worker`, and `settling`.
+//! Turns of one worker, one or many, after which its links are settled again. Over `make_turn` and
+//! `make_turns` of `turning`, and `settling`.
 
 ghost use Rattle.std.specs.Prelude.{◌≡◌, ◌+◌, ◌^◌, ◌<◌, ◌≤◌, IfOk, OnOk, false, length};
 ghost use Rattle.std.specs.List.{list_all};
-ghost use Rattle.amber_worker.specs.Turning.{HasStopped, WritesStep};
+ghost use Rattle.amber_worker.specs.Turning.{WritesStep};
 ghost use Rattle.amber_worker.specs.WorkerState.{steps_made};
 ghost use Rattle.amber_dataflow.specs.AtWork.{HaveFinished, IsCrew, MakesTurnsAt, steps_by, worker_state_at};
+ghost use Rattle.amber_dataflow.specs.Stopping.{HasStopped};
 
 use crate::settling::settle_worker;
+use crate::turning::{make_turn, make_turns};
 use amber_worker::Worker;
 use std::alloc::AllocError;
 
@@ -23,7 +25,7 @@ pub(crate) fn step_worker(crew: &mut [Worker], number: usize) -> Result<(), Allo
     ensures writes { OnOk result (WritesStep (worker_state_at crew.old number).journal
         (worker_state_at crew.new number).journal) }
 {
-    crew[number].turn()?;
+    make_turn(&mut crew[number])?;
     settle_worker(crew, number)
 }
 
@@ -39,7 +41,7 @@ pub(crate) fn turn_worker(crew: &mut [Worker], number: usize, most: u64) -> Resu
     ensures stops { IfOk result (λ made. made < most
         → HasStopped (worker_state_at crew.new number)) }
 {
-    let made = crew[number].turns(most)?;
+    let made = make_turns(&mut crew[number], most)?;
     settle_worker(crew, number)?;
     Ok(made)
 }

@@ -82,5 +82,6 @@ workers-preserved c =
         outs = c.in_ok-new.ensures.outs ∙ ap (map roomless) (own_outs ∙ c.workers.invariant.outs c.workers.worker (omega arith));
         ins = c.in_ok-new.ensures.ins ∙ own_ins ∙ c.workers.invariant.ins c.workers.worker (omega arith);
         journal = c.in_ok-new.ensures.journal;
+        unarmed = c.in_ok-new.ensures.unarmed;
       });
     }

@@ -1,0 +1,6 @@
+-- So many turns were made, each of them a step, and the worker is calm.
+use Rattle.amber_dataflow.proofs.Calm.{HasMade}
+use Rattle.amber_dataflow.proofs.turning.make_turns.Given as goal
+
+abbrev pub invariant-turns : goal.invariant-turns
+invariant-turns l = HasMade l.made l.initial.worker l.worker

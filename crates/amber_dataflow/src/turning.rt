@@ -1,0 +1,43 @@
+//! Turns of a worker that is told nothing, and of which no count is armed. Over `Worker::turn` of `amber_worker`.
+
+ghost use Rattle.std.specs.Prelude.{IfOk, OnOk, ◌≡◌, ◌+◌, ◌^◌, ◌<◌, ◌≤◌};
+ghost use Rattle.amber_worker.specs.Links.{HaveSentNothing};
+ghost use Rattle.amber_worker.specs.Turning.{IsCalm, MakesTurn, MakesTurns, StaysCalm};
+ghost use Rattle.amber_worker.specs.WorkerState.{steps_made};
+ghost use Rattle.amber_dataflow.specs.Stopping.{HasStopped};
+
+use amber_worker::{Turn, Worker};
+use std::alloc::AllocError;
+
+/// One turn of a worker.
+pub(crate) fn make_turn(worker: &mut Worker) -> Result<Turn, AllocError>
+    requires calm { IsCalm worker.old }
+    requires few { steps_made worker.old < 2 ^ 40 }
+    ensures makes { OnOk result (MakesTurns 1 worker.old worker.new) }
+    ensures unsent { OnOk result (HaveSentNothing worker.old.outs worker.new.outs) }
+    ensures calm { OnOk result (StaysCalm worker.old worker.new) }
+    ensures turned { IfOk result (MakesTurn worker.old worker.new) }
+{
+    worker.turn(None, None)
+}
+
+/// Turns of a worker, until so many are made, it has finished, or it can do nothing until a batch comes. The
+/// answer is how many were made, each of them a step.
+pub(crate) fn make_turns(worker: &mut Worker, most: u64) -> Result<u64, AllocError>
+    requires calm { IsCalm worker.old }
+    requires few { steps_made worker.old + most ≤ 2 ^ 40 }
+    ensures makes { IfOk result (λ made. MakesTurns made worker.old worker.new) }
+    ensures unsent { OnOk result (HaveSentNothing worker.old.outs worker.new.outs) }
+    ensures calm { OnOk result (StaysCalm worker.old worker.new) }
+    ensures made { IfOk result (λ made. steps_made worker.new ≡ steps_made worker.old + made) }
+    ensures within { IfOk result (λ made. made ≤ most) }
+    ensures stops { IfOk result (λ made. made < most → HasStopped worker.new) }
+{
+    'turns: for made in 0..most {
+        match make_turn(worker)? {
+            Turn::Moved => {}
+            Turn::Idle | Turn::Held | Turn::Starved | Turn::Paused | Turn::Ended => return Ok(made),
+        }
+    }
+    Ok(most)
+}
