@@ -11,7 +11,8 @@ use Rattle.amber_worker.specs.Turning.{HasTurned, IsCalm, IsNextTurn, MakesTurn,
 use Rattle.amber_worker.specs.WorkerState.{WorkerState, is_armed, steps_made}
 use Rattle.amber_worker.specs.declared.turn.Turn.{Turn}
 use Rattle.amber_worker.specs.declared.turn.Turn.TheVariants as turn
-use Rattle.amber_worker.proofs.ManyTurns.{calm-then, calm-turn, makes-armed, makes-same, makes-then, makes-turn, steps_in, turned-rows, turned-steps}
+use Rattle.amber_worker.proofs.CalmTurns.{calm-then, calm-turn}
+use Rattle.amber_worker.proofs.ManyTurns.{makes-armed, makes-same, makes-then, makes-turn, steps_in, turned-rows, turned-steps}
 use Rattle.amber_worker.proofs.TurnCases.{ends-by, pauses-by, starves-by}
 use Rattle.amber_dataflow.specs.Stopping.{HasStopped}
 

@@ -17,7 +17,8 @@ use Rattle.amber_worker.specs.WorkerState.{WorkerState, is_starved, next_turn, s
 use Rattle.amber_worker.specs.declared.turn.Turn.{Turn}
 use Rattle.amber_worker.specs.declared.turn.Turn.TheVariants as turn
 use Rattle.amber_worker.proofs.TurnCases.{ends-by, pauses-by, starves-by}
-use Rattle.amber_worker.proofs.ManyTurns.{calm-broken, calm-then, calm-turn, makes-armed, makes-looked, makes-more, makes-same, makes-sent, makes-then}
+use Rattle.amber_worker.proofs.CalmTurns.{calm-broken, calm-then, calm-turn}
+use Rattle.amber_worker.proofs.ManyTurns.{makes-armed, makes-looked, makes-more, makes-same, makes-sent, makes-then}
 
 -- ---- batches that are sent
 

@@ -36,6 +36,7 @@ mod grouping;
 mod holding;
 mod joining;
 mod journal;
+mod leaving;
 mod links;
 mod new_worker;
 pub mod operator_state;

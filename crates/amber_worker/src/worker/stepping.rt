@@ -17,9 +17,10 @@ ghost use Rattle.amber_worker.specs.Turning.{FinishesDealing, TakesDealing, Turn
 use super::Worker;
 use crate::counting::{Dealing, count_one, deal, is_starved};
 use crate::holding::is_first_watched;
+use crate::leaving::{leave_readied, take_readied};
 use crate::links::{emit_first, end_streams, first_place, give_rows_back, rows_back};
 use crate::operator_state::OperatorState;
-use crate::readied::{leave_readied, ready_next, take_readied};
+use crate::readied::ready_next;
 use crate::taking_rows::{close, closes_at, closing_of, is_last, side_columns, take_next, turn_to};
 use crate::turn::Turn;
 use amber_board::Board;
