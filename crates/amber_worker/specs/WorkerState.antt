@@ -1,5 +1,5 @@
 -- What a worker keeps, as lists, numbers and flags.
-use Rattle.std.specs.Prelude.{◌≡◌, ℕ, ◌+◌, ◌==◌, ◌&&◌, not, List, [], Option, None, is_some, Bool, true, false, if◌then◌else◌}
+use Rattle.std.specs.Prelude.{◌≡◌, ℕ, ◌+◌, ◌==◌, ◌&&◌, ◌||◌, not, List, [], Option, None, is_some, Bool, true, false, if◌then◌else◌}
 use Rattle.std.specs.List.{list_any}
 use Rattle.amber_rows.specs.declared.value.Value.{Value}
 use Rattle.amber_rows.specs.declared.column.Column.{Column}
@@ -103,6 +103,10 @@ is_armed w = is_some w.seat
 -- a count is armed, and no unit is in hand
 abbrev pub is_starved : WorkerState → Bool
 is_starved w = is_armed w && (w.restraint.hand == 0)
+
+-- it needs a unit for its next row, and has none in hand
+abbrev pub needs_unit : WorkerState → Bool
+needs_unit w = is_starved w && (has_some w.pending || has_some w.rest)
 
 -- the first pending row meets the condition, and was not waved on
 abbrev pub must_hold : WorkerState → Bool

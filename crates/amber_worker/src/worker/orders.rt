@@ -1,15 +1,15 @@
 //! What else is asked of a worker, within a leg and between legs: room in its journal, a seat, a condition, that it goes
 //! on, and that the row is dropped before which it is held. Rests on `journal` and `counting`.
 
-ghost use Rattle.std.specs.Prelude.{None, OnErr, OnOk, Some, [], false, true, ◌≡◌, ◌<◌};
+ghost use Rattle.std.specs.Prelude.{None, OnErr, OnOk, Some, [], false, option_map, true, ◌≡◌, ◌<◌};
 ghost use Rattle.amber_board.specs.Seats.{IsSeatOf, work_view};
 ghost use Rattle.amber_worker.specs.AtPosition.{KeepsUnder};
 ghost use Rattle.amber_worker.specs.Changes.{ShowsDropped, ShowsWatching, armed_at, disarmed_at, held_dropped, resumed_at, row_held};
 ghost use Rattle.amber_worker.specs.Counting.{GivesBack, IsBoardOf};
-ghost use Rattle.amber_worker.specs.WorkerState.{is_armed};
+ghost use Rattle.amber_worker.specs.WorkerState.{is_armed, needs_unit};
 
 use super::Worker;
-use crate::counting::{give_all, hand_of};
+use crate::counting::{give_all, hand_of, is_starved};
 use amber_board::{Board, WorkSeat};
 use amber_log::Entry;
 use amber_rows::{Cond, Row};
@@ -109,5 +109,36 @@ impl Worker {
         ensures { result ≡ is_armed self.now }
     {
         self.seat.is_some()
+    }
+
+    /// Whether the worker needs a unit for its next row, and has none in hand.
+    pub fn needs_unit(&self) -> bool
+        ensures { result ≡ needs_unit self.now }
+    {
+        is_starved(&self.seat) && (self.has_pending() || self.has_rest())
+    }
+
+    /// Whether the worker is paused.
+    pub fn is_paused(&self) -> bool
+        ensures { result ≡ self.now.restraint.paused }
+    {
+        self.flags.paused
+    }
+
+    /// Whether the worker is held before its next row.
+    pub fn is_held(&self) -> bool
+        ensures { result ≡ self.now.restraint.held }
+    {
+        self.flags.held
+    }
+
+    /// The row before which the worker is held, if it is.
+    pub fn held_row(&self) -> Option<&Row>
+        ensures { option_map (λ row. row.now) result ≡ row_held self.now }
+    {
+        if !self.flags.held {
+            return None;
+        }
+        self.gains.pending.front()
     }
 }
