@@ -28,10 +28,9 @@ use Rattle.amber_worker.specs.AtPosition.{IsAtPosition, Output, Placement, Recei
 use Rattle.amber_worker.specs.Changes.{StandsNew}
 use Rattle.amber_worker.specs.Made.{end_of, link_of, roomless}
 use Rattle.amber_worker.specs.Pairs.{AreJoined, AreSettledAt, IsLinkAt}
-use Rattle.amber_worker.specs.Turning.{IsCalm}
 use Rattle.amber_worker.specs.WorkerState.{WorkerState}
 use Rattle.amber_worker.proofs.PairFacts.{joined-made}
-use Rattle.amber_dataflow.specs.AtWork.{AreAtWork, AreJoinedAt, IsQuiet, SendsTo, context_in, no_worker_state, worker_state_at}
+use Rattle.amber_dataflow.specs.AtWork.{AreAtWork, AreJoinedAt, SendsTo, context_in, no_worker_state, worker_state_at}
 use Rattle.amber_dataflow.specs.Start.{AreSharesDealt, AreEnds, AreNew, IsNew, Parts, ends_at, from_whom, share_of_worker, to_whom, web_of}
 use Rattle.amber_dataflow.proofs.OnePlace.{in-place, no_receiver, no_sender, out-place}
 use Rattle.amber_dataflow.proofs.Sending.{sending}
@@ -74,11 +73,8 @@ pub start-position : (flow : List Operator) (worker : ℕ) → position_at (star
 unfolding start_of
 start-position flow worker = position-get_or (replicate (crew_of flow) origin) worker ∙ at-origin (crew_of flow) worker
 
-start-quiet : (flow : List Operator) (op : ℕ) → IsQuiet (arms_at (start_of flow) op)
-start-quiet flow op = record {
-  unwatched = ap (λ arms. arms.when) (start-arms flow op);
-  uncounted = ap (λ arms. arms.count) (start-arms flow op);
-}
+start-uncounted : (flow : List Operator) (op : ℕ) → (arms_at (start_of flow) op).count ≡ None
+start-uncounted flow op = ap (λ arms. arms.count) (start-arms flow op)
 
 -- ---- who stands at a place
 
@@ -116,11 +112,8 @@ module _ (flow : List Operator) (files : List (List ℕ)) (parts : Parts) (crew 
   unfolding StandsNew
   stands worker below = subst (λ f. StandsNew (record { flow = f; number = worker; batch_size = parts.batch_size; share = share_of_worker parts.shares worker }) (worker_state_at crew worker)) flow_is (new.each worker (within worker below)).stands (records_of files flow) (dealt.dealt worker below)
 
-  calm : (worker : ℕ) → worker < crew_of flow → IsCalm (worker_state_at crew worker)
-  unfolding first_orders
-  calm worker below =
-      let shows = (stands worker below).shows in
-      record { unwatched = shows.when; unarmed = (new.each worker (within worker below)).unarmed; loose = shows.restraint }
+  unarmed : (worker : ℕ) → worker < crew_of flow → (worker_state_at crew worker).seat ≡ None
+  unarmed worker below = (new.each worker (within worker below)).unarmed
 
   number-is : (worker : ℕ) → worker < crew_of flow → (worker_state_at crew worker).number ≡ worker
   unfolding placement_of
@@ -195,7 +188,7 @@ module _ (flow : List Operator) (files : List (List ℕ)) (parts : Parts) (crew 
     at : AreJoinedAt query (start_of flow) crew (λ _. origin)
     at = record {
       flow = ok;
-      quiet = start-quiet flow;
+      uncounted = start-uncounted flow;
       at_positions = record {
         all = new.all ∙ ap crew_of flow_is;
         each = λ worker below.
@@ -203,7 +196,7 @@ module _ (flow : List Operator) (files : List (List ℕ)) (parts : Parts) (crew 
             (subst (λ orders. IsAtPosition (record (context_in query (start_of flow) worker) { orders = orders }) (worker_state_at crew worker) origin origin)
             (sym (start-orders flow worker)) (stands worker below));
       };
-      calm = calm;
+      unarmed = unarmed;
       joined = joined;
     }
 

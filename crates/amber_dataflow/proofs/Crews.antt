@@ -1,5 +1,5 @@
 -- One worker's turn leaves all workers standing, and so does moving batches from one to another.
-use Rattle.std.proofs.Common.{◌≡◌, ◌≢◌, refl, sym, ap, subst, ◌∙◌, ℕ, ◌<◌, List, length, set, nat_eq, true, false, is_some, if◌then◌else◌, inl, inr, get_or-set_same, get_or-set_other, length-set}
+use Rattle.std.proofs.Common.{None, Option, ◌≡◌, ◌≢◌, refl, sym, ap, subst, ◌∙◌, ℕ, ◌<◌, List, length, set, nat_eq, true, false, is_some, if◌then◌else◌, inl, inr, get_or-set_same, get_or-set_other, length-set}
 use Rattle.std.proofs.lemmas.Bool.{eq-eqb, ne_eqb}
 use Rattle.std.proofs.lemmas.Bool.Decides.{eqb_tells}
 use Rattle.amber_rows.specs.Topology.{crew_of, op_of}
@@ -9,17 +9,11 @@ use Rattle.amber_meaning.specs.Position.{Position}
 use Rattle.amber_meaning.specs.State.{State, position_at}
 use Rattle.amber_worker.specs.AtPosition.{HasSameEnds, IsAtPosition, KeepsUnder}
 use Rattle.amber_worker.specs.Pairs.{AreJoined, StaysAt}
-use Rattle.amber_worker.specs.Turning.{IsCalm}
+use Rattle.amber_board.specs.declared.types.WorkSeat.{WorkSeat}
 use Rattle.amber_worker.specs.WorkerState.{WorkerState, is_armed}
 use Rattle.amber_worker.proofs.Turns.{ends-same}
 use Rattle.amber_dataflow.specs.AtWork.{AreJoinedAt, context_in, no_worker_state, worker_state_at}
 use Rattle.amber_dataflow.proofs.Linked.{joined-still}
-
--- ---- a calm worker
-
--- no count is armed at it
-unarmed-calm : (w : WorkerState) → IsCalm w → is_armed w ≡ false
-unarmed-calm w calm = ap (λ seat. is_some seat) calm.unarmed
 
 -- ---- positions
 
@@ -43,12 +37,12 @@ module _ (crew : List WorkerState) (worker : ℕ) (now : WorkerState) (inside : 
   pub there-still : (other : ℕ) → other ≢ worker → worker_state_at (set crew worker now) other ≡ worker_state_at crew other
   there-still other ne = get_or-set_other crew worker other now no_worker_state ne
 
-  -- all are calm, where this one is
-  pub calm-each : (many : ℕ) → ((k : ℕ) → k < many → IsCalm (worker_state_at crew k)) → IsCalm now
-      → (k : ℕ) → k < many → IsCalm (worker_state_at (set crew worker now) k)
-  calm-each many calm here = at-each (λ k. k < many → IsCalm (worker_state_at (set crew worker now) k)) worker
+  -- all are unarmed, where this one is
+  pub unarmed-each : (many : ℕ) → ((k : ℕ) → k < many → (worker_state_at crew k).seat ≡ None) → now.seat ≡ None
+      → (k : ℕ) → k < many → (worker_state_at (set crew worker now) k).seat ≡ None
+  unarmed-each many unarmed here = at-each (λ k. k < many → (worker_state_at (set crew worker now) k).seat ≡ None) worker
       (λ h. rw here-now here)
-      (λ k ne h. rw (there-still k ne) (calm k h))
+      (λ k ne h. rw (there-still k ne) (unarmed k h))
 
   -- all have the same ends, where this one has
   pub ends-each : HasSameEnds (worker_state_at crew worker) now → (k : ℕ) → HasSameEnds (worker_state_at crew k) (worker_state_at (set crew worker now) k)
@@ -66,23 +60,23 @@ joined-each old new same from to joined =
 
 module _ (query : Query) (start : State) (crew : List WorkerState) (positions : ℕ → Position) (worker : ℕ) (now : WorkerState) where
   uncounted : AreJoinedAt query start crew positions → (orders_in query start worker).counted ≡ false
-  uncounted at = ap (λ count. is_some count) (at.quiet (op_of query.flow worker)).uncounted
+  uncounted at = ap (λ count. is_some count) (at.uncounted (op_of query.flow worker))
 
-  -- a worker that kept standing, with the same ends, and is calm, may take the place of what it was
+  -- a worker that kept standing, with the same ends, and is unarmed, may take the place of what it was
   pub joined-turned : AreJoinedAt query start crew positions → worker < length crew
-      → KeepsUnder (is_armed (worker_state_at crew worker)) (worker_state_at crew worker) now → HasSameEnds (worker_state_at crew worker) now → IsCalm now
+      → KeepsUnder (is_armed (worker_state_at crew worker)) (worker_state_at crew worker) now → HasSameEnds (worker_state_at crew worker) now → now.seat ≡ None
       → (q : Position) × AreJoinedAt query start (set crew worker now) (placed positions worker q)
   unfolding KeepsUnder
-  joined-turned at inside keeps same calm =
+  joined-turned at inside keeps same unarmed =
       let here : worker < crew_of query.flow = rw (← at.at_positions.all) inside in
       let moved = keeps (context_in query start worker) (position_at start.positions worker) (positions worker)
-      (uncounted at ∙ sym (unarmed-calm (worker_state_at crew worker) (at.calm worker here)))
+      (uncounted at ∙ sym (ap (λ (s : Option WorkSeat). is_some s) (at.unarmed worker here)))
       (at.at_positions.each worker here) in
       let q = moved.0 in (
         q,
         record {
           flow = at.flow;
-          quiet = at.quiet;
+          uncounted = at.uncounted;
           at_positions = record {
             all = length-set crew worker now ∙ at.at_positions.all;
             each = at-each (λ k. k < crew_of query.flow → IsAtPosition (context_in query start k)
@@ -90,7 +84,7 @@ module _ (query : Query) (start : State) (crew : List WorkerState) (positions : 
                 (λ h. rw (here-now crew worker now inside, same-place worker) moved.1)
                 (λ k ne h. rw (there-still crew worker now inside k ne, ne_eqb k worker ne) (at.at_positions.each k h));
           };
-          calm = calm-each crew worker now inside (crew_of query.flow) at.calm calm;
+          unarmed = unarmed-each crew worker now inside (crew_of query.flow) at.unarmed unarmed;
           joined = λ from to from-in to-in.
               joined-each crew (set crew worker now) (ends-each crew worker now inside same) from to (at.joined from to from-in to-in);
         },
@@ -99,13 +93,13 @@ module _ (query : Query) (start : State) (crew : List WorkerState) (positions : 
 -- ---- batches go on
 
 module _ (query : Query) (start : State) (crew : List WorkerState) (positions : ℕ → Position) (worker : ℕ) (now : WorkerState) where
-  -- a worker that stays where it stood, with the same ends, and is as calm, may take the place of what it was
+  -- a worker that stays where it stood, with the same ends and the same seat, may take the place of what it was
   pub joined-stays : AreJoinedAt query start crew positions → worker < length crew → StaysAt (worker_state_at crew worker) now → HasSameEnds (worker_state_at crew worker) now
-      → (IsCalm (worker_state_at crew worker) → IsCalm now) → AreJoinedAt query start (set crew worker now) positions
+      → now.seat ≡ (worker_state_at crew worker).seat → AreJoinedAt query start (set crew worker now) positions
   unfolding StaysAt
-  joined-stays at inside stays same calm = record {
+  joined-stays at inside stays same seat = record {
     flow = at.flow;
-    quiet = at.quiet;
+    uncounted = at.uncounted;
     at_positions = record {
       all = length-set crew worker now ∙ at.at_positions.all;
       each = at-each (λ k. k < crew_of query.flow → IsAtPosition (context_in query start k)
@@ -114,7 +108,7 @@ module _ (query : Query) (start : State) (crew : List WorkerState) (positions : 
           (stays (context_in query start worker) (position_at start.positions worker) (positions worker) (at.at_positions.each worker h)))
           (λ k ne h. rw (there-still crew worker now inside k ne) (at.at_positions.each k h));
     };
-    calm = calm-each crew worker now inside (crew_of query.flow) at.calm (calm (at.calm worker (rw (← at.at_positions.all) inside)));
+    unarmed = unarmed-each crew worker now inside (crew_of query.flow) at.unarmed (seat ∙ at.unarmed worker (rw (← at.at_positions.all) inside));
     joined = λ from to from-in to-in.
         joined-each crew (set crew worker now) (ends-each crew worker now inside same) from to (at.joined from to from-in to-in);
   }

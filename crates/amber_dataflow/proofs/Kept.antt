@@ -1,5 +1,5 @@
 -- What the calls of all workers keep, as the code has it: the workers stand in a slice of a `Vec`, which comes back.
-use Rattle.std.proofs.Common.{◌≡◌, ◌≢◌, ◌⊎◌, refl, sym, ap, subst, ◌∙◌, ℕ, zero, suc, ◌+◌, ◌-◌, ◌<◌, ◌≤◌, ◌^◌, eqb, nat_eq, sum_by, List, [], ◌∷◌, ◌++◌, length, map, take, drop, Bool, true, false, if◌then◌else◌, Result, Ok, Err, None, unwrap_or, append-nil, arith}
+use Rattle.std.proofs.Common.{◌≡◌, ◌≢◌, ◌⊎◌, inl, inr, refl, sym, ap, subst, ◌∙◌, ℕ, zero, suc, ◌+◌, ◌-◌, ◌<◌, ◌≤◌, ◌^◌, eqb, nat_eq, sum_by, List, [], ◌∷◌, ◌++◌, length, map, take, drop, Bool, true, false, if◌then◌else◌, Result, Ok, Err, None, Option, unwrap_or, append-nil, arith}
 use Rattle.std.specs.List.{slice_get}
 use Rattle.std.specs.Result.{IfOk}
 use Rattle.std.proofs.lemmas.Bool.{eq-eqb, ne_eqb}
@@ -9,6 +9,7 @@ use Rattle.amber_rows.specs.Topology.{crew_of, op_of, workers_of}
 use Rattle.amber_rows.specs.Lists.{numbers_below}
 use Rattle.amber_rows.specs.declared.flow.Operator.{Operator}
 use Rattle.amber_rows.specs.declared.value.Value.{Value}
+use Rattle.amber_rows.specs.declared.cond.Cond.{Cond}
 use Rattle.amber_lines.specs.Moving.{orders_in}
 use Rattle.amber_meaning.specs.declared.answer.Answer.{Answer}
 use Rattle.amber_meaning.specs.declared.view.WorkerView.{WorkerView}
@@ -21,20 +22,19 @@ use Rattle.amber_meaning.proofs.Crews.{op-within, worker-known}
 use Rattle.amber_meaning.proofs.Numbers.{among, among-first, among-more}
 use Rattle.amber_worker.specs.AtPosition.{placement_of}
 use Rattle.amber_worker.specs.Changes.{at_leg_start}
-use Rattle.amber_worker.specs.Turning.{WritesStep}
-use Rattle.amber_worker.specs.WorkerState.{WorkerState, steps_made}
+use Rattle.amber_worker.specs.WorkerState.{IsFree, WorkerState, steps_made}
 use Rattle.amber_dataflow.specs.Answers.{IsGathered, ShowAll, ShowWorkers}
-use Rattle.amber_dataflow.specs.AtWork.{AreAtWork, GoesOn, HaveFinished, IsCrew, IsQuiet, MakesTurnsAt, state_reached, steps_by, worker_state_at}
-use Rattle.amber_dataflow.specs.Dataflow.{AreAllThere, DataflowState, FirstHaveFinished, HaveDoneNothing, IsAnswerOf, IsDataflow, IsFirst, IsStarved, ShowAt, TurnsAt, leg_begun, handed_out, has_finished, have_all_finished, journal_of, rows_emitted, step_count, constant_put, worker_set}
+use Rattle.amber_dataflow.specs.AtWork.{AreAtWork, GoesOn, HaveFinished, IsCrew, IsHeldAt, MakesStepAt, MakesTurnsAt, state_reached, steps_by, worker_state_at}
+use Rattle.amber_dataflow.specs.Dataflow.{AreAllThere, AreFree, DataflowState, HasStopped, HaveDoneNothing, IsAnswerOf, IsDataflow, IsFirst, IsHeldNow, IsStarved, MadeStep, ShowAt, TurnsAt, leg_begun, handed_out, has_finished, is_held, is_paused, have_all_finished, journal_of, rows_emitted, step_count, constant_put, when_put, worker_set, worker_watching}
 use Rattle.amber_dataflow.specs.Parts.{without_journal}
-use Rattle.amber_dataflow.specs.Stopping.{HasStopped}
+use Rattle.amber_dataflow.specs.Stopping.{WorkerHasStopped}
 use Rattle.amber_dataflow.proofs.Answered.{at-work-show, some-crew}
 use Rattle.amber_dataflow.proofs.Emitted.{crew-few, others-emitted, own-emitted}
-use Rattle.amber_dataflow.proofs.Numbered.{nth-numbers, quiet-map}
+use Rattle.amber_dataflow.proofs.Numbered.{nth-numbers, uncounted-map}
 use Rattle.amber_dataflow.proofs.Reached.{listed-at}
 use Rattle.amber_dataflow.proofs.Said.{all-have}
-use Rattle.amber_dataflow.proofs.Standing.{begun-steps, handed_out-steps, set-steps, stand-begun, stand-handed_out, stand-quiet, stand-set}
-use Rattle.amber_dataflow.proofs.Steps.{steps-none, stopped-finished, sum-member}
+use Rattle.amber_dataflow.proofs.Standing.{begun-steps, handed_out-steps, set-steps, stand-begun, stand-handed_out, stand-set, stand-uncounted, stand-watched, watched-steps}
+use Rattle.amber_dataflow.proofs.Steps.{steps-none, sum-member}
 use Rattle.amber_dataflow.proofs.Within.{position-here, steps-reached}
 
 -- a slice of a `Vec` that comes back as long as it was
@@ -68,6 +68,15 @@ module _ (d : DataflowState) (keeps : IsDataflow d) where
     there = rw (← there, ← is) inside;
     first = subst (HaveFinished worker) is first;
     unfinished = ap (λ crew. (worker_state_at crew worker).finished) (sym is) ∙ unfinished;
+  }
+
+  -- one of those that are lent is free, where all are and it has not finished
+  pub free-lent : (lent : List WorkerState) (worker : ℕ) → lent ≡ d.workers → AreFree d → (worker_state_at lent worker).finished ≡ false → IsFree (worker_state_at lent worker)
+  unfolding is_held is_paused
+  free-lent lent worker is free unfinished = record {
+    unfinished = unfinished;
+    running = ap (λ crew. (worker_state_at crew worker).restraint.paused) is ∙ free.running worker;
+    loose = ap (λ crew. (worker_state_at crew worker).restraint.held) is ∙ free.loose worker;
   }
 
   -- ---- none is left
@@ -110,11 +119,36 @@ module _ (d : DataflowState) (keeps : IsDataflow d) where
     turned-back = subst (λ e. TurnsAt made d e worker) back-is
         (turned now worker made (long ∙ ap length is ∙ there) (subst (λ crew. MakesTurnsAt made crew now worker) is turns))
 
-    -- a step stands in its journal
-    pub writes-back : WritesStep (worker_state_at lent worker).journal (worker_state_at now worker).journal → WritesStep (journal_of d worker) (journal_of back worker)
-    unfolding journal_of
-    writes-back writes = subst (λ e. WritesStep (journal_of d worker) (journal_of e worker)) back-is
-        (subst (λ crew. WritesStep (worker_state_at crew worker).journal (worker_state_at now worker).journal) is writes)
+    -- a step stands in its journal, or that it is held
+    pub does-back : MakesStepAt lent now worker ⊎ IsHeldAt lent now worker → MadeStep d back worker ⊎ IsHeldNow d back worker
+    unfolding journal_of step_count is_held
+    does-back does = subst (λ e. MadeStep d e worker ⊎ IsHeldNow d e worker) back-is
+        (by (subst (λ crew. MakesStepAt crew now worker ⊎ IsHeldAt crew now worker) is does))
+      where
+        by : MakesStepAt d.workers now worker ⊎ IsHeldAt d.workers now worker
+            → MadeStep d (record d { workers = now }) worker ⊎ IsHeldNow d (record d { workers = now }) worker
+        by (inl step) = inl (record { one = step.one; writes = step.writes })
+        by (inr held) = inr (record { none = held.none; held = held.held; writes = held.writes })
+
+    -- the steps are then no more than one more
+    count-most : MakesStepAt lent now worker ⊎ IsHeldAt lent now worker → step_count back ≤ step_count d + 1
+    unfolding step_count
+    count-most does = subst (λ e. step_count e ≤ step_count d + 1) back-is (by (subst (λ crew. MakesStepAt crew now worker ⊎ IsHeldAt crew now worker) is does))
+      where
+        by : MakesStepAt d.workers now worker ⊎ IsHeldAt d.workers now worker → step_count (record d { workers = now }) ≤ step_count d + 1
+        by (inl step) = let one = step.one in omega arith
+        by (inr held) = let none = held.none in omega arith
+
+    -- what is known of all workers still is
+    pub kept-stepped : MakesStepAt lent now worker ⊎ IsHeldAt lent now worker → step_count d < 2 ^ 40 → IsDataflow back
+    kept-stepped does few =
+        let stand = keeps.stand there in
+        let next = turned-back.on stand.0 stand.1 stand.2 stand.3 in
+        record {
+          flow = keeps.flow;
+          few = let most = count-most does in omega arith;
+          stand = λ has. (stand.0, stand.1, next.0, next.1);
+        }
 
     module _ (count : steps_by now ≡ steps_by lent + made) where
       -- so many turns
@@ -134,21 +168,9 @@ module _ (d : DataflowState) (keeps : IsDataflow d) where
           }
 
     -- it has stopped
-    pub stopped-back : HasStopped (worker_state_at now worker) → (has_finished back worker ≡ true) ⊎ IsStarved back worker
-    unfolding has_finished IsStarved
-    stopped-back stopped = subst (λ (e : DataflowState). HasStopped (worker_state_at e.workers worker)) back-is stopped
-
-    -- and has finished where all before it have
-    pub finished-back : worker < crew_of d.flow → HasStopped (worker_state_at now worker) → FirstHaveFinished worker d → has_finished back worker ≡ true
-    unfolding has_finished GoesOn
-    finished-back inside stopped first =
-        let stand = keeps.stand there in
-        let next = turns.on stand.0 stand.1 stand.2 (subst (λ crew. AreAtWork stand.0 stand.1 crew stand.2) (sym is) stand.3.work) in
-        ap (λ e. has_finished e worker) (sym back-is)
-        ∙ stopped-finished now worker (stand.0, stand.1, next.0, next.1) (rw (long, ap length is, there) inside)
-        (λ other below. ap (λ (w : WorkerState). w.finished) (turns.only other (λ same. absurd (omega arith)))
-        ∙ ap (λ crew. (worker_state_at crew other).finished) is ∙ first other below)
-        stopped
+    pub stopped-back : WorkerHasStopped (worker_state_at now worker) → HasStopped back worker
+    unfolding has_finished is_held is_paused IsStarved
+    stopped-back stopped = subst (λ (e : DataflowState). WorkerHasStopped (worker_state_at e.workers worker)) back-is stopped
 
   -- ---- a leg begins, and journals are handed out
 
@@ -163,7 +185,7 @@ module _ (d : DataflowState) (keeps : IsDataflow d) where
           stand.0,
           now,
           later,
-          stand-begun stand.0 stand.1 d stand.2 stand.3 now (stand-quiet stand.0 stand.1 d stand.2 stand.3) (λ worker inside. refl)
+          stand-begun stand.0 stand.1 d stand.2 stand.3 now (stand-uncounted stand.0 stand.1 d stand.2 stand.3) (λ worker inside. refl)
               (λ worker inside. listed-at later (crew_of stand.0.flow) worker inside),
         );
   }
@@ -178,53 +200,54 @@ module _ (d : DataflowState) (keeps : IsDataflow d) where
           stand.0,
           now,
           stand.2,
-          stand-handed_out stand.0 stand.1 d stand.2 stand.3 now (stand-quiet stand.0 stand.1 d stand.2 stand.3) (λ worker inside. refl)
+          stand-handed_out stand.0 stand.1 d stand.2 stand.3 now (stand-uncounted stand.0 stand.1 d stand.2 stand.3) (λ worker inside. refl)
               (λ worker inside. listed-at stand.2 (crew_of stand.0.flow) worker inside),
         );
   }
 
--- ---- another constant
+-- ---- another constant, or another condition
 
--- a state in which it is in force
-module _ (query : Query) (start : State) (positions : ℕ → Position) (op : ℕ) (value : Value) (quiet : (k : ℕ) → IsQuiet (arms_at start k)) where
-  arms_set : ℕ → Arms
-  arms_set k = if eqb k op then record (arms_at start k) { constants = value ∷ [] } else arms_at start k
+-- a state in which what is in force at an operator was changed, but for a count
+module _ (query : Query) (start : State) (positions : ℕ → Position) (op : ℕ) (change : Arms → Arms) (leaves : (arms : Arms) → (change arms).count ≡ arms.count)
+    (uncounted : (k : ℕ) → (arms_at start k).count ≡ None) where
+  changed_arms : ℕ → Arms
+  changed_arms k = if eqb k op then change (arms_at start k) else arms_at start k
 
-  abbrev state_set : State
-  state_set = record { arms = map arms_set (op_numbers query.flow); positions = map positions (numbers_below (crew_of query.flow)) }
+  abbrev changed_state : State
+  changed_state = record { arms = map changed_arms (op_numbers query.flow); positions = map positions (numbers_below (crew_of query.flow)) }
 
-  quiet-one : (k : ℕ) → IsQuiet (arms_set k)
-  unfolding arms_set
-  quiet-one k = by (eqb k op)
+  uncounted-one : (k : ℕ) → (changed_arms k).count ≡ None
+  unfolding changed_arms
+  uncounted-one k = by (eqb k op)
     where
-      by : (b : Bool) → IsQuiet (if b then record (arms_at start k) { constants = value ∷ [] } else arms_at start k)
-      by true = record { unwatched = (quiet k).unwatched; uncounted = (quiet k).uncounted }
-      by false = quiet k
+      by : (b : Bool) → (if b then change (arms_at start k) else arms_at start k).count ≡ None
+      by true = leaves (arms_at start k) ∙ uncounted k
+      by false = uncounted k
 
-  quiet-set : (k : ℕ) → IsQuiet (arms_at state_set k)
-  quiet-set k = by (nat_eq k 0)
+  uncounted-changed : (k : ℕ) → (arms_at changed_state k).count ≡ None
+  uncounted-changed k = by (nat_eq k 0)
     where
-      by : (b : Bool) → IsQuiet (unwrap_or (if b then None else slice_get (map arms_set (op_numbers query.flow)) (k - 1)) no_arms)
-      by true = record { unwatched = refl; uncounted = refl }
-      by false = quiet-map arms_set (op_numbers query.flow) quiet-one (k - 1)
+      by : (b : Bool) → (unwrap_or (if b then None else slice_get (map changed_arms (op_numbers query.flow)) (k - 1)) no_arms).count ≡ None
+      by true = refl
+      by false = uncounted-map changed_arms (op_numbers query.flow) uncounted-one (k - 1)
 
-  arms-set : (worker : ℕ) → worker < crew_of query.flow → arms_at state_set (op_of query.flow worker) ≡ arms_set (op_of query.flow worker)
-  arms-set worker inside =
+  arms-changed : (worker : ℕ) → worker < crew_of query.flow → arms_at changed_state (op_of query.flow worker) ≡ changed_arms (op_of query.flow worker)
+  arms-changed worker inside =
       let placed = op-within query.flow worker inside in
-      ap (λ found. unwrap_or found no_arms) (nth-numbers arms_set query.flow (op_of query.flow worker) placed.0 placed.1)
+      ap (λ found. unwrap_or found no_arms) (nth-numbers changed_arms query.flow (op_of query.flow worker) placed.0 placed.1)
 
   orders-here : (worker : ℕ) → worker < crew_of query.flow → op_of query.flow worker ≡ op
-      → orders_in query state_set worker ≡ record (orders_in query start worker) { constants = value ∷ [] }
-  unfolding arms_set
+      → orders_in query changed_state worker ≡ orders_of (change (arms_at start (op_of query.flow worker)))
+  unfolding changed_arms
   orders-here worker inside same =
-      ap orders_of (arms-set worker inside
-      ∙ ap (λ b. if b then record (arms_at start (op_of query.flow worker)) { constants = value ∷ [] } else arms_at start (op_of query.flow worker)) (eq-eqb (op_of query.flow worker) op same))
+      ap orders_of (arms-changed worker inside
+      ∙ ap (λ b. if b then change (arms_at start (op_of query.flow worker)) else arms_at start (op_of query.flow worker)) (eq-eqb (op_of query.flow worker) op same))
 
-  orders-elsewhere : (worker : ℕ) → worker < crew_of query.flow → op_of query.flow worker ≢ op → orders_in query state_set worker ≡ orders_in query start worker
-  unfolding arms_set
+  orders-elsewhere : (worker : ℕ) → worker < crew_of query.flow → op_of query.flow worker ≢ op → orders_in query changed_state worker ≡ orders_in query start worker
+  unfolding changed_arms
   orders-elsewhere worker inside other =
-      ap orders_of (arms-set worker inside
-      ∙ ap (λ b. if b then record (arms_at start (op_of query.flow worker)) { constants = value ∷ [] } else arms_at start (op_of query.flow worker)) (ne_eqb (op_of query.flow worker) op other))
+      ap orders_of (arms-changed worker inside
+      ∙ ap (λ b. if b then change (arms_at start (op_of query.flow worker)) else arms_at start (op_of query.flow worker)) (ne_eqb (op_of query.flow worker) op other))
 
 pub kept-set : (d : DataflowState) (op : ℕ) (value : Value) → IsDataflow d → HaveDoneNothing d → IsDataflow (constant_put op value d)
 kept-set d op value keeps none = record {
@@ -232,13 +255,33 @@ kept-set d op value keeps none = record {
   few = rw (set-steps op value d) keeps.few;
   stand = λ there.
       let stand = keeps.stand (sym (length-map d.workers (worker_set op value)) ∙ there) in
-      let quiet = stand-quiet stand.0 stand.1 d stand.2 stand.3 in (
+      let uncounted = stand-uncounted stand.0 stand.1 d stand.2 stand.3 in
+      let change : Arms → Arms = λ arms. record arms { constants = value ∷ [] } in
+      let now = changed_state stand.0 stand.1 stand.2 op change (λ arms. refl) uncounted in (
         stand.0,
-        state_set stand.0 stand.1 stand.2 op value quiet,
+        now,
         stand.2,
-        stand-set stand.0 stand.1 d stand.2 stand.3 (state_set stand.0 stand.1 stand.2 op value quiet) (quiet-set stand.0 stand.1 stand.2 op value quiet) op value none
+        stand-set stand.0 stand.1 d stand.2 stand.3 now (uncounted-changed stand.0 stand.1 stand.2 op change (λ arms. refl) uncounted) op value none
             (λ worker inside. listed-at stand.2 (crew_of stand.0.flow) worker inside)
-            (orders-here stand.0 stand.1 stand.2 op value quiet) (orders-elsewhere stand.0 stand.1 stand.2 op value quiet),
+            (orders-here stand.0 stand.1 stand.2 op change (λ arms. refl) uncounted) (orders-elsewhere stand.0 stand.1 stand.2 op change (λ arms. refl) uncounted),
+      );
+}
+
+pub kept-watched : (d : DataflowState) (op : ℕ) (when : Option Cond) → IsDataflow d → HaveDoneNothing d → IsDataflow (when_put op when d)
+kept-watched d op when keeps none = record {
+  flow = keeps.flow;
+  few = rw (watched-steps op when d) keeps.few;
+  stand = λ there.
+      let stand = keeps.stand (sym (length-map d.workers (worker_watching op when)) ∙ there) in
+      let uncounted = stand-uncounted stand.0 stand.1 d stand.2 stand.3 in
+      let change : Arms → Arms = λ arms. record arms { when = when } in
+      let now = changed_state stand.0 stand.1 stand.2 op change (λ arms. refl) uncounted in (
+        stand.0,
+        now,
+        stand.2,
+        stand-watched stand.0 stand.1 d stand.2 stand.3 now (uncounted-changed stand.0 stand.1 stand.2 op change (λ arms. refl) uncounted) op when none
+            (λ worker inside. listed-at stand.2 (crew_of stand.0.flow) worker inside)
+            (orders-here stand.0 stand.1 stand.2 op change (λ arms. refl) uncounted) (orders-elsewhere stand.0 stand.1 stand.2 op change (λ arms. refl) uncounted),
       );
 }
 

@@ -1,6 +1,5 @@
 pub mod Answered
 pub mod Begun
-pub mod Calm
 pub mod Changed
 pub mod Copies
 pub mod Crews
@@ -30,6 +29,7 @@ pub mod Standing
 pub mod Starved
 pub mod Stepped
 pub mod Steps
+pub mod Untold
 pub mod Viewed
 pub mod Webs
 pub mod Within

@@ -1,5 +1,5 @@
 -- What is listed by number, and read at a number.
-use Rattle.std.proofs.Common.{◌≡◌, refl, sym, ap, ◌∙◌, ℕ, zero, suc, ◌+◌, ◌<◌, ◌≤◌, List, [], ◌∷◌, ◌++◌, length, map, Some, unwrap_or, inl, inr, length-append, add-one, arith}
+use Rattle.std.proofs.Common.{None, ◌≡◌, refl, sym, ap, ◌∙◌, ℕ, zero, suc, ◌+◌, ◌<◌, ◌≤◌, List, [], ◌∷◌, ◌++◌, length, map, Some, unwrap_or, inl, inr, length-append, add-one, arith}
 use Rattle.std.specs.List.{slice_get}
 use Rattle.std.proofs.lemmas.List.{length-map, map-append}
 use Rattle.std.proofs.lemmas.Bool.Decides.{eqb_tells}
@@ -8,7 +8,6 @@ use Rattle.amber_rows.specs.declared.flow.Operator.{Operator}
 use Rattle.amber_meaning.specs.State.{Arms, no_arms}
 use Rattle.amber_meaning.specs.Stops.{op_numbers}
 use Rattle.amber_meaning.proofs.Lists.{nth-next}
-use Rattle.amber_dataflow.specs.AtWork.{IsQuiet}
 
 length-numbers : (n : ℕ) → length (numbers_below n) ≡ n
 unfolding numbers_below
@@ -47,7 +46,8 @@ nth-numbers f flow (suc i) some within = ap (nth (map f (op_numbers flow))) (sym
 pub length-ops : (flow : List Operator) → length (op_numbers flow) ≡ length flow
 length-ops flow = length-map (numbers_below (length flow)) suc ∙ length-numbers (length flow)
 
-pub quiet-map : (f : ℕ → Arms) (xs : List ℕ) → ((x : ℕ) → IsQuiet (f x)) → (i : ℕ) → IsQuiet (unwrap_or (slice_get (map f xs) i) no_arms)
-quiet-map f [] quiet i = record { unwatched = refl; uncounted = refl }
-quiet-map f (x ∷ xs) quiet zero = quiet x
-quiet-map f (x ∷ xs) quiet (suc i) = quiet-map f xs quiet i
+-- a count is armed nowhere in a list of arms, where each has none
+pub uncounted-map : (f : ℕ → Arms) (xs : List ℕ) → ((x : ℕ) → (f x).count ≡ None) → (i : ℕ) → (unwrap_or (slice_get (map f xs) i) no_arms).count ≡ None
+uncounted-map f [] uncounted i = refl
+uncounted-map f (x ∷ xs) uncounted zero = uncounted x
+uncounted-map f (x ∷ xs) uncounted (suc i) = uncounted-map f xs uncounted i

@@ -2,7 +2,6 @@
 use Rattle.std.proofs.Common.{◌≡◌, ◌≢◌, refl, sym, ap, subst, ◌∙◌, ℕ, ◌<◌, List, length, set, nat_eq, true, arith, length-set}
 use Rattle.std.specs.List.{list_any}
 use Rattle.amber_worker.specs.Pairs.{AreJoined}
-use Rattle.amber_worker.specs.Turning.{IsCalm}
 use Rattle.amber_worker.specs.WorkerState.{WorkerState}
 use Rattle.amber_dataflow.specs.AtWork.{AreJoinedAt, IsJoinedCrew, IsSameBesides, StayPut, worker_state_at}
 use Rattle.amber_dataflow.specs.Passing.{AreSameBesides, Come, IsSettledAt, PassedOn, Settled, SettledStay}
@@ -96,11 +95,11 @@ module _ (old new : List WorkerState) (from to : ℕ) (passed : PassedOn old fro
   pub passed-length : length new ≡ length old
   passed-length = ap length passed.is ∙ length-set between to passed.to_now ∙ length-set old from passed.from_now
 
-  from-calm : IsCalm (worker_state_at old from) → IsCalm passed.from_now
-  from-calm calm = subst IsCalm (sym passed.passes.from_only) (record { unwatched = calm.unwatched; unarmed = calm.unarmed; loose = calm.loose })
+  from-seat : passed.from_now.seat ≡ (worker_state_at old from).seat
+  from-seat = ap (λ (w : WorkerState). w.seat) passed.passes.from_only
 
-  to-calm : IsCalm (worker_state_at old to) → IsCalm passed.to_now
-  to-calm calm = subst IsCalm (sym passed.passes.to_only) (record { unwatched = calm.unwatched; unarmed = calm.unarmed; loose = calm.loose })
+  to-seat : passed.to_now.seat ≡ (worker_state_at old to).seat
+  to-seat = ap (λ (w : WorkerState). w.seat) passed.passes.to_only
 
   -- all stand where they stood
   pub put-passed : StayPut old new
@@ -108,8 +107,8 @@ module _ (old new : List WorkerState) (from to : ℕ) (passed : PassedOn old fro
   put-passed query start positions at =
       subst (λ crew. AreJoinedAt query start crew positions) (sym passed.is)
       (joined-stays query start between positions to passed.to_now
-      (joined-stays query start old positions from passed.from_now at from-inside passed.from_stays passed.from_ends from-calm) to-inside
-      (rw to-between passed.to_stays) (rw to-between passed.to_ends) (rw to-between to-calm))
+      (joined-stays query start old positions from passed.from_now at from-inside passed.from_stays passed.from_ends from-seat) to-inside
+      (rw to-between passed.to_stays) (rw to-between passed.to_ends) (rw to-between to-seat))
 
   -- the link is settled
   pub settled-passed : Settled new from to

@@ -1,49 +1,47 @@
 -- Workers with the same ends of their links that stand somewhere under what another state has in force.
-use Rattle.std.proofs.Common.{◌≡◌, sym, subst, ◌∙◌, ℕ, ◌<◌, List, length}
+use Rattle.std.proofs.Common.{◌≡◌, sym, ap, ◌∙◌, ℕ, ◌<◌, List, length, get_or, None}
 use Rattle.amber_rows.specs.Topology.{crew_of}
-use Rattle.amber_link.specs.Sides.{AreSameReceivers, AreSameSenders}
-use Rattle.amber_link.proofs.SameEnds.{receivers-same, senders-same}
 use Rattle.amber_meaning.specs.Legal.{Query}
 use Rattle.amber_meaning.specs.Position.{Position}
 use Rattle.amber_meaning.specs.State.{State, arms_at, position_at}
-use Rattle.amber_worker.specs.AtPosition.{HasSameEnds, IsAtPosition}
-use Rattle.amber_worker.specs.Turning.{IsCalm}
+use Rattle.amber_worker.specs.AtPosition.{IsAtPosition}
+use Rattle.amber_worker.specs.Pairs.{AreJoined}
 use Rattle.amber_worker.specs.WorkerState.{WorkerState}
-use Rattle.amber_dataflow.specs.AtWork.{AreAtWork, IsQuiet, context_in, worker_state_at}
-use Rattle.amber_dataflow.proofs.Crews.{joined-each}
+use Rattle.amber_dataflow.specs.AtWork.{AreAtWork, context_in, worker_state_at}
 use Rattle.amber_dataflow.proofs.Linked.{settled-same}
 
--- the same ends, just as they were, and as calm
+-- the same ends, just as they were, and the same seat
 pub record HasItsEnds (old new : WorkerState) : Type 0 where
   pub number : new.number ≡ old.number
   pub ins : new.ins ≡ old.ins
   pub outs : new.outs ≡ old.outs
-  pub when : new.when ≡ old.when
-  pub route : new.route ≡ old.route
-  pub calm : IsCalm old → IsCalm new
+  pub seat : new.seat ≡ old.seat
 
-own-ends : (old new : WorkerState) → HasItsEnds old new → HasSameEnds old new
-own-ends old new same = record {
-  ins = subst (λ ins. AreSameSenders old.ins ins) (sym same.ins) (senders-same old.ins);
-  outs = subst (λ outs. AreSameReceivers old.outs outs) (sym same.outs) (receivers-same old.outs);
-  number = same.number;
-  when = same.when;
-  route = same.route;
-}
+-- workers of whom each has the same ends are joined alike
+joined-same : (from to from_now to_now : WorkerState) → HasItsEnds from from_now → HasItsEnds to to_now → AreJoined from to → AreJoined from_now to_now
+unfolding AreJoined
+joined-same from to from_now to_now out_ends in_ends joined j k places one other =
+    rw (out_ends.outs, in_ends.ins) (joined j k (record {
+      j_within = rw (← out_ends.outs) places.j_within;
+      k_within = rw (← in_ends.ins) places.k_within;
+      to_is = λ d. ap (λ l. (get_or l j d).to) (sym out_ends.outs) ∙ places.to_is d ∙ in_ends.number;
+      from_is = λ d. ap (λ l. (get_or l k d).from) (sym in_ends.ins) ∙ places.from_is d ∙ out_ends.number;
+    }) one other)
 
 module _ (query : Query) (start now : State) (crew after : List WorkerState) (positions later : ℕ → Position) (work : AreAtWork query start crew positions) where
-  pub renewed : length after ≡ length crew → ((k : ℕ) → HasItsEnds (worker_state_at crew k) (worker_state_at after k)) → ((op : ℕ) → IsQuiet (arms_at now op))
+  pub renewed : length after ≡ length crew → ((k : ℕ) → HasItsEnds (worker_state_at crew k) (worker_state_at after k)) → ((op : ℕ) → (arms_at now op).count ≡ None)
       → ((worker : ℕ) → worker < crew_of query.flow
       → IsAtPosition (context_in query now worker) (worker_state_at after worker) (position_at now.positions worker) (later worker))
       → AreAtWork query now after later
-  renewed long same quiet each = record {
+  renewed long same uncounted each = record {
     at = record {
       flow = work.at.flow;
-      quiet = quiet;
+      uncounted = uncounted;
       at_positions = record { all = long ∙ work.at.at_positions.all; each = each };
-      calm = λ worker inside. (same worker).calm (work.at.calm worker inside);
+      unarmed = λ worker inside. (same worker).seat ∙ work.at.unarmed worker inside;
       joined = λ from to from-in to-in.
-          joined-each crew after (λ k. own-ends (worker_state_at crew k) (worker_state_at after k) (same k)) from to (work.at.joined from to from-in to-in);
+          joined-same (worker_state_at crew from) (worker_state_at crew to) (worker_state_at after from) (worker_state_at after to) (same from) (same to)
+          (work.at.joined from to from-in to-in);
     };
     settled = λ from to does.
         settled-same (worker_state_at crew from) (worker_state_at after from) (worker_state_at crew to) (worker_state_at after to)

@@ -1,5 +1,5 @@
 -- Where the workers stand after each call, and what is then read of them.
-use Rattle.std.proofs.Common.{◌≡◌, ◌≢◌, refl, sym, ap, subst, ◌∙◌, ℕ, zero, suc, ◌+◌, ◌<◌, ◌≤◌, eqb, List, [], ◌∷◌, ◌++◌, length, map, take, Bool, true, false, if◌then◌else◌, inl, inr, add-one, arith}
+use Rattle.std.proofs.Common.{None, Option, ◌≡◌, ◌≢◌, refl, sym, ap, subst, ◌∙◌, ℕ, zero, suc, ◌+◌, ◌<◌, ◌≤◌, eqb, List, [], ◌∷◌, ◌++◌, length, map, take, Bool, true, false, if◌then◌else◌, inl, inr, add-one, arith}
 use Rattle.std.proofs.lemmas.Bool.{eq-eqb, ne_eqb}
 use Rattle.std.proofs.lemmas.Bool.Decides.{eqb_tells}
 use Rattle.std.proofs.lemmas.List.{map-append, take_all, length-map}
@@ -8,6 +8,7 @@ use Rattle.amber_rows.specs.Topology.{crew_of, op_of, workers_of}
 use Rattle.amber_rows.specs.FlowRules.{IsFlow}
 use Rattle.amber_rows.specs.Lists.{numbers_below}
 use Rattle.amber_rows.specs.declared.value.Value.{Value}
+use Rattle.amber_rows.specs.declared.cond.Cond.{Cond}
 use Rattle.amber_log.specs.Grammar.{AreEntries, AreParts}
 use Rattle.amber_lines.specs.Moving.{orders_in}
 use Rattle.amber_meaning.specs.Legal.{IsWorked, Query, assignment_in, entries_of}
@@ -17,11 +18,11 @@ use Rattle.amber_meaning.specs.Rules.{Leads}
 use Rattle.amber_meaning.specs.State.{State, arms_at, emitted_by, have_finished, let_go, position_at, restraint_released, steps_in}
 use Rattle.amber_meaning.proofs.OneState.{position-get_or}
 use Rattle.amber_worker.specs.AtPosition.{Context, IsAtPosition, placement_of}
-use Rattle.amber_worker.specs.Changes.{ShowsSet, StandsAtLeg, at_leg_start, with_value}
+use Rattle.amber_worker.specs.Changes.{ShowsSet, StandsAtLeg, at_leg_start, with_value, with_when}
 use Rattle.amber_worker.specs.WorkerState.{WorkerState, steps_made}
-use Rattle.amber_worker.proofs.Commands.{shows-set, stands-at_leg}
-use Rattle.amber_dataflow.specs.AtWork.{AreAtWork, IsQuiet, context_in, emitted_at, state_reached, steps_by, worker_state_at}
-use Rattle.amber_dataflow.specs.Dataflow.{AreAllThere, DataflowState, FirstHaveFinished, HaveDoneNothing, StandAt, leg_begun, handed_out, has_finished, have_all_finished, journal_of, leg_parts, rows_emitted, step_count, constant_put, worker_set}
+use Rattle.amber_worker.proofs.Commands.{shows-set, stands-at_leg, stands-watched}
+use Rattle.amber_dataflow.specs.AtWork.{AreAtWork, context_in, emitted_at, state_reached, steps_by, worker_state_at}
+use Rattle.amber_dataflow.specs.Dataflow.{AreAllThere, DataflowState, FirstHaveFinished, HaveDoneNothing, StandAt, leg_begun, handed_out, has_finished, have_all_finished, journal_of, leg_parts, rows_emitted, step_count, constant_put, when_put, worker_set, worker_watching}
 use Rattle.amber_dataflow.specs.Parts.{parts_from, without_journal}
 use Rattle.amber_dataflow.proofs.Emitted.{crew-few}
 use Rattle.amber_dataflow.proofs.Renewed.{HasItsEnds, renewed}
@@ -53,8 +54,8 @@ begun-at (w ∷ crew) zero less = refl
 begun-at (w ∷ crew) (suc k) less = begun-at crew k (omega arith)
 
 ends-begun : (crew : List WorkerState) (k : ℕ) → HasItsEnds (worker_state_at crew k) (worker_state_at (map at_leg_start crew) k)
-ends-begun [] k = record { number = refl; ins = refl; outs = refl; when = refl; route = refl; calm = λ c. c }
-ends-begun (w ∷ crew) zero = record { number = refl; ins = refl; outs = refl; when = refl; route = refl; calm = λ c. record { unwatched = c.unwatched; unarmed = c.unarmed; loose = ap restraint_released c.loose } }
+ends-begun [] k = record { number = refl; ins = refl; outs = refl; seat = refl }
+ends-begun (w ∷ crew) zero = record { number = refl; ins = refl; outs = refl; seat = refl }
 ends-begun (w ∷ crew) (suc k) = ends-begun crew k
 
 -- a change that leaves each one's steps
@@ -104,7 +105,7 @@ stands-handed context w start p stands = record {
 }
 
 ends-handed : (crew : List WorkerState) (k : ℕ) → HasItsEnds (worker_state_at crew k) (worker_state_at (map without_journal crew) k)
-ends-handed crew k = rw (handed-at crew k) (record { number = refl; ins = refl; outs = refl; when = refl; route = refl; calm = λ c. record { unwatched = c.unwatched; unarmed = c.unarmed; loose = c.loose } })
+ends-handed crew k = rw (handed-at crew k) (record { number = refl; ins = refl; outs = refl; seat = refl })
 
 -- ---- another constant
 
@@ -115,12 +116,12 @@ module _ (op : ℕ) (value : Value) where
   set-at (w ∷ crew) (suc k) less = set-at crew k (omega arith)
 
   ends-set : (crew : List WorkerState) (k : ℕ) → HasItsEnds (worker_state_at crew k) (worker_state_at (map (worker_set op value) crew) k)
-  ends-set [] k = record { number = refl; ins = refl; outs = refl; when = refl; route = refl; calm = λ c. c }
+  ends-set [] k = record { number = refl; ins = refl; outs = refl; seat = refl }
   ends-set (w ∷ crew) zero = by (eqb w.op op)
     where
       by : (b : Bool) → HasItsEnds w (if b then record w { operator_state = with_value value w.operator_state } else w)
-      by true = record { number = refl; ins = refl; outs = refl; when = refl; route = refl; calm = λ c. record { unwatched = c.unwatched; unarmed = c.unarmed; loose = c.loose } }
-      by false = record { number = refl; ins = refl; outs = refl; when = refl; route = refl; calm = λ c. c }
+      by true = record { number = refl; ins = refl; outs = refl; seat = refl }
+      by false = record { number = refl; ins = refl; outs = refl; seat = refl }
   ends-set (w ∷ crew) (suc k) = ends-set crew k
 
   journal-set : (crew : List WorkerState) (k : ℕ) → (worker_state_at (map (worker_set op value) crew) k).journal ≡ (worker_state_at crew k).journal
@@ -147,6 +148,42 @@ module _ (op : ℕ) (value : Value) where
   stays : (w : WorkerState) → w.op ≢ op → worker_set op value w ≡ w
   stays w other = ap (λ b. if b then record w { operator_state = with_value value w.operator_state } else w) (ne_eqb w.op op other)
 
+-- ---- another condition
+
+module _ (op : ℕ) (when : Option Cond) where
+  watched-at : (crew : List WorkerState) (k : ℕ) → k < length crew → worker_state_at (map (worker_watching op when) crew) k ≡ worker_watching op when (worker_state_at crew k)
+  watched-at [] k less = absurd (omega arith)
+  watched-at (w ∷ crew) zero less = refl
+  watched-at (w ∷ crew) (suc k) less = watched-at crew k (omega arith)
+
+  ends-watched : (crew : List WorkerState) (k : ℕ) → HasItsEnds (worker_state_at crew k) (worker_state_at (map (worker_watching op when) crew) k)
+  ends-watched [] k = record { number = refl; ins = refl; outs = refl; seat = refl }
+  ends-watched (w ∷ crew) zero = by (eqb w.op op)
+    where
+      by : (b : Bool) → HasItsEnds w (if b then record w { when = when } else w)
+      by true = record { number = refl; ins = refl; outs = refl; seat = refl }
+      by false = record { number = refl; ins = refl; outs = refl; seat = refl }
+  ends-watched (w ∷ crew) (suc k) = ends-watched crew k
+
+  journal-watched : (crew : List WorkerState) (k : ℕ) → (worker_state_at (map (worker_watching op when) crew) k).journal ≡ (worker_state_at crew k).journal
+  journal-watched [] k = refl
+  journal-watched (w ∷ crew) zero = by (eqb w.op op)
+    where
+      by : (b : Bool) → (if b then record w { when = when } else w).journal ≡ w.journal
+      by true = refl
+      by false = refl
+  journal-watched (w ∷ crew) (suc k) = journal-watched crew k
+
+  -- where it is one of the operator
+  watches : (context : Context) (w : WorkerState) (p : Position) → context.placement.op ≡ op → w.journal ≡ [] → IsAtPosition context w p p
+      → IsAtPosition (with_when when context.orders.counted context) (worker_watching op when w) p p
+  watches context w p own none stands =
+      rw (eq-eqb w.op op (stands.shows.op ∙ own)) (stands-watched context w p when context.orders.counted stands none)
+
+  -- where it is not, it stays as it was
+  unwatched : (w : WorkerState) → w.op ≢ op → worker_watching op when w ≡ w
+  unwatched w other = ap (λ b. if b then record w { when = when } else w) (ne_eqb w.op op other)
+
 -- ---- where they stand
 
 module _ (query : Query) (start : State) (d : DataflowState) (positions : ℕ → Position) (stand : StandAt query start d positions) where
@@ -159,8 +196,8 @@ module _ (query : Query) (start : State) (d : DataflowState) (positions : ℕ �
   pub stand-flow : IsFlow query.flow
   stand-flow = work.at.flow
 
-  pub stand-quiet : (op : ℕ) → IsQuiet (arms_at start op)
-  stand-quiet op = work.at.quiet op
+  pub stand-uncounted : (op : ℕ) → (arms_at start op).count ≡ None
+  stand-uncounted op = work.at.uncounted op
 
   pub stand-all : length d.workers ≡ crew_of query.flow
   stand-all = work.at.at_positions.all
@@ -217,19 +254,19 @@ module _ (query : Query) (start : State) (d : DataflowState) (positions : ℕ �
     work = record {
       at = record {
         flow = work.at.flow;
-        quiet = work.at.quiet;
+        uncounted = work.at.uncounted;
         at_positions = record {
           all = work.at.at_positions.all;
           each = λ worker inside. rw (same worker inside) (work.at.at_positions.each worker inside);
         };
-        calm = work.at.calm;
+        unarmed = work.at.unarmed;
         joined = work.at.joined;
       };
       settled = work.settled;
     };
   }
 
-  module _ (now : State) (quiet : (op : ℕ) → IsQuiet (arms_at now op)) where
+  module _ (now : State) (uncounted : (op : ℕ) → (arms_at now op).count ≡ None) where
     -- a leg begins
     pub stand-begun : ((worker : ℕ) → worker < crew_of query.flow → orders_in query now worker ≡ orders_in query start worker)
         → ((worker : ℕ) → worker < crew_of query.flow → position_at now.positions worker ≡ let_go (positions worker))
@@ -238,7 +275,7 @@ module _ (query : Query) (start : State) (d : DataflowState) (positions : ℕ �
     stand-begun orders at = record {
       flow = stand.flow;
       work = renewed query start now d.workers (map at_leg_start d.workers) positions (λ worker. let_go (positions worker)) work
-          (length-map d.workers at_leg_start) (ends-begun d.workers) quiet
+          (length-map d.workers at_leg_start) (ends-begun d.workers) uncounted
           (λ worker inside.
           let here : worker < length d.workers = rw stand-all inside in
           let w = worker_state_at d.workers worker in
@@ -253,7 +290,7 @@ module _ (query : Query) (start : State) (d : DataflowState) (positions : ℕ �
     stand-handed_out orders at = record {
       flow = stand.flow;
       work = renewed query start now d.workers (map without_journal d.workers) positions positions work
-          (length-map d.workers without_journal) (ends-handed d.workers) quiet
+          (length-map d.workers without_journal) (ends-handed d.workers) uncounted
           (λ worker inside.
           rw (handed-at d.workers worker, orders worker inside, at worker inside)
           (stands-handed (context_in query start worker) (worker_state_at d.workers worker) (position_at start.positions worker) (positions worker)
@@ -261,11 +298,11 @@ module _ (query : Query) (start : State) (d : DataflowState) (positions : ℕ �
     }
 
     -- another constant, where nothing was done since a leg began
-    module _ (op : ℕ) (value : Value) (none : HaveDoneNothing d) (at : (worker : ℕ) → worker < crew_of query.flow → position_at now.positions worker ≡ positions worker) where
-      at-rest : (worker : ℕ) → worker < crew_of query.flow → IsAtPosition (context_in query start worker) (worker_state_at d.workers worker) (positions worker) (positions worker)
-      unfolding journal_of Leads AreEntries
-      at-rest worker inside = record { leads = rw (none worker) refl; text = rw (none worker) tt; shows = (work.at.at_positions.each worker inside).shows }
+    at-rest : HaveDoneNothing d → (worker : ℕ) → worker < crew_of query.flow → IsAtPosition (context_in query start worker) (worker_state_at d.workers worker) (positions worker) (positions worker)
+    unfolding journal_of Leads AreEntries
+    at-rest none worker inside = record { leads = rw (none worker) refl; text = rw (none worker) tt; shows = (work.at.at_positions.each worker inside).shows }
 
+    module _ (op : ℕ) (value : Value) (none : HaveDoneNothing d) (at : (worker : ℕ) → worker < crew_of query.flow → position_at now.positions worker ≡ positions worker) where
       pub stand-set : ((worker : ℕ) → worker < crew_of query.flow → op_of query.flow worker ≡ op → orders_in query now worker ≡ record (orders_in query start worker) { constants = value ∷ [] })
           → ((worker : ℕ) → worker < crew_of query.flow → op_of query.flow worker ≢ op → orders_in query now worker ≡ orders_in query start worker)
           → StandAt query now (constant_put op value d) positions
@@ -273,17 +310,39 @@ module _ (query : Query) (start : State) (d : DataflowState) (positions : ℕ �
       stand-set here elsewhere = record {
         flow = stand.flow;
         work = renewed query start now d.workers (map (worker_set op value) d.workers) positions positions work
-            (length-map d.workers (worker_set op value)) (ends-set op value d.workers) quiet
+            (length-map d.workers (worker_set op value)) (ends-set op value d.workers) uncounted
             (λ worker inside.
             let there : worker < length d.workers = rw stand-all inside in
             let w = worker_state_at d.workers worker in
-            let was = at-rest worker inside in
+            let was = at-rest none worker inside in
             rw (set-at op value d.workers worker there, at worker inside)
             (elim (eqb_tells (op_of query.flow worker) op) [
               | inl same ↦ rw (here worker inside same.1) (stands-set op value (context_in query start worker) w (positions worker) same.1 (none worker) was)
               | inr other ↦
                   let apart : w.op ≢ op = λ is. other.1 (sym was.shows.op ∙ is) in
                   rw (elsewhere worker inside other.1, stays op value w apart) was
+            ]));
+      }
+
+    module _ (op : ℕ) (when : Option Cond) (none : HaveDoneNothing d) (at : (worker : ℕ) → worker < crew_of query.flow → position_at now.positions worker ≡ positions worker) where
+      pub stand-watched : ((worker : ℕ) → worker < crew_of query.flow → op_of query.flow worker ≡ op → orders_in query now worker ≡ record (orders_in query start worker) { when = when })
+          → ((worker : ℕ) → worker < crew_of query.flow → op_of query.flow worker ≢ op → orders_in query now worker ≡ orders_in query start worker)
+          → StandAt query now (when_put op when d) positions
+      unfolding placement_of journal_of
+      stand-watched here elsewhere = record {
+        flow = stand.flow;
+        work = renewed query start now d.workers (map (worker_watching op when) d.workers) positions positions work
+            (length-map d.workers (worker_watching op when)) (ends-watched op when d.workers) uncounted
+            (λ worker inside.
+            let there : worker < length d.workers = rw stand-all inside in
+            let w = worker_state_at d.workers worker in
+            let was = at-rest none worker inside in
+            rw (watched-at op when d.workers worker there, at worker inside)
+            (elim (eqb_tells (op_of query.flow worker) op) [
+              | inl same ↦ rw (here worker inside same.1) (watches op when (context_in query start worker) w (positions worker) same.1 (none worker) was)
+              | inr other ↦
+                  let apart : w.op ≢ op = λ is. other.1 (sym was.shows.op ∙ is) in
+                  rw (elsewhere worker inside other.1, unwatched op when w apart) was
             ]));
       }
 
@@ -294,7 +353,7 @@ module _ (query : Query) (start : State) (d : DataflowState) (positions : ℕ �
     unfolding journal_of Leads AreEntries
     stand-kept none orders at = record {
       flow = stand.flow;
-      work = renewed query start now d.workers d.workers positions positions work refl (λ k. record { number = refl; ins = refl; outs = refl; when = refl; route = refl; calm = λ c. c }) quiet
+      work = renewed query start now d.workers d.workers positions positions work refl (λ k. record { number = refl; ins = refl; outs = refl; seat = refl }) uncounted
           (λ worker inside.
           rw (orders worker inside, at worker inside)
           (record { leads = rw (none worker) refl; text = rw (none worker) tt; shows = (work.at.at_positions.each worker inside).shows }));
@@ -309,6 +368,10 @@ journal-entries d worker = entries-here d.workers worker
 pub handed_out-nothing : (d : DataflowState) → HaveDoneNothing (handed_out d)
 unfolding journal_of
 handed_out-nothing d worker = ap (λ (w : WorkerState). w.journal) (handed-at d.workers worker)
+
+pub watched-nothing : (op : ℕ) (when : Option Cond) (d : DataflowState) → HaveDoneNothing d → HaveDoneNothing (when_put op when d)
+unfolding journal_of
+watched-nothing op when d none worker = journal-watched op when d.workers worker ∙ none worker
 
 pub set-nothing : (op : ℕ) (value : Value) (d : DataflowState) → HaveDoneNothing d → HaveDoneNothing (constant_put op value d)
 unfolding journal_of
@@ -338,6 +401,14 @@ unfolding step_count
 set-steps op value d = steps-mapped (worker_set op value) (λ w. same w (eqb w.op op)) d.workers
   where
     same : (w : WorkerState) (b : Bool) → steps_made (if b then record w { operator_state = with_value value w.operator_state } else w) ≡ steps_made w
+    same w true = refl
+    same w false = refl
+
+pub watched-steps : (op : ℕ) (when : Option Cond) (d : DataflowState) → step_count (when_put op when d) ≡ step_count d
+unfolding step_count
+watched-steps op when d = steps-mapped (worker_watching op when) (λ w. same w (eqb w.op op)) d.workers
+  where
+    same : (w : WorkerState) (b : Bool) → steps_made (if b then record w { when = when } else w) ≡ steps_made w
     same w true = refl
     same w false = refl
 

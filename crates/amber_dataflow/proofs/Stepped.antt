@@ -1,5 +1,5 @@
 -- Turns of one worker, one or many, and then its links settled again: all are at work.
-use Rattle.std.proofs.Common.{◌≡◌, ◌≢◌, refl, sym, ap, subst, ◌∙◌, ℕ, suc, ◌+◌, ◌<◌, List, [], ◌∷◌, length, get_or, set, nat_eq, true, if◌then◌else◌, inl, inr, arith, length-set}
+use Rattle.std.proofs.Common.{◌≡◌, ◌≢◌, ◌⊎◌, refl, sym, ap, subst, ◌∙◌, ℕ, suc, ◌+◌, ◌<◌, List, [], ◌∷◌, length, get_or, set, nat_eq, None, true, if◌then◌else◌, inl, inr, arith, length-set}
 use Rattle.std.specs.List.{list_any}
 use Rattle.std.proofs.lemmas.Bool.{ne_eqb}
 use Rattle.amber_meaning.specs.Legal.{Query}
@@ -8,11 +8,14 @@ use Rattle.amber_meaning.specs.State.{State}
 use Rattle.amber_link.specs.Sides.{Pairwise}
 use Rattle.amber_worker.specs.AtPosition.{HasSameEnds}
 use Rattle.amber_worker.specs.Links.{HaveSentNothing}
-use Rattle.amber_worker.specs.Turning.{HaveMoreCome, IsCalm, MakesTurns, StaysCalm, other_entries}
+use Rattle.amber_worker.specs.Turning.{HaveMoreCome, MakesTurns, WritesStep, other_entries}
+use Rattle.amber_worker.specs.Steps.{held_at}
+use Rattle.amber_worker.specs.Turning.{MakesStep}
 use Rattle.amber_worker.specs.WorkerState.{WorkerState, steps_made}
-use Rattle.amber_dataflow.specs.AtWork.{AreAtWork, AreJoinedAt, GoesOn, IsCrew, IsJoinedCrew, MakesTurnsAt, MovesOnly, SendsTo, StayPut, steps_by, worker_state_at}
+use Rattle.amber_worker.proofs.StepFacts.{step-steps, step-writes}
+use Rattle.amber_dataflow.specs.AtWork.{AreAtWork, AreJoinedAt, GoesOn, IsCrew, IsJoinedCrew, IsHeldAt, MakesStepAt, MakesTurnsAt, MovesOnly, SendsTo, StayPut, WritesHolds, steps_by, worker_state_at}
 use Rattle.amber_dataflow.specs.Passing.{AreSameBesides, Come, IsSettledAt, Settled}
-use Rattle.amber_dataflow.specs.Stopping.{HasStopped}
+use Rattle.amber_dataflow.specs.Stopping.{WorkerHasStopped}
 use Rattle.amber_dataflow.proofs.Crews.{at-each, here-now, joined-turned, placed, there-still}
 use Rattle.amber_dataflow.proofs.Linked.{come-turned}
 use Rattle.amber_dataflow.proofs.Numbers.{length-put}
@@ -20,6 +23,7 @@ use Rattle.amber_dataflow.proofs.Sending.{sending, sending-out}
 use Rattle.amber_dataflow.proofs.Split.{read-at}
 use Rattle.amber_dataflow.proofs.Starved.{StaysEmpty, idle-still, stay-empty}
 use Rattle.amber_dataflow.proofs.Steps.{steps-cons, sum-more}
+use Rattle.amber_dataflow.proofs.Untold.{still-unarmed}
 
 -- the steps of workers that are the same but for their links
 steps-besides : (old new : List WorkerState) → length new ≡ length old → AreSameBesides old new → steps_by new ≡ steps_by old
@@ -33,22 +37,23 @@ steps-besides (w ∷ old) (v ∷ new) long same =
 pub at-crew : (crew : List WorkerState) → IsCrew crew → IsJoinedCrew crew
 at-crew crew work = (work.0, work.1, work.2, work.3.at)
 
--- turns of a calm worker: nothing was sent, and it is calm still
-pub record TurnsCalmly (most : ℕ) (old new : WorkerState) : Type 0 where
+-- turns of a worker in which nothing was sent, and nothing written but steps and holds
+pub record TurnsUnsent (most : ℕ) (old new : WorkerState) : Type 0 where
   pub makes : MakesTurns most old new
   pub unsent : HaveSentNothing old.outs new.outs
-  pub calm : StaysCalm old new
+  pub writes : WritesHolds old.journal new.journal
 
 -- those of a worker, as it was read
-pub at-place : (crew : List WorkerState) (number most : ℕ) (now d : WorkerState) → number < length crew → TurnsCalmly most (get_or crew number d) now
-    → TurnsCalmly most (worker_state_at crew number) now
-at-place crew number most now d inside turns = subst (λ w. TurnsCalmly most w now) (read-at crew number d inside) turns
+pub at-place : (crew : List WorkerState) (number most : ℕ) (now d : WorkerState) → number < length crew → TurnsUnsent most (get_or crew number d) now
+    → TurnsUnsent most (worker_state_at crew number) now
+at-place crew number most now d inside turns = subst (λ w. TurnsUnsent most w now) (read-at crew number d inside) turns
 
--- one that is read is calm
-pub calm-read : (crew : List WorkerState) (number : ℕ) (d : WorkerState) → IsCrew crew → number < length crew → IsCalm (get_or crew number d)
-calm-read crew number d work inside = subst IsCalm (sym (read-at crew number d inside)) (work.3.at.calm number (rw (← work.3.at.at_positions.all) inside))
+-- at one that is read no count is armed
+pub unarmed-read : (crew : List WorkerState) (number : ℕ) (d : WorkerState) → IsCrew crew → number < length crew → (get_or crew number d).seat ≡ None
+unarmed-read crew number d work inside =
+    ap (λ (w : WorkerState). w.seat) (read-at crew number d inside) ∙ work.3.at.unarmed number (rw (← work.3.at.at_positions.all) inside)
 
-module _ (crew : List WorkerState) (number : ℕ) (now : WorkerState) (inside : number < length crew) (most : ℕ) (turns : TurnsCalmly most (worker_state_at crew number) now) where
+module _ (crew : List WorkerState) (number : ℕ) (now : WorkerState) (inside : number < length crew) (most : ℕ) (turns : TurnsUnsent most (worker_state_at crew number) now) where
   abbrev makes : MakesTurns most (worker_state_at crew number) now
   makes = turns.makes
 
@@ -58,7 +63,8 @@ module _ (crew : List WorkerState) (number : ℕ) (now : WorkerState) (inside : 
   -- wherever they stood, they stand again
   on : (query : Query) (start : State) (positions : ℕ → Position) → AreJoinedAt query start crew positions
       → (q : Position) × AreJoinedAt query start turned (placed positions number q)
-  on query start positions at = joined-turned query start crew positions number now at inside makes.keeps makes.ends turns.calm.calm
+  on query start positions at = joined-turned query start crew positions number now at inside makes.keeps makes.ends
+      (still-unarmed most (worker_state_at crew number) now makes (at.unarmed number (rw (← at.at_positions.all) inside)))
 
   -- they are joined again
   pub joined-then : IsJoinedCrew crew → IsJoinedCrew turned
@@ -117,15 +123,17 @@ module _ (crew : List WorkerState) (number : ℕ) (now : WorkerState) (inside : 
       }
 
       -- where it found nothing to do it finds nothing now
-      idle-then : HasStopped now → HasStopped (worker_state_at after number)
+      idle-then : WorkerHasStopped now → WorkerHasStopped (worker_state_at after number)
       idle-then (inl finished) = inl (ap (λ (w : WorkerState). w.finished) here-after ∙ finished)
-      idle-then (inr idle) =
+      idle-then (inr (inl held)) = inr (inl (ap (λ (w : WorkerState). w.restraint.held) here-after ∙ held))
+      idle-then (inr (inr (inl paused))) = inr (inr (inl (ap (λ (w : WorkerState). w.restraint.paused) here-after ∙ paused)))
+      idle-then (inr (inr (inr idle))) =
           let same = here-now crew number now inside in
-          inr (idle-still now (worker_state_at after number) here-after
+          inr (inr (inr (idle-still now (worker_state_at after number) here-after
           (subst (λ (w : WorkerState). Pairwise StaysEmpty w.ins (worker_state_at after number).ins) same
           (stay-empty query start crew turned after positions later number inside work turned-at work-then elsewhere
           (subst (λ w. HasSameEnds (worker_state_at crew number) w) (sym same) makes.ends)
-          (subst (λ (w : WorkerState). Pairwise HaveMoreCome (worker_state_at crew number).ins w.ins) (sym same) makes.come) settled.put)) idle)
+          (subst (λ (w : WorkerState). Pairwise HaveMoreCome (worker_state_at crew number).ins w.ins) (sym same) makes.come) settled.put)) idle)))
 
     -- one has moved on
     goes-on : GoesOn crew after number
@@ -148,7 +156,7 @@ module _ (crew : List WorkerState) (number : ℕ) (now : WorkerState) (inside : 
           let rows = makes.rows in
           let same = ap (λ (w : WorkerState). w.emitted) here-after in
           omega arith;
-      writes = ap (λ (w : WorkerState). other_entries w.journal) here-after ∙ turns.calm.writes;
+      writes = (turns.writes.0, ap (λ (w : WorkerState). other_entries w.journal) here-after ∙ turns.writes.1);
     }
 
     -- what it has done stands in its journal
@@ -162,5 +170,18 @@ module _ (crew : List WorkerState) (number : ℕ) (now : WorkerState) (inside : 
         ∙ sum-more crew number made now inside more
 
     -- where it has stopped, it still has
-    pub stopped-then : IsCrew crew → HasStopped now → HasStopped (worker_state_at after number)
+    pub stopped-then : IsCrew crew → WorkerHasStopped now → WorkerHasStopped (worker_state_at after number)
     stopped-then work stopped = idle-then work.0 work.1 work.2 work.3 stopped
+
+    -- a step of it, or that its next row holds it
+    pub does-then : IsCrew crew → MakesStep (worker_state_at crew number) now ⊎ (now ≡ held_at (worker_state_at crew number))
+        → MakesStepAt crew after number ⊎ IsHeldAt crew after number
+    does-then work (inl step) = inl (record {
+      one = steps-then work 1 (step-steps (worker_state_at crew number) now step);
+      writes = subst (WritesStep (worker_state_at crew number).journal) (sym journal-then) (step-writes (worker_state_at crew number) now step);
+    })
+    does-then work (inr held) = inr (record {
+      none = let same = steps-then work 0 (ap steps_made held ∙ omega arith) in omega arith;
+      held = ap (λ (w : WorkerState). w.restraint.held) here-after ∙ ap (λ (w : WorkerState). w.restraint.held) held;
+      writes = journal-then ∙ ap (λ (w : WorkerState). w.journal) held;
+    })

@@ -1,5 +1,5 @@
 -- A turn of the first unfinished worker: it makes a step. And the steps of all.
-use Rattle.std.proofs.Common.{◌≡◌, refl, sym, ap, ◌∙◌, ℕ, zero, suc, ◌+◌, ◌<◌, ◌≤◌, List, [], ◌∷◌, ◌++◌, length, get_or, set, nat_eq, ◌&&◌, true, false, is_some, inl, inr, subst, arith, take, drop, sum_by, zero-add}
+use Rattle.std.proofs.Common.{◌≡◌, ◌⊎◌, if◌then◌else◌, refl, sym, ap, ◌∙◌, ℕ, zero, suc, ◌+◌, ◌<◌, ◌≤◌, List, [], ◌∷◌, ◌++◌, length, get_or, set, nat_eq, ◌&&◌, true, false, is_some, inl, inr, subst, arith, take, drop, sum_by, zero-add}
 use Rattle.std.proofs.lemmas.Bool.{eq-eqb, false≢true, or_cases, or_left, or_right}
 use Rattle.std.proofs.lemmas.Grind.{take_at_read}
 use Rattle.std.proofs.lemmas.List.{take-append-drop}
@@ -17,22 +17,22 @@ use Rattle.amber_meaning.specs.Position.{Position, Restraint, emitted_rows, has_
 use Rattle.amber_meaning.specs.Task.{is_builder}
 use Rattle.amber_meaning.specs.State.{State}
 use Rattle.amber_worker.specs.AtPosition.{placement_of, stream_to}
-use Rattle.amber_worker.specs.Turning.{HasTurned, IsCalm, IsNextTurn, MakesStep}
+use Rattle.amber_worker.specs.Turning.{HasTurned, IsNextTurn, MakesStep}
 use Rattle.amber_worker.specs.Pairs.{OffersAll, made_for}
-use Rattle.amber_worker.specs.WorkerState.{WorkerState, next_turn, steps_made}
+use Rattle.amber_worker.specs.Steps.{held_at}
+use Rattle.amber_worker.specs.WorkerState.{IsFree, WorkerState, next_turn, steps_made}
 use Rattle.amber_worker.specs.declared.turn.Turn.{Turn}
 use Rattle.amber_worker.specs.declared.turn.Turn.TheVariants as turn
 use Rattle.amber_worker.proofs.Idle.{has_marked, has_marked-chunks_of, never_idle}
 use Rattle.amber_worker.proofs.PairFacts.{offers-all, receives-at}
 use Rattle.amber_worker.proofs.Settling.{Shows-relinked}
 use Rattle.amber_worker.proofs.Received.{receive_all-looked, sides-looked}
-use Rattle.amber_worker.proofs.TurnCases.{ends-by, pauses-by, starves-by}
+use Rattle.amber_worker.proofs.TurnCases.{ends-by, pauses-by}
 use Rattle.amber_worker.proofs.Turns.{looked-none}
-use Rattle.amber_dataflow.proofs.Calm.{never-held}
 use Rattle.amber_dataflow.proofs.Linked.{pairwise-at}
 use Rattle.amber_dataflow.proofs.Sending.{sending-in}
 use Rattle.amber_dataflow.proofs.Split.{read-at}
-use Rattle.amber_dataflow.specs.Stopping.{HasStopped}
+use Rattle.amber_dataflow.proofs.Untold.{never-starves}
 use Rattle.amber_dataflow.specs.AtWork.{AreAtWork, AreJoinedAt, HaveFinished, IsCrew, context_in, placement_at, steps_by, worker_state_at}
 
 -- ---- who has something to do
@@ -125,33 +125,22 @@ module _ (query : Query) (start : State) (crew : List WorkerState) (positions : 
         (marked-more (taken_from (positions worker).taken sender) (waiting (get_or me.ins k d).link) (seen d).gives.more (marked sender k k_less same d)))
         idle
 
--- a worker that has stopped, and whose senders have all finished, has finished
-pub stopped-finished : (crew : List WorkerState) (worker : ℕ) → IsCrew crew → worker < length crew → HaveFinished worker crew
-    → HasStopped (worker_state_at crew worker) → (worker_state_at crew worker).finished ≡ true
-stopped-finished crew worker work inside finished (inl done) = done
-stopped-finished crew worker work inside finished (inr idle) =
-    let ins = (worker_state_at crew worker).ins in
-    absurd (busy work.0 work.1 crew work.2 work.3 worker inside finished ins (looked-none (worker_state_at crew worker) (worker_state_at crew worker) refl).looked idle)
-
--- an unfinished worker whose senders have all finished makes a step
+-- an unfinished worker that is neither held nor paused, and whose senders have all finished, makes a step or is held by its next row
 pub moves : (crew : List WorkerState) (worker : ℕ) (now d : WorkerState) (done : Turn) → IsCrew crew → worker < length crew → HaveFinished worker crew
-    → (worker_state_at crew worker).finished ≡ false → IsNextTurn (get_or crew worker d) done → HasTurned done (get_or crew worker d) now
-    → MakesStep (worker_state_at crew worker) now
-moves crew worker now d done work inside finished not-yet is turned =
+    → IsFree (worker_state_at crew worker) → IsNextTurn (get_or crew worker d) done → HasTurned done (get_or crew worker d) now
+    → MakesStep (worker_state_at crew worker) now ⊎ (now ≡ held_at (worker_state_at crew worker))
+moves crew worker now d done work inside finished may is turned =
     by done (subst (λ w. IsNextTurn w done) (read-at crew worker d inside) is) (subst (λ w. HasTurned done w now) (read-at crew worker d inside) turned)
   where
-    calm : IsCalm (worker_state_at crew worker)
-    calm = work.3.at.calm worker (rw (← work.3.at.at_positions.all) inside)
-
-    by : (done : Turn) → IsNextTurn (worker_state_at crew worker) done → HasTurned done (worker_state_at crew worker) now → MakesStep (worker_state_at crew worker) now
-    by turn.Moved is turned = turned
+    by : (done : Turn) → IsNextTurn (worker_state_at crew worker) done → HasTurned done (worker_state_at crew worker) now
+        → MakesStep (worker_state_at crew worker) now ⊎ (now ≡ held_at (worker_state_at crew worker))
+    by turn.Moved is turned = inl turned
     by turn.Idle is turned = absurd (busy work.0 work.1 crew work.2 work.3 worker inside finished is.found is.looked (sym is.is))
-    by turn.Held is turned = absurd (never-held (worker_state_at crew worker) calm is)
+    by turn.Held is turned = inr (turned ∙ ap (λ b. if b then worker_state_at crew worker else held_at (worker_state_at crew worker)) may.loose)
     by turn.Starved is turned =
-        let w = worker_state_at crew worker in
-        absurd (false≢true (sym (ap (λ s. is_some s && nat_eq w.restraint.hand 0) calm.unarmed) ∙ starves-by w is))
-    by turn.Paused is turned = absurd (false≢true (sym (ap (λ (r : Restraint). r.paused) calm.loose) ∙ pauses-by (worker_state_at crew worker) is))
-    by turn.Ended is turned = absurd (false≢true (sym not-yet ∙ ends-by (worker_state_at crew worker) is))
+        absurd (never-starves (worker_state_at crew worker) (work.3.at.unarmed worker (rw (← work.3.at.at_positions.all) inside)) is)
+    by turn.Paused is turned = absurd (false≢true (sym may.running ∙ pauses-by (worker_state_at crew worker) is))
+    by turn.Ended is turned = absurd (false≢true (sym may.unfinished ∙ ends-by (worker_state_at crew worker) is))
 
 -- ---- sums of steps
 

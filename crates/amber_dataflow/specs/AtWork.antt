@@ -1,20 +1,22 @@
 -- Where workers stand, one by one, and who sends to whom.
-use Rattle.std.specs.Prelude.{◌≡◌, ◌≢◌, ℕ, ◌+◌, ◌<◌, ◌≤◌, ◌==◌, List, [], map, slice_index_or, length, sum_by, None, true}
+use Rattle.std.specs.Prelude.{◌≡◌, ◌≢◌, ℕ, ◌+◌, ◌<◌, ◌≤◌, ◌==◌, List, [], ◌∷◌, ◌++◌, map, replicate, slice_index_or, length, sum_by, None, true}
 use Rattle.std.specs.List.{list_any}
 use Rattle.rtrb.specs.Ring.{known_items, received, sent}
 use Rattle.amber_rows.specs.Topology.{crew_of, senders_of}
 use Rattle.amber_rows.specs.Lists.{numbers_below}
 use Rattle.amber_rows.specs.FlowRules.{IsFlow}
 use Rattle.amber_rows.specs.declared.flow.Operator.{Operator}
+use Rattle.amber_log.specs.declared.entry.Entry.{Entry}
+use Rattle.amber_log.specs.declared.entry.Entry.TheVariants as entry
 use Rattle.amber_link.specs.declared.downstreams.Downstream.{Downstream}
 use Rattle.amber_link.specs.declared.upstreams.Upstream.{Upstream}
 use Rattle.amber_lines.specs.Moving.{orders_in}
 use Rattle.amber_meaning.specs.Legal.{Query}
 use Rattle.amber_meaning.specs.Position.{Position}
-use Rattle.amber_meaning.specs.State.{Arms, State, arms_at, position_at}
+use Rattle.amber_meaning.specs.State.{State, arms_at, position_at}
 use Rattle.amber_worker.specs.AtPosition.{Context, IsAtPosition, Placement, no_base, placement_of}
 use Rattle.amber_worker.specs.Pairs.{AreJoined, AreSettledAt, IsLinkAt}
-use Rattle.amber_worker.specs.Turning.{IsCalm, other_entries}
+use Rattle.amber_worker.specs.Turning.{WritesStep, other_entries}
 use Rattle.amber_worker.specs.WorkerState.{WorkerState, empty_worker_state, steps_made}
 
 -- ---- one of the workers
@@ -55,24 +57,18 @@ pub record AllHasCome (from to : WorkerState) : Type 0 where
 
 -- ---- all of them
 
--- at an operator nothing is watched and nothing is counted
-pub record IsQuiet (arms : Arms) : Type 0 where
-  pub unwatched : arms.when ≡ None
-  pub uncounted : arms.count ≡ None
-
 -- each worker stands at its position, with a journal that leads there from where it stood in the state in which the leg began
 pub record AreAtPositions (query : Query) (start : State) (crew : List WorkerState) (positions : ℕ → Position) : Type 0 where
   pub all : length crew ≡ crew_of query.flow
   pub each : (worker : ℕ) → worker < crew_of query.flow
       → IsAtPosition (context_in query start worker) (worker_state_at crew worker) (position_at start.positions worker) (positions worker)
 
--- the workers of a workflow stand somewhere, who sends to whom hold the two ends of a link, and nothing is watched, counted or held
--- back at any of them
+-- the workers of a workflow stand somewhere, who sends to whom hold the two ends of a link, and no count is armed
 pub record AreJoinedAt (query : Query) (start : State) (crew : List WorkerState) (positions : ℕ → Position) : Type 0 where
   pub flow : IsFlow query.flow
-  pub quiet : (op : ℕ) → IsQuiet (arms_at start op)
+  pub uncounted : (op : ℕ) → (arms_at start op).count ≡ None
   pub at_positions : AreAtPositions query start crew positions
-  pub calm : (worker : ℕ) → worker < crew_of query.flow → IsCalm (worker_state_at crew worker)
+  pub unarmed : (worker : ℕ) → worker < crew_of query.flow → (worker_state_at crew worker).seat ≡ None
   pub joined : (from to : ℕ) → from < crew_of query.flow → to < crew_of query.flow → AreJoined (worker_state_at crew from) (worker_state_at crew to)
 
 -- and all that they made is in the inboxes
@@ -107,12 +103,16 @@ IsSameBesides old new = new ≡ record old { ins = new.ins; outs = new.outs }
 abbrev pub MovesOnly : List WorkerState → List WorkerState → ℕ → Type 0
 MovesOnly old new worker = (other : ℕ) → other ≢ worker → IsSameBesides (worker_state_at old other) (worker_state_at new other)
 
+-- beside entries that tell of steps these have been written, each of which says that a row holds the worker
+abbrev pub WritesHolds : List Entry → List Entry → Type 0
+WritesHolds old new = (holds : ℕ) × (other_entries new ≡ other_entries old ++ replicate holds entry.Hold)
+
 -- a worker has made turns, so many or fewer, of which its journal tells, and the others have done nothing
 pub record MakesTurnsAt (most : ℕ) (old new : List WorkerState) (worker : ℕ) : Type 0 where
   pub on : GoesOn old new worker
   pub only : MovesOnly old new worker
   pub rows : (worker_state_at new worker).emitted ≤ (worker_state_at old worker).emitted + most
-  pub writes : other_entries (worker_state_at new worker).journal ≡ other_entries (worker_state_at old worker).journal
+  pub writes : WritesHolds (worker_state_at old worker).journal (worker_state_at new worker).journal
 
 -- the rows that these of them have emitted
 abbrev pub emitted_at : List WorkerState → List ℕ → ℕ
@@ -121,6 +121,17 @@ emitted_at crew workers = sum_by (λ worker. (worker_state_at crew worker).emitt
 -- the steps that they have made together
 unfoldable pub steps_by : List WorkerState → ℕ
 steps_by crew = sum_by steps_made crew
+
+-- a worker has made a step, which its journal has
+pub record MakesStepAt (old new : List WorkerState) (worker : ℕ) : Type 0 where
+  pub one : steps_by new ≡ steps_by old + 1
+  pub writes : WritesStep (worker_state_at old worker).journal (worker_state_at new worker).journal
+
+-- a worker is held by its next row, which its journal says, and has made no step
+pub record IsHeldAt (old new : List WorkerState) (worker : ℕ) : Type 0 where
+  pub none : steps_by new ≡ steps_by old
+  pub held : (worker_state_at new worker).restraint.held ≡ true
+  pub writes : (worker_state_at new worker).journal ≡ (worker_state_at old worker).journal ++ entry.Hold ∷ []
 
 -- the first workers have finished
 abbrev pub HaveFinished : ℕ → List WorkerState → Type 0

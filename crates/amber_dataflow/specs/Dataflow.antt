@@ -1,11 +1,13 @@
 -- The workers of a run with the workflow that they carry out: what is read of them, where they stand, and what a step does.
-use Rattle.std.specs.Prelude.{◌≡◌, ◌≢◌, ℕ, ◌+◌, ◌==◌, ◌^◌, ◌<◌, ◌≤◌, List, [], length, map, Bool, true, false, if◌then◌else◌}
+use Rattle.std.specs.Prelude.{◌≡◌, ◌≢◌, ◌⊎◌, ℕ, ◌+◌, ◌==◌, ◌^◌, ◌<◌, ◌≤◌, List, [], ◌∷◌, ◌++◌, length, map, Option, Bool, true, false, if◌then◌else◌}
 use Rattle.std.specs.List.{list_all}
 use Rattle.amber_rows.specs.Topology.{crew_of, op_of, workers_of}
 use Rattle.amber_rows.specs.FlowRules.{IsFlow}
 use Rattle.amber_rows.specs.declared.flow.Operator.{Operator}
 use Rattle.amber_rows.specs.declared.value.Value.{Value}
+use Rattle.amber_rows.specs.declared.cond.Cond.{Cond}
 use Rattle.amber_log.specs.declared.entry.Entry.{Entry}
+use Rattle.amber_log.specs.declared.entry.Entry.TheVariants as entry
 use Rattle.amber_log.specs.declared.leg.Part.{Part}
 use Rattle.amber_meaning.specs.Legal.{Query}
 use Rattle.amber_meaning.specs.Position.{Position}
@@ -14,10 +16,10 @@ use Rattle.amber_meaning.specs.Views.{answer_in, inspected_of}
 use Rattle.amber_meaning.specs.declared.answer.Answer.{Answer}
 use Rattle.amber_meaning.specs.declared.view.WorkerView.{WorkerView}
 use Rattle.amber_worker.specs.Changes.{at_leg_start, with_value}
-use Rattle.amber_worker.specs.Turning.{WritesStep, other_entries}
+use Rattle.amber_worker.specs.Turning.{WritesStep}
 use Rattle.amber_worker.specs.WorkerState.{WorkerState, next_turn}
 use Rattle.amber_worker.specs.declared.turn.Turn.TheVariants as turn
-use Rattle.amber_dataflow.specs.AtWork.{AreAtWork, emitted_at, state_reached, steps_by, worker_state_at}
+use Rattle.amber_dataflow.specs.AtWork.{AreAtWork, WritesHolds, emitted_at, state_reached, steps_by, worker_state_at}
 use Rattle.amber_dataflow.specs.Parts.{parts_from, without_journal}
 
 pub record DataflowState : Type 0 where
@@ -79,6 +81,14 @@ worker_set op value w = if w.op == op then record w { operator_state = with_valu
 abbrev pub constant_put : ℕ → Value → DataflowState → DataflowState
 constant_put op value d = record d { workers = map (worker_set op value) d.workers }
 
+-- a worker, with another condition where it is one of this operator
+abbrev pub worker_watching : ℕ → Option Cond → WorkerState → WorkerState
+worker_watching op when w = if w.op == op then record w { when = when } else w
+
+-- another condition at an operator, or none
+abbrev pub when_put : ℕ → Option Cond → DataflowState → DataflowState
+when_put op when d = record d { workers = map (worker_watching op when) d.workers }
+
 -- nobody is left
 abbrev pub without_workers : DataflowState → DataflowState
 without_workers d = record d { workers = [] }
@@ -104,13 +114,13 @@ pub record IsUnmoved (old new : DataflowState) (worker : ℕ) : Type 0 where
   pub finished : has_finished new worker ≡ has_finished old worker
   pub journal : journal_of new worker ≡ journal_of old worker
 
--- a worker has made turns, so many or fewer, what it has written tells of steps alone, and the others have done nothing
+-- a worker has made turns, so many or fewer, what it has written tells of steps and holds alone, and the others have done nothing
 pub record TurnsAt (most : ℕ) (old new : DataflowState) (worker : ℕ) : Type 0 where
   pub flow : new.flow ≡ old.flow
   pub there : AreAllThere new
   pub on : (query : Query) (start : State) (positions : ℕ → Position) → StandAt query start old positions
       → (later : ℕ → Position) × StandAt query start new later × ((other : ℕ) → other ≢ worker → later other ≡ positions other)
-  pub writes : other_entries (journal_of new worker) ≡ other_entries (journal_of old worker)
+  pub writes : WritesHolds (journal_of old worker) (journal_of new worker)
   pub others : (other : ℕ) → other ≢ worker → IsUnmoved old new other
   -- of the rows that operators have emitted at most so many more at its own
   pub rows : rows_emitted new (op_of old.flow worker) ≤ rows_emitted old (op_of old.flow worker) + most
@@ -120,6 +130,17 @@ pub record TurnsAt (most : ℕ) (old new : DataflowState) (worker : ℕ) : Type 
 unfoldable pub IsStarved : DataflowState → ℕ → Type 0
 IsStarved d worker = next_turn (worker_state_at d.workers worker) ≡ turn.Idle
 
+-- a worker is held before its next row, and is paused
+unfoldable pub is_held : DataflowState → ℕ → Bool
+is_held d worker = (worker_state_at d.workers worker).restraint.held
+
+unfoldable pub is_paused : DataflowState → ℕ → Bool
+is_paused d worker = (worker_state_at d.workers worker).restraint.paused
+
+-- it makes no more turns: it has finished, is held or paused, or can do nothing until a batch comes
+abbrev pub HasStopped : DataflowState → ℕ → Type 0
+HasStopped d worker = (has_finished d worker ≡ true) ⊎ ((is_held d worker ≡ true) ⊎ ((is_paused d worker ≡ true) ⊎ IsStarved d worker))
+
 -- ---- a step
 
 -- a worker has not finished, and all before it have
@@ -128,13 +149,28 @@ pub record IsFirst (d : DataflowState) (worker : ℕ) : Type 0 where
   pub first : FirstHaveFinished worker d
   pub unfinished : has_finished d worker ≡ false
 
--- a worker has made a step, which its journal has, and the others have done nothing
-pub record StepsAt (old new : DataflowState) (worker : ℕ) : Type 0 where
-  pub turns : TurnsAt 1 old new worker
+-- nobody is held or paused
+pub record AreFree (d : DataflowState) : Type 0 where
+  pub loose : (worker : ℕ) → is_held d worker ≡ false
+  pub running : (worker : ℕ) → is_paused d worker ≡ false
+
+-- a worker has made a step, which its journal has
+pub record MadeStep (old new : DataflowState) (worker : ℕ) : Type 0 where
   pub one : step_count new ≡ step_count old + 1
   pub writes : WritesStep (journal_of old worker) (journal_of new worker)
 
--- the first that has not finished has made a step
+-- a worker is held by its next row, which its journal says, and has made no step
+pub record IsHeldNow (old new : DataflowState) (worker : ℕ) : Type 0 where
+  pub none : step_count new ≡ step_count old
+  pub held : is_held new worker ≡ true
+  pub writes : journal_of new worker ≡ journal_of old worker ++ entry.Hold ∷ []
+
+-- a worker has made a step, or is held, and the others have done nothing
+pub record StepsAt (old new : DataflowState) (worker : ℕ) : Type 0 where
+  pub turns : TurnsAt 1 old new worker
+  pub does : MadeStep old new worker ⊎ IsHeldNow old new worker
+
+-- the first that has not finished has made a step, or is held
 pub record FirstSteps (old new : DataflowState) : Type 0 where
   pub worker : ℕ
   pub is : IsFirst old worker

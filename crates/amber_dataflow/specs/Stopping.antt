@@ -3,6 +3,7 @@ use Rattle.std.specs.Prelude.{◌≡◌, ◌⊎◌, true}
 use Rattle.amber_worker.specs.WorkerState.{WorkerState, next_turn}
 use Rattle.amber_worker.specs.declared.turn.Turn.TheVariants as turn
 
--- fewer turns were made than might have been only where the worker has finished, or can do nothing until a batch comes
-abbrev pub HasStopped : WorkerState → Type 0
-HasStopped w = (w.finished ≡ true) ⊎ (next_turn w ≡ turn.Idle)
+-- fewer turns were made than might have been only where the worker has finished, is held or paused, or can do nothing until a batch
+-- comes
+abbrev pub WorkerHasStopped : WorkerState → Type 0
+WorkerHasStopped w = (w.finished ≡ true) ⊎ ((w.restraint.held ≡ true) ⊎ ((w.restraint.paused ≡ true) ⊎ (next_turn w ≡ turn.Idle)))

@@ -1,14 +1,14 @@
 //! The workers of a run and their workflow: how they begin, what a step does, and what is read of them. Over
 //! the functions of the other files, each of which does one of these for all workers.
 
-ghost use Rattle.std.specs.Prelude.{◌≡◌, ◌⊎◌, ◌+◌, ◌^◌, ◌<◌, ◌≤◌, ℕ, IfOk, None, OnErr, OnOk, false, length, replicate, true};
+ghost use Rattle.std.specs.Prelude.{◌≡◌, ◌+◌, ◌^◌, ◌<◌, ◌≤◌, ℕ, IfOk, None, OnErr, OnOk, false, length, replicate};
 ghost use Rattle.amber_rows.specs.Topology.{crew_of};
 ghost use Rattle.amber_meaning.specs.Legal.{query_over};
 ghost use Rattle.amber_meaning.specs.Plain.{wrong_header};
 ghost use Rattle.amber_meaning.specs.Position.{origin};
 ghost use Rattle.amber_meaning.specs.State.{start_of};
 ghost use Rattle.amber_dataflow.specs.Dataflow as dataflow;
-ghost use Rattle.amber_dataflow.specs.Dataflow.{AreAllThere, FirstHaveFinished, FirstSteps, HaveDoneNothing, IsAnswerOf, IsStarved, ShowAt, StandAt, TurnsAt};
+ghost use Rattle.amber_dataflow.specs.Dataflow.{AreAllThere, AreFree, FirstSteps, HasStopped, HaveDoneNothing, IsAnswerOf, ShowAt, StandAt, TurnsAt};
 ghost use Rattle.amber_dataflow.specs.Dataflow.{leg_begun, handed_out, leg_parts, step_count, constant_put, without_workers};
 
 use crate::counts::{emitted_by, have_finished, steps_of};
@@ -82,9 +82,9 @@ impl Dataflow {
         begin_all(self.workers.as_mut_slice());
     }
 
-    /// Turns of a worker, until so many are made, it has finished, or it can do nothing until a batch comes. What it
-    /// has made goes on to its receivers. The answer is how many turns were made. After running out of memory no worker
-    /// is left.
+    /// Turns of a worker, until so many are made, it has finished, is held or paused, or can do nothing until a batch
+    /// comes. What it has made goes on to its receivers. The answer is how many turns were made. After running out of
+    /// memory no worker is left.
     pub fn turns(&mut self, worker: u32, most: u64) -> Result<u64, AllocError>
         requires workers { AreAllThere self.old }
         requires there { worker < crew_of self.old.flow }
@@ -92,10 +92,7 @@ impl Dataflow {
         ensures turns { IfOk result (λ made. TurnsAt made self.old self.new worker) }
         ensures made { IfOk result (λ made. step_count self.new ≡ step_count self.old + made) }
         ensures within { IfOk result (λ made. made ≤ most) }
-        ensures stops { IfOk result (λ made. made < most
-            → (dataflow.has_finished self.new worker ≡ true) ⊎ IsStarved self.new worker) }
-        ensures first { IfOk result (λ made. made < most → FirstHaveFinished worker self.old
-            → dataflow.has_finished self.new worker ≡ true) }
+        ensures stops { IfOk result (λ made. made < most → HasStopped self.new worker) }
         ensures err { OnErr result (self.new ≡ without_workers self.old) }
     {
         match turn_worker(self.workers.as_mut_slice(), worker as usize, most) {
@@ -107,11 +104,13 @@ impl Dataflow {
         }
     }
 
-    /// One step of the first worker that has not finished. What it has made goes on to its receivers. After running out
-    /// of memory no worker is left.
+    /// One step of the first worker that has not finished; where its next row meets the condition there and was not waved
+    /// on, the worker is held before it instead. What it has made goes on to its receivers. After running out of memory
+    /// no worker is left.
     pub fn step_first(&mut self) -> Result<(), AllocError>
         requires workers { AreAllThere self.old }
         requires unfinished { dataflow.have_all_finished self.old ≡ false }
+        requires free { AreFree self.old }
         requires few { step_count self.old < 2 ^ 40 }
         ensures steps { OnOk result (FirstSteps self.old self.new) }
         ensures err { OnErr result (self.new ≡ without_workers self.old) }

@@ -1,36 +1,35 @@
 //! Turns of one worker, one or many, after which its links are settled again. Over `make_turn` and
 //! `make_turns` of `turning`, and `settling`.
 
-ghost use Rattle.std.specs.Prelude.{◌≡◌, ◌+◌, ◌^◌, ◌<◌, ◌≤◌, IfOk, OnOk, false, length};
+ghost use Rattle.std.specs.Prelude.{◌≡◌, ◌⊎◌, ◌+◌, ◌^◌, ◌<◌, ◌≤◌, IfOk, OnOk, false, length};
 ghost use Rattle.std.specs.List.{list_all};
-ghost use Rattle.amber_worker.specs.Turning.{WritesStep};
-ghost use Rattle.amber_worker.specs.WorkerState.{steps_made};
-ghost use Rattle.amber_dataflow.specs.AtWork.{HaveFinished, IsCrew, MakesTurnsAt, steps_by, worker_state_at};
-ghost use Rattle.amber_dataflow.specs.Stopping.{HasStopped};
+ghost use Rattle.amber_worker.specs.WorkerState.{IsFree, steps_made};
+ghost use Rattle.amber_dataflow.specs.AtWork.{HaveFinished, IsCrew, IsHeldAt, MakesStepAt, MakesTurnsAt, steps_by, worker_state_at};
+ghost use Rattle.amber_dataflow.specs.Stopping.{WorkerHasStopped};
 
 use crate::settling::settle_worker;
 use crate::turning::{make_turn, make_turns};
 use amber_worker::Worker;
 use std::alloc::AllocError;
 
-/// One step of a worker whose senders have all finished. What it has made goes on to its receivers.
+/// One step of a worker whose senders have all finished, or its next row holds it. What it has made goes on to its
+/// receivers.
 pub(crate) fn step_worker(crew: &mut [Worker], number: usize) -> Result<(), AllocError>
     requires there { number < length crew.old }
     requires crew { IsCrew crew.old }
     requires first { HaveFinished number crew.old }
-    requires unfinished { (worker_state_at crew.old number).finished ≡ false }
+    requires free { IsFree (worker_state_at crew.old number) }
     requires few { steps_made (worker_state_at crew.old number) < 2 ^ 40 }
     ensures turns { OnOk result (MakesTurnsAt 1 crew.old crew.new number) }
-    ensures one { OnOk result (steps_by crew.new ≡ steps_by crew.old + 1) }
-    ensures writes { OnOk result (WritesStep (worker_state_at crew.old number).journal
-        (worker_state_at crew.new number).journal) }
+    ensures does { OnOk result
+        (MakesStepAt crew.old crew.new number ⊎ IsHeldAt crew.old crew.new number) }
 {
     make_turn(&mut crew[number])?;
     settle_worker(crew, number)
 }
 
-/// Turns of a worker, until so many are made, it has finished, or it can do nothing until a batch comes. What it
-/// has made goes on to its receivers. The answer is how many turns were made.
+/// Turns of a worker, until so many are made, it has finished, is held or paused, or can do nothing until a batch comes.
+/// What it has made goes on to its receivers. The answer is how many turns were made.
 pub(crate) fn turn_worker(crew: &mut [Worker], number: usize, most: u64) -> Result<u64, AllocError>
     requires there { number < length crew.old }
     requires crew { IsCrew crew.old }
@@ -39,7 +38,7 @@ pub(crate) fn turn_worker(crew: &mut [Worker], number: usize, most: u64) -> Resu
     ensures made { IfOk result (λ made. steps_by crew.new ≡ steps_by crew.old + made) }
     ensures within { IfOk result (λ made. made ≤ most) }
     ensures stops { IfOk result (λ made. made < most
-        → HasStopped (worker_state_at crew.new number)) }
+        → WorkerHasStopped (worker_state_at crew.new number)) }
 {
     let made = make_turns(&mut crew[number], most)?;
     settle_worker(crew, number)?;

@@ -2,38 +2,38 @@
 use Rattle.std.proofs.Common.{◌∙◌, ◌+◌, ap}
 use Rattle.amber_worker.specs.WorkerState.{steps_made}
 use Rattle.amber_dataflow.proofs.Split.{read-at}
-use Rattle.amber_dataflow.proofs.Stepped.{at-crew, at-place, calm-read, come-then, joined-then, steps-then, stopped-then, turns-then}
+use Rattle.amber_dataflow.proofs.Stepped.{at-crew, at-place, unarmed-read, come-then, joined-then, steps-then, stopped-then, turns-then}
 use Rattle.amber_dataflow.proofs.stepping.turn_worker.Goals as goal
 
-pub make_turns-requires-clause-calm : goal.make_turns-requires-clause-calm
-make_turns-requires-clause-calm c = calm-read c.args.crew.now c.args.number c.index-crew-number.result c.requires.crew c.requires.there
+pub make_turns-requires-clause-unarmed : goal.make_turns-requires-clause-unarmed
+make_turns-requires-clause-unarmed c = unarmed-read c.args.crew.now c.args.number c.index-crew-number.result c.requires.crew c.requires.there
 
 pub settle_worker-requires-clause-crew : goal.settle_worker-requires-clause-crew
 settle_worker-requires-clause-crew c =
     let made = c.in_ok-made.made in
     let t = c.in_ok-made.ensures in
-    let makes = at-place c.args.crew.now c.args.number made c.make_turns.new.worker c.index-crew-number.result c.requires.there (record { makes = t.makes; unsent = t.unsent; calm = t.calm }) in
+    let makes = at-place c.args.crew.now c.args.number made c.make_turns.new.worker c.index-crew-number.result c.requires.there (record { makes = t.makes; unsent = t.unsent; writes = t.writes }) in
     joined-then c.args.crew.now c.args.number c.make_turns.new.worker c.requires.there made makes (at-crew c.args.crew.now c.requires.crew)
 
 pub settle_worker-requires-clause-come : goal.settle_worker-requires-clause-come
 settle_worker-requires-clause-come c =
     let made = c.in_ok-made.made in
     let t = c.in_ok-made.ensures in
-    let makes = at-place c.args.crew.now c.args.number made c.make_turns.new.worker c.index-crew-number.result c.requires.there (record { makes = t.makes; unsent = t.unsent; calm = t.calm }) in
+    let makes = at-place c.args.crew.now c.args.number made c.make_turns.new.worker c.index-crew-number.result c.requires.there (record { makes = t.makes; unsent = t.unsent; writes = t.writes }) in
     come-then c.args.crew.now c.args.number c.make_turns.new.worker c.requires.there made makes c.requires.crew
 
 pub returns-clause-turns : goal.returns-clause-turns
 returns-clause-turns c =
     let made = c.in_ok-made.made in
     let t = c.in_ok-made.ensures in
-    let makes = at-place c.args.crew.now c.args.number made c.make_turns.new.worker c.index-crew-number.result c.requires.there (record { makes = t.makes; unsent = t.unsent; calm = t.calm }) in
+    let makes = at-place c.args.crew.now c.args.number made c.make_turns.new.worker c.index-crew-number.result c.requires.there (record { makes = t.makes; unsent = t.unsent; writes = t.writes }) in
     turns-then c.args.crew.now c.args.number c.make_turns.new.worker c.requires.there made makes c.settle_worker.new.crew c.in_ok-settle_worker.ensures
 
 pub returns-clause-made : goal.returns-clause-made
 returns-clause-made c =
     let made = c.in_ok-made.made in
     let t = c.in_ok-made.ensures in
-    let makes = at-place c.args.crew.now c.args.number made c.make_turns.new.worker c.index-crew-number.result c.requires.there (record { makes = t.makes; unsent = t.unsent; calm = t.calm }) in
+    let makes = at-place c.args.crew.now c.args.number made c.make_turns.new.worker c.index-crew-number.result c.requires.there (record { makes = t.makes; unsent = t.unsent; writes = t.writes }) in
     steps-then c.args.crew.now c.args.number c.make_turns.new.worker c.requires.there made makes c.settle_worker.new.crew c.in_ok-settle_worker.ensures c.requires.crew made
     (c.in_ok-made.ensures.made ∙ ap (λ w. steps_made w + made) (read-at c.args.crew.now c.args.number c.index-crew-number.result c.requires.there))
 
@@ -41,6 +41,6 @@ pub returns-clause-stops : goal.returns-clause-stops
 returns-clause-stops c less =
     let made = c.in_ok-made.made in
     let t = c.in_ok-made.ensures in
-    let makes = at-place c.args.crew.now c.args.number made c.make_turns.new.worker c.index-crew-number.result c.requires.there (record { makes = t.makes; unsent = t.unsent; calm = t.calm }) in
+    let makes = at-place c.args.crew.now c.args.number made c.make_turns.new.worker c.index-crew-number.result c.requires.there (record { makes = t.makes; unsent = t.unsent; writes = t.writes }) in
     stopped-then c.args.crew.now c.args.number c.make_turns.new.worker c.requires.there made makes c.settle_worker.new.crew c.in_ok-settle_worker.ensures c.requires.crew
     (c.in_ok-made.ensures.stops less)

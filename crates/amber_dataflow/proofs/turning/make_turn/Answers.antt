@@ -1,9 +1,9 @@
--- A turn of a calm worker.
-use Rattle.amber_dataflow.proofs.Calm.{alone-calm, alone-makes}
+-- A turn of a worker of which no count is armed.
+use Rattle.amber_dataflow.proofs.Untold.{alone-makes, alone-writes}
 use Rattle.amber_dataflow.proofs.turning.make_turn.Goals as goal
 
 pub returns-clause-makes : goal.returns-clause-makes
 returns-clause-makes c = alone-makes c.turn.result c.args.worker.now c.turn.new.self c.turn.ensures.keeps c.turn.ensures.ends c.turn.ensures.turned
 
-pub returns-clause-calm : goal.returns-clause-calm
-returns-clause-calm c = alone-calm c.turn.result c.args.worker.now c.turn.new.self c.requires.calm c.turn.ensures.turned
+pub returns-clause-writes : goal.returns-clause-writes
+returns-clause-writes c = alone-writes c.turn.result c.args.worker.now c.turn.new.self c.turn.ensures.turned

@@ -1,11 +1,11 @@
 -- Each turn of many.
 use Rattle.std.proofs.Common.{ap, arith}
 use Rattle.amber_worker.proofs.ManyTurns.{steps_in}
-use Rattle.amber_dataflow.proofs.Calm.{calm-stopped, made-none, made-still, made-then, no-step}
+use Rattle.amber_dataflow.proofs.Untold.{has-stopped, made-none, made-still, made-then, no-step}
 use Rattle.amber_dataflow.proofs.turning.make_turns.Goals as goal
 
 pub turns-init : goal.turns-init
-turns-init c = made-none c.args.worker.now c.requires.calm
+turns-init c = made-none c.args.worker.now c.requires.unarmed
 
 -- no step was made
 pub returns-in-Idle : goal.returns-in-Idle
@@ -14,14 +14,14 @@ returns-in-Idle c =
     let after = c.make_turn.new.worker in
     let turned = c.in_ok-make_turn.ensures in
     let none = no-step done c.in-Idle.is in
-    let all = made-still c.turns.made done c.args.worker.now c.turns.worker after none c.turns.invariant turned.makes turned.unsent turned.calm turned.turned in
+    let all = made-still c.turns.made done c.args.worker.now c.turns.worker after none c.turns.invariant turned.makes turned.unsent turned.turned in
     record {
       makes = all.makes;
       unsent = all.unsent;
-      calm = all.calm;
+      writes = all.writes;
       made = all.steps;
       within = omega arith;
-      stops = λ fewer. calm-stopped done c.turns.worker after c.turns.invariant.calm.calm turned.turned none;
+      stops = λ fewer. has-stopped done c.turns.worker after c.turns.invariant.unarmed turned.turned none;
     }
 
 -- one more was made
@@ -29,4 +29,4 @@ pub turns-preserved : goal.turns-preserved
 turns-preserved c =
     let done = c.in_ok-make_turn.field-0 in
     let turned = c.in_ok-make_turn.ensures in
-    made-then c.turns.made 1 done c.args.worker.now c.turns.worker c.make_turn.new.worker (ap steps_in c.in-Moved.is) c.turns.invariant turned.makes turned.unsent turned.calm turned.turned
+    made-then c.turns.made 1 done c.args.worker.now c.turns.worker c.make_turn.new.worker (ap steps_in c.in-Moved.is) c.turns.invariant turned.makes turned.unsent turned.turned

@@ -1,5 +1,5 @@
--- So many turns were made, each of them a step, and the worker is calm.
-use Rattle.amber_dataflow.proofs.Calm.{HasMade}
+-- So many turns were made, each of them a step, and no count is armed.
+use Rattle.amber_dataflow.proofs.Untold.{HasMade}
 use Rattle.amber_dataflow.proofs.turning.make_turns.Given as goal
 
 abbrev pub invariant-turns : goal.invariant-turns

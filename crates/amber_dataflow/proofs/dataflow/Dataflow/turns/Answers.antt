@@ -1,8 +1,8 @@
 -- One of the workers has made turns, or none is left.
 use Rattle.std.proofs.Common.{◌+◌, ◌<◌, ◌≤◌, ◌^◌, sym, ap, subst, ◌∙◌, length, take, drop, ◌++◌, arith}
 use Rattle.amber_rows.specs.Topology.{crew_of}
-use Rattle.amber_dataflow.specs.Dataflow.{AreAllThere, DataflowState, FirstHaveFinished, TurnsAt, step_count}
-use Rattle.amber_dataflow.proofs.Kept.{count-back, crew-lent, few-lent, finished-back, kept-back, none-left, stopped-back, turned-back}
+use Rattle.amber_dataflow.specs.Dataflow.{AreAllThere, DataflowState, TurnsAt, step_count}
+use Rattle.amber_dataflow.proofs.Kept.{count-back, crew-lent, few-lent, kept-back, none-left, stopped-back, turned-back}
 use Rattle.amber_dataflow.proofs.dataflow.Dataflow.turns.Goals as goal
 
 pub turn_worker-requires-clause-there : goal.turn_worker-requires-clause-there
@@ -58,15 +58,6 @@ returns-in-Ok-clause-stops c less =
     let t = c.in-Ok.ensures in
     stopped-back d c.self.invariant c.as_mut_slice.result.now c.turn_worker.new.crew i.workers.len c.args.worker c.in-Ok.made c.as_mut_slice.ensures.value c.turn_worker.auto.crew i.workers.ok.0
     (subst AreAllThere (sym c.self.view_is) c.requires.workers) t.turns (t.stops less)
-
-pub returns-in-Ok-clause-first : goal.returns-in-Ok-clause-first
-returns-in-Ok-clause-first c less first =
-    let i = c.self.inside in
-    let d : DataflowState = record { flow = i.flow; workers = i.workers.items } in
-    let t = c.in-Ok.ensures in
-    let inside : c.args.worker < crew_of i.flow = subst (λ (e : DataflowState). c.args.worker < crew_of e.flow) (sym c.self.view_is) c.requires.there in
-    finished-back d c.self.invariant c.as_mut_slice.result.now c.turn_worker.new.crew i.workers.len c.args.worker c.in-Ok.made c.as_mut_slice.ensures.value c.turn_worker.auto.crew i.workers.ok.0
-    (subst AreAllThere (sym c.self.view_is) c.requires.workers) t.turns inside (t.stops less) (subst (FirstHaveFinished c.args.worker) (sym c.self.view_is) first)
 
 pub invariant_of-self-in-Err : goal.invariant_of-self-in-Err
 invariant_of-self-in-Err c =

@@ -1,0 +1,157 @@
+-- Turns of a worker that is told nothing, and of which no count is armed.
+use Rattle.std.proofs.Common.{◌≡◌, ℕ, ◌+◌, ◌⊎◌, ◌==◌, ◌&&◌, List, [], ◌∷◌, ◌++◌, Option, None, Some, not, Bool, true, false, Result, Ok, Err, if◌then◌else◌, refl, sym, ap, ◌∙◌, subst, inl, inr, append-nil, append_assoc, arith}
+use Rattle.std.specs.Prelude.{filter, replicate}
+use Rattle.std.specs.Option.{is_some}
+use Rattle.std.specs.Result.{IfOk, OnOk}
+use Rattle.std.proofs.lemmas.Bool.{false≢true}
+use Rattle.std.proofs.lemmas.List.{replicate-append-replicate}
+use Rattle.std.proofs.lemmas.List.Elements.{filter-append}
+use Rattle.amber_board.specs.declared.types.WorkSeat.{WorkSeat}
+use Rattle.amber_log.specs.declared.entry.Entry.{Entry}
+use Rattle.amber_log.specs.declared.entry.Entry.TheVariants as entry
+use Rattle.amber_worker.specs.AtPosition.{HasSameEnds, KeepsUnder}
+use Rattle.amber_worker.specs.Counting.{IsSameSeat}
+use Rattle.amber_worker.specs.Links.{HaveSentNothing}
+use Rattle.amber_worker.specs.Steps.{held_at}
+use Rattle.amber_worker.specs.Turning.{HasTurned, IsNextTurn, MakesTurn, MakesTurns, TurnsUnder, other_entries, tells_steps}
+use Rattle.amber_worker.specs.WorkerState.{WorkerState, is_armed, steps_made}
+use Rattle.amber_worker.specs.declared.turn.Turn.{Turn}
+use Rattle.amber_worker.specs.declared.turn.Turn.TheVariants as turn
+use Rattle.amber_worker.proofs.ManyTurns.{makes-armed, makes-same, makes-then, makes-turn, same-step, steps_in, turned-rows, turned-steps}
+use Rattle.amber_worker.proofs.StepFacts.{step-writes}
+use Rattle.amber_worker.proofs.TurnCases.{ends-by, pauses-by, starves-by}
+use Rattle.amber_dataflow.specs.AtWork.{WritesHolds}
+use Rattle.amber_dataflow.specs.Stopping.{WorkerHasStopped}
+
+-- ---- one turn
+
+-- where it was told nothing it made its turn from where it stood
+turns-alone : (old new : WorkerState) (done : Turn) → TurnsUnder None old new done → MakesTurn old new done
+turns-alone old new done turns = subst (λ w. MakesTurn w new done) turns.acts turns.makes
+
+pub alone-makes : {E : Type 0} (r : Result Turn E) (old new : WorkerState) → KeepsUnder (is_armed old) old new → HasSameEnds old new
+    → IfOk r (TurnsUnder None old new) → OnOk r (MakesTurns 1 old new)
+alone-makes (Ok done) old new keeps ends turns = makes-turn None old new done keeps ends turns
+alone-makes (Err e) old new keeps ends turns = tt
+
+-- no seat comes
+same-seat : (seat now : Option WorkSeat) → seat ≡ None → IsSameSeat seat now → now ≡ None
+same-seat None now none same = same
+same-seat (Some seat) now none same = cc
+
+pub still-unarmed : (n : ℕ) (old new : WorkerState) → MakesTurns n old new → old.seat ≡ None → new.seat ≡ None
+still-unarmed n old new makes none = same-seat old.seat new.seat none makes.seat
+
+-- ---- what is written
+
+holds-none : (journal : List Entry) → WritesHolds journal journal
+holds-none journal = (0, sym (append-nil (other_entries journal)))
+
+holds-same : (old new : List Entry) → other_entries new ≡ other_entries old → WritesHolds old new
+holds-same old new same = (0, same ∙ sym (append-nil (other_entries old)))
+
+pub holds-then : (a b c : List Entry) → WritesHolds a b → WritesHolds b c → WritesHolds a c
+holds-then a b c one two = (
+  one.0 + two.0,
+  two.1 ∙ ap (λ xs. xs ++ replicate two.0 entry.Hold) one.1 ∙ append_assoc (other_entries a) (replicate one.0 entry.Hold) (replicate two.0 entry.Hold)
+      ∙ ap (λ xs. other_entries a ++ xs) (replicate-append-replicate one.0 two.0 entry.Hold),
+)
+
+holds-one : (journal : List Entry) → WritesHolds journal (journal ++ entry.Hold ∷ [])
+holds-one journal = (1, filter-append (λ one. not (tells_steps one)) journal (entry.Hold ∷ []))
+
+-- a turn writes a step, or that a row holds the worker, or nothing
+turn-writes : (old new : WorkerState) (done : Turn) → HasTurned done old new → WritesHolds old.journal new.journal
+turn-writes old new turn.Moved step = holds-same old.journal new.journal (same-step old.journal new.journal (step-writes old new step))
+turn-writes old new turn.Idle idle = holds-same old.journal new.journal (ap (λ (w : WorkerState). other_entries w.journal) idle.looked.only)
+turn-writes old new turn.Held is = subst (λ (w : WorkerState). WritesHolds old.journal w.journal) (sym is) (by old.restraint.held)
+  where
+    by : (b : Bool) → WritesHolds old.journal (if b then old else held_at old).journal
+    by true = holds-none old.journal
+    by false = holds-one old.journal
+turn-writes old new turn.Starved same = holds-same old.journal new.journal (ap (λ (w : WorkerState). other_entries w.journal) same)
+turn-writes old new turn.Paused same = holds-same old.journal new.journal (ap (λ (w : WorkerState). other_entries w.journal) same)
+turn-writes old new turn.Ended same = holds-same old.journal new.journal (ap (λ (w : WorkerState). other_entries w.journal) same)
+
+pub alone-writes : {E : Type 0} (r : Result Turn E) (old new : WorkerState) → IfOk r (TurnsUnder None old new) → OnOk r (WritesHolds old.journal new.journal)
+alone-writes (Ok done) old new turns = turn-writes old new done (turns-alone old new done turns).turned
+alone-writes (Err e) old new turns = tt
+
+-- ---- where a turn is no step
+
+-- a turn but `Moved` makes no step
+pub no-step : (done : Turn) → (done ≡ turn.Idle) ⊎ ((done ≡ turn.Held) ⊎ ((done ≡ turn.Starved) ⊎ ((done ≡ turn.Paused) ⊎ (done ≡ turn.Ended)))) → steps_in done ≡ 0
+no-step done (inl is) = ap steps_in is
+no-step done (inr (inl is)) = ap steps_in is
+no-step done (inr (inr (inl is))) = ap steps_in is
+no-step done (inr (inr (inr (inl is)))) = ap steps_in is
+no-step done (inr (inr (inr (inr is)))) = ap steps_in is
+
+-- one of which no count is armed does not starve
+pub never-starves : (w : WorkerState) → w.seat ≡ None → IsNextTurn w turn.Starved → ⊥
+never-starves w unarmed next = false≢true (sym (ap (λ (s : Option WorkSeat). is_some s && (w.restraint.hand == 0)) unarmed) ∙ starves-by w next)
+
+-- a worker that makes no step has stopped
+pub has-stopped : (done : Turn) (old new : WorkerState) → old.seat ≡ None → MakesTurn old new done → steps_in done ≡ 0 → WorkerHasStopped new
+has-stopped turn.Moved old new unarmed makes none = absurd (omega (arith, none))
+has-stopped turn.Idle old new unarmed makes none = inr (inr (inr makes.turned.idle))
+has-stopped turn.Held old new unarmed makes none = inr (inl (ap (λ (w : WorkerState). w.restraint.held) makes.turned ∙ by old.restraint.held refl))
+  where
+    by : (b : Bool) → old.restraint.held ≡ b → (if b then old else held_at old).restraint.held ≡ true
+    by true is = is
+    by false is = refl
+has-stopped turn.Starved old new unarmed makes none = absurd (never-starves old unarmed makes.next)
+has-stopped turn.Paused old new unarmed makes none = inr (inr (inl (ap (λ (w : WorkerState). w.restraint.paused) makes.turned ∙ pauses-by old makes.next)))
+has-stopped turn.Ended old new unarmed makes none = inl (ap (λ (w : WorkerState). w.finished) makes.turned ∙ ends-by old makes.next)
+
+-- a turn makes as many steps as it is said to
+exactly : (done : Turn) (old new : WorkerState) → MakesTurns 1 old new → HasTurned done old new → MakesTurns (steps_in done) old new
+exactly done old new makes turned =
+    let steps = turned-steps done old new turned in
+    record {
+      keeps = makes.keeps;
+      ends = makes.ends;
+      constants = makes.constants;
+      seat = makes.seat;
+      mine = makes.mine;
+      reserved = makes.reserved;
+      come = makes.come;
+      taken = makes.taken;
+      emitted = makes.emitted;
+      batches = makes.batches;
+      rows = turned-rows done old new turned;
+      steps = omega (arith, steps);
+    }
+
+-- ---- many turns
+
+-- an unarmed worker made so many turns, each of them a step
+pub record HasMade (made : ℕ) (old new : WorkerState) : Type 0 where
+  pub makes : MakesTurns made old new
+  pub unsent : HaveSentNothing old.outs new.outs
+  pub unarmed : new.seat ≡ None
+  pub writes : WritesHolds old.journal new.journal
+  pub steps : steps_made new ≡ steps_made old + made
+
+pub made-none : (w : WorkerState) → w.seat ≡ None → HasMade 0 w w
+made-none w unarmed = record { makes = makes-same w; unsent = refl; unarmed = unarmed; writes = holds-none w.journal; steps = omega arith }
+
+-- and then one that is a step, or none
+pub made-then : (n m : ℕ) (done : Turn) (a b c : WorkerState) → steps_in done ≡ m → HasMade n a b → MakesTurns 1 b c → HaveSentNothing b.outs c.outs
+    → MakesTurn b c done → HasMade (n + m) a c
+made-then n m done a b c so before makes unsent turn =
+    let steps = turned-steps done b c turn.turned in
+    let one = subst (λ k. MakesTurns k b c) so (exactly done b c makes turn.turned) in
+    record {
+      makes = makes-then n m a b c (makes-armed n a b before.makes) before.makes one;
+      unsent = unsent ∙ before.unsent;
+      unarmed = still-unarmed 1 b c makes before.unarmed;
+      writes = holds-then a.journal b.journal c.journal before.writes (turn-writes b c done turn.turned);
+      steps = omega (arith, steps, so, before.steps);
+    }
+
+pub made-still : (n : ℕ) (done : Turn) (a b c : WorkerState) → steps_in done ≡ 0 → HasMade n a b → MakesTurns 1 b c → HaveSentNothing b.outs c.outs
+    → MakesTurn b c done → HasMade n a c
+made-still n done a b c none before makes unsent turn =
+    let same : n + 0 ≡ n = omega arith in
+    subst (λ k. HasMade k a c) same (made-then n 0 done a b c none before makes unsent turn)
