@@ -88,6 +88,7 @@ few-row f now found later becomes few less same typed = record {
   shares = same-some (f.ins ≡ []) f.share later same few.shares;
   typed = typed;
   steps = omega arith;
+  unfinished = few.unfinished;
   received = few.received;
   sent = few.sent;
   over = few.over;
@@ -125,6 +126,7 @@ few-emitted f after unfinished few less made over = record {
   shares = few.shares;
   typed = few.typed;
   steps = omega arith;
+  unfinished = few.unfinished;
   received = few.received;
   sent = λ e. made f.emitted (few.sent e);
   over = λ k d below. over k d below ∙ sym unfinished;
@@ -134,14 +136,15 @@ few-emitted f after unfinished few less made over = record {
 
 -- ---- the end
 
-pub few-done : (f : WorkerFields) (after : List Downstream) → AreFew f → f.taken + f.emitted + f.batches + one_if f.finished < 2 ^ 40 → All (λ one. one.link.kept.ended ≡ true) after
+pub few-done : (f : WorkerFields) (after : List Downstream) → f.paused ≡ false → AreFew f → f.taken + f.emitted + f.batches + one_if f.finished < 2 ^ 40 → All (λ one. one.link.kept.ended ≡ true) after
     → AreFew (record f { finished = true; outs = after; journal = f.journal ++ entry.Finish ∷ [] })
-few-done f after few less over = record {
+few-done f after running few less over = record {
   in_order = few.in_order;
   scans = few.scans;
   shares = few.shares;
   typed = few.typed;
   steps = omega arith;
+  unfinished = λ paused. absurd (false≢true (sym running ∙ paused));
   received = few.received;
   sent = λ e. absurd (false≢true (sym e));
   over = over;
@@ -169,6 +172,7 @@ few-batch f columns found later place from number builds batch so built same few
   shares = none f.share few.shares;
   typed = unshared f.share few.shares;
   steps = omega arith;
+  unfinished = few.unfinished;
   received = received;
   sent = few.sent;
   over = few.over;
@@ -223,6 +227,7 @@ few-settled f later few same received built = record {
   shares = none f.share few.shares;
   typed = few.typed;
   steps = few.steps;
+  unfinished = few.unfinished;
   received = received;
   sent = few.sent;
   over = few.over;
@@ -243,26 +248,12 @@ few-sent f later few made over = record {
   shares = few.shares;
   typed = few.typed;
   steps = few.steps;
+  unfinished = few.unfinished;
   received = few.received;
   sent = made;
   over = over;
   routed = few.routed;
   moved = few.moved;
-}
-
--- a leg begins
-pub few-begun : (f : WorkerFields) (journal : List Entry) → AreFew f → journal ≡ [] → AreFew (record f { journal = journal })
-few-begun f journal few none = record {
-  in_order = few.in_order;
-  scans = few.scans;
-  shares = few.shares;
-  typed = few.typed;
-  steps = few.steps;
-  received = few.received;
-  sent = few.sent;
-  over = few.over;
-  routed = few.routed;
-  moved = rw none (none-within (f.taken + f.emitted));
 }
 
 -- ---- units are dealt with
@@ -288,6 +279,7 @@ with-journal f journal few within = record {
   shares = few.shares;
   typed = few.typed;
   steps = few.steps;
+  unfinished = few.unfinished;
   received = few.received;
   sent = few.sent;
   over = few.over;
@@ -302,6 +294,39 @@ few-dealt f how old new deals same few =
 pub few-written : (f : WorkerFields) (one : Entry) → rows_moved one ≡ 0 → AreFew f → AreFew (record f { journal = f.journal ++ one ∷ [] })
 few-written f one none few =
     with-journal f (f.journal ++ one ∷ []) few (All-push (λ e. rows_moved e ≤ f.taken + f.emitted) f.journal one few.moved (omega arith))
+
+-- ---- a pause begins or ends
+
+-- it is paused or not, and where it is it has not finished
+with-paused : (f : WorkerFields) (paused : Bool) → AreFew f → (paused ≡ true → f.finished ≡ false) → AreFew (record f { paused = paused })
+with-paused f paused few unfinished = record {
+  in_order = few.in_order;
+  scans = few.scans;
+  shares = few.shares;
+  typed = few.typed;
+  steps = few.steps;
+  unfinished = unfinished;
+  received = few.received;
+  sent = few.sent;
+  over = few.over;
+  routed = few.routed;
+  moved = few.moved;
+}
+
+-- a worker that has not finished is paused
+pub few-paused : (f : WorkerFields) → AreFew f → f.finished ≡ false → AreFew (record f { paused = true; journal = f.journal ++ entry.Pause ∷ [] })
+few-paused f few unfinished = few-written (record f { paused = true }) entry.Pause refl (with-paused f true few (λ _. unfinished))
+
+-- it goes on
+pub few-resumed : (f : WorkerFields) → AreFew f → AreFew (record f { paused = false; journal = f.journal ++ entry.Resume ∷ [] })
+few-resumed f few = few-written (record f { paused = false }) entry.Resume refl (with-paused f false few (λ paused. absurd (false≢true paused)))
+
+-- a leg begins
+pub few-begun : (f : WorkerFields) (paused : Bool) (journal : List Entry) → AreFew f → paused ≡ false → journal ≡ []
+    → AreFew (record f { paused = paused; journal = journal })
+few-begun f paused journal few running none =
+    with-journal (record f { paused = paused }) journal (with-paused f paused few (λ e. absurd (false≢true (sym running ∙ e))))
+    (rw none (none-within (f.taken + f.emitted)))
 
 -- ---- all streams are ended
 

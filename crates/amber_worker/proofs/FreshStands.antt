@@ -182,6 +182,7 @@ few-fresh kind flow batch_size share task ends building is shared scans typed fr
   shares = alone share shared;
   typed = typed;
   steps = omega arith;
+  unfinished = λ _. refl;
   received = λ k e less. let same = (fresh k e less).0 in omega arith;
   sent = λ _ k e less. let same = ap (λ (o : Outgoing). o.made) (out_ends k e less).1 in omega arith;
   over = λ k e less. ap (λ (o : Outgoing). o.ended) (out_ends k e less).1;

@@ -52,6 +52,7 @@ few-same f now later e same typed few =
       shares = same-some (f.ins ≡ _) f.share later same few.shares;
       typed = typed;
       steps = few.steps;
+      unfinished = few.unfinished;
       received = few.received;
       sent = few.sent;
       over = few.over;

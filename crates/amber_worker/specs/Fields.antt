@@ -73,20 +73,22 @@ pub record WorkerFields : Type 0 where
   pub taken : ℕ
   pub emitted : ℕ
   pub batches : ℕ
+  pub paused : Bool
   pub finished : Bool
   pub ins : List Upstream
   pub outs : List Downstream
   pub route : Route
   pub journal : List Entry
 
--- what a worker counts is within its steps, and these are few; one that has a share is a scan's and has no senders, and its records
--- are typed by these columns
+-- what a worker counts is within its steps, and these are few; one that is paused has not finished; one that has a share is a scan's
+-- and has no senders, and its records are typed by these columns
 pub record AreFew (f : WorkerFields) : Type 0 where
   pub in_order : IsInOrder f.operator_state f.building f.taken f.ins
   pub scans : IfSome f.share (λ _. f.operator_state ≡ operator_state.Scan)
   pub shares : IfSome f.share (λ _. f.ins ≡ [])
   pub typed : IfSome f.share (λ share. share.columns ≡ f.columns)
   pub steps : f.taken + f.emitted + f.batches + one_if f.finished ≤ 2 ^ 40
+  pub unfinished : f.paused ≡ true → f.finished ≡ false
   pub received : All (λ one. one.taken ≤ f.batches) f.ins
   pub sent : f.finished ≡ false → All (λ one. one.link.kept.made ≤ f.emitted) f.outs
   pub over : All (λ one. one.link.kept.ended ≡ f.finished) f.outs

@@ -157,6 +157,7 @@ fresh_fields share task ends = record {
   taken = 0;
   emitted = 0;
   batches = 0;
+  paused = false;
   finished = false;
   ins = ends.ins.items;
   outs = ends.outs.items;

@@ -140,6 +140,7 @@ impl Model for Worker {
       taken = a.taken;
       emitted = a.emitted;
       batches = a.batches;
+      paused = a.flags.paused;
       finished = a.finished;
       ins = a.ins.items;
       outs = a.outs.items;

@@ -81,8 +81,7 @@ impl Worker {
         requires loose { self.old.restraint.held ≡ false }
         ensures ok { OnOk result (self.new ≡ resumed_at self.old) }
         ensures err { OnErr result (self.new ≡ self.old) }
-        ensures keeps { self.old.finished ≡ false
-            → KeepsUnder (is_armed self.old) self.old self.new }
+        ensures keeps { KeepsUnder (is_armed self.old) self.old self.new }
     {
         self.journal.reserve(1)?;
         self.journal.push(Entry::Resume);

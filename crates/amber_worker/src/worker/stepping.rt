@@ -256,7 +256,7 @@ impl Worker {
     fn finish(&mut self, board: Option<&Board>, how: Dealing) -> Result<(), AllocError>
         requires few { steps_made self.old < 2 ^ 40 }
         requires own { IsBoardOf (option_copied board) self.old.seat }
-        requires unfinished { self.old.finished ≡ false }
+        requires free { IsFree self.old }
         requires none { has_some self.old.pending ≡ false }
         requires used { has_some self.old.rest ≡ false }
         requires ended { have_all_ended self.old.ins ≡ true }

@@ -1,12 +1,13 @@
 -- A leg begins.
-use Rattle.std.proofs.Common.{refl, sym, subst}
+use Rattle.std.proofs.Common.{ap, refl, sym, subst}
+use Rattle.amber_meaning.specs.Position.{Restraint}
 use Rattle.amber_worker.specs.Changes.{StandsAtLeg}
 use Rattle.amber_worker.proofs.Bounds.{few-begun}
 use Rattle.amber_worker.proofs.Commands.{stands-at_leg}
 use Rattle.amber_worker.proofs.worker.Worker.begin.Goals as goal
 
 pub invariant_of-self : goal.invariant_of-self
-invariant_of-self c = few-begun _ _ c.self.invariant c.clear.ensures.items
+invariant_of-self c = few-begun _ _ _ c.self.invariant (ap (λ (restraint : Restraint). restraint.paused) (c.release.ensures 0)) c.clear.ensures.items
 
 pub returns-clause-only : goal.returns-clause-only
 returns-clause-only c = rw (← c.self.view_is, c.clear.ensures.items, c.clear.ensures.reserved, c.release.ensures _) refl

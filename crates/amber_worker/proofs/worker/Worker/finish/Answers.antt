@@ -26,8 +26,9 @@ invariant_of-self-2 c =
     let lent = ap length c.as_mut_slice.ensures.value in
     let len : c.self.inside.outs.len ≡ length c.self.inside.outs.items = omega (arith, lent, c.as_mut_slice.ensures.len) in
     let stays : length c.end_streams.new.outs ≡ length c.self.inside.outs.items = omega (arith, lent, c.end_streams.auto.outs) in
+    let running : c.self.inside.flags.paused ≡ false = ap (λ (w : WorkerState). w.restraint.paused) c.self.view_is ∙ c.requires.free.running in
     rw (c.push.ensures.items, written-back _ _ _ len stays)
-    (few-done _ _ (few-dealt _ c.args.how _ _ c.deal.ensures.deals c.reserve.ensures.items c.self.invariant) few c.in_ok-end_streams.ensures.ended)
+    (few-done _ _ running (few-dealt _ c.args.how _ _ c.deal.ensures.deals c.reserve.ensures.items c.self.invariant) few c.in_ok-end_streams.ensures.ended)
 
 pub returns-clause-ok : goal.returns-clause-ok
 returns-clause-ok c =
@@ -59,10 +60,10 @@ invariant_of-self c = rw c.reserve.ensures.items c.self.invariant
 
 pub end_streams-requires-clause-open : goal.end_streams-requires-clause-open
 end_streams-requires-clause-open c =
-    let unfinished : c.self.inside.finished ≡ false = ap (λ (w : WorkerState). w.finished) c.self.view_is ∙ c.requires.unfinished in
+    let unfinished : c.self.inside.finished ≡ false = ap (λ (w : WorkerState). w.finished) c.self.view_is ∙ c.requires.free.unfinished in
     rw c.as_mut_slice.ensures.value (λ k d there. c.self.invariant.over k d there ∙ unfinished)
 
 pub end_streams-requires-clause-few : goal.end_streams-requires-clause-few
 end_streams-requires-clause-few c =
-    let unfinished : c.self.inside.finished ≡ false = ap (λ (w : WorkerState). w.finished) c.self.view_is ∙ c.requires.unfinished in
+    let unfinished : c.self.inside.finished ≡ false = ap (λ (w : WorkerState). w.finished) c.self.view_is ∙ c.requires.free.unfinished in
     rw c.as_mut_slice.ensures.value (few-made _ c.self.invariant unfinished (steps-few c.self.view_is c.requires.few))

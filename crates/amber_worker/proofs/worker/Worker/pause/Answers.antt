@@ -3,6 +3,7 @@ use Rattle.std.proofs.Common.{subst}
 use Rattle.amber_worker.specs.Acting.{paused_at}
 use Rattle.amber_worker.specs.Turning.{MakesTurn}
 use Rattle.amber_worker.specs.declared.turn.Turn.TheVariants as turn
+use Rattle.amber_worker.proofs.Bounds.{few-paused}
 use Rattle.amber_worker.proofs.Dealings.{pauses-again, pauses-ended, pauses-now}
 use Rattle.amber_worker.proofs.Unchanged.{err_so, same-journal}
 use Rattle.amber_worker.proofs.worker.Worker.pause.Goals as goal
@@ -23,3 +24,6 @@ returns-in_err-reserve-clause-err c = err_so c.from_residual.result _ (same-jour
 
 pub invariant_of-self : goal.invariant_of-self
 invariant_of-self c = rw c.reserve.ensures.items c.self.invariant
+
+pub invariant_of-self-then-not-self : goal.invariant_of-self-then-not-self
+invariant_of-self-then-not-self c = rw (c.push.ensures.items, c.reserve.ensures.items) (few-paused _ c.self.invariant c.if-self.false)
