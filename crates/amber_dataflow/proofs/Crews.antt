@@ -59,7 +59,7 @@ joined-each old new same from to joined =
 -- ---- a turn
 
 module _ (query : Query) (start : State) (crew : List WorkerState) (positions : ℕ → Position) (worker : ℕ) (now : WorkerState) where
-  uncounted : AreJoinedAt query start crew positions → (orders_in query start worker).counted ≡ false
+  pub uncounted : AreJoinedAt query start crew positions → (orders_in query start worker).counted ≡ false
   uncounted at = ap (λ count. is_some count) (at.uncounted (op_of query.flow worker))
 
   -- a worker that kept standing, with the same ends, and is unarmed, may take the place of what it was

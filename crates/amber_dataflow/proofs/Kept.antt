@@ -1,5 +1,5 @@
 -- What the calls of all workers keep, as the code has it: the workers stand in a slice of a `Vec`, which comes back.
-use Rattle.std.proofs.Common.{◌≡◌, ◌≢◌, ◌⊎◌, inl, inr, refl, sym, ap, subst, ◌∙◌, ℕ, zero, suc, ◌+◌, ◌-◌, ◌<◌, ◌≤◌, ◌^◌, eqb, nat_eq, sum_by, List, [], ◌∷◌, ◌++◌, length, map, take, drop, Bool, true, false, if◌then◌else◌, Result, Ok, Err, None, Option, unwrap_or, append-nil, arith}
+use Rattle.std.proofs.Common.{◌≡◌, ◌≢◌, ◌⊎◌, inl, inr, refl, sym, ap, subst, ◌∙◌, ℕ, zero, suc, ◌+◌, ◌-◌, ◌<◌, ◌≤◌, ◌^◌, eqb, nat_eq, sum_by, All, List, [], ◌∷◌, ◌++◌, length, map, take, drop, Bool, true, false, if◌then◌else◌, Result, Ok, Err, None, Option, unwrap_or, append-nil, arith}
 use Rattle.std.specs.List.{slice_get}
 use Rattle.std.specs.Result.{IfOk}
 use Rattle.std.proofs.lemmas.Bool.{eq-eqb, ne_eqb}
@@ -21,11 +21,11 @@ use Rattle.amber_meaning.specs.Stops.{op_numbers}
 use Rattle.amber_meaning.proofs.Crews.{op-within, worker-known}
 use Rattle.amber_meaning.proofs.Numbers.{among, among-first, among-more}
 use Rattle.amber_worker.specs.AtPosition.{placement_of}
-use Rattle.amber_worker.specs.Changes.{at_leg_start}
+use Rattle.amber_worker.specs.Changes.{at_leg_start, resumed_at}
 use Rattle.amber_worker.specs.WorkerState.{IsFree, WorkerState, steps_made}
 use Rattle.amber_dataflow.specs.Answers.{IsGathered, ShowAll, ShowWorkers}
-use Rattle.amber_dataflow.specs.AtWork.{AreAtWork, GoesOn, HaveFinished, IsCrew, IsHeldAt, MakesStepAt, MakesTurnsAt, state_reached, steps_by, worker_state_at}
-use Rattle.amber_dataflow.specs.Dataflow.{AreAllThere, AreFree, DataflowState, HasStopped, HaveDoneNothing, IsAnswerOf, IsDataflow, IsFirst, IsHeldNow, IsStarved, MadeStep, ShowAt, TurnsAt, leg_begun, handed_out, has_finished, is_held, is_paused, have_all_finished, journal_of, rows_emitted, step_count, constant_put, when_put, worker_set, worker_watching}
+use Rattle.amber_dataflow.specs.AtWork.{AreAtWork, GoesOn, HaveFinished, IsCrew, IsHeldAt, KeepsPosition, MakesStepAt, MakesTurnsAt, state_reached, steps_by, worker_state_at}
+use Rattle.amber_dataflow.specs.Dataflow.{AreAllThere, AreFree, DataflowState, HasStopped, HaveDoneNothing, IsAnswerOf, IsDataflow, IsFirst, IsHeldNow, IsStarved, MadeStep, ShowAt, StandAgain, TurnsAt, all_resumed, leg_begun, handed_out, has_finished, is_held, is_paused, have_all_finished, journal_of, rows_emitted, step_count, constant_put, when_put, worker_begun, worker_resumed, worker_set, worker_watching}
 use Rattle.amber_dataflow.specs.Parts.{without_journal}
 use Rattle.amber_dataflow.specs.Stopping.{WorkerHasStopped}
 use Rattle.amber_dataflow.proofs.Answered.{at-work-show, some-crew}
@@ -33,7 +33,10 @@ use Rattle.amber_dataflow.proofs.Emitted.{crew-few, others-emitted, own-emitted}
 use Rattle.amber_dataflow.proofs.Numbered.{nth-numbers, uncounted-map}
 use Rattle.amber_dataflow.proofs.Reached.{listed-at}
 use Rattle.amber_dataflow.proofs.Said.{all-have}
-use Rattle.amber_dataflow.proofs.Standing.{begun-steps, handed_out-steps, set-steps, stand-begun, stand-handed_out, stand-set, stand-uncounted, stand-watched, watched-steps}
+use Rattle.amber_dataflow.proofs.Split.{read-at}
+use Rattle.amber_dataflow.proofs.GoneOn.{stands-again}
+use Rattle.amber_dataflow.proofs.Renewed.{HasItsEnds, renewed}
+use Rattle.amber_dataflow.proofs.Standing.{begun_orders, begun-steps, handed_out-steps, set-steps, stand-begun, stand-handed_out, stand-set, stand-uncounted, stand-watched, steps-mapped, watched-steps}
 use Rattle.amber_dataflow.proofs.Steps.{steps-none, sum-member}
 use Rattle.amber_dataflow.proofs.Within.{position-here, steps-reached}
 
@@ -42,6 +45,25 @@ pub written-back : (old new : List WorkerState) (n : ℕ) → length new ≡ len
 written-back old new n same is =
     let none : drop (length new) old ≡ [] = drop_all (length new) old (omega arith) in
     ap (λ xs. take n (new ++ xs)) none ∙ ap (take n) (append-nil new) ∙ take_all n new (omega arith)
+
+-- of those that are lent none has done anything
+pub nothing-lent : (d : DataflowState) (lent : List WorkerState) → lent ≡ d.workers → HaveDoneNothing d → All (λ w. w.journal ≡ []) lent
+unfolding journal_of
+nothing-lent d lent is none = λ k e less. ap (λ (w : WorkerState). w.journal) (read-at lent k e less) ∙ ap (λ crew. (worker_state_at crew k).journal) is ∙ none k
+
+-- none is held
+pub loose-lent : (d : DataflowState) (lent : List WorkerState) → lent ≡ d.workers → ((worker : ℕ) → is_held d worker ≡ false) → All (λ w. w.restraint.held ≡ false) lent
+unfolding is_held
+loose-lent d lent is none = λ k e less. ap (λ (w : WorkerState). w.restraint.held) (read-at lent k e less) ∙ ap (λ crew. (worker_state_at crew k).restraint.held) is ∙ none k
+
+-- no count is armed where none is at any operator
+listed-uncounted : (arms : ℕ → Arms) (flow : List Operator) (positions : List Position) → ((op : ℕ) → (arms op).count ≡ None)
+    → (k : ℕ) → (arms_at (record { arms = map arms (op_numbers flow); positions = positions }) k).count ≡ None
+listed-uncounted arms flow positions none k = by (nat_eq k 0)
+  where
+    by : (b : Bool) → (unwrap_or (if b then None else slice_get (map arms (op_numbers flow)) (k - 1)) no_arms).count ≡ None
+    by true = refl
+    by false = uncounted-map arms (op_numbers flow) none (k - 1)
 
 module _ (d : DataflowState) (keeps : IsDataflow d) where
   -- ---- where workers are left
@@ -174,18 +196,40 @@ module _ (d : DataflowState) (keeps : IsDataflow d) where
 
   -- ---- a leg begins, and journals are handed out
 
-  pub kept-begun : IsDataflow (leg_begun d)
-  kept-begun = record {
+  -- what is in force when it does
+  begun_arms : Bool → Arms → Arms
+  begun_arms true arms = record arms { when = None; count = None }
+  begun_arms false arms = arms
+
+  begun-arms-orders : (to_end : Bool) (arms : Arms) → orders_of (begun_arms to_end arms) ≡ begun_orders to_end (orders_of arms)
+  unfolding begun_arms
+  begun-arms-orders true arms = refl
+  begun-arms-orders false arms = refl
+
+  begun-uncounted : (to_end : Bool) (arms : Arms) → arms.count ≡ None → (begun_arms to_end arms).count ≡ None
+  unfolding begun_arms
+  begun-uncounted true arms none = refl
+  begun-uncounted false arms none = none
+
+  pub kept-begun : (to_end : Bool) → IsDataflow (leg_begun to_end d)
+  kept-begun to_end = record {
     flow = keeps.flow;
-    few = rw (begun-steps d) keeps.few;
+    few = rw (begun-steps to_end d) keeps.few;
     stand = λ there.
-        let stand = keeps.stand (sym (length-map d.workers at_leg_start) ∙ there) in
+        let stand = keeps.stand (sym (length-map d.workers (worker_begun to_end)) ∙ there) in
         let later : ℕ → Position = λ worker. let_go (stand.2 worker) in
-        let now = state_reached stand.0 stand.1 later in (
+        let arms : ℕ → Arms = λ op. begun_arms to_end (arms_at stand.1 op) in
+        let now : State = record { arms = map arms (op_numbers stand.0.flow); positions = map later (numbers_below (crew_of stand.0.flow)) } in
+        let uncounted = stand-uncounted stand.0 stand.1 d stand.2 stand.3 in (
           stand.0,
           now,
           later,
-          stand-begun stand.0 stand.1 d stand.2 stand.3 now (stand-uncounted stand.0 stand.1 d stand.2 stand.3) (λ worker inside. refl)
+          stand-begun stand.0 stand.1 d stand.2 stand.3 now
+              (listed-uncounted arms stand.0.flow now.positions (λ op. begun-uncounted to_end (arms_at stand.1 op) (uncounted op))) to_end
+              (λ worker inside.
+              let placed = op-within stand.0.flow worker inside in
+              ap (λ found. orders_of (unwrap_or found no_arms)) (nth-numbers arms stand.0.flow (op_of stand.0.flow worker) placed.0 placed.1)
+              ∙ begun-arms-orders to_end (arms_at stand.1 (op_of stand.0.flow worker)))
               (λ worker inside. listed-at later (crew_of stand.0.flow) worker inside),
         );
   }
@@ -225,11 +269,7 @@ module _ (query : Query) (start : State) (positions : ℕ → Position) (op : �
       by false = uncounted k
 
   uncounted-changed : (k : ℕ) → (arms_at changed_state k).count ≡ None
-  uncounted-changed k = by (nat_eq k 0)
-    where
-      by : (b : Bool) → (unwrap_or (if b then None else slice_get (map changed_arms (op_numbers query.flow)) (k - 1)) no_arms).count ≡ None
-      by true = refl
-      by false = uncounted-map changed_arms (op_numbers query.flow) uncounted-one (k - 1)
+  uncounted-changed k = listed-uncounted changed_arms query.flow changed_state.positions uncounted-one k
 
   arms-changed : (worker : ℕ) → worker < crew_of query.flow → arms_at changed_state (op_of query.flow worker) ≡ changed_arms (op_of query.flow worker)
   arms-changed worker inside =
@@ -283,6 +323,54 @@ kept-watched d op when keeps none = record {
             (λ worker inside. listed-at stand.2 (crew_of stand.0.flow) worker inside)
             (orders-here stand.0 stand.1 stand.2 op change (λ arms. refl) uncounted) (orders-elsewhere stand.0 stand.1 stand.2 op change (λ arms. refl) uncounted),
       );
+}
+
+-- ---- who was paused goes on
+
+resumed-at : (crew : List WorkerState) (k : ℕ) → worker_state_at (map worker_resumed crew) k ≡ worker_resumed (worker_state_at crew k)
+resumed-at [] k = refl
+resumed-at (w ∷ crew) zero = refl
+resumed-at (w ∷ crew) (suc k) = resumed-at crew k
+
+resumed-ends : (w : WorkerState) → HasItsEnds w (worker_resumed w)
+resumed-ends w = by w.restraint.paused
+  where
+    by : (b : Bool) → HasItsEnds w (if b then resumed_at w else w)
+    by true = record { number = refl; ins = refl; outs = refl; seat = refl }
+    by false = record { number = refl; ins = refl; outs = refl; seat = refl }
+
+resumed-steps : (d : DataflowState) → step_count (all_resumed d) ≡ step_count d
+unfolding step_count
+resumed-steps d = steps-mapped worker_resumed (λ w. same w w.restraint.paused) d.workers
+  where
+    same : (w : WorkerState) (b : Bool) → steps_made (if b then resumed_at w else w) ≡ steps_made w
+    same w true = refl
+    same w false = refl
+
+pub stand-resumed : (d : DataflowState) → ((worker : ℕ) → KeepsPosition (worker_state_at d.workers worker) (worker_state_at (map worker_resumed d.workers) worker)) → StandAgain d (all_resumed d)
+unfolding StandAgain
+stand-resumed d keeps query start positions stand =
+    let crew = d.workers in
+    let now = map worker_resumed crew in
+    let same : (k : ℕ) → HasItsEnds (worker_state_at crew k) (worker_state_at now k) = λ k. rw (resumed-at crew k) (resumed-ends (worker_state_at crew k)) in
+    let gone = stands-again query start crew now positions stand.work.at (length-map crew worker_resumed) keeps in (
+      (λ worker. (gone worker).0),
+      record {
+        flow = stand.flow;
+        work = renewed query start start crew now positions (λ worker. (gone worker).0) stand.work (length-map crew worker_resumed) same
+            (stand-uncounted query start d positions stand) (λ worker inside. (gone worker).1 inside);
+      },
+    )
+
+pub kept-resumed : (d : DataflowState) → IsDataflow d → ((worker : ℕ) → KeepsPosition (worker_state_at d.workers worker) (worker_state_at (map worker_resumed d.workers) worker)) → IsDataflow (all_resumed d)
+unfolding StandAgain
+kept-resumed d keeps each = record {
+  flow = keeps.flow;
+  few = rw (resumed-steps d) keeps.few;
+  stand = λ there.
+      let stand = keeps.stand (sym (length-map d.workers worker_resumed) ∙ there) in
+      let next = stand-resumed d each stand.0 stand.1 stand.2 stand.3 in
+      (stand.0, stand.1, next.0, next.1);
 }
 
 -- ---- a run that has not begun

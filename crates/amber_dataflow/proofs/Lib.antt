@@ -1,12 +1,15 @@
+pub mod AllSettled
 pub mod Answered
 pub mod Begun
 pub mod Changed
 pub mod Copies
 pub mod Crews
 pub mod Dealing
+pub mod Dropped
 pub mod Emitted
 pub mod Gathered
 pub mod Going
+pub mod GoneOn
 pub mod Kept
 pub mod Linked
 pub mod Links
@@ -18,6 +21,7 @@ pub mod OperatorNumbers
 pub mod Orderly
 pub mod PartFacts
 pub mod Passed
+pub mod PutAt
 pub mod Reached
 pub mod Refusing
 pub mod Renewed

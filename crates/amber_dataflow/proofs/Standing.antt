@@ -14,17 +14,18 @@ use Rattle.amber_lines.specs.Moving.{orders_in}
 use Rattle.amber_meaning.specs.Legal.{IsWorked, Query, assignment_in, entries_of}
 use Rattle.amber_meaning.specs.Position.{Position, origin}
 use Rattle.amber_meaning.specs.Replay.{after_leg}
-use Rattle.amber_meaning.specs.Rules.{Leads}
+use Rattle.amber_meaning.specs.Rules.{Leads, Orders}
 use Rattle.amber_meaning.specs.State.{State, arms_at, emitted_by, have_finished, let_go, position_at, restraint_released, steps_in}
 use Rattle.amber_meaning.proofs.OneState.{position-get_or}
-use Rattle.amber_worker.specs.AtPosition.{Context, IsAtPosition, placement_of}
+use Rattle.amber_worker.specs.AtPosition.{Context, IsAtPosition, Shows, placement_of}
 use Rattle.amber_worker.specs.Changes.{ShowsSet, StandsAtLeg, at_leg_start, with_value, with_when}
 use Rattle.amber_worker.specs.WorkerState.{WorkerState, steps_made}
 use Rattle.amber_worker.proofs.Commands.{shows-set, stands-at_leg, stands-watched}
 use Rattle.amber_dataflow.specs.AtWork.{AreAtWork, context_in, emitted_at, state_reached, steps_by, worker_state_at}
-use Rattle.amber_dataflow.specs.Dataflow.{AreAllThere, DataflowState, FirstHaveFinished, HaveDoneNothing, StandAt, leg_begun, handed_out, has_finished, have_all_finished, journal_of, leg_parts, rows_emitted, step_count, constant_put, when_put, worker_set, worker_watching}
+use Rattle.amber_dataflow.specs.Dataflow.{AreAllThere, DataflowState, FirstHaveFinished, HaveDoneNothing, StandAt, leg_begun, handed_out, has_finished, have_all_finished, journal_of, leg_parts, rows_emitted, step_count, constant_put, when_put, worker_begun, worker_set, worker_watching}
 use Rattle.amber_dataflow.specs.Parts.{parts_from, without_journal}
 use Rattle.amber_dataflow.proofs.Emitted.{crew-few}
+use Rattle.amber_dataflow.proofs.PutAt.{ends-set, ends-watched, journal-set, journal-watched, set-at, stands-set, stays, unwatched, watched-at, watches}
 use Rattle.amber_dataflow.proofs.Renewed.{HasItsEnds, renewed}
 use Rattle.amber_dataflow.proofs.Said.{all-have, emitted-is, finished-are, has-not, have-all}
 use Rattle.amber_dataflow.proofs.Steps.{steps-cons}
@@ -48,18 +49,31 @@ listed-whole query state long =
 
 -- ---- the workers begin a leg
 
-begun-at : (crew : List WorkerState) (k : ℕ) → k < length crew → worker_state_at (map at_leg_start crew) k ≡ at_leg_start (worker_state_at crew k)
-begun-at [] k less = absurd (omega arith)
-begun-at (w ∷ crew) zero less = refl
-begun-at (w ∷ crew) (suc k) less = begun-at crew k (omega arith)
+-- the orders of a worker in it: to the end no condition is in force any more, and no count is armed
+abbrev pub begun_orders : Bool → Orders → Orders
+begun_orders true orders = record orders { when = None; counted = false }
+begun_orders false orders = orders
 
-ends-begun : (crew : List WorkerState) (k : ℕ) → HasItsEnds (worker_state_at crew k) (worker_state_at (map at_leg_start crew) k)
-ends-begun [] k = record { number = refl; ins = refl; outs = refl; seat = refl }
-ends-begun (w ∷ crew) zero = record { number = refl; ins = refl; outs = refl; seat = refl }
-ends-begun (w ∷ crew) (suc k) = ends-begun crew k
+begun-at : (to_end : Bool) (crew : List WorkerState) (k : ℕ) → k < length crew → worker_state_at (map (worker_begun to_end) crew) k ≡ worker_begun to_end (worker_state_at crew k)
+begun-at to_end [] k less = absurd (omega arith)
+begun-at to_end (w ∷ crew) zero less = refl
+begun-at to_end (w ∷ crew) (suc k) less = begun-at to_end crew k (omega arith)
+
+ends-begun : (to_end : Bool) (crew : List WorkerState) (k : ℕ) → HasItsEnds (worker_state_at crew k) (worker_state_at (map (worker_begun to_end) crew) k)
+ends-begun to_end [] k = record { number = refl; ins = refl; outs = refl; seat = refl }
+ends-begun true (w ∷ crew) zero = record { number = refl; ins = refl; outs = refl; seat = refl }
+ends-begun false (w ∷ crew) zero = record { number = refl; ins = refl; outs = refl; seat = refl }
+ends-begun to_end (w ∷ crew) (suc k) = ends-begun to_end crew k
+
+-- one stands where the leg begins, under the orders of that leg
+begins : (to_end : Bool) (context : Context) (w : WorkerState) (p : Position) → Shows context w p
+    → IsAtPosition (record context { orders = begun_orders to_end context.orders }) (worker_begun to_end w) (let_go p) (let_go p)
+unfolding StandsAtLeg
+begins true context w p shows = stands-watched context (at_leg_start w) (let_go p) None false (stands-at_leg w context p shows) refl
+begins false context w p shows = stands-at_leg w context p shows
 
 -- a change that leaves each one's steps
-steps-mapped : (f : WorkerState → WorkerState) → ((w : WorkerState) → steps_made (f w) ≡ steps_made w) → (crew : List WorkerState) → steps_by (map f crew) ≡ steps_by crew
+pub steps-mapped : (f : WorkerState → WorkerState) → ((w : WorkerState) → steps_made (f w) ≡ steps_made w) → (crew : List WorkerState) → steps_by (map f crew) ≡ steps_by crew
 steps-mapped f same [] = refl
 steps-mapped f same (w ∷ crew) = rw (steps-cons w crew, steps-cons (f w) (map f crew), same w, steps-mapped f same crew) refl
 
@@ -106,83 +120,6 @@ stands-handed context w start p stands = record {
 
 ends-handed : (crew : List WorkerState) (k : ℕ) → HasItsEnds (worker_state_at crew k) (worker_state_at (map without_journal crew) k)
 ends-handed crew k = rw (handed-at crew k) (record { number = refl; ins = refl; outs = refl; seat = refl })
-
--- ---- another constant
-
-module _ (op : ℕ) (value : Value) where
-  set-at : (crew : List WorkerState) (k : ℕ) → k < length crew → worker_state_at (map (worker_set op value) crew) k ≡ worker_set op value (worker_state_at crew k)
-  set-at [] k less = absurd (omega arith)
-  set-at (w ∷ crew) zero less = refl
-  set-at (w ∷ crew) (suc k) less = set-at crew k (omega arith)
-
-  ends-set : (crew : List WorkerState) (k : ℕ) → HasItsEnds (worker_state_at crew k) (worker_state_at (map (worker_set op value) crew) k)
-  ends-set [] k = record { number = refl; ins = refl; outs = refl; seat = refl }
-  ends-set (w ∷ crew) zero = by (eqb w.op op)
-    where
-      by : (b : Bool) → HasItsEnds w (if b then record w { operator_state = with_value value w.operator_state } else w)
-      by true = record { number = refl; ins = refl; outs = refl; seat = refl }
-      by false = record { number = refl; ins = refl; outs = refl; seat = refl }
-  ends-set (w ∷ crew) (suc k) = ends-set crew k
-
-  journal-set : (crew : List WorkerState) (k : ℕ) → (worker_state_at (map (worker_set op value) crew) k).journal ≡ (worker_state_at crew k).journal
-  journal-set [] k = refl
-  journal-set (w ∷ crew) zero = by (eqb w.op op)
-    where
-      by : (b : Bool) → (if b then record w { operator_state = with_value value w.operator_state } else w).journal ≡ w.journal
-      by true = refl
-      by false = refl
-  journal-set (w ∷ crew) (suc k) = journal-set crew k
-
-  -- where it is one of the operator
-  stands-set : (context : Context) (w : WorkerState) (p : Position) → context.placement.op ≡ op → w.journal ≡ [] → IsAtPosition context w p p
-      → IsAtPosition (record context { orders = record context.orders { constants = value ∷ [] } }) (worker_set op value w) p p
-  unfolding Leads AreEntries ShowsSet
-  stands-set context w p own none stands =
-      rw (eq-eqb w.op op (stands.shows.op ∙ own)) (record {
-        leads = rw none refl;
-        text = rw none tt;
-        shows = shows-set value w context p stands.shows;
-      })
-
-  -- where it is not, it stays as it was
-  stays : (w : WorkerState) → w.op ≢ op → worker_set op value w ≡ w
-  stays w other = ap (λ b. if b then record w { operator_state = with_value value w.operator_state } else w) (ne_eqb w.op op other)
-
--- ---- another condition
-
-module _ (op : ℕ) (when : Option Cond) where
-  watched-at : (crew : List WorkerState) (k : ℕ) → k < length crew → worker_state_at (map (worker_watching op when) crew) k ≡ worker_watching op when (worker_state_at crew k)
-  watched-at [] k less = absurd (omega arith)
-  watched-at (w ∷ crew) zero less = refl
-  watched-at (w ∷ crew) (suc k) less = watched-at crew k (omega arith)
-
-  ends-watched : (crew : List WorkerState) (k : ℕ) → HasItsEnds (worker_state_at crew k) (worker_state_at (map (worker_watching op when) crew) k)
-  ends-watched [] k = record { number = refl; ins = refl; outs = refl; seat = refl }
-  ends-watched (w ∷ crew) zero = by (eqb w.op op)
-    where
-      by : (b : Bool) → HasItsEnds w (if b then record w { when = when } else w)
-      by true = record { number = refl; ins = refl; outs = refl; seat = refl }
-      by false = record { number = refl; ins = refl; outs = refl; seat = refl }
-  ends-watched (w ∷ crew) (suc k) = ends-watched crew k
-
-  journal-watched : (crew : List WorkerState) (k : ℕ) → (worker_state_at (map (worker_watching op when) crew) k).journal ≡ (worker_state_at crew k).journal
-  journal-watched [] k = refl
-  journal-watched (w ∷ crew) zero = by (eqb w.op op)
-    where
-      by : (b : Bool) → (if b then record w { when = when } else w).journal ≡ w.journal
-      by true = refl
-      by false = refl
-  journal-watched (w ∷ crew) (suc k) = journal-watched crew k
-
-  -- where it is one of the operator
-  watches : (context : Context) (w : WorkerState) (p : Position) → context.placement.op ≡ op → w.journal ≡ [] → IsAtPosition context w p p
-      → IsAtPosition (with_when when context.orders.counted context) (worker_watching op when w) p p
-  watches context w p own none stands =
-      rw (eq-eqb w.op op (stands.shows.op ∙ own)) (stands-watched context w p when context.orders.counted stands none)
-
-  -- where it is not, it stays as it was
-  unwatched : (w : WorkerState) → w.op ≢ op → worker_watching op when w ≡ w
-  unwatched w other = ap (λ b. if b then record w { when = when } else w) (ne_eqb w.op op other)
 
 -- ---- where they stand
 
@@ -268,19 +205,18 @@ module _ (query : Query) (start : State) (d : DataflowState) (positions : ℕ �
 
   module _ (now : State) (uncounted : (op : ℕ) → (arms_at now op).count ≡ None) where
     -- a leg begins
-    pub stand-begun : ((worker : ℕ) → worker < crew_of query.flow → orders_in query now worker ≡ orders_in query start worker)
+    pub stand-begun : (to_end : Bool) → ((worker : ℕ) → worker < crew_of query.flow → orders_in query now worker ≡ begun_orders to_end (orders_in query start worker))
         → ((worker : ℕ) → worker < crew_of query.flow → position_at now.positions worker ≡ let_go (positions worker))
-        → StandAt query now (leg_begun d) (λ worker. let_go (positions worker))
-    unfolding StandsAtLeg
-    stand-begun orders at = record {
+        → StandAt query now (leg_begun to_end d) (λ worker. let_go (positions worker))
+    stand-begun to_end orders at = record {
       flow = stand.flow;
-      work = renewed query start now d.workers (map at_leg_start d.workers) positions (λ worker. let_go (positions worker)) work
-          (length-map d.workers at_leg_start) (ends-begun d.workers) uncounted
+      work = renewed query start now d.workers (map (worker_begun to_end) d.workers) positions (λ worker. let_go (positions worker)) work
+          (length-map d.workers (worker_begun to_end)) (ends-begun to_end d.workers) uncounted
           (λ worker inside.
           let here : worker < length d.workers = rw stand-all inside in
           let w = worker_state_at d.workers worker in
-          let begin = stands-at_leg w (context_in query start worker) (positions worker) (work.at.at_positions.each worker inside).shows in
-          rw (begun-at d.workers worker here, orders worker inside, at worker inside) begin);
+          let begin = begins to_end (context_in query start worker) w (positions worker) (work.at.at_positions.each worker inside).shows in
+          rw (begun-at to_end d.workers worker here, orders worker inside, at worker inside) begin);
     }
 
     -- the journals were handed out
@@ -377,20 +313,22 @@ pub set-nothing : (op : ℕ) (value : Value) (d : DataflowState) → HaveDoneNot
 unfolding journal_of
 set-nothing op value d none worker = journal-set op value d.workers worker ∙ none worker
 
-none-begun : (number : ℕ) (crew : List WorkerState) → parts_from number (map at_leg_start crew) ≡ []
+none-begun : (to_end : Bool) (number : ℕ) (crew : List WorkerState) → parts_from number (map (worker_begun to_end) crew) ≡ []
 unfolding parts_from
-none-begun number [] = refl
-none-begun number (w ∷ crew) = none-begun (number + 1) crew
+none-begun to_end number [] = refl
+none-begun true number (w ∷ crew) = none-begun true (number + 1) crew
+none-begun false number (w ∷ crew) = none-begun false (number + 1) crew
 
-pub begun-parts : (d : DataflowState) → leg_parts (leg_begun d) ≡ []
+pub begun-parts : (to_end : Bool) (d : DataflowState) → leg_parts (leg_begun to_end d) ≡ []
 unfolding leg_parts
-begun-parts d = none-begun 0 d.workers
+begun-parts to_end d = none-begun to_end 0 d.workers
 
 -- ---- steps
 
-pub begun-steps : (d : DataflowState) → step_count (leg_begun d) ≡ step_count d
+pub begun-steps : (to_end : Bool) (d : DataflowState) → step_count (leg_begun to_end d) ≡ step_count d
 unfolding step_count
-begun-steps d = steps-mapped at_leg_start (λ w. refl) d.workers
+begun-steps true d = steps-mapped (worker_begun true) (λ w. refl) d.workers
+begun-steps false d = steps-mapped (worker_begun false) (λ w. refl) d.workers
 
 pub handed_out-steps : (d : DataflowState) → step_count (handed_out d) ≡ step_count d
 unfolding step_count

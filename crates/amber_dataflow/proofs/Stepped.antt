@@ -26,7 +26,7 @@ use Rattle.amber_dataflow.proofs.Steps.{steps-cons, sum-more}
 use Rattle.amber_dataflow.proofs.Untold.{still-unarmed}
 
 -- the steps of workers that are the same but for their links
-steps-besides : (old new : List WorkerState) → length new ≡ length old → AreSameBesides old new → steps_by new ≡ steps_by old
+pub steps-besides : (old new : List WorkerState) → length new ≡ length old → AreSameBesides old new → steps_by new ≡ steps_by old
 steps-besides [] [] long same = refl
 steps-besides [] (w ∷ new) long same = absurd (omega arith)
 steps-besides (w ∷ old) [] long same = absurd (omega arith)

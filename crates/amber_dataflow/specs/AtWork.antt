@@ -14,10 +14,10 @@ use Rattle.amber_lines.specs.Moving.{orders_in}
 use Rattle.amber_meaning.specs.Legal.{Query}
 use Rattle.amber_meaning.specs.Position.{Position}
 use Rattle.amber_meaning.specs.State.{State, arms_at, position_at}
-use Rattle.amber_worker.specs.AtPosition.{Context, IsAtPosition, Placement, no_base, placement_of}
+use Rattle.amber_worker.specs.AtPosition.{Context, IsAtPosition, KeepsUnder, Placement, no_base, placement_of}
 use Rattle.amber_worker.specs.Pairs.{AreJoined, AreSettledAt, IsLinkAt}
 use Rattle.amber_worker.specs.Turning.{WritesStep, other_entries}
-use Rattle.amber_worker.specs.WorkerState.{WorkerState, empty_worker_state, steps_made}
+use Rattle.amber_worker.specs.WorkerState.{WorkerState, empty_worker_state, is_armed, steps_made}
 
 -- ---- one of the workers
 
@@ -85,6 +85,10 @@ abbrev pub IsCrew : List WorkerState → Type 0
 IsCrew crew = (query : Query) × (start : State) × (positions : ℕ → Position) × AreAtWork query start crew positions
 
 -- ---- what they do
+
+-- wherever a worker stood it stands again, armed or not as it was
+abbrev pub KeepsPosition : WorkerState → WorkerState → Type 0
+KeepsPosition old new = KeepsUnder (is_armed old) old new
 
 -- of whatever workflow they are the workers, they still are, and stand where they stood
 unfoldable pub StayPut : List WorkerState → List WorkerState → Type 0

@@ -1,5 +1,5 @@
 -- The workers of a run with the workflow that they carry out: what is read of them, where they stand, and what a step does.
-use Rattle.std.specs.Prelude.{◌≡◌, ◌≢◌, ◌⊎◌, ℕ, ◌+◌, ◌==◌, ◌^◌, ◌<◌, ◌≤◌, List, [], ◌∷◌, ◌++◌, length, map, Option, Bool, true, false, if◌then◌else◌}
+use Rattle.std.specs.Prelude.{◌≡◌, ◌≢◌, ◌⊎◌, ℕ, ◌+◌, ◌==◌, ◌^◌, ◌<◌, ◌≤◌, List, [], ◌∷◌, ◌++◌, length, map, slice_set, Option, None, is_some, Bool, true, false, if◌then◌else◌}
 use Rattle.std.specs.List.{list_all}
 use Rattle.amber_rows.specs.Topology.{crew_of, op_of, workers_of}
 use Rattle.amber_rows.specs.FlowRules.{IsFlow}
@@ -15,11 +15,12 @@ use Rattle.amber_meaning.specs.State.{State}
 use Rattle.amber_meaning.specs.Views.{answer_in, inspected_of}
 use Rattle.amber_meaning.specs.declared.answer.Answer.{Answer}
 use Rattle.amber_meaning.specs.declared.view.WorkerView.{WorkerView}
-use Rattle.amber_worker.specs.Changes.{at_leg_start, with_value}
+use Rattle.amber_worker.specs.Changes.{at_leg_start, held_dropped, resumed_at, row_held, with_value}
 use Rattle.amber_worker.specs.Turning.{WritesStep}
 use Rattle.amber_worker.specs.WorkerState.{WorkerState, next_turn}
 use Rattle.amber_worker.specs.declared.turn.Turn.TheVariants as turn
-use Rattle.amber_dataflow.specs.AtWork.{AreAtWork, WritesHolds, emitted_at, state_reached, steps_by, worker_state_at}
+use Rattle.amber_dataflow.specs.Passing.{AreSameBesides}
+use Rattle.amber_dataflow.specs.AtWork.{AreAtWork, AreJoinedAt, WritesHolds, emitted_at, state_reached, steps_by, worker_state_at}
 use Rattle.amber_dataflow.specs.Parts.{parts_from, without_journal}
 
 pub record DataflowState : Type 0 where
@@ -47,6 +48,13 @@ has_finished d worker = (worker_state_at d.workers worker).finished
 unfoldable pub have_all_finished : DataflowState → Bool
 have_all_finished d = list_all (λ w. w.finished) d.workers
 
+-- a worker is held before its next row, and is paused
+unfoldable pub is_held : DataflowState → ℕ → Bool
+is_held d worker = (worker_state_at d.workers worker).restraint.held
+
+unfoldable pub is_paused : DataflowState → ℕ → Bool
+is_paused d worker = (worker_state_at d.workers worker).restraint.paused
+
 -- what a worker has done since its journal was handed out
 unfoldable pub journal_of : DataflowState → ℕ → List Entry
 journal_of d worker = (worker_state_at d.workers worker).journal
@@ -65,9 +73,13 @@ HaveDoneNothing d = (worker : ℕ) → journal_of d worker ≡ []
 
 -- ---- what calls change
 
--- a leg begins: pauses end, a held row may go, and nothing was done since
-abbrev pub leg_begun : DataflowState → DataflowState
-leg_begun d = record d { workers = map at_leg_start d.workers }
+-- a worker begins a leg: pauses end, a held row may go, and nothing was done since; to the end no condition is in force any more
+abbrev pub worker_begun : Bool → WorkerState → WorkerState
+worker_begun to_end w = if to_end then record (at_leg_start w) { when = None } else at_leg_start w
+
+-- each does
+abbrev pub leg_begun : Bool → DataflowState → DataflowState
+leg_begun to_end d = record d { workers = map (worker_begun to_end) d.workers }
 
 -- the journals were handed out
 abbrev pub handed_out : DataflowState → DataflowState
@@ -89,6 +101,25 @@ worker_watching op when w = if w.op == op then record w { when = when } else w
 abbrev pub when_put : ℕ → Option Cond → DataflowState → DataflowState
 when_put op when d = record d { workers = map (worker_watching op when) d.workers }
 
+-- the row before which a worker is held, if it is
+unfoldable pub held_row : DataflowState → ℕ → Option (List Value)
+held_row d worker = row_held (worker_state_at d.workers worker)
+
+-- who is held stands before a row
+abbrev pub AreHeldByRows : DataflowState → Type 0
+AreHeldByRows d = (worker : ℕ) → is_held d worker ≡ true → is_some (held_row d worker) ≡ true
+
+-- that row was dropped
+abbrev pub row_dropped : ℕ → DataflowState → DataflowState
+row_dropped worker d = record d { workers = slice_set d.workers worker (held_dropped (worker_state_at d.workers worker)) }
+
+-- a worker that was paused goes on
+abbrev pub worker_resumed : WorkerState → WorkerState
+worker_resumed w = if w.restraint.paused then resumed_at w else w
+
+abbrev pub all_resumed : DataflowState → DataflowState
+all_resumed d = record d { workers = map worker_resumed d.workers }
+
 -- nobody is left
 abbrev pub without_workers : DataflowState → DataflowState
 without_workers d = record d { workers = [] }
@@ -106,6 +137,22 @@ pub record IsDataflow (d : DataflowState) : Type 0 where
   pub flow : IsFlow d.flow
   pub few : step_count d ≤ 2 ^ 40
   pub stand : AreAllThere d → (query : Query) × (start : State) × (positions : ℕ → Position) × StandAt query start d positions
+
+-- workers of this workflow stand somewhere, joined by their links
+abbrev pub AreCrewOf : List Operator → List WorkerState → Type 0
+AreCrewOf flow crew = (query : Query) × (start : State) × (positions : ℕ → Position) × (query.flow ≡ flow) × AreJoinedAt query start crew positions
+
+-- such workers are here again: they stand where they stood, all that they made is in the inboxes, and nothing else has changed
+pub record AreBack (crew : List WorkerState) (d : DataflowState) : Type 0 where
+  pub there : AreAllThere d
+  pub stand : (query : Query) (start : State) (positions : ℕ → Position) → query.flow ≡ d.flow → AreJoinedAt query start crew positions
+      → StandAt query start d positions
+  pub same : AreSameBesides crew d.workers
+
+-- wherever they stood, they stand again, in the same leg
+unfoldable pub StandAgain : DataflowState → DataflowState → Type 0
+StandAgain old new = (query : Query) (start : State) (positions : ℕ → Position) → StandAt query start old positions
+    → (later : ℕ → Position) × StandAt query start new later
 
 -- ---- turns
 
@@ -129,13 +176,6 @@ pub record TurnsAt (most : ℕ) (old new : DataflowState) (worker : ℕ) : Type 
 -- a worker can do nothing until a batch comes
 unfoldable pub IsStarved : DataflowState → ℕ → Type 0
 IsStarved d worker = next_turn (worker_state_at d.workers worker) ≡ turn.Idle
-
--- a worker is held before its next row, and is paused
-unfoldable pub is_held : DataflowState → ℕ → Bool
-is_held d worker = (worker_state_at d.workers worker).restraint.held
-
-unfoldable pub is_paused : DataflowState → ℕ → Bool
-is_paused d worker = (worker_state_at d.workers worker).restraint.paused
 
 -- it makes no more turns: it has finished, is held or paused, or can do nothing until a batch comes
 abbrev pub HasStopped : DataflowState → ℕ → Type 0

@@ -32,6 +32,10 @@ pub record PassedOn (old : List WorkerState) (from to : ℕ) (new : List WorkerS
 abbrev pub SettledStay : List WorkerState → List WorkerState → Type 0
 SettledStay old new = (from to : ℕ) → from < to → to < length old → Settled old from to → Settled new from to
 
+-- all that was made for the first so many workers is in their inboxes
+abbrev pub AreAllSettled : ℕ → List WorkerState → Type 0
+AreAllSettled count crew = (to : ℕ) → to < count → (from : ℕ) → list_any (λ one. one.from == from) (worker_state_at crew to).ins ≡ true → Settled crew from to
+
 -- the workers are as they were, but for batches at the ends of their links
 abbrev pub AreSameBesides : List WorkerState → List WorkerState → Type 0
 AreSameBesides old new = (worker : ℕ) → IsSameBesides (worker_state_at old worker) (worker_state_at new worker)

@@ -1,26 +1,30 @@
 //! The workers of a run and their workflow: how they begin, what a step does, and what is read of them. Over
 //! the functions of the other files, each of which does one of these for all workers.
 
-ghost use Rattle.std.specs.Prelude.{◌≡◌, ◌+◌, ◌^◌, ◌<◌, ◌≤◌, ℕ, IfOk, None, OnErr, OnOk, false, length, replicate};
+ghost use Rattle.std.specs.Prelude.{◌≡◌, ◌+◌, ◌^◌, ◌<◌, ◌≤◌, ℕ, IfOk, None, OnErr, OnOk, Some, false, length, option_map, replicate};
 ghost use Rattle.amber_rows.specs.Topology.{crew_of};
 ghost use Rattle.amber_meaning.specs.Legal.{query_over};
 ghost use Rattle.amber_meaning.specs.Plain.{wrong_header};
 ghost use Rattle.amber_meaning.specs.Position.{origin};
 ghost use Rattle.amber_meaning.specs.State.{start_of};
 ghost use Rattle.amber_dataflow.specs.Dataflow as dataflow;
-ghost use Rattle.amber_dataflow.specs.Dataflow.{AreAllThere, AreFree, FirstSteps, HasStopped, HaveDoneNothing, IsAnswerOf, ShowAt, StandAt, TurnsAt};
-ghost use Rattle.amber_dataflow.specs.Dataflow.{leg_begun, handed_out, leg_parts, step_count, constant_put, without_workers};
+ghost use Rattle.amber_dataflow.specs.AtWork.{steps_by};
+ghost use Rattle.amber_dataflow.specs.Dataflow.{AreAllThere, AreBack, AreCrewOf, AreFree, AreHeldByRows, FirstSteps, HasStopped, HaveDoneNothing, IsAnswerOf, ShowAt, StandAgain, StandAt, TurnsAt};
+ghost use Rattle.amber_dataflow.specs.Dataflow.{all_resumed, constant_put, handed_out, leg_begun, leg_parts, row_dropped, step_count, when_put, without_workers};
 
 use crate::counts::{emitted_by, have_finished, steps_of};
 use crate::gathering::{gather, gather_all};
 use crate::journals::take_parts;
 use crate::new_workers::start_crew;
-use crate::setting::{begin_all, copies_of, set_workers};
+use crate::setting::{
+    begin_all, conditions_of, copies_of, resume_all, set_workers, unwatch_workers, watch_workers,
+};
+use crate::settling::settle_all;
 use crate::stepping::{first_unfinished, step_worker, turn_worker};
 use crate::views::views_of;
 use amber_log::Parts;
 use amber_meaning::{Answer, Views};
-use amber_rows::{Files, Flow, Value};
+use amber_rows::{Cond, Files, Flow, Row, Value};
 use amber_worker::Worker;
 use std::alloc::{AllocError, Global};
 use std::marker::Model;
@@ -75,11 +79,12 @@ impl Dataflow {
 
     // ---- a leg
 
-    /// Each worker begins a leg: pauses end, and nothing was done since.
-    pub fn begin(&mut self)
-        ensures { self.new ≡ leg_begun self.old }
+    /// Each worker begins a leg: pauses end, a held row may go, and nothing was done since. In a leg to the end no
+    /// condition is in force any more.
+    pub fn begin(&mut self, to_end: bool)
+        ensures { self.new ≡ leg_begun to_end self.old }
     {
-        begin_all(self.workers.as_mut_slice());
+        begin_all(to_end, self.workers.as_mut_slice());
     }
 
     /// Turns of a worker, until so many are made, it has finished, is held or paused, or can do nothing until a batch
@@ -140,6 +145,107 @@ impl Dataflow {
                 Err(error)
             }
         }
+    }
+
+    /// Each worker goes on that was paused. After running out of memory no worker is left.
+    pub fn resume(&mut self) -> Result<(), AllocError>
+        requires loose { (worker : ℕ) → dataflow.is_held self.old worker ≡ false }
+        ensures ok { OnOk result (self.new ≡ all_resumed self.old) }
+        ensures stand { OnOk result (StandAgain self.old self.new) }
+        ensures err { OnErr result (self.new ≡ without_workers self.old) }
+    {
+        match resume_all(self.workers.as_mut_slice()) {
+            Ok(()) => Ok(()),
+            Err(error) => {
+                self.workers.clear();
+                Err(error)
+            }
+        }
+    }
+
+    // ---- workers that are away
+
+    /// Hands the workers out, in the order of their numbers, and keeps none. It takes no memory.
+    pub fn lend(&mut self, alloc: Global) -> Vec<Worker>
+        ensures workers { result.items ≡ self.old.workers }
+        ensures none { self.new ≡ without_workers self.old }
+    {
+        mem::replace(&mut self.workers, Vec::new(alloc))
+    }
+
+    /// Takes workers of this workflow in, wherever they stand. All that they have made goes on to its receivers. After
+    /// running out of memory no worker is left.
+    pub fn take_back(&mut self, workers: Vec<Worker>) -> Result<(), AllocError>
+        requires joined { AreCrewOf self.old.flow workers.items }
+        requires few { steps_by workers.items ≤ 2 ^ 40 }
+        ensures back { OnOk result (AreBack workers.items self.new) }
+        ensures flow { self.new.flow ≡ self.old.flow }
+        ensures err { OnErr result (self.new ≡ without_workers self.old) }
+    {
+        let mut workers = workers;
+        self.workers.clear();
+        settle_all(workers.as_mut_slice())?;
+        self.workers = workers;
+        Ok(())
+    }
+
+    // ---- conditions
+
+    /// A copy of a condition for each worker.
+    pub fn conditions_of(&self, alloc: Global, cond: &Cond) -> Result<Vec<Cond>, AllocError>
+        ensures { IfOk result
+            (λ copies. copies.items ≡ replicate (length self.now.workers) cond.now) }
+    {
+        conditions_of(alloc, cond, self.workers.len())
+    }
+
+    /// Puts a condition in place of that of an operator's workers: before a row that meets it they are held. It takes no
+    /// memory: the copies are those of `conditions_of`.
+    pub fn watch(&mut self, op: u32, cond: &Cond, copies: Vec<Cond>)
+        requires copies { copies.items ≡ replicate (length self.old.workers) cond.now }
+        requires rest { HaveDoneNothing self.old }
+        ensures { self.new ≡ when_put op (Some cond.now) self.old }
+    {
+        watch_workers(op, cond, copies, self.workers.as_mut_slice());
+    }
+
+    /// Takes back the condition of an operator's workers. Who is held stays so.
+    pub fn unwatch(&mut self, op: u32)
+        requires rest { HaveDoneNothing self.old }
+        ensures { self.new ≡ when_put op None self.old }
+    {
+        unwatch_workers(op, self.workers.as_mut_slice());
+    }
+
+    /// Drops the row before which a worker is held, and hands it out. Where it is not held there is none, and nothing
+    /// changes.
+    pub fn drop_held(&mut self, worker: u32) -> Option<Row>
+        requires workers { AreAllThere self.old }
+        requires there { worker < crew_of self.old.flow }
+        requires rest { HaveDoneNothing self.old }
+        requires rows { AreHeldByRows self.old }
+        ensures row { result ≡ dataflow.held_row self.old worker }
+        ensures only { self.new ≡ row_dropped worker self.old }
+    {
+        self.workers[worker as usize].drop_held()
+    }
+
+    /// The row before which a worker is held, if it is.
+    pub fn held_row(&self, worker: u32) -> Option<&Row>
+        requires workers { AreAllThere self.now }
+        requires there { worker < crew_of self.now.flow }
+        ensures { option_map (λ row. row.now) result ≡ dataflow.held_row self.now worker }
+    {
+        self.workers[worker as usize].held_row()
+    }
+
+    /// Whether a worker is held before its next row.
+    pub fn is_held(&self, worker: u32) -> bool
+        requires workers { AreAllThere self.now }
+        requires there { worker < crew_of self.now.flow }
+        ensures { result ≡ dataflow.is_held self.now worker }
+    {
+        self.workers[worker as usize].is_held()
     }
 
     // ---- another constant

@@ -5,7 +5,7 @@ ghost use Rattle.std.specs.Prelude.{◌≡◌, ◌≢◌, ◌<◌, ◌==◌, ℕ
 ghost use Rattle.std.specs.List.{list_any};
 ghost use Rattle.amber_link.specs.declared.downstreams.Downstream.{Downstream};
 ghost use Rattle.amber_dataflow.specs.AtWork.{IsJoinedCrew, StayPut, worker_state_at};
-ghost use Rattle.amber_dataflow.specs.Passing.{AreSameBesides, Come, IsSettledAt, PassedOn, Settled, SettledStay};
+ghost use Rattle.amber_dataflow.specs.Passing.{AreAllSettled, AreSameBesides, Come, IsSettledAt, PassedOn, Settled, SettledStay};
 
 use amber_worker::{Worker, settle_workers};
 use std::alloc::AllocError;
@@ -95,4 +95,17 @@ pub(crate) fn settle_worker(crew: &mut [Worker], number: usize) -> Result<(), Al
 {
     settle_outputs(crew, number)?;
     settle_inputs(crew, number)
+}
+
+/// Moves on all that any worker has made.
+pub(crate) fn settle_all(crew: &mut [Worker]) -> Result<(), AllocError>
+    requires { IsJoinedCrew crew.old }
+    ensures put { OnOk result (StayPut crew.old crew.new) }
+    ensures settled { OnOk result (AreAllSettled (length crew.old) crew.new) }
+    ensures aside { OnOk result (AreSameBesides crew.old crew.new) }
+{
+    'workers: for number in 0..crew.len() {
+        settle_inputs(crew, number)?;
+    }
+    Ok(())
 }
