@@ -1,5 +1,5 @@
 -- All that any worker has made is in the inboxes.
-use Rattle.std.proofs.Common.{◌≡◌, ◌≢◌, refl, sym, ap, subst, ◌∙◌, ℕ, ◌+◌, ◌<◌, ◌^◌, ◌≤◌, List, length, nat_eq, true, inl, inr, arith}
+use Rattle.std.proofs.Common.{◌≡◌, ◌≢◌, refl, sym, ap, subst, ◌∙◌, ℕ, ◌+◌, ◌<◌, ◌^◌, ◌≤◌, List, [], ◌∷◌, suc, length, nat_eq, true, inl, inr, arith}
 use Rattle.std.specs.List.{list_any}
 use Rattle.std.proofs.lemmas.Bool.Decides.{eqb_tells}
 use Rattle.amber_rows.specs.Topology.{crew_of}
@@ -7,7 +7,8 @@ use Rattle.amber_rows.specs.FlowRules.{IsFlow}
 use Rattle.amber_rows.specs.declared.flow.Operator.{Operator}
 use Rattle.amber_worker.specs.WorkerState.{WorkerState}
 use Rattle.amber_dataflow.specs.AtWork.{AreAtWork, AreJoinedAt, IsJoinedCrew, StayPut, steps_by, worker_state_at}
-use Rattle.amber_dataflow.specs.Dataflow.{AreBack, AreCrewOf, IsDataflow, step_count}
+use Rattle.amber_dataflow.specs.Dataflow.{AreBack, AreCrewOf, DataflowState, IsDataflow, leg_parts, step_count}
+use Rattle.amber_dataflow.specs.Parts.{parts_from}
 use Rattle.amber_dataflow.specs.Passing.{AreAllSettled, AreSameBesides, Settled, SettledStay}
 use Rattle.amber_dataflow.proofs.Numbers.{length-put}
 use Rattle.amber_dataflow.proofs.Sending.{sending, sending-in}
@@ -57,3 +58,21 @@ module _ (flow : List Operator) (crew now : List WorkerState) (are : AreCrewOf f
     few = let same = steps-besides crew now long aside in omega arith;
     stand = λ there. (are.0, are.1, are.2, record { flow = sym are.3; work = at-work are.0 are.1 are.2 are.4 });
   }
+
+-- ---- what is read of workers that are the same but for their links
+
+pub besides-parts : (number : ℕ) (old new : List WorkerState) → length new ≡ length old → AreSameBesides old new → parts_from number new ≡ parts_from number old
+unfolding parts_from
+besides-parts number [] [] long same = refl
+besides-parts number [] (w ∷ new) long same = absurd (omega arith)
+besides-parts number (w ∷ old) [] long same = absurd (omega arith)
+besides-parts number (w ∷ old) (v ∷ new) long same =
+    rw (ap (λ (one : WorkerState). one.journal) (same 0), besides-parts (number + 1) old new (omega (arith, long)) (λ k. same (suc k))) refl
+
+pub back-parts : (crew : List WorkerState) (d : DataflowState) → AreCrewOf d.flow crew → AreBack crew d → leg_parts d ≡ parts_from 0 crew
+unfolding leg_parts
+back-parts crew d are back = besides-parts 0 crew d.workers (back.there ∙ sym (are.4.at_positions.all ∙ ap crew_of are.3)) back.same
+
+pub back-steps : (crew : List WorkerState) (d : DataflowState) → AreCrewOf d.flow crew → AreBack crew d → step_count d ≡ steps_by crew
+unfolding step_count
+back-steps crew d are back = steps-besides crew d.workers (back.there ∙ sym (are.4.at_positions.all ∙ ap crew_of are.3)) back.same

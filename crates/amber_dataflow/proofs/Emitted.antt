@@ -66,7 +66,7 @@ module _ (flow operators : List Operator) (crew : List WorkerState) (op place fi
 
 -- ---- where one worker moves
 
-emitted-same : (old new : List WorkerState) (workers : List ℕ) → ((worker : ℕ) → among worker workers ≡ true → (worker_state_at new worker).emitted ≡ (worker_state_at old worker).emitted)
+pub emitted-same : (old new : List WorkerState) (workers : List ℕ) → ((worker : ℕ) → among worker workers ≡ true → (worker_state_at new worker).emitted ≡ (worker_state_at old worker).emitted)
     → emitted_at new workers ≡ emitted_at old workers
 emitted-same old new [] same = refl
 emitted-same old new (worker ∷ more) same =

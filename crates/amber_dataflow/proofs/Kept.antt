@@ -34,9 +34,7 @@ use Rattle.amber_dataflow.proofs.Numbered.{nth-numbers, uncounted-map}
 use Rattle.amber_dataflow.proofs.Reached.{listed-at}
 use Rattle.amber_dataflow.proofs.Said.{all-have}
 use Rattle.amber_dataflow.proofs.Split.{read-at}
-use Rattle.amber_dataflow.proofs.GoneOn.{stands-again}
-use Rattle.amber_dataflow.proofs.Renewed.{HasItsEnds, renewed}
-use Rattle.amber_dataflow.proofs.Standing.{begun_orders, begun-steps, handed_out-steps, set-steps, stand-begun, stand-handed_out, stand-set, stand-uncounted, stand-watched, steps-mapped, watched-steps}
+use Rattle.amber_dataflow.proofs.Standing.{begun_orders, begun-steps, handed_out-steps, set-steps, stand-begun, stand-handed_out, stand-set, stand-uncounted, stand-watched, watched-steps}
 use Rattle.amber_dataflow.proofs.Steps.{steps-none, sum-member}
 use Rattle.amber_dataflow.proofs.Within.{position-here, steps-reached}
 
@@ -323,54 +321,6 @@ kept-watched d op when keeps none = record {
             (λ worker inside. listed-at stand.2 (crew_of stand.0.flow) worker inside)
             (orders-here stand.0 stand.1 stand.2 op change (λ arms. refl) uncounted) (orders-elsewhere stand.0 stand.1 stand.2 op change (λ arms. refl) uncounted),
       );
-}
-
--- ---- who was paused goes on
-
-resumed-at : (crew : List WorkerState) (k : ℕ) → worker_state_at (map worker_resumed crew) k ≡ worker_resumed (worker_state_at crew k)
-resumed-at [] k = refl
-resumed-at (w ∷ crew) zero = refl
-resumed-at (w ∷ crew) (suc k) = resumed-at crew k
-
-resumed-ends : (w : WorkerState) → HasItsEnds w (worker_resumed w)
-resumed-ends w = by w.restraint.paused
-  where
-    by : (b : Bool) → HasItsEnds w (if b then resumed_at w else w)
-    by true = record { number = refl; ins = refl; outs = refl; seat = refl }
-    by false = record { number = refl; ins = refl; outs = refl; seat = refl }
-
-resumed-steps : (d : DataflowState) → step_count (all_resumed d) ≡ step_count d
-unfolding step_count
-resumed-steps d = steps-mapped worker_resumed (λ w. same w w.restraint.paused) d.workers
-  where
-    same : (w : WorkerState) (b : Bool) → steps_made (if b then resumed_at w else w) ≡ steps_made w
-    same w true = refl
-    same w false = refl
-
-pub stand-resumed : (d : DataflowState) → ((worker : ℕ) → KeepsPosition (worker_state_at d.workers worker) (worker_state_at (map worker_resumed d.workers) worker)) → StandAgain d (all_resumed d)
-unfolding StandAgain
-stand-resumed d keeps query start positions stand =
-    let crew = d.workers in
-    let now = map worker_resumed crew in
-    let same : (k : ℕ) → HasItsEnds (worker_state_at crew k) (worker_state_at now k) = λ k. rw (resumed-at crew k) (resumed-ends (worker_state_at crew k)) in
-    let gone = stands-again query start crew now positions stand.work.at (length-map crew worker_resumed) keeps in (
-      (λ worker. (gone worker).0),
-      record {
-        flow = stand.flow;
-        work = renewed query start start crew now positions (λ worker. (gone worker).0) stand.work (length-map crew worker_resumed) same
-            (stand-uncounted query start d positions stand) (λ worker inside. (gone worker).1 inside);
-      },
-    )
-
-pub kept-resumed : (d : DataflowState) → IsDataflow d → ((worker : ℕ) → KeepsPosition (worker_state_at d.workers worker) (worker_state_at (map worker_resumed d.workers) worker)) → IsDataflow (all_resumed d)
-unfolding StandAgain
-kept-resumed d keeps each = record {
-  flow = keeps.flow;
-  few = rw (resumed-steps d) keeps.few;
-  stand = λ there.
-      let stand = keeps.stand (sym (length-map d.workers worker_resumed) ∙ there) in
-      let next = stand-resumed d each stand.0 stand.1 stand.2 stand.3 in
-      (stand.0, stand.1, next.0, next.1);
 }
 
 -- ---- a run that has not begun

@@ -25,6 +25,7 @@ pub mod PutAt
 pub mod Reached
 pub mod Refusing
 pub mod Renewed
+pub mod Resumed
 pub mod Said
 pub mod Sending
 pub mod SortedRefusals

@@ -3,7 +3,8 @@ use Rattle.std.proofs.Common.{◌≡◌, ℕ, ap, subst, sym, ◌∙◌, length,
 use Rattle.std.proofs.lemmas.List.{length-map}
 use Rattle.amber_dataflow.specs.AtWork.{KeepsPosition, worker_state_at}
 use Rattle.amber_dataflow.specs.Dataflow.{DataflowState, IsDataflow, StandAgain, is_held, worker_resumed}
-use Rattle.amber_dataflow.proofs.Kept.{kept-resumed, loose-lent, none-left, stand-resumed, written-back}
+use Rattle.amber_dataflow.proofs.Kept.{loose-lent, none-left, written-back}
+use Rattle.amber_dataflow.proofs.Resumed.{kept-resumed, stand-resumed}
 use Rattle.amber_dataflow.proofs.dataflow.Dataflow.resume.Goals as goal
 
 pub resume_all-requires : goal.resume_all-requires
