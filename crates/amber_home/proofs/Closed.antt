@@ -14,7 +14,7 @@ use Rattle.amber_log.specs.declared.log.Log.{Log}
 use Rattle.amber_meaning.specs.declared.view.Stop.{Stop}
 use Rattle.amber_meaning.specs.Legal.{IsLegal, IsOpen, IsWorked, Query, after_close, leg_start, stops_in}
 use Rattle.amber_meaning.specs.Replay.{state_after}
-use Rattle.amber_meaning.specs.State.{Arms, State, arms_at, no_arms, orders_of, position_at}
+use Rattle.amber_meaning.specs.State.{State, arms_at, no_arms, orders_of, position_at}
 use Rattle.amber_meaning.specs.Stops.{arms_left, count_left, op_numbers, without_stops}
 use Rattle.amber_meaning.proofs.Crews.{op-within}
 use Rattle.amber_meaning.proofs.OneState.{legal_logs_have_one_state}
@@ -24,11 +24,12 @@ use Rattle.amber_dataflow.specs.AtWork.{IsQuiet, state_reached}
 use Rattle.amber_dataflow.specs.Dataflow.{DataflowState, StandAt, handed_out, leg_parts}
 use Rattle.amber_dataflow.proofs.Numbered.{nth-numbers, quiet-map}
 use Rattle.amber_dataflow.proofs.Standing.{handed_out-nothing, stand-at, stand-flow, stand-handed_out, stand-position, stand-quiet, stand-steps, stand-text, stand-worked}
+use Rattle.amber_home.specs.Asked.{Asked, IsInForce}
 use Rattle.amber_home.specs.HomeState.{ClosesIn, HomeState, item_of_leg, query_of, rest_state, with_item}
 use Rattle.amber_home.specs.Kept.{IsAtRest, IsWithinLeg}
 use Rattle.amber_home.specs.declared.phase.Phase.TheVariants as phase
 
--- ---- what a close leaves in force
+-- ---- the orders that a close leaves (for now from `stand-quiet`: no run has a count or a condition yet)
 
 module _ (flow : List Operator) (state : State) (quiet : (op : ℕ) → IsQuiet (arms_at state op)) where
   left-quiet : (op : ℕ) → IsQuiet (arms_left flow state op)
@@ -88,7 +89,7 @@ close-of : (to_end : Bool) (query : Query) (log : Log) (parts : List Part) (clos
 close-of true query log parts closed leg closes = ends_close query log parts closed leg closes
 close-of false query log parts closed leg closes = runs_close query log parts closed leg closes
 
-module _ (to_end : Bool) (e : HomeState) (d : DataflowState) (arms : List Arms) (leg : IsWithinLeg to_end e d arms) (legal : IsLegal (query_of e) e.log) where
+module _ (to_end : Bool) (e : HomeState) (d : DataflowState) (arms : List Asked) (leg : IsWithinLeg to_end e d arms) (legal : IsLegal (query_of e) e.log) where
   abbrev query : Query
   query = query_of e
 
@@ -132,8 +133,8 @@ module _ (to_end : Bool) (e : HomeState) (d : DataflowState) (arms : List Arms) 
       same-item false = refl
 
   -- and at rest they stand where it says
-  pub rest-closed : (closed : Close) → ClosesIn to_end query reached closed → (now : List Arms) (stops : List Stop)
-      → now ≡ (closed_state to_end query reached closed).arms → stops ≡ stops_in query reached
+  pub rest-closed : (closed : Close) → ClosesIn to_end query reached closed → (now : List Asked) (stops : List Stop)
+      → IsInForce query.flow (closed_state to_end query reached closed) now → stops ≡ stops_in query reached
       → IsAtRest (record e { log = with_item e.log (item_of_leg to_end (leg_parts d) closed); phase = phase.Resting; parts = [] })
       (record { dataflow = handed_out d; arms = now; stops = stops })
   rest-closed closed closes now stops now-is stops-are =
@@ -150,6 +151,6 @@ module _ (to_end : Bool) (e : HomeState) (d : DataflowState) (arms : List Arms) 
         at = subst (λ (s : State). StandAt query s (handed_out d) (position_at s.positions)) (sym rest)
             (stand-at query after (handed_out d) leg.positions given (position_at after.positions) here);
         none = handed_out-nothing d;
-        arms_are = now-is ∙ ap (λ (s : State). s.arms) (sym rest);
+        in_force = subst (λ (s : State). IsInForce query.flow s now) (sym rest) now-is;
         stops_are = stops-are ∙ sym (kept-closed closed);
       }

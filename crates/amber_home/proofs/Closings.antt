@@ -1,13 +1,14 @@
 -- A leg of a home may be closed, and the home after that.
-use Rattle.std.proofs.Common.{◌≡◌, sym, ap, subst, ◌∙◌, List, [], ◌≤◌, Bool, true, false}
+use Rattle.std.proofs.Common.{◌≡◌, sym, subst, ◌∙◌, List, [], ◌≤◌, Bool, true, false}
 use Rattle.std.proofs.lemmas.Bool.{false≢true}
 use Rattle.amber_log.specs.declared.leg.Close.{Close}
 use Rattle.amber_log.specs.declared.leg.Close.TheVariants as close
 use Rattle.amber_log.specs.declared.log.Log.{Log}
 use Rattle.amber_meaning.specs.declared.view.Stop.{Stop}
 use Rattle.amber_meaning.specs.Legal.{IsSettled}
-use Rattle.amber_meaning.specs.State.{Arms, State, steps_in}
+use Rattle.amber_meaning.specs.State.{State, steps_in}
 use Rattle.amber_dataflow.specs.Dataflow.{handed_out, leg_parts}
+use Rattle.amber_home.specs.Asked.{Asked}
 use Rattle.amber_home.specs.HomeState.{ClosesIn, HomeState, MayClose, is_open, item_of_leg, leg_state, query_of, runs_to_end, state_of, stops_of_home, with_item}
 use Rattle.amber_home.specs.Kept.{IsHome, LiveState}
 use Rattle.amber_home.specs.Leg.{closed_arms, stops_by}
@@ -15,12 +16,12 @@ use Rattle.amber_home.specs.Parts.{open_parts}
 use Rattle.amber_home.specs.declared.phase.Phase.{Phase}
 use Rattle.amber_home.specs.declared.phase.Phase.TheVariants as phase
 use Rattle.amber_home.proofs.Closed.{legal-closed, rest-closed}
-use Rattle.amber_home.proofs.Cut.{closed-is}
-use Rattle.amber_home.proofs.Legs.{few-here, loose, settled-here, start, state-here}
+use Rattle.amber_home.proofs.Cut.{in-force-closed}
+use Rattle.amber_home.proofs.Legs.{few-here, settled-here, start, state-here}
 use Rattle.amber_home.proofs.Stopped.{stops-are}
 
 module _ (e : HomeState) (live : LiveState) where
-  pub home-closed : (now : Phase) → IsHome (record e { phase = now }) live → is_open now ≡ true → (closed : Close) (log : Log) (later : List Arms) (kept : List Stop)
+  pub home-closed : (now : Phase) → IsHome (record e { phase = now }) live → is_open now ≡ true → (closed : Close) (log : Log) (later : List Asked) (kept : List Stop)
       → ClosesIn (runs_to_end now) (query_of e) (state_of (record e { phase = now; parts = open_parts now live.dataflow })) closed
       → log ≡ with_item e.log (item_of_leg (runs_to_end now) (leg_parts live.dataflow) closed)
       → later ≡ closed_arms (runs_to_end now) closed live.arms live.dataflow
@@ -40,8 +41,8 @@ module _ (e : HomeState) (live : LiveState) where
         few = home.few;
         legal = (legal-closed to_end here d live.arms leg home.legal closed may).0;
         stands = rest-closed to_end here d live.arms leg home.legal closed may later kept
-            (later-is ∙ ap (λ a. closed_arms to_end closed a d) leg.arms_are ∙ sym (closed-is (query_of e) begin d leg.positions leg.at to_end closed))
-            (kept-is ∙ sym (stops-are (query_of e) begin d leg.positions leg.at live.arms leg.arms_are (loose to_end here d live.arms leg home.legal)));
+            (rw later-is (in-force-closed (query_of e) begin d leg.positions leg.at live.arms leg.in_force to_end closed))
+            (kept-is ∙ sym (stops-are (query_of e) begin d leg.positions leg.at live.arms leg.in_force));
       })
 
   -- what calls tell is enough

@@ -1,5 +1,5 @@
 -- A command is done at rest: the log is legal with it, and the workers stand where it says.
-use Rattle.std.proofs.Common.{◌≡◌, ◌≢◌, refl, sym, ap, subst, ◌∙◌, ℕ, zero, suc, ◌+◌, ◌-◌, eqb, nat_eq, List, [], ◌∷◌, length, Bool, true, false, Option, None, Some, unwrap_or, option_map, if◌then◌else◌, inl, inr}
+use Rattle.std.proofs.Common.{◌≡◌, ◌≢◌, refl, sym, ap, subst, ◌∙◌, ℕ, zero, suc, ◌+◌, ◌-◌, ◌≤◌, eqb, nat_eq, List, [], ◌∷◌, length, Bool, true, false, Option, None, Some, unwrap_or, if◌then◌else◌, inl, inr}
 use Rattle.std.specs.List.{slice_get}
 use Rattle.std.proofs.lemmas.Bool.Decides.{eqb_tells}
 use Rattle.amber_rows.specs.Topology.{op_of}
@@ -20,26 +20,28 @@ use Rattle.amber_log.specs.declared.log.Log.{Log}
 use Rattle.amber_meaning.specs.Legal.{IsLegal, Query}
 use Rattle.amber_meaning.specs.Replay.{state_after}
 use Rattle.amber_meaning.specs.State.{Arms, State, after_action, after_command, arms_changed, arms_at, gone_at, no_arms, orders_of, position_at, put_constant}
-use Rattle.amber_meaning.proofs.AtRest.{IsBuilt, armed-alike, armed-count, armed-orders, armed-when, built, built-positions, rest-there}
+use Rattle.amber_meaning.proofs.AtRest.{IsBuilt, armed-count, armed-orders, armed-when, built, built-positions, rest-there}
 use Rattle.amber_meaning.proofs.Fronts.{legal_logs_grow}
 use Rattle.amber_meaning.proofs.Lists.{nth-next}
 use Rattle.amber_meaning.proofs.OneState.{legal_logs_have_one_state}
 use Rattle.amber_meaning.proofs.Rest.{legal_logs_rest}
 use Rattle.amber_meaning.proofs.Senders.{flows_send_forward}
 use Rattle.amber_dataflow.specs.AtWork.{IsQuiet}
-use Rattle.amber_dataflow.specs.Dataflow.{DataflowState, HaveDoneNothing, StandAt}
-use Rattle.amber_dataflow.proofs.Standing.{set-nothing, stand-at, stand-flow, stand-kept, stand-quiet, stand-set}
+use Rattle.amber_dataflow.specs.Dataflow.{AreAllThere, DataflowState, HaveDoneNothing, StandAt, rows_emitted}
+use Rattle.amber_dataflow.proofs.Standing.{set-nothing, stand-at, stand-flow, stand-kept, stand-quiet, stand-set, stand-there}
 use Rattle.amber_home.specs.Applied.{HasOperator, arms_after, dataflow_after, with_constants}
+use Rattle.amber_home.specs.Asked.{IsInForce}
 use Rattle.amber_home.specs.HomeState.{HomeState, query_of, rest_state, with_item}
 use Rattle.amber_home.specs.Kept.{IsAtRest, IsHome, LiveState, StandsIn}
 use Rattle.amber_home.specs.Parts.{open_parts}
 use Rattle.amber_home.specs.declared.phase.Phase.{Phase}
 use Rattle.amber_home.specs.declared.phase.Phase.TheVariants as phase
-use Rattle.amber_home.proofs.Ended.{nth-here, nth-other, nth-some}
 use Rattle.amber_home.proofs.Homes.{at-rest}
-use Rattle.amber_home.proofs.Opened.{first-rest}
+use Rattle.amber_home.proofs.InForce.{in-force-after}
+use Rattle.amber_home.proofs.Opened.{emitted-rest, first-rest}
+use Rattle.amber_home.proofs.Places.{at-here, nth-other}
 
--- ---- what is in force, where the arms of one operator were changed
+-- ---- orders, where the arms of one operator were changed (for now from `stand-quiet`: no run has a count or a condition yet)
 
 module _ (change : Arms → Arms) where
   -- a fact that the change keeps
@@ -83,14 +85,6 @@ module _ (change : Arms → Arms) where
         by true = refl
         by false = get-orders leaves op 1 arms quiet-places (k - 1)
 
-  arms-here : (op : ℕ) (arms : List Arms) → HasOperator op (length arms) → unwrap_or (nth (changed_at change op arms) op) no_arms ≡ change (unwrap_or (nth arms op) no_arms)
-  arms-here op arms there =
-      ap (λ found. unwrap_or found no_arms) (nth-here change op arms there.0 ∙ ap (option_map change) (nth-some arms op there.0 there.1))
-
--- where no count is armed, it does not matter how many rows are gone
-arms-same : (effect : Effect) (gone : List ℕ) (arms : List Arms) → IsBuilt effect → arms_after effect arms ≡ changed_at (arms_changed effect.arming gone) effect.op arms
-arms-same effect gone arms is = ap (λ change. changed_at change effect.op arms) (armed-alike effect [] gone is)
-
 -- ---- where the workers stand
 
 pub nothing-after : (op : ℕ) (constant : Option Value) (d : DataflowState) → HaveDoneNothing d → HaveDoneNothing (with_constants op constant d)
@@ -129,7 +123,7 @@ module _ (query : Query) (state : State) (d : DataflowState) (stand : StandAt qu
       → orders_in query after worker ≡ record (orders_in query state worker) { constants = put_constant effect.arming.constant (orders_in query state worker).constants }
   orders-here worker same =
       ap (λ k. orders_of (arms_at after k)) same
-      ∙ ap orders_of (arms-here asked effect.op state.arms (rw long there))
+      ∙ ap orders_of (at-here no_arms asked effect.op state.arms there.0 (rw long there.1))
       ∙ orders-asked (arms_at state effect.op) (quiet effect.op)
       ∙ ap (λ k. record (orders_of (arms_at state k)) { constants = put_constant effect.arming.constant (arms_at state k).constants }) (sym same)
 
@@ -177,7 +171,13 @@ module _ (e : HomeState) (live : LiveState) (home : IsHome e live) (resting : e.
 
   -- the operator that a command names is there
   pub names-resting : (one : Command) (effect : Effect) → action_of one ≡ AtRest effect → fits_of e.flow one ≡ true → HasOperator effect.op (length live.arms)
-  names-resting one effect is fits = rw (ap length rest.arms_are ∙ long) (rest-there e.flow one effect is fits)
+  names-resting one effect is fits = rw rest.in_force.all (rest-there e.flow one effect is fits)
+
+  pub there-resting : AreAllThere live.dataflow
+  there-resting = stand-there (query_of e) (rest_state e) live.dataflow (position_at (rest_state e).positions) rest.at
+
+  pub flow-has : (one : Command) (effect : Effect) → action_of one ≡ AtRest effect → fits_of e.flow one ≡ true → effect.op ≤ length e.flow
+  flow-has one effect is fits = (rest-there e.flow one effect is fits).1
 
   module _ (one : Command) (effect : Effect) (is : action_of one ≡ AtRest effect) (more : ends_over false e.log.items ≡ false) (fits : fits_of e.flow one ≡ true)
       (done : is_built effect ≡ true) (text : IsCommand one) where
@@ -191,7 +191,7 @@ module _ (e : HomeState) (live : LiveState) (home : IsHome e live) (resting : e.
         (grown.0, grown.1 ∙ ap (after_command e.flow one) (sym first) ∙ ap (λ a. after_action e.flow a (rest_state e)) is)
 
     -- where the log has the command, and what it asks for is done
-    module _ (log : Log) (now : LiveState) (same : live.dataflow.flow ≡ e.flow) (log-is : log ≡ with_item e.log (item.Do one)) (arms-is : now.arms ≡ arms_after effect live.arms)
+    module _ (log : Log) (now : LiveState) (same : live.dataflow.flow ≡ e.flow) (log-is : log ≡ with_item e.log (item.Do one)) (arms-is : now.arms ≡ arms_after effect (rows_emitted live.dataflow effect.op) live.arms)
         (dataflow-is : now.dataflow ≡ dataflow_after effect live.dataflow) (stops-is : now.stops ≡ live.stops) where
       flow-same : now.dataflow.flow ≡ e.flow
       flow-same = ap (λ (d : DataflowState). d.flow) dataflow-is ∙ flow-after effect.op effect.arming.constant live.dataflow ∙ same
@@ -201,6 +201,10 @@ module _ (e : HomeState) (live : LiveState) (home : IsHome e live) (resting : e.
 
       pub state-commanded : record e { flow = now.dataflow.flow; log = log; parts = open_parts e.phase now.dataflow } ≡ record e { log = with_item e.log (item.Do one); parts = [] }
       state-commanded = λ i. record e { flow = flow-same i; log = log-is i; parts = none-open i }
+
+      in-force-next : HasOperator effect.op (length e.flow) → IsInForce e.flow next now.arms
+      in-force-next there =
+          rw (arms-is, ← emitted-rest e live rest home.legal effect.op) (in-force-after e.flow (rest_state e) live.arms rest.in_force effect there long)
 
       pub home-commanded : IsHome (record e { flow = now.dataflow.flow; log = log; parts = open_parts e.phase now.dataflow }) now
       home-commanded =
@@ -216,7 +220,7 @@ module _ (e : HomeState) (live : LiveState) (home : IsHome e live) (resting : e.
             stands = subst (λ (p : Phase). StandsIn p (record e { log = with_item e.log (item.Do one); parts = [] }) now) (sym resting) (record {
               at = rw (here, dataflow-is) (stands-after query state live.dataflow rest.at rest.none long effect can (rest-there e.flow one effect is fits));
               none = rw dataflow-is (nothing-after effect.op effect.arming.constant live.dataflow rest.none);
-              arms_are = arms-is ∙ ap (arms_after effect) rest.arms_are ∙ arms-same effect (gone_at e.flow state effect.op) state.arms can ∙ ap (λ (s : State). s.arms) (sym here);
+              in_force = subst (λ (s : State). IsInForce e.flow s now.arms) (sym here) (in-force-next (rest-there e.flow one effect is fits));
               stops_are = stops-is ∙ rest.stops_are ∙ sym (commands_keep_stops query e.log.items (item.Do one) refl);
             });
           })

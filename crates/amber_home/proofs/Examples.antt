@@ -32,6 +32,7 @@ use Rattle.amber_meaning.proofs.Lists.{nth-next}
 use Rattle.amber_worker.specs.Steps.{with_go}
 use Rattle.amber_worker.specs.Turning.{WritesStep}
 use Rattle.amber_worker.proofs.ExampleFlow.{from_two}
+use Rattle.amber_home.specs.Asked.{Asked, no_asked}
 use Rattle.amber_home.specs.HomeState.{ClosesLeg, HomeState, IsLeftAlone, StepsOn, first_unfinished, leg_state, query_of, rest_state, state_of}
 use Rattle.amber_dataflow.specs.Dataflow.{DataflowState}
 use Rattle.amber_dataflow.proofs.Standing.{stand-there}
@@ -249,14 +250,18 @@ nothing_is_said_of_workers = record { few = omega arith; legal = nothing_done_is
 too_many_steps : IsHome (record (home [] phase.Spent []) { most = 2 ^ 40 + 1 }) (nobody []) → ⊥
 too_many_steps keeps = let wrong = keeps.few in absurd (omega arith)
 
-nobody_is_there : IsHome (home [] phase.Resting []) (record (nobody from_two) { arms = armed 1 }) → ⊥
+-- what a home keeps of a pause after one row
+abbrev asked_once : List Asked
+asked_once = no_asked ∷ record no_asked { pause = Some 1; constants = value.Int (pos 2) ∷ [] } ∷ no_asked ∷ []
+
+nobody_is_there : IsHome (home [] phase.Resting []) (record (nobody from_two) { arms = asked_once }) → ⊥
 unfolding homes_on_literals
 nobody_is_there keeps = let wrong = stand-there _ _ _ _ keeps.stands.at in absurd (omega arith)
 
-what_nobody_asked_for : (d : DataflowState) → IsHome (home [] phase.Resting []) (record { dataflow = d; arms = armed 1; stops = [] }) → ⊥
+what_nobody_asked_for : (d : DataflowState) → IsHome (home [] phase.Resting []) (record { dataflow = d; arms = asked_once; stops = [] }) → ⊥
 unfolding state_after after_items start_of
-what_nobody_asked_for d keeps = none_some 1 (sym (ap (λ arms. (unwrap_or (nth arms 2) no_arms).pause) keeps.stands.arms_are))
+what_nobody_asked_for d keeps = none_some 1 (sym (keeps.stands.in_force.each 2).pause)
 
-a_stop_before_any_leg : (d : DataflowState) (arms : List Arms) → IsHome (home [] phase.Resting []) (record { dataflow = d; arms = arms; stops = stop.End ∷ [] }) → ⊥
+a_stop_before_any_leg : (d : DataflowState) (arms : List Asked) → IsHome (home [] phase.Resting []) (record { dataflow = d; arms = arms; stops = stop.End ∷ [] }) → ⊥
 unfolding kept_stops stops_along
 a_stop_before_any_leg d arms keeps = let wrong = keeps.stands.stops_are in cc

@@ -8,20 +8,22 @@ use Rattle.amber_meaning.specs.declared.view.Stop.{Stop}
 use Rattle.amber_meaning.specs.Legal.{IsLegal, Query, Reaches, query_over}
 use Rattle.amber_meaning.specs.Position.{origin}
 use Rattle.amber_meaning.specs.Replay.{after_items, state_after}
-use Rattle.amber_meaning.specs.State.{Arms, position_at, start_of}
+use Rattle.amber_meaning.specs.State.{position_at, start_of}
 use Rattle.amber_dataflow.specs.Dataflow.{DataflowState, HaveDoneNothing, StandAt}
 use Rattle.amber_dataflow.proofs.Begun.{start-position}
 use Rattle.amber_dataflow.proofs.Standing.{stand-at}
+use Rattle.amber_home.specs.Asked.{Asked, first_asked}
 use Rattle.amber_home.specs.Kept.{IsHome}
 use Rattle.amber_home.specs.declared.phase.Phase.TheVariants as phase
+use Rattle.amber_home.proofs.InForce.{in-force-first}
 
 -- the empty log is legal
 fresh-legal : (query : Query) → 0 < query.batch_size → query.batch_size ≤ 65536 → IsLegal query (record { batch = query.batch_size; items = [] })
 unfolding AreItems Reaches
 fresh-legal query some few = record { text = record { batch = (some, few); items = tt }; batch = refl; after = start_of query.flow; reached = refl }
 
-pub home-new : (flow : List Operator) (files : List (List ℕ)) (most batch : ℕ) (items : List Item) (d : DataflowState) (arms : List Arms) (stops : List Stop)
-    → most ≤ 2 ^ 40 → 0 < batch → batch ≤ 65536 → items ≡ [] → arms ≡ (start_of flow).arms → stops ≡ []
+pub home-new : (flow : List Operator) (files : List (List ℕ)) (most batch : ℕ) (items : List Item) (d : DataflowState) (arms : List Asked) (stops : List Stop)
+    → most ≤ 2 ^ 40 → 0 < batch → batch ≤ 65536 → items ≡ [] → arms ≡ first_asked flow → stops ≡ []
     → StandAt (query_over flow files batch most) (start_of flow) d (λ _. origin) → HaveDoneNothing d
     → IsHome (record { flow = flow; files = files; most = most; log = record { batch = batch; items = items }; phase = phase.Resting; parts = [] })
     (record { dataflow = d; arms = arms; stops = stops })
@@ -36,7 +38,7 @@ home-new flow files most batch items d arms stops few some small fresh arms-are 
       stands = record {
         at = stand-at query (start_of flow) d (λ _. origin) stand (position_at (start_of flow).positions) (λ worker inside. start-position flow worker);
         none = nothing;
-        arms_are = arms-are;
+        in_force = rw arms-are (in-force-first flow);
         stops_are = none;
       };
     })

@@ -4,18 +4,19 @@ use Rattle.std.proofs.lemmas.Bool.{false≢true}
 use Rattle.amber_rows.specs.declared.flow.Operator.{Operator}
 use Rattle.amber_log.specs.Grammar.{ends_over}
 use Rattle.amber_log.specs.declared.leg.Close.{Close}
-use Rattle.amber_meaning.specs.State.{Arms, without_arms}
 use Rattle.amber_dataflow.specs.Dataflow.{AreAllThere, DataflowState, leg_begun, leg_parts, step_count}
 use Rattle.amber_dataflow.proofs.Standing.{begun-parts, stand-there}
+use Rattle.amber_home.specs.Asked.{Asked, without_asked}
 use Rattle.amber_home.specs.Going.{GoOn}
-use Rattle.amber_home.specs.Leg.{IsLegDone}
+use Rattle.amber_home.specs.Leg.{IsLegDone, held_of}
 use Rattle.amber_home.specs.HomeState.{ClosesIn, HomeState, has_crew, is_open, query_of, runs_to_end, state_of}
 use Rattle.amber_home.specs.Kept.{IsAtRest, IsHome, LiveState, StandsIn}
 use Rattle.amber_home.specs.Parts.{open_parts}
 use Rattle.amber_home.specs.declared.phase.Phase.{Phase}
 use Rattle.amber_home.specs.declared.phase.Phase.TheVariants as phase
-use Rattle.amber_home.proofs.Legs.{arms-long, closes-here, within-on}
+use Rattle.amber_home.proofs.Legs.{closes-here, within-on}
 use Rattle.amber_home.proofs.Opened.{opened}
+use Rattle.amber_home.proofs.Reached.{none-held}
 
 pub at-rest : (e : HomeState) (live : LiveState) → IsHome e live → e.phase ≡ phase.Resting → IsAtRest e live
 at-rest e live home resting = subst (λ now. StandsIn now e live) resting home.stands
@@ -30,7 +31,7 @@ open-there phase.Spent within = within
 -- ---- a leg is opened
 
 module _ (e : HomeState) (live : LiveState) (to_end : Bool) (home : IsHome e live) (resting : e.phase ≡ phase.Resting) (more : ends_over false e.log.items ≡ false)
-    (after : DataflowState) (after-is : after ≡ leg_begun live.dataflow) (now : List Arms) (now-is : now ≡ (if to_end then map without_arms live.arms else live.arms))
+    (after : DataflowState) (after-is : after ≡ leg_begun live.dataflow) (now : List Asked) (now-is : now ≡ (if to_end then map without_asked live.arms else live.arms))
     (same : live.dataflow.flow ≡ e.flow) where
   pub home-opened : IsHome (record e { flow = after.flow; phase = phase.Open to_end; parts = open_parts (phase.Open to_end) after }) (record { dataflow = after; arms = now; stops = live.stops })
   home-opened =
@@ -58,11 +59,18 @@ module _ (e : HomeState) (live : LiveState) where
   home-there phase.Resting home there = stand-there _ _ live.dataflow _ home.stands.at
   home-there (phase.Open to_end) home there = stand-there _ _ live.dataflow _ home.stands.at
 
+  -- nobody is held
+  pub home-loose : (now : Phase) → IsHome (record e { phase = now }) live → has_crew now ≡ true → held_of live.dataflow ≡ []
+  home-loose phase.Over home there = absurd (false≢true there)
+  home-loose phase.Spent home there = absurd (false≢true there)
+  home-loose phase.Resting home there = none-held _ _ live.dataflow _ home.stands.at
+  home-loose (phase.Open to_end) home there = none-held _ _ live.dataflow _ home.stands.at
+
   pub long-open : (now : Phase) → IsHome (record e { phase = now }) live → is_open now ≡ true → length live.arms ≡ length e.flow
   long-open phase.Resting home within = absurd (false≢true within)
   long-open phase.Over home within = absurd (false≢true within)
   long-open phase.Spent home within = absurd (false≢true within)
-  long-open (phase.Open to_end) home within = arms-long to_end (record e { phase = phase.Open to_end }) live.dataflow live.arms home.stands home.legal
+  long-open (phase.Open to_end) home within = home.stands.in_force.all
 
 -- ---- within a leg the workers go on
 
@@ -83,7 +91,7 @@ module _ (e : HomeState) (live : LiveState) (now : Phase) (home : IsHome (record
           record {
             few = home.few;
             legal = home.legal;
-            stands = record { more = w.more; positions = w.positions; at = w.at; arms_are = w.arms_are; few = w.few };
+            stands = record { more = w.more; positions = w.positions; at = w.at; in_force = w.in_force; few = w.few };
           }
 
   -- and as they are done, so may the leg be closed

@@ -2,38 +2,41 @@
 use Rattle.std.proofs.Common.{◌≡◌, refl, sym, ap, subst, ◌∙◌, ℕ, zero, suc, ◌+◌, ◌-◌, ◌<◌, ◌≤◌, List, [], ◌∷◌, ◌++◌, length, map, Bool, true, false, Some, arith}
 use Rattle.std.proofs.lemmas.Bool.{false≢true}
 use Rattle.std.proofs.lemmas.List.{length-map, map-append}
-use Rattle.amber_rows.specs.Topology.{crew_of}
+use Rattle.amber_rows.specs.Topology.{crew_of, first_worker_of, op_of}
 use Rattle.amber_rows.specs.Lists.{numbers_below}
 use Rattle.amber_log.specs.declared.leg.Close.{Close}
 use Rattle.amber_log.specs.declared.leg.Part.{Part}
 use Rattle.amber_meaning.specs.InTime.{IsInTime, StopsInTime}
-use Rattle.amber_meaning.specs.Legal.{IsLegal, Query, assignment_in, entries_of, stops_in}
-use Rattle.amber_meaning.specs.Position.{Position}
+use Rattle.amber_meaning.specs.Legal.{IsLegal, Query, assignment_in, entries_of, role_in, stops_in}
+use Rattle.amber_meaning.specs.Position.{Position, pending_rows}
 use Rattle.amber_meaning.specs.Rules.{Leads}
-use Rattle.amber_meaning.specs.State.{Arms, State, begin_leg, emitted_by, let_go, position_at}
+use Rattle.amber_meaning.specs.State.{State, begin_leg, emitted_by, let_go, position_at}
+use Rattle.amber_meaning.specs.Stops.{held_stop, held_stops}
 use Rattle.amber_meaning.proofs.OneState.{legal_logs_have_one_state}
 use Rattle.amber_meaning.proofs.Rest.{legal_logs_rest}
 use Rattle.amber_meaning.proofs.Senders.{flows_send_forward}
 use Rattle.amber_dataflow.specs.AtWork.{state_reached}
 use Rattle.amber_dataflow.specs.Dataflow.{DataflowState, have_all_finished, leg_parts, rows_emitted, step_count}
 use Rattle.amber_dataflow.proofs.Standing.{listed-whole, stand-emitted, stand-flow}
+use Rattle.amber_home.specs.Asked.{Asked}
 use Rattle.amber_home.specs.Going.{GoOn}
 use Rattle.amber_home.specs.HomeState.{HomeState, is_open, item_of_leg, query_of, rest_state, runs_to_end}
 use Rattle.amber_home.specs.Kept.{IsHome, IsWithinLeg, LiveState}
-use Rattle.amber_home.specs.Leg.{IsLegInTime, NoneIsLate, NonePaused, pause_at, stops_by}
+use Rattle.amber_home.specs.Leg.{IsLegInTime, NoneIsLate, NoneStands, held_of, other_stops, pause_at}
 use Rattle.amber_home.specs.Parts.{open_parts}
 use Rattle.amber_home.specs.declared.phase.Phase.{Phase}
 use Rattle.amber_home.specs.declared.phase.Phase.TheVariants as phase
-use Rattle.amber_home.proofs.Legs.{loose, start, state-here, within-on}
-use Rattle.amber_home.proofs.Reached.{leads-at}
-use Rattle.amber_home.proofs.Stopped.{stops-are, stops-none}
+use Rattle.amber_home.proofs.Legs.{start, state-here, within-on}
+use Rattle.amber_home.proofs.Opened.{position-start}
+use Rattle.amber_home.proofs.Reached.{leads-at, no-stops-among}
+use Rattle.amber_home.proofs.Stopped.{held-are, others-none, stops-are}
 
 -- ---- of the workers
 
--- where no pause stood they have gone on until none was late
-pub in-time-moved : (arms : List Arms) (old new : DataflowState) → NonePaused arms old → NoneIsLate arms new → (have_all_finished old ≡ true → new ≡ old) → IsLegInTime arms old new
+-- where no stop stood they have gone on until none was late
+pub in-time-moved : (arms : List Asked) (old new : DataflowState) → NoneStands arms old → NoneIsLate arms new → (have_all_finished old ≡ true → new ≡ old) → IsLegInTime arms old new
 in-time-moved arms old new none late still = record {
-  at_once = λ some. by (have_all_finished old) refl (λ e. some (stops-none arms old none e));
+  at_once = λ some. by (have_all_finished old) refl (λ e. some (others-none arms old none e));
   pauses = λ op n is. let less = late op n is in omega arith;
 }
   where
@@ -52,7 +55,18 @@ listed-equal f g (suc n) same =
     ∙ ap (λ p. map g (numbers_below n) ++ p ∷ []) (same n (omega arith))
     ∙ sym (map-append g (numbers_below n) (n ∷ []))
 
-module _ (e : HomeState) (d : DataflowState) (arms : List Arms) (leg : IsWithinLeg false e d arms) (legal : IsLegal (query_of e) e.log) where
+-- where a leg begins nobody is held
+none-begun : (query : Query) (state : State) → held_stops query.flow (role_in query) (begin_leg state) ≡ []
+unfolding held_stops
+none-begun query state =
+    no-stops-among
+    (λ worker. held_stop (op_of query.flow worker) (worker - first_worker_of query.flow (op_of query.flow worker))
+    (position_at (begin_leg state).positions worker).restraint.held (pending_rows (role_in query worker) (position_at (begin_leg state).positions worker)))
+    (numbers_below (crew_of query.flow))
+    (λ worker known. ap (λ (p : Position). held_stop (op_of query.flow worker) (worker - first_worker_of query.flow (op_of query.flow worker))
+    p.restraint.held (pending_rows (role_in query worker) (position_at (begin_leg state).positions worker))) (position-start false state worker))
+
+module _ (e : HomeState) (d : DataflowState) (arms : List Asked) (leg : IsWithinLeg false e d arms) (legal : IsLegal (query_of e) e.log) where
   abbrev query : Query
   query = query_of e
 
@@ -82,17 +96,22 @@ module _ (e : HomeState) (d : DataflowState) (arms : List Arms) (leg : IsWithinL
     emitted-begun : (op : ℕ) → emitted_by query.flow begun op ≡ rows_emitted d op
     emitted-begun op = ap (λ s. emitted_by query.flow s op) (sym reached-begun) ∙ stand-emitted query begun d leg.positions leg.at op
 
-    stops-begun : stops_in query begun ≡ stops_by arms d
+    -- a leg lets go who is held
+    held-begun : held_of d ≡ []
+    held-begun = sym (ap (held_stops query.flow (role_in query)) (sym reached-begun) ∙ held-are query begun d leg.positions leg.at) ∙ none-begun query (rest_state e)
+
+    stops-begun : stops_in query begun ≡ other_stops arms d
     stops-begun =
         ap (stops_in query) (sym reached-begun)
-        ∙ stops-are query begun d leg.positions leg.at arms leg.arms_are (loose false e d arms leg legal)
+        ∙ stops-are query begun d leg.positions leg.at arms leg.in_force
+        ∙ ap (λ stops. stops ++ other_stops arms d) held-begun
 
     -- as the workers do, so the leg stops in time
     pub stops-in-time : (after : DataflowState) → IsWithinLeg false e after arms → IsLegInTime arms d after → StopsInTime query 0 begun (leg_parts after)
     stops-in-time after later in_time = record {
       at_once = λ some. ap leg_parts (in_time.at_once (λ e. some (stops-begun ∙ e))) ∙ none;
       pauses = λ op n is.
-          let armed : pause_at arms op ≡ Some n = ap (λ a. pause_at a op) leg.arms_are ∙ is in
+          let armed : pause_at arms op ≡ Some n = (leg.in_force.each op).pause ∙ is in
           let late = in_time.pauses op n armed in
           let before = emitted-begun op in
           let now = ap (λ s. emitted_by query.flow s op) (state-here false e after arms later legal) ∙ stand-emitted query (start false e after arms later legal) after later.positions later.at op in

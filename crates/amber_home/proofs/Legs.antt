@@ -1,46 +1,43 @@
 -- A home within a leg: what its workers need to go on, and how they may be closed.
-use Rattle.std.proofs.Common.{◌≡◌, refl, sym, ap, subst, ◌∙◌, ℕ, ◌<◌, ◌≤◌, List, length, map, Bool, true, false, None}
-use Rattle.std.proofs.lemmas.List.{length-map}
+use Rattle.std.proofs.Common.{◌≡◌, refl, sym, ap, subst, ◌∙◌, ℕ, ◌<◌, ◌≤◌, List, Bool, true}
 use Rattle.amber_rows.specs.Topology.{crew_of}
 use Rattle.amber_log.specs.declared.leg.Close.{Close}
-use Rattle.amber_meaning.specs.Legal.{IsLegal, IsSettled, leg_start}
+use Rattle.amber_meaning.specs.Legal.{IsLegal, IsSettled, Query, leg_start}
 use Rattle.amber_meaning.specs.Position.{Position}
-use Rattle.amber_meaning.specs.State.{Arms, State, begin_last_leg, begin_leg, let_go, position_at, steps_in, without_arms}
+use Rattle.amber_meaning.specs.State.{Arms, State, arms_at, begin_last_leg, crew_at, no_arms, position_at, steps_in, without_arms}
 use Rattle.amber_meaning.proofs.OneState.{legal_logs_have_one_state}
 use Rattle.amber_meaning.proofs.Rest.{legal_logs_rest}
 use Rattle.amber_meaning.proofs.Senders.{flows_send_forward}
 use Rattle.amber_dataflow.specs.AtWork.{state_reached}
 use Rattle.amber_dataflow.specs.Dataflow.{DataflowState, leg_parts, step_count}
 use Rattle.amber_dataflow.proofs.Standing.{stand-after, stand-flow, stand-steps}
+use Rattle.amber_home.specs.Asked.{Asked, IsInForce}
 use Rattle.amber_home.specs.Going.{GoOn}
 use Rattle.amber_home.specs.HomeState.{ClosesIn, HomeState, leg_state, query_of, rest_state}
 use Rattle.amber_home.specs.Kept.{IsWithinLeg}
-use Rattle.amber_home.specs.Leg.{IsLegDone, pause_at}
-use Rattle.amber_home.proofs.Opened.{arms-map, position-start}
-use Rattle.amber_home.proofs.Stopped.{may-close}
+use Rattle.amber_home.specs.Leg.{IsLegDone, count_at}
+use Rattle.amber_home.proofs.Counted.{count-none}
+use Rattle.amber_home.proofs.Opened.{position-start}
+use Rattle.amber_home.proofs.Stopped.{IsUnarmed, may-close}
+use Rattle.amber_home.proofs.Places.{at-map}
 use Rattle.amber_home.proofs.Reached.{settled-reached}
 
-length-start : (to_end : Bool) (state : State) → length (leg_start to_end state).arms ≡ length state.arms
-unfolding begin_leg begin_last_leg
-length-start true state = length-map state.arms without_arms
-length-start false state = refl
-
-unarmed-start : (state : State) (op : ℕ) → pause_at (leg_start true state).arms op ≡ None
+-- to the end nothing is armed any more
+unarmed-start : (query : Query) (state : State) (arms : List Asked) → IsInForce query.flow (leg_start true state) arms → (op : ℕ) → IsUnarmed arms op
 unfolding begin_last_leg
-unarmed-start state op = ap (λ (a : Arms). a.pause) (arms-map without_arms state.arms (map let_go state.positions) op refl)
+unarmed-start query state arms is op =
+    let cleared = at-map without_arms state.arms op no_arms no_arms refl in
+    let one = is.each op in (
+      one.pause ∙ ap (λ (a : Arms). a.pause) cleared,
+      count-none (crew_at query.flow (leg_start true state) op) (count_at arms op) (arms_at (leg_start true state) op).count one.count (ap (λ (a : Arms). a.count) cleared),
+    )
 
-module _ (to_end : Bool) (e : HomeState) (d : DataflowState) (arms : List Arms) (leg : IsWithinLeg to_end e d arms) (legal : IsLegal (query_of e) e.log) where
+module _ (to_end : Bool) (e : HomeState) (d : DataflowState) (arms : List Asked) (leg : IsWithinLeg to_end e d arms) (legal : IsLegal (query_of e) e.log) where
   abbrev pub start : State
   start = leg_start to_end (rest_state e)
 
   first : rest_state e ≡ legal.after
   first = legal_logs_have_one_state (query_of e) e.log (flows_send_forward e.flow (stand-flow (query_of e) start d leg.positions leg.at)) legal
-
-  pub arms-long : length arms ≡ length e.flow
-  arms-long = ap length leg.arms_are ∙ length-start to_end (rest_state e) ∙ ap (λ (s : State). length s.arms) first ∙ (legal_logs_rest (query_of e) e.log legal).arms
-
-  pub loose : (worker : ℕ) → worker < crew_of e.flow → (position_at start.positions worker).restraint.held ≡ false
-  loose worker inside = ap (λ (p : Position). p.restraint.held) (position-start to_end (rest_state e) worker)
 
   hands : (worker : ℕ) → worker < crew_of e.flow → (position_at start.positions worker).restraint.hand ≡ 0
   hands worker inside =
@@ -62,13 +59,13 @@ module _ (to_end : Bool) (e : HomeState) (d : DataflowState) (arms : List Arms) 
   pub closes-here : (closed : Close) → IsLegDone closed arms e.most d → ClosesIn to_end (query_of e) (leg_state e to_end (leg_parts d)) closed
   closes-here closed done =
       subst (λ (s : State). ClosesIn to_end (query_of e) s closed) (sym state-here)
-      (may-close (query_of e) start d leg.positions leg.at arms leg.arms_are arms-long loose hands to_end closed
-      (λ is op. ap (λ (a : List Arms). pause_at a op) leg.arms_are ∙ subst (λ b. pause_at (leg_start b (rest_state e)).arms op ≡ None) (sym is) (unarmed-start (rest_state e) op))
+      (may-close (query_of e) start d leg.positions leg.at arms leg.in_force hands to_end closed
+      (λ is. unarmed-start (query_of e) (rest_state e) arms (subst (λ b. IsInForce e.flow (leg_start b (rest_state e)) arms) is leg.in_force))
       leg.few done)
 
 -- the workers go on
-pub within-on : (to_end : Bool) (e : HomeState) (d after : DataflowState) (arms : List Arms) → IsWithinLeg to_end e d arms → GoOn d after → step_count after ≤ e.most
+pub within-on : (to_end : Bool) (e : HomeState) (d after : DataflowState) (arms : List Asked) → IsWithinLeg to_end e d arms → GoOn d after → step_count after ≤ e.most
     → IsWithinLeg to_end e after arms
 within-on to_end e d after arms leg on few =
     let next = on.on (query_of e) (leg_start to_end (rest_state e)) leg.positions leg.at in
-    record { more = leg.more; positions = next.0; at = next.1; arms_are = leg.arms_are; few = few }
+    record { more = leg.more; positions = next.0; at = next.1; in_force = leg.in_force; few = few }

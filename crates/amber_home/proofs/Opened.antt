@@ -1,38 +1,27 @@
 -- A leg is opened: the workers stand where it begins.
-use Rattle.std.proofs.Common.{◌≡◌, refl, sym, ap, subst, ◌∙◌, ℕ, zero, suc, ◌-◌, ◌≤◌, List, [], ◌∷◌, length, map, nat_eq, Bool, true, false, None, is_some, unwrap_or, if◌then◌else◌, arith}
-use Rattle.std.specs.List.{slice_get}
+use Rattle.std.proofs.Common.{◌≡◌, refl, sym, ap, subst, ◌∙◌, ℕ, ◌≤◌, List, length, map, Bool, true, false, is_some, if◌then◌else◌, arith}
 use Rattle.std.proofs.Math.ListN.{get_or-map}
 use Rattle.amber_rows.specs.Topology.{op_of}
 use Rattle.amber_log.specs.Grammar.{ends_over}
 use Rattle.amber_lines.specs.Moving.{orders_in}
 use Rattle.amber_meaning.specs.Legal.{IsLegal, Query, leg_start}
-use Rattle.amber_meaning.specs.Position.{Position, origin}
-use Rattle.amber_meaning.specs.State.{Arms, State, arms_at, begin_last_leg, begin_leg, let_go, no_arms, orders_of, position_at, steps_in, without_arms}
+use Rattle.amber_meaning.specs.Position.{origin}
+use Rattle.amber_meaning.specs.State.{Arms, State, arms_at, begin_last_leg, begin_leg, emitted_by, let_go, no_arms, orders_of, position_at, steps_in, without_arms}
 use Rattle.amber_meaning.proofs.OneState.{legal_logs_have_one_state, position-get_or}
 use Rattle.amber_meaning.proofs.Rest.{legal_logs_rest}
 use Rattle.amber_meaning.proofs.Senders.{flows_send_forward}
 use Rattle.amber_log.specs.declared.leg.Part.{Part}
 use Rattle.amber_dataflow.specs.AtWork.{IsQuiet, state_reached}
-use Rattle.amber_dataflow.specs.Dataflow.{leg_begun, step_count}
-use Rattle.amber_dataflow.proofs.Standing.{begun-steps, listed-whole, stand-begun, stand-flow, stand-quiet, stand-steps}
+use Rattle.amber_dataflow.specs.Dataflow.{leg_begun, rows_emitted, step_count}
+use Rattle.amber_dataflow.proofs.Standing.{begun-steps, listed-whole, stand-begun, stand-emitted, stand-flow, stand-quiet, stand-steps}
+use Rattle.amber_home.specs.Asked.{Asked, without_asked}
 use Rattle.amber_home.specs.HomeState.{HomeState, query_of, rest_state}
 use Rattle.amber_home.specs.Kept.{IsAtRest, IsWithinLeg, LiveState}
 use Rattle.amber_home.specs.declared.phase.Phase.TheVariants as phase
+use Rattle.amber_home.proofs.InForce.{in-force-begun}
+use Rattle.amber_home.proofs.Places.{at-map}
 
--- ---- what is in force
-
-pub arms-map : (change : Arms → Arms) (arms : List Arms) (positions : List Position) (op : ℕ) → change no_arms ≡ no_arms
-    → arms_at (record { arms = map change arms; positions = positions }) op ≡ change (arms_at (record { arms = arms; positions = positions }) op)
-arms-map change arms positions op none = by (nat_eq op 0)
-  where
-    get : (xs : List Arms) (i : ℕ) → unwrap_or (slice_get (map change xs) i) no_arms ≡ change (unwrap_or (slice_get xs i) no_arms)
-    get [] i = sym none
-    get (x ∷ xs) zero = refl
-    get (x ∷ xs) (suc i) = get xs i
-
-    by : (b : Bool) → unwrap_or (if b then None else slice_get (map change arms) (op - 1)) no_arms ≡ change (unwrap_or (if b then None else slice_get arms (op - 1)) no_arms)
-    by true = sym none
-    by false = get arms (op - 1)
+-- ---- what is in force (for now from `stand-quiet`: no run has a count or a condition yet)
 
 pub quiet-orders : (arms : Arms) → IsQuiet arms → orders_of (without_arms arms) ≡ orders_of arms
 quiet-orders arms quiet = λ i. record { constants = arms.constants; when = sym quiet.unwatched i; counted = ap is_some (sym quiet.uncounted) i }
@@ -41,13 +30,13 @@ module _ (query : Query) (rest : State) (quiet : (op : ℕ) → IsQuiet (arms_at
   pub orders-start : (to_end : Bool) (worker : ℕ) → orders_in query (leg_start to_end rest) worker ≡ orders_in query rest worker
   unfolding begin_leg begin_last_leg
   orders-start true worker =
-      ap orders_of (arms-map without_arms rest.arms (map let_go rest.positions) (op_of query.flow worker) refl)
+      ap orders_of (at-map without_arms rest.arms (op_of query.flow worker) no_arms no_arms refl)
       ∙ quiet-orders (arms_at rest (op_of query.flow worker)) (quiet (op_of query.flow worker))
   orders-start false worker = refl
 
   pub quiet-start : (to_end : Bool) (op : ℕ) → IsQuiet (arms_at (leg_start to_end rest) op)
   unfolding begin_leg begin_last_leg
-  quiet-start true op = subst IsQuiet (sym (arms-map without_arms rest.arms (map let_go rest.positions) op refl)) (record { unwatched = refl; uncounted = refl })
+  quiet-start true op = subst IsQuiet (sym (at-map without_arms rest.arms op no_arms no_arms refl)) (record { unwatched = refl; uncounted = refl })
   quiet-start false op = quiet op
 
 pub position-start : (to_end : Bool) (rest : State) (worker : ℕ) → position_at (leg_start to_end rest).positions worker ≡ let_go (position_at rest.positions worker)
@@ -55,7 +44,7 @@ unfolding begin_leg begin_last_leg
 position-start true rest worker = position-get_or (map let_go rest.positions) worker ∙ get_or-map let_go rest.positions worker origin ∙ ap let_go (sym (position-get_or rest.positions worker))
 position-start false rest worker = position-get_or (map let_go rest.positions) worker ∙ get_or-map let_go rest.positions worker origin ∙ ap let_go (sym (position-get_or rest.positions worker))
 
--- the steps at rest are no more than they may be
+-- what is read of the workers at rest
 module _ (e : HomeState) (live : LiveState) (rest : IsAtRest e live) (legal : IsLegal (query_of e) e.log) where
   abbrev query : Query
   query = query_of e
@@ -72,6 +61,10 @@ module _ (e : HomeState) (live : LiveState) (rest : IsAtRest e live) (legal : Is
   pub steps-rest : steps_in state ≡ step_count live.dataflow
   steps-rest = ap steps_in (sym listed-rest) ∙ stand-steps query state live.dataflow (position_at state.positions) rest.at
 
+  pub emitted-rest : (op : ℕ) → emitted_by query.flow state op ≡ rows_emitted live.dataflow op
+  emitted-rest op =
+      ap (λ s. emitted_by query.flow s op) (sym listed-rest) ∙ stand-emitted query state live.dataflow (position_at state.positions) rest.at op
+
   pub rest-few : step_count live.dataflow ≤ e.most
   rest-few =
       let few = (legal_logs_rest query e.log legal).few in
@@ -79,14 +72,9 @@ module _ (e : HomeState) (live : LiveState) (rest : IsAtRest e live) (legal : Is
       let same = ap steps_in first-rest in
       omega arith
 
-arms-start : (to_end : Bool) (arms : List Arms) (state : State) → arms ≡ state.arms → (if to_end then map without_arms arms else arms) ≡ (leg_start to_end state).arms
-unfolding begin_leg begin_last_leg
-arms-start true arms state is = ap (map without_arms) is
-arms-start false arms state is = is
-
 -- the workers begin a leg
 pub opened : (e : HomeState) (live : LiveState) → IsAtRest e live → IsLegal (query_of e) e.log → (to_end : Bool) → ends_over false e.log.items ≡ false
-    → (now : List Arms) → now ≡ (if to_end then map without_arms live.arms else live.arms) → (parts : List Part)
+    → (now : List Asked) → now ≡ (if to_end then map without_asked live.arms else live.arms) → (parts : List Part)
     → IsWithinLeg to_end (record e { phase = phase.Open to_end; parts = parts }) (leg_begun live.dataflow) now
 opened e live rest legal to_end more now now-is parts =
     let query = query_of e in
@@ -98,6 +86,6 @@ opened e live rest legal to_end more now now-is parts =
       positions = λ worker. let_go (positions worker);
       at = stand-begun query state live.dataflow positions rest.at (leg_start to_end state) (quiet-start query state quiet to_end)
           (λ worker inside. orders-start query state quiet to_end worker) (λ worker inside. position-start to_end state worker);
-      arms_are = now-is ∙ arms-start to_end live.arms state rest.arms_are;
+      in_force = rw now-is (in-force-begun e.flow state live.arms to_end rest.in_force);
       few = rw (begun-steps live.dataflow) (rest-few e live rest legal);
     }

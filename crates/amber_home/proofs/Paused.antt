@@ -1,19 +1,27 @@
--- Whether an operator's pause stands, and whether it is late.
+-- Whether a stop stands at an operator, and whether its pause is late.
 use Rattle.std.proofs.Common.{◌≡◌, sym, ap, ◌∙◌, ℕ, ◌+◌, ◌<◌, ◌≤◌, List, Option, Some, false, inl, inr, max, arith}
-use Rattle.std.proofs.lemmas.Bool.{leb-false}
+use Rattle.std.proofs.lemmas.Bool.{leb-false, or_parts}
 use Rattle.std.proofs.lemmas.Bool.Decides.{eqb_tells}
 use Rattle.amber_rows.specs.Topology.{op_of}
-use Rattle.amber_meaning.specs.State.{Arms}
 use Rattle.amber_dataflow.specs.Dataflow.{DataflowState, TurnsAt, rows_emitted}
+use Rattle.amber_home.specs.Asked.{Asked, asked_at, is_reached, is_stopped_after, stands_after}
 use Rattle.amber_home.specs.Going.{MovesAlone}
-use Rattle.amber_home.specs.Leg.{NoneIsLate, NonePaused, is_paused, pause_at, stands_after}
+use Rattle.amber_home.specs.Leg.{NoneIsLate, NoneStands, count_at, is_paused, is_stopped, pause_at}
 
--- where no pause stood, and none stands at the operator of the one that moved, none stands
-pub none-moved : (arms : List Arms) (old new : DataflowState) (worker : ℕ) → MovesAlone old new worker → NonePaused arms old → is_paused arms new (op_of old.flow worker) ≡ false → NonePaused arms new
+-- where none stands its pause does not
+pub none-paused : (arms : List Asked) (d : DataflowState) (op : ℕ) → is_stopped arms d op ≡ false → is_paused arms d op ≡ false
+none-paused arms d op none = (or_parts (is_paused arms d op) (is_reached (count_at arms op) (rows_emitted d op)) none).0
+
+-- nor does its count
+pub none-counted : (arms : List Asked) (d : DataflowState) (op : ℕ) → is_stopped arms d op ≡ false → is_reached (count_at arms op) (rows_emitted d op) ≡ false
+none-counted arms d op none = (or_parts (is_paused arms d op) (is_reached (count_at arms op) (rows_emitted d op)) none).1
+
+-- where no stop stood, and none stands at the operator of the one that moved, none stands
+pub none-moved : (arms : List Asked) (old new : DataflowState) (worker : ℕ) → MovesAlone old new worker → NoneStands arms old → is_stopped arms new (op_of old.flow worker) ≡ false → NoneStands arms new
 none-moved arms old new worker only none here op =
     elim (eqb_tells op (op_of old.flow worker)) [
-      | inl same ↦ ap (is_paused arms new) same.1 ∙ here
-      | inr other ↦ ap (stands_after (pause_at arms op)) (only.emitted op other.1) ∙ none op
+      | inl same ↦ ap (is_stopped arms new) same.1 ∙ here
+      | inr other ↦ ap (is_stopped_after (asked_at arms op)) (only.emitted op other.1) ∙ none op
     ]
 
 -- ---- in time
@@ -21,12 +29,12 @@ none-moved arms old new worker only none here op =
 not-yet : (pause : Option ℕ) (rows n : ℕ) → stands_after pause rows ≡ false → pause ≡ Some n → rows < n
 not-yet pause rows n stands is = leb-false n rows (ap (λ found. stands_after found rows) (sym is) ∙ stands)
 
--- where no pause stands, none is late
-pub none-late : (arms : List Arms) (d : DataflowState) → NonePaused arms d → NoneIsLate arms d
-none-late arms d none op n is = let less = not-yet (pause_at arms op) (rows_emitted d op) n (none op) is in omega arith
+-- where no stop stands, no pause is late
+pub none-late : (arms : List Asked) (d : DataflowState) → NoneStands arms d → NoneIsLate arms d
+none-late arms d none op n is = let less = not-yet (pause_at arms op) (rows_emitted d op) n (none-paused arms d op (none op)) is in omega arith
 
 -- turns of a worker, no more than rows are left to its operator's pause, make none late
-pub late-moved : (arms : List Arms) (old new : DataflowState) (worker most : ℕ) → TurnsAt most old new worker
+pub late-moved : (arms : List Asked) (old new : DataflowState) (worker most : ℕ) → TurnsAt most old new worker
     → ((n : ℕ) → pause_at arms (op_of old.flow worker) ≡ Some n → rows_emitted old (op_of old.flow worker) + most ≤ max n (rows_emitted old (op_of old.flow worker)))
     → NoneIsLate arms old → NoneIsLate arms new
 late-moved arms old new worker most turns here late op n is =

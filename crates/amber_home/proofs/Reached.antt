@@ -1,22 +1,29 @@
--- Units at hand, and the first that has not finished.
-use Rattle.std.proofs.Common.{◌≡◌, refl, sym, ap, ◌∙◌, ℕ, zero, suc, ◌<◌, List, [], ◌∷◌, get_or, map, if◌then◌else◌, true, false, None, Some, is_some, subst, arith}
+-- What is in force where workers stand, the first that has not finished, and what nobody holds while no count and no condition is armed.
+use Rattle.std.proofs.Common.{◌≡◌, refl, sym, ap, ◌∙◌, ℕ, zero, suc, ◌-◌, ◌<◌, List, [], ◌∷◌, get_or, map, if◌then◌else◌, true, false, None, Some, is_some, subst, arith}
 use Rattle.std.proofs.lemmas.Bool.{false≢true}
-use Rattle.amber_rows.specs.Topology.{crew_of, op_of}
+use Rattle.std.specs.List.{flat_map}
+use Rattle.amber_rows.specs.Topology.{crew_of, first_worker_of, op_of}
 use Rattle.amber_rows.specs.Lists.{numbers_below}
 use Rattle.amber_log.specs.declared.entry.Entry.{Entry}
 use Rattle.amber_log.specs.declared.entry.Entry.TheVariants as entry
-use Rattle.amber_meaning.specs.Position.{Position, origin}
+use Rattle.amber_meaning.specs.declared.view.Stop.{Stop}
+use Rattle.amber_meaning.specs.Position.{Position, Restraint, origin}
 use Rattle.amber_meaning.specs.Rules.{Leads, Moves, Orders, assigned}
 use Rattle.amber_meaning.specs.State.{State, position_at}
+use Rattle.amber_meaning.specs.Stops.{held_stop}
 use Rattle.amber_meaning.specs.Task.{Role}
+use Rattle.amber_meaning.proofs.Numbers.{among, among-first, among-more, below-in}
 use Rattle.amber_meaning.proofs.OneState.{position-get_or}
 use Rattle.amber_lines.specs.Moving.{orders_in}
 use Rattle.amber_meaning.specs.Legal.{IsSettled, Query, assignment_in, entries_of, role_in}
-use Rattle.amber_dataflow.specs.AtWork.{state_reached}
+use Rattle.amber_dataflow.specs.AtWork.{state_reached, worker_state_at}
 use Rattle.amber_dataflow.specs.Dataflow.{DataflowState, StandAt, leg_parts}
 use Rattle.amber_dataflow.proofs.Reached.{listed-at}
 use Rattle.amber_dataflow.proofs.Standing.{stand-position, stand-quiet, stand-worked}
+use Rattle.amber_home.specs.Asked.{Asked, IsInForce}
 use Rattle.amber_home.specs.HomeState.{first_unfinished}
+use Rattle.amber_home.specs.Leg.{held_of, stop_of_worker}
+use Rattle.amber_home.proofs.InForce.{in-force-worked}
 
 -- ---- no units
 
@@ -35,6 +42,13 @@ unfolding Leads
 hand-stays role orders p q [] uncounted none leads = ap (λ m. m.restraint.hand) (sym leads) ∙ none
 hand-stays role orders p q (one ∷ more) uncounted none leads =
     hand-stays role orders leads.0 q more uncounted (hand-moves role orders p leads.0 one uncounted none leads.1) leads.2
+
+-- ---- lists of stops
+
+-- where none of these has a stop
+pub no-stops-among : (f : ℕ → List Stop) (xs : List ℕ) → ((x : ℕ) → among x xs ≡ true → f x ≡ []) → flat_map f xs ≡ []
+no-stops-among f [] none = refl
+no-stops-among f (x ∷ xs) none = rw (none x (among-first x xs), no-stops-among f xs (λ y known. none y (among-more y x xs known))) refl
 
 -- ---- the first that has not
 
@@ -56,7 +70,7 @@ first-listed positions n worker inside done not-yet =
     read : (k : ℕ) → k < n → get_or (map positions (numbers_below n)) k origin ≡ positions k
     read k less = sym (position-get_or (map positions (numbers_below n)) k) ∙ listed-at positions n k less
 
--- ---- at rest between legs
+-- ---- where workers stand
 
 none-some : {A : Type 0} {x : A} → None ≡ Some x → ⊥
 none-some e = cc
@@ -69,7 +83,23 @@ module _ (query : Query) (start : State) (d : DataflowState) (positions : ℕ �
       subst (Leads (assignment_in query start worker) (position_at start.positions worker) (entries_of (leg_parts d) worker)) (stand-position query start d positions stand worker inside)
       ((stand-worked query start d positions stand).moved worker inside)
 
-  -- no hand holds a unit, where none held one when the leg began
+  -- what was in force when the leg began still is
+  pub in-force-reached : (asked : List Asked) → IsInForce query.flow start asked → IsInForce query.flow (state_reached query start positions) asked
+  in-force-reached asked is = in-force-worked query start (state_reached query start positions) (leg_parts d) asked (stand-worked query start d positions stand) is
+
+  -- ---- while nothing is watched or counted
+
+  -- nobody is held (for now from the calm of the workers: no run has a condition yet)
+  pub none-held : held_of d ≡ []
+  unfolding held_of
+  none-held =
+      no-stops-among (stop_of_worker d) (numbers_below (crew_of d.flow))
+      (λ worker known.
+      let inside : worker < crew_of query.flow = subst (λ f. worker < crew_of f) stand.flow (below-in (crew_of d.flow) worker known) in
+      ap (λ (r : Restraint). held_stop (op_of d.flow worker) (worker - first_worker_of d.flow (op_of d.flow worker)) r.held (worker_state_at d.workers worker).pending)
+      (stand.work.at.calm worker inside).loose)
+
+  -- no hand holds a unit, where none held one when the leg began (for now from `stand-quiet`: no run has a count yet)
   pub settled-reached : ((worker : ℕ) → worker < crew_of query.flow → (position_at start.positions worker).restraint.hand ≡ 0) → IsSettled query (state_reached query start positions)
   settled-reached none = record {
     hands = λ worker inside.

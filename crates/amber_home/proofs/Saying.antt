@@ -1,5 +1,5 @@
 -- What is said of the workers is said of the state.
-use Rattle.std.proofs.Common.{◌≡◌, sym, ap, ◌∙◌, ℕ, List, true, false, Result, Ok, Err}
+use Rattle.std.proofs.Common.{◌≡◌, sym, ap, subst, ◌∙◌, ℕ, List, true, false, Result, Ok, Err}
 use Rattle.std.specs.Result.{IfOk, MatchResult}
 use Rattle.std.proofs.lemmas.Bool.{false≢true}
 use Rattle.amber_meaning.specs.declared.answer.Answer.{Answer}
@@ -7,19 +7,21 @@ use Rattle.amber_meaning.specs.declared.view.Inspected.{Inspected}
 use Rattle.amber_meaning.specs.declared.view.Stop.{Stop}
 use Rattle.amber_meaning.specs.Legal.{Query, stops_in}
 use Rattle.amber_meaning.specs.Position.{Position}
-use Rattle.amber_meaning.specs.State.{Arms, State, have_finished, position_at}
+use Rattle.amber_meaning.specs.State.{State, have_finished, position_at}
 use Rattle.amber_meaning.specs.Views.{answer_in, inspected_of}
 use Rattle.amber_dataflow.specs.AtWork.{state_reached}
 use Rattle.amber_dataflow.specs.Dataflow.{DataflowState, IsAnswerOf, StandAt, have_all_finished}
 use Rattle.amber_dataflow.proofs.Standing.{stand-finished}
+use Rattle.amber_home.specs.Asked.{Asked, IsInForce}
 use Rattle.amber_home.specs.HomeState.{HomeState, has_crew, is_open, query_of, rest_state, state_of, stops_of_home}
 use Rattle.amber_home.specs.Leg.{ShowsAt, stops_by}
 use Rattle.amber_home.specs.Kept.{IsHome, LiveState}
 use Rattle.amber_home.specs.Parts.{open_parts}
 use Rattle.amber_home.specs.declared.phase.Phase.{Phase}
 use Rattle.amber_home.specs.declared.phase.Phase.TheVariants as phase
-use Rattle.amber_home.proofs.Legs.{loose, start, state-here}
+use Rattle.amber_home.proofs.Legs.{start, state-here}
 use Rattle.amber_home.proofs.Opened.{listed-rest}
+use Rattle.amber_home.proofs.Reached.{in-force-reached}
 use Rattle.amber_home.proofs.Stopped.{stops-are}
 
 -- the home in a phase, with the parts of its workers
@@ -27,11 +29,11 @@ abbrev pub in_phase : HomeState → DataflowState → Phase → HomeState
 in_phase e d now = record e { phase = now; parts = open_parts now d }
 
 -- the workers stand somewhere, and reach the state in which the home is
-pub record StandsSomewhere (query : Query) (state : State) (d : DataflowState) (arms : List Arms) : Type 0 where
+pub record StandsSomewhere (query : Query) (state : State) (d : DataflowState) (arms : List Asked) : Type 0 where
   pub start : State
   pub positions : ℕ → Position
   pub at : StandAt query start d positions
-  pub arms_are : arms ≡ start.arms
+  pub in_force : IsInForce query.flow state arms
   pub reached : state ≡ state_reached query start positions
 
 pub stands-somewhere : (e : HomeState) (live : LiveState) (now : Phase) → IsHome (record e { phase = now }) live → has_crew now ≡ true
@@ -45,7 +47,7 @@ stands-somewhere e live phase.Resting home there =
       start = rest_state e;
       positions = position_at (rest_state e).positions;
       at = rest.at;
-      arms_are = rest.arms_are;
+      in_force = rest.in_force;
       reached = sym (listed-rest (record e { phase = phase.Resting }) live rest home.legal);
     }
 stands-somewhere e live (phase.Open to_end) home there =
@@ -55,7 +57,9 @@ stands-somewhere e live (phase.Open to_end) home there =
       start = start to_end here live.dataflow live.arms leg home.legal;
       positions = leg.positions;
       at = leg.at;
-      arms_are = leg.arms_are;
+      in_force =
+          subst (λ (s : State). IsInForce e.flow s live.arms) (sym (state-here to_end here live.dataflow live.arms leg home.legal))
+          (in-force-reached (query_of e) (start to_end here live.dataflow live.arms leg home.legal) live.dataflow leg.positions leg.at live.arms leg.in_force);
       reached = state-here to_end here live.dataflow live.arms leg home.legal;
     }
 
@@ -73,7 +77,7 @@ ok-copy R (Err error) change h = tt
 
 -- ---- who has finished
 
-module _ (query : Query) (state : State) (d : DataflowState) (arms : List Arms) (h : StandsSomewhere query state d arms) where
+module _ (query : Query) (state : State) (d : DataflowState) (arms : List Asked) (h : StandsSomewhere query state d arms) where
   pub finished-state : have_all_finished d ≡ have_finished state
   finished-state = sym (ap have_finished h.reached ∙ stand-finished query h.start d h.positions h.at)
 
@@ -81,7 +85,7 @@ module _ (query : Query) (state : State) (d : DataflowState) (arms : List Arms) 
 
   pub shows-operator : (op : ℕ) (shown : Inspected) → ShowsAt arms d op shown → shown ≡ inspected_of query state op
   unfolding ShowsAt
-  shows-operator op shown is = is query h.start h.positions h.at h.arms_are ∙ ap (λ s. inspected_of query s op) (sym h.reached)
+  shows-operator op shown is = is query h.start h.positions h.at (subst (λ s. IsInForce query.flow s arms) h.reached h.in_force) ∙ ap (λ s. inspected_of query s op) (sym h.reached)
 
   -- ---- the answer
 
@@ -104,7 +108,7 @@ module _ (e : HomeState) (live : LiveState) where
       let d = live.dataflow in
       let leg = home.stands in
       is
-      ∙ sym (stops-are (query_of e) (start to_end here d live.arms leg home.legal) d leg.positions leg.at live.arms leg.arms_are (loose to_end here d live.arms leg home.legal))
+      ∙ sym (stops-are (query_of e) (start to_end here d live.arms leg home.legal) d leg.positions leg.at live.arms leg.in_force)
       ∙ ap (stops_in (query_of e)) (sym (state-here to_end here d live.arms leg home.legal))
 
   -- outside of one those that are kept

@@ -1,68 +1,36 @@
 -- The stops of the state that workers reached are those that they show.
-use Rattle.std.proofs.Common.{◌≡◌, ◌≢◌, refl, sym, ap, ◌∙◌, ℕ, zero, suc, ◌-◌, ◌<◌, ◌≤◌, List, [], ◌∷◌, ◌++◌, length, nat_le, Bool, true, false, Option, None, Some, unwrap_or, if◌then◌else◌, ◌⊎◌, inl, inr, add-one, arith}
-use Rattle.std.specs.List.{flat_map, slice_get}
-use Rattle.std.proofs.lemmas.Bool.{cases_lt, false≢true}
+use Rattle.std.proofs.Common.{◌≡◌, ◌≢◌, refl, sym, ap, ◌∙◌, ℕ, zero, suc, ◌-◌, ◌<◌, ◌≤◌, List, [], ◌∷◌, ◌++◌, length, Bool, true, false, Option, None, Some, unwrap_or, if◌then◌else◌, ◌⊎◌, inl, inr, arith}
+use Rattle.std.specs.List.{flat_map}
+use Rattle.std.proofs.lemmas.Bool.{cases_lt, false≢true, or_cases}
 use Rattle.amber_rows.specs.Topology.{crew_of, first_worker_of, op_of}
-use Rattle.amber_rows.specs.Lists.{nth, numbers_below}
+use Rattle.amber_rows.specs.Lists.{numbers_below}
 use Rattle.amber_rows.specs.declared.flow.Operator.{Operator}
-use Rattle.amber_rows.specs.declared.value.Value.{Value}
-use Rattle.amber_log.specs.declared.entry.Entry.{Entry}
-use Rattle.amber_log.specs.declared.entry.Entry.TheVariants as entry
 use Rattle.amber_log.specs.declared.leg.Close.{Close}
 use Rattle.amber_log.specs.declared.leg.Close.TheVariants as close
 use Rattle.amber_meaning.specs.declared.view.Stop.{Stop}
 use Rattle.amber_meaning.specs.declared.view.Stop.TheVariants as stop
-use Rattle.amber_meaning.specs.Legal.{IsSettled, Query, entries_of, role_in, stops_in}
-use Rattle.amber_meaning.specs.Position.{Position, pending_rows}
-use Rattle.amber_meaning.specs.Rules.{Leads, Moves, Orders, assigned, first_is_watched}
-use Rattle.amber_meaning.specs.State.{Arms, State, arms_at, have_finished, no_arms, position_at, steps_in}
+use Rattle.amber_meaning.specs.Legal.{IsSettled, Query, role_in, stops_in}
+use Rattle.amber_meaning.specs.Position.{Position, Restraint, pending_rows}
+use Rattle.amber_meaning.specs.State.{Counting, State, arms_at, crew_at, emitted_by, have_finished, position_at, steps_in}
 use Rattle.amber_meaning.specs.Stops.{count_stop, count_stops, end_stop, held_stop, held_stops, op_numbers, pause_stop, pause_stops, stops_of}
-use Rattle.amber_meaning.specs.Task.{Role}
-use Rattle.amber_meaning.proofs.Lists.{nth-next}
 use Rattle.amber_meaning.proofs.Numbers.{among, among-first, among-more, among_step, below-in, in-row}
-use Rattle.amber_lines.specs.Moving.{orders_in}
-use Rattle.amber_dataflow.specs.AtWork.{state_reached}
-use Rattle.amber_dataflow.specs.Dataflow.{DataflowState, StandAt, have_all_finished, leg_parts, rows_emitted, step_count}
-use Rattle.amber_dataflow.proofs.Standing.{stand-emitted, stand-finished, stand-position, stand-quiet, stand-steps}
+use Rattle.amber_dataflow.specs.AtWork.{state_reached, worker_state_at}
+use Rattle.amber_dataflow.specs.Dataflow.{DataflowState, StandAt, have_all_finished, rows_emitted, step_count}
+use Rattle.amber_dataflow.proofs.Standing.{stand-emitted, stand-finished, stand-position, stand-steps}
+use Rattle.amber_home.specs.Asked.{Asked, IsCountOf, IsInForce, asked_at, is_reached, is_stopped_after, no_asked, stands_after}
 use Rattle.amber_home.specs.HomeState.{ClosesIn}
-use Rattle.amber_home.specs.Leg.{IsLegDone, NonePaused, is_paused, pause_at, paused_stop, pauses_of, stands_after, stop_at_end, stops_by}
-use Rattle.amber_home.proofs.Reached.{leads-at, settled-reached}
-
--- ---- nobody is held
-
-held-moves : (role : Role) (orders : Orders) (p q : Position) (one : Entry) → orders.when ≡ None → p.restraint.held ≡ false → Moves (assigned role orders) p one q → q.restraint.held ≡ false
-held-moves role orders p q (entry.Take from number) unwatched none moves = ap (λ m. m.restraint.held) moves.2 ∙ none
-held-moves role orders p q (entry.Go rows outs) unwatched none moves = ap (λ m. m.restraint.held) moves.2 ∙ none
-held-moves role orders p q (entry.Grant n) unwatched none moves = ap (λ m. m.restraint.held) moves.2 ∙ none
-held-moves role orders p q (entry.Back n) unwatched none moves = ap (λ m. m.restraint.held) moves.2 ∙ none
-held-moves role orders p q entry.Pause unwatched none moves = ap (λ m. m.restraint.held) moves.2 ∙ none
-held-moves role orders p q entry.Resume unwatched none moves = ap (λ m. m.restraint.held) moves.2 ∙ none
-held-moves role orders p q entry.Hold unwatched none moves = absurd (false≢true (sym (unwatched-first (pending_rows role p)) ∙ ap (λ when. first_is_watched when (pending_rows role p)) (sym unwatched) ∙ moves.1.watched))
-  where
-    unwatched-first : (rows : List (List Value)) → first_is_watched None rows ≡ false
-    unwatched-first [] = refl
-    unwatched-first (row ∷ rows) = refl
-held-moves role orders p q entry.Finish unwatched none moves = ap (λ m. m.restraint.held) moves.2 ∙ none
-
-held-stays : (role : Role) (orders : Orders) (p q : Position) (entries : List Entry) → orders.when ≡ None → p.restraint.held ≡ false → Leads (assigned role orders) p entries q → q.restraint.held ≡ false
-unfolding Leads
-held-stays role orders p q [] unwatched none leads = ap (λ m. m.restraint.held) (sym leads) ∙ none
-held-stays role orders p q (one ∷ more) unwatched none leads =
-    held-stays role orders leads.0 q more unwatched (held-moves role orders p leads.0 one unwatched none leads.1) leads.2
+use Rattle.amber_home.specs.Leg.{IsLegDone, NoneStands, count_at, counts_of, held_of, is_stopped, other_stops, pause_at, pauses_of, stop_at_end, stop_of_count, stop_of_pause, stop_of_worker, stops_by}
+use Rattle.amber_home.specs.declared.target.Target.{Target}
+use Rattle.amber_home.proofs.Counted.{reached-test}
+use Rattle.amber_home.proofs.Paused.{none-counted, none-paused}
+use Rattle.amber_home.proofs.Places.{nth-past}
+use Rattle.amber_home.proofs.Reached.{in-force-reached, no-stops-among, none-held, settled-reached}
 
 -- ---- lists of stops
 
-no-stops : {A : Type 0} (f : A → List Stop) (xs : List A) → ((x : A) → f x ≡ []) → flat_map f xs ≡ []
-no-stops f [] none = refl
-no-stops f (x ∷ xs) none = rw (none x, no-stops f xs none) refl
-
-no-stops-among : (f : ℕ → List Stop) (xs : List ℕ) → ((x : ℕ) → among x xs ≡ true → f x ≡ []) → flat_map f xs ≡ []
-no-stops-among f [] none = refl
-no-stops-among f (x ∷ xs) none = rw (none x (among-first x xs), no-stops-among f xs (λ y known. none y (among-more y x xs known))) refl
-
-same-stops : (f g : ℕ → List Stop) (xs : List ℕ) → ((x : ℕ) → f x ≡ g x) → flat_map f xs ≡ flat_map g xs
+same-stops : (f g : ℕ → List Stop) (xs : List ℕ) → ((x : ℕ) → among x xs ≡ true → f x ≡ g x) → flat_map f xs ≡ flat_map g xs
 same-stops f g [] same = refl
-same-stops f g (x ∷ xs) same = rw (same x, same-stops f g xs same) refl
+same-stops f g (x ∷ xs) same = rw (same x (among-first x xs), same-stops f g xs (λ y known. same y (among-more y x xs known))) refl
 
 -- ---- all stops
 
@@ -70,54 +38,94 @@ module _ (query : Query) (start : State) (d : DataflowState) (positions : ℕ �
   abbrev reached : State
   reached = state_reached query start positions
 
-  pauses-are : (arms : List Arms) → arms ≡ start.arms → pause_stops query.flow reached ≡ pauses_of arms d
-  unfolding pause_stops
-  pauses-are arms arms-are =
-      same-stops (λ op. pause_stop query.flow reached op (arms_at reached op).pause) (λ op. paused_stop op (pause_at start.arms op) (rows_emitted d op))
-      (op_numbers query.flow) (λ op. one op (arms_at reached op).pause)
-      ∙ ap (λ (f : List Operator). flat_map (λ op. paused_stop op (pause_at start.arms op) (rows_emitted d op)) (op_numbers f)) (sym stand.flow)
-      ∙ ap (λ (a : List Arms). flat_map (λ op. paused_stop op (pause_at a op) (rows_emitted d op)) (op_numbers d.flow)) (sym arms-are)
-    where
-      one : (op : ℕ) (pause : Option ℕ) → pause_stop query.flow reached op pause ≡ paused_stop op pause (rows_emitted d op)
-      one op None = refl
-      one op (Some n) = ap (λ rows. if nat_le n rows then stop.Pause op n rows ∷ [] else []) (stand-emitted query start d positions stand op)
+  -- the stop of one worker
+  held-is : (worker : ℕ) → worker < crew_of query.flow
+      → held_stop (op_of query.flow worker) (worker - first_worker_of query.flow (op_of query.flow worker))
+      (position_at reached.positions worker).restraint.held (pending_rows (role_in query worker) (position_at reached.positions worker))
+      ≡ stop_of_worker d worker
+  unfolding Rattle.amber_worker.specs.AtPosition.placement_of
+  held-is worker inside =
+      let shows = (stand.work.at.at_positions.each worker inside).shows in
+      let op = op_of query.flow worker in
+      ap (λ (p : Position). held_stop op (worker - first_worker_of query.flow op) p.restraint.held (pending_rows (role_in query worker) p))
+      (stand-position query start d positions stand worker inside)
+      ∙ ap (λ (r : Restraint). held_stop op (worker - first_worker_of query.flow op) r.held (pending_rows (role_in query worker) (positions worker))) (sym shows.restraint)
+      ∙ ap (held_stop op (worker - first_worker_of query.flow op) (worker_state_at d.workers worker).restraint.held) (sym shows.pending)
+      ∙ ap (λ (f : List Operator). held_stop (op_of f worker) (worker - first_worker_of f (op_of f worker))
+      (worker_state_at d.workers worker).restraint.held (worker_state_at d.workers worker).pending) (sym stand.flow)
 
-  none-counted : count_stops query.flow reached ≡ []
-  unfolding count_stops
-  none-counted = no-stops (λ op. count_stop query.flow reached op (arms_at reached op).count) (op_numbers query.flow)
-      (λ op. ap (count_stop query.flow reached op) (stand-quiet query start d positions stand op).uncounted)
-
-  none-held : ((worker : ℕ) → worker < crew_of query.flow → (position_at start.positions worker).restraint.held ≡ false) → held_stops query.flow (role_in query) reached ≡ []
-  unfolding held_stops
-  none-held loose =
-      no-stops-among (λ worker. held_stop (op_of query.flow worker) (worker - first_worker_of query.flow (op_of query.flow worker))
-      (position_at reached.positions worker).restraint.held (pending_rows (role_in query worker) (position_at reached.positions worker))) (numbers_below (crew_of query.flow))
-      (λ worker known.
-      let inside = below-in (crew_of query.flow) worker known in
-      let held : (position_at reached.positions worker).restraint.held ≡ false =
-      ap (λ (p : Position). p.restraint.held) (stand-position query start d positions stand worker inside)
-      ∙ held-stays (role_in query worker) (orders_in query start worker) (position_at start.positions worker) (positions worker) (entries_of (leg_parts d) worker)
-      (stand-quiet query start d positions stand (op_of query.flow worker)).unwatched (loose worker inside) (leads-at query start d positions stand worker inside) in
-      ap (λ b. held_stop (op_of query.flow worker) (worker - first_worker_of query.flow (op_of query.flow worker)) b
-      (pending_rows (role_in query worker) (position_at reached.positions worker))) held)
+  pub held-are : held_stops query.flow (role_in query) reached ≡ held_of d
+  unfolding held_stops held_of
+  held-are =
+      same-stops
+      (λ worker. held_stop (op_of query.flow worker) (worker - first_worker_of query.flow (op_of query.flow worker))
+      (position_at reached.positions worker).restraint.held (pending_rows (role_in query worker) (position_at reached.positions worker)))
+      (stop_of_worker d) (numbers_below (crew_of query.flow)) (λ worker known. held-is worker (below-in (crew_of query.flow) worker known))
+      ∙ ap (λ (f : List Operator). flat_map (stop_of_worker d) (numbers_below (crew_of f))) (sym stand.flow)
 
   ends-are : end_stop reached ≡ stop_at_end d
   ends-are = ap (λ b. if b then stop.End ∷ [] else []) (stand-finished query start d positions stand)
 
-  pub stops-are : (arms : List Arms) → arms ≡ start.arms → ((worker : ℕ) → worker < crew_of query.flow → (position_at start.positions worker).restraint.held ≡ false)
-      → stops_in query reached ≡ stops_by arms d
+  module _ (arms : List Asked) (is : IsInForce query.flow reached arms) where
+    -- the stop of one count
+    count-is : (op : ℕ) (kept : Option Target) (count : Option Counting) → IsCountOf (crew_at query.flow reached op) kept count
+        → count_stop query.flow reached op count ≡ stop_of_count op kept (emitted_by query.flow reached op)
+    unfolding emitted_by
+    count-is op None None one = refl
+    count-is op None (Some counting) one = absurd one
+    count-is op (Some kept) None one = absurd one
+    count-is op (Some kept) (Some counting) one =
+        rw (reached-test (crew_at query.flow reached op) kept counting one, one.target) refl
+
+    counts-are : count_stops query.flow reached ≡ counts_of arms d
+    unfolding count_stops
+    counts-are =
+        same-stops (λ op. count_stop query.flow reached op (arms_at reached op).count) (λ op. stop_of_count op (count_at arms op) (rows_emitted d op)) (op_numbers query.flow)
+        (λ op known.
+        count-is op (count_at arms op) (arms_at reached op).count (is.each op).count
+        ∙ ap (stop_of_count op (count_at arms op)) (stand-emitted query start d positions stand op))
+        ∙ ap (λ (f : List Operator). flat_map (λ op. stop_of_count op (count_at arms op) (rows_emitted d op)) (op_numbers f)) (sym stand.flow)
+
+    -- the stop of one pause
+    pause-is : (op : ℕ) (pause : Option ℕ) → pause_stop query.flow reached op pause ≡ stop_of_pause op pause (emitted_by query.flow reached op)
+    pause-is op None = refl
+    pause-is op (Some n) = refl
+
+    pauses-are : pause_stops query.flow reached ≡ pauses_of arms d
+    unfolding pause_stops
+    pauses-are =
+        same-stops (λ op. pause_stop query.flow reached op (arms_at reached op).pause) (λ op. stop_of_pause op (pause_at arms op) (rows_emitted d op)) (op_numbers query.flow)
+        (λ op known.
+        pause-is op (arms_at reached op).pause ∙ ap (stop_of_pause op (arms_at reached op).pause) (stand-emitted query start d positions stand op)
+        ∙ ap (λ pause. stop_of_pause op pause (rows_emitted d op)) (sym (is.each op).pause))
+        ∙ ap (λ (f : List Operator). flat_map (λ op. stop_of_pause op (pause_at arms op) (rows_emitted d op)) (op_numbers f)) (sym stand.flow)
+
+  -- whatever was in force when the leg began
+  pub stops-are : (arms : List Asked) → IsInForce query.flow start arms → stops_in query reached ≡ stops_by arms d
   unfolding stops_of
-  stops-are arms arms-are loose = rw (none-held loose, none-counted, pauses-are arms arms-are, ends-are) refl
+  stops-are arms is =
+      let now = in-force-reached query start d positions stand arms is in
+      rw (held-are, counts-are arms now, pauses-are arms now, ends-are) refl
 
 -- ---- how the leg may be closed
 
-pauses-none : (arms : List Arms) (d : DataflowState) → NonePaused arms d → pauses_of arms d ≡ []
-pauses-none arms d none = no-stops (λ op. paused_stop op (pause_at arms op) (rows_emitted d op)) (op_numbers d.flow)
-    (λ op. one op (pause_at arms op) (rows_emitted d op) (none op))
+pauses-none : (arms : List Asked) (d : DataflowState) → NoneStands arms d → pauses_of arms d ≡ []
+pauses-none arms d none =
+    no-stops-among (λ op. stop_of_pause op (pause_at arms op) (rows_emitted d op)) (op_numbers d.flow)
+    (λ op known. one op (pause_at arms op) (rows_emitted d op) (none-paused arms d op (none op)))
   where
-    one : (op : ℕ) (pause : Option ℕ) (rows : ℕ) → stands_after pause rows ≡ false → paused_stop op pause rows ≡ []
+    one : (op : ℕ) (pause : Option ℕ) (rows : ℕ) → stands_after pause rows ≡ false → stop_of_pause op pause rows ≡ []
     one op None rows e = refl
     one op (Some n) rows e = ap (λ b. if b then stop.Pause op n rows ∷ [] else []) e
+
+counts-none : (arms : List Asked) (d : DataflowState) → NoneStands arms d → counts_of arms d ≡ []
+counts-none arms d none =
+    no-stops-among (λ op. stop_of_count op (count_at arms op) (rows_emitted d op)) (op_numbers d.flow)
+    (λ op known. one op (count_at arms op) (rows_emitted d op) (none-counted arms d op (none op)))
+  where
+    one : (op : ℕ) (count : Option Target) (rows : ℕ) → is_reached count rows ≡ false → stop_of_count op count rows ≡ []
+    one op None rows e = refl
+    one op (Some count) rows e = ap (λ b. if b then stop.Count op count.target ∷ [] else []) e
 
 both-none : {A : Type 0} (xs ys : List A) → xs ++ ys ≡ [] → (xs ≡ []) × (ys ≡ [])
 both-none [] ys e = (refl, e)
@@ -129,62 +137,90 @@ some-stop f (y ∷ ys) x known some none =
     let parts = both-none (f y) (flat_map f ys) none in
     among_step y x ys ⊥ known (λ same. some (ap f (sym same) ∙ parts.0)) (λ more. some-stop f ys x more some parts.1)
 
-get-beyond : (arms : List Arms) (i : ℕ) → length arms ≤ i → slice_get arms i ≡ None
-get-beyond [] i h = refl
-get-beyond (a ∷ arms) zero h = absurd (omega arith)
-get-beyond (a ∷ arms) (suc i) h = get-beyond arms i (omega arith)
-
--- a pause that stands is one of an operator
-pub paused-within : (arms : List Arms) (op rows : ℕ) → stands_after (pause_at arms op) rows ≡ true → (0 < op) × (op ≤ length arms)
-paused-within arms zero rows e = absurd (false≢true e)
-paused-within arms (suc i) rows e =
+-- a stop that stands is one of an operator
+stopped-within : (arms : List Asked) (op rows : ℕ) → is_stopped_after (asked_at arms op) rows ≡ true → (0 < op) × (op ≤ length arms)
+stopped-within arms zero rows e = absurd (false≢true e)
+stopped-within arms (suc i) rows e =
     elim (cases_lt i (length arms)) [
       | inl within ↦ (omega arith, omega arith)
-      | inr beyond ↦ absurd (false≢true (sym (ap (λ found. stands_after (unwrap_or found no_arms).pause rows)
-          (ap (nth arms) (sym (add-one i)) ∙ nth-next arms i ∙ get-beyond arms i (omega arith))) ∙ e))
+      | inr beyond ↦ absurd (false≢true (sym (ap (λ found. is_stopped_after (unwrap_or found no_asked) rows) (nth-past arms (suc i) (omega arith))) ∙ e))
     ]
 
 among-ops : (flow : List Operator) (op : ℕ) → 0 < op → op ≤ length flow → among op (op_numbers flow) ≡ true
 among-ops flow zero some within = absurd (omega arith)
 among-ops flow (suc i) some within = in-row suc (length flow) i (omega arith)
 
-stop-stands : (op : ℕ) (pause : Option ℕ) (rows : ℕ) → stands_after pause rows ≡ true → paused_stop op pause rows ≢ []
-stop-stands op None rows e none = false≢true e
-stop-stands op (Some n) rows e none = cons-nil (sym (ap (λ b. if b then stop.Pause op n rows ∷ [] else []) e) ∙ none)
+pause-stands : (op : ℕ) (pause : Option ℕ) (rows : ℕ) → stands_after pause rows ≡ true → stop_of_pause op pause rows ≢ []
+pause-stands op None rows e none = false≢true e
+pause-stands op (Some n) rows e none = cons-nil (sym (ap (λ b. if b then stop.Pause op n rows ∷ [] else []) e) ∙ none)
   where
     cons-nil : stop.Pause op n rows ∷ [] ≡ [] → ⊥
     cons-nil e = cc
 
-pub pauses-some : (arms : List Arms) (d : DataflowState) (op : ℕ) → length arms ≡ length d.flow → is_paused arms d op ≡ true → pauses_of arms d ≢ []
-pauses-some arms d op long paused =
-    let within = paused-within arms op (rows_emitted d op) paused in
-    some-stop (λ op. paused_stop op (pause_at arms op) (rows_emitted d op)) (op_numbers d.flow) op
-    (among-ops d.flow op within.0 (let most = within.1 in omega arith)) (stop-stands op (pause_at arms op) (rows_emitted d op) paused)
-
-pub stops-none : (arms : List Arms) (d : DataflowState) → NonePaused arms d → have_all_finished d ≡ false → stops_by arms d ≡ []
-stops-none arms d none unfinished = rw (pauses-none arms d none, unfinished) refl
-
-stops-some : (arms : List Arms) (d : DataflowState) → length arms ≡ length d.flow
-    → ((op : ℕ) × (is_paused arms d op ≡ true)) ⊎ (have_all_finished d ≡ true) → stops_by arms d ≢ []
-stops-some arms d long (inl paused) none = pauses-some arms d paused.0 long paused.1 (both-none (pauses_of arms d) (stop_at_end d) none).0
-stops-some arms d long (inr finished) none = end-nil (sym (ap (λ b. if b then stop.End ∷ [] else []) finished) ∙ (both-none (pauses_of arms d) (stop_at_end d) none).1)
+count-stands : (op : ℕ) (count : Option Target) (rows : ℕ) → is_reached count rows ≡ true → stop_of_count op count rows ≢ []
+count-stands op None rows e none = false≢true e
+count-stands op (Some count) rows e none = cons-nil (sym (ap (λ b. if b then stop.Count op count.target ∷ [] else []) e) ∙ none)
   where
+    cons-nil : stop.Count op count.target ∷ [] ≡ [] → ⊥
+    cons-nil e = cc
+
+-- where no pause and no count stands, and somebody has not finished, no stop stands but those of held workers
+pub others-none : (arms : List Asked) (d : DataflowState) → NoneStands arms d → have_all_finished d ≡ false → other_stops arms d ≡ []
+others-none arms d none unfinished = rw (counts-none arms d none, pauses-none arms d none, unfinished) refl
+
+-- and none at all where nobody is held
+pub stops-none : (arms : List Asked) (d : DataflowState) → held_of d ≡ [] → NoneStands arms d → have_all_finished d ≡ false → stops_by arms d ≡ []
+stops-none arms d loose none unfinished = rw (loose, others-none arms d none unfinished) refl
+
+-- where a stop stands at an operator, or all have finished, there is one
+pub stops-some : (arms : List Asked) (d : DataflowState) → length arms ≡ length d.flow
+    → ((op : ℕ) × (is_stopped arms d op ≡ true)) ⊎ (have_all_finished d ≡ true) → stops_by arms d ≢ []
+stops-some arms d long stands none = by stands
+  where
+    later : other_stops arms d ≡ []
+    later = (both-none (held_of d) (other_stops arms d) none).1
+
+    last : pauses_of arms d ++ stop_at_end d ≡ []
+    last = (both-none (counts_of arms d) (pauses_of arms d ++ stop_at_end d) later).1
+
     end-nil : stop.End ∷ [] ≡ [] → ⊥
     end-nil e = cc
 
--- nothing is paused where nothing is armed
-unarmed : (arms : List Arms) (d : DataflowState) (op : ℕ) → ((op : ℕ) → pause_at arms op ≡ None) → is_paused arms d op ≡ true → ⊥
-unarmed arms d op none paused = false≢true (sym (ap (λ pause. stands_after pause (rows_emitted d op)) (none op)) ∙ paused)
+    by : ((op : ℕ) × (is_stopped arms d op ≡ true)) ⊎ (have_all_finished d ≡ true) → ⊥
+    by (inl stopped) =
+        let op = stopped.0 in
+        let within = stopped-within arms op (rows_emitted d op) stopped.1 in
+        let known = among-ops d.flow op within.0 (let most = within.1 in omega arith) in
+        elim (or_cases (stands_after (pause_at arms op) (rows_emitted d op)) (is_reached (count_at arms op) (rows_emitted d op)) stopped.1) [
+          | inl paused ↦
+              some-stop (λ op. stop_of_pause op (pause_at arms op) (rows_emitted d op)) (op_numbers d.flow) op known
+              (pause-stands op (pause_at arms op) (rows_emitted d op) paused) (both-none (pauses_of arms d) (stop_at_end d) last).0
+          | inr counted ↦
+              some-stop (λ op. stop_of_count op (count_at arms op) (rows_emitted d op)) (op_numbers d.flow) op known
+              (count-stands op (count_at arms op) (rows_emitted d op) counted) (both-none (counts_of arms d) (pauses_of arms d ++ stop_at_end d) later).0
+        ]
+    by (inr finished) = end-nil (sym (ap (λ b. if b then stop.End ∷ [] else []) finished) ∙ (both-none (pauses_of arms d) (stop_at_end d) last).1)
 
-module _ (query : Query) (start : State) (d : DataflowState) (positions : ℕ → Position) (stand : StandAt query start d positions) (arms : List Arms)
-    (arms-are : arms ≡ start.arms) (long : length arms ≡ length query.flow)
-    (loose : (worker : ℕ) → worker < crew_of query.flow → (position_at start.positions worker).restraint.held ≡ false)
+-- nothing is armed at an operator
+abbrev pub IsUnarmed : List Asked → ℕ → Type 0
+IsUnarmed arms op = (pause_at arms op ≡ None) × (count_at arms op ≡ None)
+
+-- no stop stands where nothing is armed
+unarmed : (arms : List Asked) (d : DataflowState) (op : ℕ) → IsUnarmed arms op → is_stopped arms d op ≡ true → ⊥
+unarmed arms d op none stopped =
+    elim (or_cases (stands_after (pause_at arms op) (rows_emitted d op)) (is_reached (count_at arms op) (rows_emitted d op)) stopped) [
+      | inl paused ↦ false≢true (sym (ap (λ pause. stands_after pause (rows_emitted d op)) none.0) ∙ paused)
+      | inr counted ↦ false≢true (sym (ap (λ count. is_reached count (rows_emitted d op)) none.1) ∙ counted)
+    ]
+
+module _ (query : Query) (start : State) (d : DataflowState) (positions : ℕ → Position) (stand : StandAt query start d positions) (arms : List Asked)
+    (is : IsInForce query.flow start arms)
     (hands : (worker : ℕ) → worker < crew_of query.flow → (position_at start.positions worker).restraint.hand ≡ 0) where
   abbrev now : State
   now = state_reached query start positions
 
   stops-now : stops_in query now ≡ stops_by arms d
-  stops-now = stops-are query start d positions stand arms arms-are loose
+  stops-now = stops-are query start d positions stand arms is
 
   settled-now : IsSettled query now
   settled-now = settled-reached query start d positions stand hands
@@ -196,14 +232,15 @@ module _ (query : Query) (start : State) (d : DataflowState) (positions : ℕ �
   finished-now = stand-finished query start d positions stand
 
   -- so may it be closed
-  pub may-close : (to_end : Bool) (closed : Close) → (to_end ≡ true → (op : ℕ) → pause_at arms op ≡ None) → step_count d ≤ query.most → IsLegDone closed arms query.most d
+  pub may-close : (to_end : Bool) (closed : Close) → (to_end ≡ true → (op : ℕ) → IsUnarmed arms op) → step_count d ≤ query.most → IsLegDone closed arms query.most d
       → ClosesIn to_end query now closed
   may-close false close.Cut none few done =
-      (settled-now, rw steps-now few, λ e. stops-some arms d (long ∙ ap length (sym stand.flow)) done (sym stops-now ∙ e))
-  may-close false close.Long none few done = (settled-now, steps-now ∙ done.1, stops-now ∙ stops-none arms d done.0 done.2)
+      (settled-now, rw steps-now few, λ e. stops-some arms d (is.all ∙ ap length (sym stand.flow)) done (sym stops-now ∙ e))
+  may-close false close.Long none few done =
+      (settled-now, steps-now ∙ done.1, stops-now ∙ stops-none arms d (none-held query start d positions stand) done.0 done.2)
   may-close true close.Cut none few done = (settled-now, rw steps-now few, by done)
     where
-      by : ((op : ℕ) × (is_paused arms d op ≡ true)) ⊎ (have_all_finished d ≡ true) → have_finished now ≡ true
-      by (inl paused) = absurd (unarmed arms d paused.0 (none refl) paused.1)
+      by : ((op : ℕ) × (is_stopped arms d op ≡ true)) ⊎ (have_all_finished d ≡ true) → have_finished now ≡ true
+      by (inl stopped) = absurd (unarmed arms d stopped.0 (none refl stopped.0) stopped.1)
       by (inr finished) = finished-now ∙ finished
   may-close true close.Long none few done = (settled-now, steps-now ∙ done.1, finished-now ∙ done.2)

@@ -2,17 +2,17 @@
 use Rattle.std.specs.Prelude.{ℕ, ◌<◌, ◌≤◌, List, [], ◌∷◌, ◌++◌, replicate, Option, None, Some}
 use Rattle.amber_dataflow.specs.Dataflow.{DataflowState, constant_put}
 use Rattle.amber_log.specs.declared.effect.Effect.{Effect}
-use Rattle.amber_meaning.specs.State.{Arms, arms_changed}
 use Rattle.amber_rows.specs.Lists.{changed_at}
 use Rattle.amber_rows.specs.declared.value.Value.{Value}
+use Rattle.amber_home.specs.Asked.{Asked, asked_changed}
 
 -- an operator with this number is there
 abbrev pub HasOperator : ℕ → ℕ → Type 0
 HasOperator op count = (0 < op) × (op ≤ count)
 
--- what is in force, where no count is armed
-abbrev pub arms_after : Effect → List Arms → List Arms
-arms_after effect arms = changed_at (arms_changed effect.arming []) effect.op arms
+-- what is in force, where its operator has emitted so many rows
+abbrev pub arms_after : Effect → ℕ → List Asked → List Asked
+arms_after effect emitted arms = changed_at (asked_changed effect.arming emitted) effect.op arms
 
 -- another constant at an operator, where there is one
 abbrev pub with_constants : ℕ → Option Value → DataflowState → DataflowState

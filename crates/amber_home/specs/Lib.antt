@@ -1,4 +1,5 @@
 pub mod Applied
+pub mod Asked
 pub mod Beginning
 pub mod Going
 pub mod HomeState

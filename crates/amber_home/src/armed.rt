@@ -1,44 +1,30 @@
-//! What is in force at one operator. Over `Change` of `amber_log`, which says what a command asks for.
+//! What is in force at one operator. Over `Target`, and `Change` of `amber_log`, which says what a command
+//! asks for.
 
-ghost use Rattle.std.specs.Prelude.{◌≡◌, [], IfOk, false, None, Some, option_map, option_to_list};
-ghost use Rattle.amber_log.specs.Effect.{is_put};
-ghost use Rattle.amber_meaning.specs.State.{arms_changed, first_constants, no_arms, without_arms};
+ghost use Rattle.std.specs.Prelude.{◌≡◌, IfOk, None, option_map, option_to_list};
+ghost use Rattle.amber_meaning.specs.State.{first_constants, put};
+ghost use Rattle.amber_home.specs.Asked.{asked_changed, asked_left, is_reached, no_asked, stands_after, without_asked};
 
+use crate::target::Target;
 use amber_log::{Arming, Change};
 use amber_rows::{Cond, Value, What};
 use std::alloc::AllocError;
 use std::marker::Model;
 
-/// An armed count: how many rows it asks for, and how many rows of each of its operator's workers were gone
-/// when it was armed.
-#[derive(Drop)]
-pub struct Counting {
-    target: u64,
-    base: Vec<u64>,
-}
-
-impl Model for Counting {
-    ghost use Rattle.amber_meaning.specs.State.{Counting as Counted};
-
-    ghost Value = { Counted };
-
-    ghost view = { λ a. record { target = a.target; base = a.base.items } };
-}
-
 /// What is in force at one operator: its pause in rows, its count, its condition, and a filter's constant.
 #[derive(Drop)]
 pub struct Armed {
     pause: Option<u64>,
-    count: Option<Counting>,
+    count: Option<Target>,
     when: Option<Cond>,
     constant: Option<Value>,
 }
 
 impl Model for Armed {
     ghost use Rattle.std.specs.Prelude.{option_to_list};
-    ghost use Rattle.amber_meaning.specs.State.{Arms};
+    ghost use Rattle.amber_home.specs.Asked.{Asked};
 
-    ghost Value = { Arms };
+    ghost Value = { Asked };
 
     ghost view = { λ a. record {
       pause = a.pause;
@@ -52,7 +38,7 @@ impl Armed {
     /// What is in force at an operator of this kind before any command: nothing but a filter's own constant.
     pub fn new(what: &What) -> Result<Armed, AllocError>
         ensures { IfOk result
-            (λ armed. armed ≡ record no_arms { constants = first_constants what.now }) }
+            (λ armed. armed ≡ record no_asked { constants = first_constants what.now }) }
     {
         let constant = match what.settable_cond() {
             Some(cond) => Some(cond.constant.clone()?),
@@ -73,6 +59,20 @@ impl Armed {
         self.pause
     }
 
+    /// The operator's count, where one is armed.
+    pub fn count(&self) -> Option<Target>
+        ensures { result ≡ self.now.count }
+    {
+        self.count
+    }
+
+    /// The condition to stop at, where one is armed.
+    pub fn when(&self) -> Option<&Cond>
+        ensures { option_map (λ cond. cond.now) result ≡ self.now.when }
+    {
+        self.when.as_ref()
+    }
+
     /// The filter's constant, if the operator is one.
     pub fn constant(&self) -> Option<&Value>
         ensures { option_to_list (option_map (λ value. value.now) result) ≡ self.now.constants }
@@ -80,13 +80,38 @@ impl Armed {
         self.constant.as_ref()
     }
 
-    /// Does what a command asks for at the operator, which arms no count and no condition: those take memory,
-    /// and no run has them yet. The constant is a copy of the command's.
-    pub fn change(&mut self, arming: &Arming<'_>, constant: Option<Value>)
-        requires uncounted { is_put arming.now.count ≡ false }
-        requires unwatched { is_put arming.now.when ≡ false }
+    /// Whether the pause stands, where the operator has emitted so many rows.
+    pub fn is_paused(&self, rows: u64) -> bool
+        ensures { result ≡ stands_after self.now.pause rows }
+    {
+        match self.pause {
+            None => false,
+            Some(n) => n <= rows,
+        }
+    }
+
+    /// Whether the count stands, where the operator has emitted so many rows.
+    pub fn is_counted(&self, rows: u64) -> bool
+        ensures { result ≡ is_reached self.now.count rows }
+    {
+        match self.count {
+            None => false,
+            Some(count) => count.is_reached(rows),
+        }
+    }
+
+    /// Does what a command asks for at the operator, which has emitted so many rows. The condition and the
+    /// constant are copies of the command's.
+    pub fn change(
+        &mut self,
+        arming: &Arming<'_>,
+        emitted: u64,
+        when: Option<Cond>,
+        constant: Option<Value>,
+    )
+        requires when { when ≡ put arming.now.when None }
         requires constant { constant ≡ arming.now.constant }
-        ensures { self.new ≡ arms_changed arming.now [] self.old }
+        ensures { self.new ≡ asked_changed arming.now emitted self.old }
     {
         match arming.pause {
             Change::Keep => {}
@@ -96,28 +121,38 @@ impl Armed {
         match arming.count {
             Change::Keep => {}
             Change::TakeBack => self.count = None,
-            Change::Put(_) => unreachable!(),
+            Change::Put(target) => {
+                self.count = Some(Target {
+                    target,
+                    since: emitted,
+                });
+            }
         }
         match arming.when {
             Change::Keep => {}
             Change::TakeBack => self.when = None,
-            Change::Put(_) => unreachable!(),
+            Change::Put(_) => self.when = when,
         }
         if let Some(value) = constant {
             self.constant = Some(value);
         }
     }
 
-    /// Ends the pause, if one is armed.
-    pub fn end_pause(&mut self)
-        ensures { self.new ≡ record self.old { pause = None } }
+    /// Takes away the pause and the count where they stand, after so many rows.
+    pub fn end_stops(&mut self, rows: u64)
+        ensures { self.new ≡ asked_left rows self.old }
     {
-        self.pause = None;
+        if self.is_paused(rows) {
+            self.pause = None;
+        }
+        if self.is_counted(rows) {
+            self.count = None;
+        }
     }
 
     /// Takes back all that was asked to stop at the operator.
     pub fn clear(&mut self)
-        ensures { self.new ≡ without_arms self.old }
+        ensures { self.new ≡ without_asked self.old }
     {
         self.pause = None;
         self.count = None;

@@ -1,15 +1,15 @@
 //! Driving a leg: it goes in rounds, in each of which each worker makes some turns, until a stop stands or the
 //! budget is spent. Where a stop stands already nobody does anything. Over `Dataflow::turns`, and what
-//! `stopping` tells of pauses.
+//! `stopping` tells of stops.
 
 ghost use Rattle.std.specs.Prelude.{◌≡◌, ◌⊎◌, ◌+◌, ◌^◌, ◌<◌, ◌≤◌, IfOk, OnErr, OnOk, false, length, true};
 ghost use Rattle.amber_dataflow.specs.Dataflow.{AreAllThere, FirstHaveFinished, has_finished, have_all_finished, step_count, without_workers};
 ghost use Rattle.amber_rows.specs.Topology.{crew_of, op_of};
 ghost use Rattle.amber_home.specs.Going.{GoOn, MovesAlone};
-ghost use Rattle.amber_home.specs.Leg.{IsLegDone, IsLegInTime, NoneIsLate, NonePaused, is_paused};
+ghost use Rattle.amber_home.specs.Leg.{IsLegDone, IsLegInTime, NoneIsLate, NoneStands, is_paused};
 
 use crate::in_force::InForce;
-use crate::stopping::{any_paused, is_paused, rows_left};
+use crate::stopping::{any_stopped, is_stopped, rows_left};
 use amber_dataflow::Dataflow;
 use amber_log::Close;
 use std::alloc::AllocError;
@@ -82,18 +82,18 @@ fn drive_worker(
     Ok(budget - made)
 }
 
-// A round: turns of each worker, in their order. It ends where a pause stands. The answer is what is left of
+// A round: turns of each worker, in their order. It ends where a stop stands. The answer is what is left of
 // the budget.
 fn drive_round(arms: &InForce, dataflow: &mut Dataflow, budget: u64) -> Result<u64, AllocError>
     requires workers { AreAllThere dataflow.old }
-    requires none { NonePaused arms.now dataflow.old }
+    requires none { NoneStands arms.now dataflow.old }
     requires some { 0 < budget }
     requires few { step_count dataflow.old + budget ≤ 2 ^ 40 }
     ensures on { OnOk result (GoOn dataflow.old dataflow.new) }
     ensures left { IfOk result (λ left. step_count dataflow.new + left
         ≡ step_count dataflow.old + budget) }
     ensures within { IfOk result (λ left. left ≤ budget) }
-    ensures moves { IfOk result (λ left. NonePaused arms.now dataflow.new
+    ensures moves { IfOk result (λ left. NoneStands arms.now dataflow.new
         → (left < budget) ⊎ (have_all_finished dataflow.new ≡ true)) }
     ensures in_time { OnOk result (NoneIsLate arms.now dataflow.new) }
     ensures err { OnErr result (dataflow.new ≡ without_workers dataflow.old) }
@@ -101,7 +101,7 @@ fn drive_round(arms: &InForce, dataflow: &mut Dataflow, budget: u64) -> Result<u
     let mut left = budget;
     'workers: for worker in 0..dataflow.flow().workers() {
         left = drive_worker(arms, dataflow, worker, left)?;
-        if is_paused(arms, dataflow, dataflow.flow().op_of(worker)) {
+        if is_stopped(arms, dataflow, dataflow.flow().op_of(worker)) {
             return Ok(left);
         }
     }
@@ -125,7 +125,7 @@ pub(crate) fn drive_workers(
     ensures in_time { OnOk result (IsLegInTime arms.now dataflow.old dataflow.new) }
     ensures err { OnErr result (dataflow.new ≡ without_workers dataflow.old) }
 {
-    if any_paused(arms, dataflow) {
+    if any_stopped(arms, dataflow) {
         return Ok(Close::Cut);
     }
     let mut left = budget;
@@ -134,7 +134,7 @@ pub(crate) fn drive_workers(
             return Ok(Close::Long);
         }
         left = drive_round(arms, dataflow, left)?;
-        if any_paused(arms, dataflow) {
+        if any_stopped(arms, dataflow) {
             return Ok(Close::Cut);
         }
     }

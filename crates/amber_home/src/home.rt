@@ -15,14 +15,15 @@ ghost use Rattle.amber_home.specs.HomeState.{ClosesIn, Ends, MayClose, StepsOn, 
 ghost use Rattle.amber_home.specs.HomeState.{is_done_at_rest, is_open, item_of_leg, query_of, rest_state, runs_to_end, state_of};
 ghost use Rattle.amber_home.specs.HomeState.{stops_of_home, with_item, with_closed_leg};
 
-use crate::applying::{copies_for, push_command, put_in_force};
+use crate::applying::{condition_for, copies_for, push_command, put_in_force};
 use crate::driving::drive_workers;
 use crate::error::{HomeErr, LegErr};
 use crate::in_force::InForce;
 use crate::inspection::inspect;
 use crate::leg_item::{is_last, push_leg};
 use crate::phase::Phase;
-use crate::stopping::{close_arms, stops_of};
+use crate::stopping::close_arms;
+use crate::stops::stops_of;
 use amber_dataflow::Dataflow;
 use amber_log::{Action, Close, Command, Item, Items, Leg, Log, commands_have_text};
 use amber_meaning::{Answer, Inspected, Stops, wrong_header};
@@ -161,8 +162,9 @@ impl Home {
         };
         commands_have_text(command);
         let copies = copies_for(alloc, &effect.arming.constant, &self.dataflow)?;
+        let when = condition_for(&effect.arming.when)?;
         push_command(command, &mut self.log.items)?;
-        put_in_force(&effect, copies, &mut self.arms, &mut self.dataflow);
+        put_in_force(&effect, copies, when, &mut self.arms, &mut self.dataflow);
         Ok(())
     }
 

@@ -1,14 +1,15 @@
 //! What commands have put in force at each operator. A command changes what it names and nothing else. Over
 //! `Armed` of `armed`, one for each operator.
 
-ghost use Rattle.std.specs.Prelude.{◌≡◌, ◌<◌, ◌≤◌, [], IfOk, None, false, if◌then◌else◌, length, map, option_map, unwrap_or};
+ghost use Rattle.std.specs.Prelude.{◌≡◌, ◌<◌, ◌≤◌, IfOk, None, if◌then◌else◌, length, map, option_map};
 ghost use Rattle.amber_rows.specs.Lists.{changed_at, nth};
-ghost use Rattle.amber_log.specs.Effect.{is_put};
-ghost use Rattle.amber_meaning.specs.State.{arms_changed, no_arms, start_of, without_arms};
+ghost use Rattle.amber_meaning.specs.State.{put};
+ghost use Rattle.amber_home.specs.Asked.{asked_at, asked_changed, asked_left, first_asked, without_asked};
 
 use crate::armed::Armed;
+use crate::target::Target;
 use amber_log::Arming;
-use amber_rows::{Flow, Value};
+use amber_rows::{Cond, Flow, Value};
 use std::alloc::{AllocError, Global};
 use std::marker::Model;
 
@@ -20,9 +21,9 @@ pub struct InForce {
 
 impl Model for InForce {
     ghost use Rattle.std.specs.Prelude.{List};
-    ghost use Rattle.amber_meaning.specs.State.{Arms};
+    ghost use Rattle.amber_home.specs.Asked.{Asked};
 
-    ghost Value = { List Arms };
+    ghost Value = { List Asked };
 
     ghost view = { λ a. a.arms.items };
 }
@@ -30,7 +31,7 @@ impl Model for InForce {
 impl InForce {
     /// What is in force before any command: nothing is armed, and filters have their own constants.
     pub fn new(alloc: Global, flow: &Flow) -> Result<InForce, AllocError>
-        ensures { IfOk result (λ arms. arms ≡ (start_of flow.now).arms) }
+        ensures { IfOk result (λ arms. arms ≡ first_asked flow.now) }
     {
         let operators = flow.get();
         let mut arms = Vec::with_capacity(alloc, operators.len())?;
@@ -52,7 +53,7 @@ impl InForce {
 
     /// The rows after which an operator pauses, if a pause is armed there.
     pub fn pause_at(&self, op: u32) -> Option<u64>
-        ensures { result ≡ (unwrap_or (nth self.now op) no_arms).pause }
+        ensures { result ≡ (asked_at self.now op).pause }
     {
         match self.at(op) {
             Some(arms) => arms.pause(),
@@ -60,31 +61,47 @@ impl InForce {
         }
     }
 
-    /// Does what a command asks for at an operator, which arms no count and no condition. The constant is a
-    /// copy of the command's.
-    pub fn change(&mut self, op: u32, arming: &Arming<'_>, constant: Option<Value>)
-        requires some { 0 < op }
-        requires there { op ≤ length self.old }
-        requires uncounted { is_put arming.now.count ≡ false }
-        requires unwatched { is_put arming.now.when ≡ false }
-        requires constant { constant ≡ arming.now.constant }
-        ensures { self.new ≡ changed_at (arms_changed arming.now []) op self.old }
+    /// An operator's count, if one is armed there.
+    pub fn count_at(&self, op: u32) -> Option<Target>
+        ensures { result ≡ (asked_at self.now op).count }
     {
-        self.arms[op as usize - 1].change(arming, constant);
+        match self.at(op) {
+            Some(arms) => arms.count(),
+            None => None,
+        }
     }
 
-    /// Ends the pause of an operator, if one is armed.
-    pub fn end_pause(&mut self, op: u32)
+    /// Does what a command asks for at an operator, which has emitted so many rows. The condition and the
+    /// constant are copies of the command's.
+    pub fn change(
+        &mut self,
+        op: u32,
+        arming: &Arming<'_>,
+        emitted: u64,
+        when: Option<Cond>,
+        constant: Option<Value>,
+    )
         requires some { 0 < op }
         requires there { op ≤ length self.old }
-        ensures { self.new ≡ changed_at (λ arms. record arms { pause = None }) op self.old }
+        requires when { when ≡ put arming.now.when None }
+        requires constant { constant ≡ arming.now.constant }
+        ensures { self.new ≡ changed_at (asked_changed arming.now emitted) op self.old }
     {
-        self.arms[op as usize - 1].end_pause();
+        self.arms[op as usize - 1].change(arming, emitted, when, constant);
+    }
+
+    /// Takes away an operator's pause and its count where they stand, after so many rows.
+    pub fn end_stops(&mut self, op: u32, rows: u64)
+        requires some { 0 < op }
+        requires there { op ≤ length self.old }
+        ensures { self.new ≡ changed_at (asked_left rows) op self.old }
+    {
+        self.arms[op as usize - 1].end_stops(rows);
     }
 
     /// A leg begins. To the end all is taken back that was asked to stop anywhere.
     pub fn begin_leg(&mut self, to_end: bool)
-        ensures { self.new ≡ (if to_end then map without_arms self.old else self.old) }
+        ensures { self.new ≡ (if to_end then map without_asked self.old else self.old) }
     {
         if !to_end {
             return;

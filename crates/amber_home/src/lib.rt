@@ -21,6 +21,8 @@ mod inspection;
 mod leg_item;
 pub mod phase;
 mod stopping;
+mod stops;
+mod target;
 
 pub use error::{HomeErr, LegErr};
 pub use home::Home;

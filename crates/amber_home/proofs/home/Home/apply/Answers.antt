@@ -3,7 +3,7 @@ use Rattle.std.proofs.Common.{refl, ap, sym, ◌∙◌, false}
 use Rattle.amber_log.specs.Fits.{fits_of}
 use Rattle.amber_log.specs.Grammar.{ends_over}
 use Rattle.amber_home.specs.HomeState.{HomeState, is_at_rest}
-use Rattle.amber_home.proofs.Commanded.{home-commanded, names-resting, nothing-done}
+use Rattle.amber_home.proofs.Commanded.{flow-has, home-commanded, names-resting, nothing-done, there-resting}
 use Rattle.amber_home.proofs.Inside.{kept, seen}
 use Rattle.amber_home.proofs.home.Home.apply.Goals as goal
 
@@ -14,6 +14,21 @@ put_in_force-requires-clause-there c =
     let live = kept i in
     names-resting e live c.self.invariant (ap (λ (h : HomeState). h.phase) c.self.view_is ∙ c.requires.resting) c.args.command.now c.in-AtRest.effect
     (sym c.action.ensures ∙ c.in-AtRest.is) (ap (λ (h : HomeState). fits_of h.flow c.args.command.now) c.self.view_is ∙ c.requires.fits)
+
+pub put_in_force-requires-clause-within : goal.put_in_force-requires-clause-within
+put_in_force-requires-clause-within c =
+    let i = c.self.inside in
+    let e = seen i in
+    let live = kept i in
+    flow-has e live c.self.invariant (ap (λ (h : HomeState). h.phase) c.self.view_is ∙ c.requires.resting) c.args.command.now c.in-AtRest.effect
+    (sym c.action.ensures ∙ c.in-AtRest.is) (ap (λ (h : HomeState). fits_of h.flow c.args.command.now) c.self.view_is ∙ c.requires.fits)
+
+pub put_in_force-requires-clause-workers : goal.put_in_force-requires-clause-workers
+put_in_force-requires-clause-workers c =
+    let i = c.self.inside in
+    let e = seen i in
+    let live = kept i in
+    there-resting e live c.self.invariant (ap (λ (h : HomeState). h.phase) c.self.view_is ∙ c.requires.resting)
 
 pub put_in_force-requires-clause-rest : goal.put_in_force-requires-clause-rest
 put_in_force-requires-clause-rest c =

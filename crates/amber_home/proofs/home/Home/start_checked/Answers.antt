@@ -1,7 +1,7 @@
 -- A run that has not begun.
 use Rattle.std.proofs.Common.{sym, subst, ◌∙◌, [], ap, List}
 use Rattle.amber_rows.specs.declared.flow.Operator.{Operator}
-use Rattle.amber_meaning.specs.State.{start_of}
+use Rattle.amber_home.specs.Asked.{first_asked}
 use Rattle.amber_home.specs.Kept.{IsHome}
 use Rattle.amber_home.specs.declared.phase.Phase.TheVariants as phase
 use Rattle.amber_home.proofs.Fresh.{home-new}
@@ -14,4 +14,4 @@ invariant_of-result c =
     subst (λ (flow : List Operator). IsHome (record { flow = flow; files = c.args.files; most = c.args.most; log = record { batch = c.args.batch_size; items = c.new-4.result }; phase = phase.Resting; parts = [] })
     (record { dataflow = d; arms = c.in_ok-arms.arms; stops = c.new-6.result })) (sym made.flow)
     (home-new c.args.flow c.args.files c.args.most c.args.batch_size c.new-4.result d c.in_ok-arms.arms c.new-6.result c.requires.steps c.requires.some c.requires.few (c.new-4.ensures ∙ c.new-3.ensures.items)
-    (c.in_ok-arms.ensures ∙ ap (λ f. (start_of f).arms) (c.flow.ensures ∙ made.flow)) (c.new-6.ensures ∙ c.new-5.ensures.items) (made.start c.args.most) made.journals)
+    (c.in_ok-arms.ensures ∙ ap first_asked (c.flow.ensures ∙ made.flow)) (c.new-6.ensures ∙ c.new-5.ensures.items) (made.start c.args.most) made.journals)

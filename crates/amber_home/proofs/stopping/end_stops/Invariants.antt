@@ -1,8 +1,8 @@
--- The pauses of the first operators were ended where they stand; the others are as they were.
+-- What stands at the first operators was taken away; the others are as they were.
 use Rattle.std.proofs.Common.{◌≡◌, ℕ, ◌<◌, ◌≤◌, length, Some}
 use Rattle.amber_rows.specs.Lists.{nth}
 use Rattle.amber_home.specs.Leg.{cut_at}
-use Rattle.amber_home.proofs.stopping.end_paused.Given as goal
+use Rattle.amber_home.proofs.stopping.end_stops.Given as goal
 
 abbrev pub invariant-loop-before : goal.invariant-loop-before
 invariant-loop-before l = record {

@@ -1,0 +1,10 @@
+-- The pauses of the first operators are there.
+use Rattle.std.proofs.Common.{◌≡◌, ◌++◌, map, suc}
+use Rattle.std.specs.List.{flat_map}
+use Rattle.amber_rows.specs.Lists.{numbers_below}
+use Rattle.amber_dataflow.specs.Dataflow.{rows_emitted}
+use Rattle.amber_home.specs.Leg.{pause_at, stop_of_pause}
+use Rattle.amber_home.proofs.stops.add_pauses.Given as goal
+
+abbrev pub invariant-loop-before : goal.invariant-loop-before
+invariant-loop-before l = l.stops.items ≡ l.initial.stops.items ++ flat_map (λ op. stop_of_pause op (pause_at l.arms op) (rows_emitted l.dataflow op)) (map suc (numbers_below l.before))

@@ -1,0 +1,19 @@
+//! An armed count, as a home keeps it. It rests on nothing.
+
+ghost use Rattle.std.specs.Prelude.{◌≡◌, ◌+◌, ◌==◌};
+
+/// How many rows a count asks for, and how many rows its operator had emitted when it was armed.
+#[derive(Clone, Copy)]
+pub struct Target {
+    pub target: u64,
+    pub since: u64,
+}
+
+impl Target {
+    /// Whether it has counted just what it asks for, where so many rows were emitted.
+    pub fn is_reached(self, rows: u64) -> bool
+        ensures { result ≡ (rows == self.target + self.since) }
+    {
+        self.since <= rows && rows - self.since == self.target
+    }
+}
