@@ -173,9 +173,11 @@ module _ (e : HomeState) (live : LiveState) (home : IsHome e live) (resting : e.
   pub names-resting : (one : Command) (effect : Effect) → action_of one ≡ AtRest effect → fits_of e.flow one ≡ true → HasOperator effect.op (length live.arms)
   names-resting one effect is fits = rw rest.in_force.all (rest-there e.flow one effect is fits)
 
+  -- the workers are there
   pub there-resting : AreAllThere live.dataflow
   there-resting = stand-there (query_of e) (rest_state e) live.dataflow (position_at (rest_state e).positions) rest.at
 
+  -- and it is one of the workflow
   pub flow-has : (one : Command) (effect : Effect) → action_of one ≡ AtRest effect → fits_of e.flow one ≡ true → effect.op ≤ length e.flow
   flow-has one effect is fits = (rest-there e.flow one effect is fits).1
 
@@ -202,6 +204,7 @@ module _ (e : HomeState) (live : LiveState) (home : IsHome e live) (resting : e.
       pub state-commanded : record e { flow = now.dataflow.flow; log = log; parts = open_parts e.phase now.dataflow } ≡ record e { log = with_item e.log (item.Do one); parts = [] }
       state-commanded = λ i. record e { flow = flow-same i; log = log-is i; parts = none-open i }
 
+      -- what it asks for is in force
       in-force-next : HasOperator effect.op (length e.flow) → IsInForce e.flow next now.arms
       in-force-next there =
           rw (arms-is, ← emitted-rest e live rest home.legal effect.op) (in-force-after e.flow (rest_state e) live.arms rest.in_force effect there long)

@@ -15,6 +15,7 @@ use Rattle.amber_home.specs.declared.target.Target.{Target}
 
 -- ---- one worker
 
+-- of outcomes after others the emitted are both together
 emitted-append : (xs ys : List Bool) → emitted_count (xs ++ ys) ≡ emitted_count xs + emitted_count ys
 emitted-append xs ys = sum_by-append (λ outcome. if is_emitted outcome then 1 else 0) xs ys
 
@@ -40,6 +41,7 @@ AreLater [] (q ∷ qs) = ⊥
 AreLater (p ∷ ps) [] = ⊥
 AreLater (p ∷ ps) (q ∷ qs) = IsPrefix p.outcomes q.outcomes × AreLater ps qs
 
+-- the first worker's rows and those of the others
 emitted-first : (p : Position) (ps : List Position) → emitted_of (p ∷ ps) ≡ emitted_count p.outcomes + emitted_of ps
 emitted-first p ps = sum_by-cons (λ (p : Position). emitted_count p.outcomes) p ps
 
@@ -58,6 +60,7 @@ counted-later (base ∷ bases) (p ∷ ps) (q ∷ qs) gone later =
     let is = emitted-first q qs in
     omega arith
 
+-- what was gone when a count was armed still is
 gone-later : (bases : List ℕ) (ps qs : List Position) → AreGone bases ps → AreLater ps qs → AreGone bases qs
 gone-later [] [] [] gone later = tt
 gone-later [] [] (q ∷ qs) gone later = later
@@ -69,6 +72,7 @@ gone-later (base ∷ bases) (p ∷ ps) (q ∷ qs) gone later =
     let more = gone-more p q later.0 in
     (omega arith, gone-later bases ps qs gone.1 later.1)
 
+-- an armed count stays one of the definitions
 target-later : (ps qs : List Position) (kept : Target) (counting : Counting) → AreLater ps qs → IsTargetOf ps kept counting → IsTargetOf qs kept counting
 target-later ps qs kept counting later is = record {
   target = is.target;
@@ -79,6 +83,7 @@ target-later ps qs kept counting later is = record {
   gone = gone-later counting.base ps qs is.gone later;
 }
 
+-- so where one may be armed
 count-later : (ps qs : List Position) (kept : Option Target) (count : Option Counting) → AreLater ps qs → IsCountOf ps kept count → IsCountOf qs kept count
 count-later ps qs None None later is = tt
 count-later ps qs None (Some counting) later is = absurd is
@@ -123,6 +128,7 @@ count-none crew (Some kept) (Some counting) is none = cc
 
 -- ---- a count that is armed
 
+-- how many rows of each are gone
 gone-of : List Position → List ℕ
 gone-of crew = map (λ p. length p.outcomes) crew
 
@@ -134,6 +140,7 @@ counted-none (p ∷ crew) =
     let none : drop (length p.outcomes) p.outcomes ≡ [] = ap (drop (length p.outcomes)) (sym (append-nil p.outcomes)) ∙ drop-append_seam p.outcomes [] in
     rw (none, counted-none crew) refl
 
+-- and these are gone
 gone-now : (crew : List Position) → AreGone (gone-of crew) crew
 unfolding gone-of
 gone-now [] = tt

@@ -13,12 +13,15 @@ use Rattle.amber_home.proofs.Places.{length-changed_at, nth-here, nth-other, nth
 
 module _ (first : List Asked) (d : DataflowState) (arms after : List Asked) (op : ℕ) (some : 0 < op) (within : op ≤ length first)
     (after-is : after ≡ changed_at (asked_left (rows_emitted d op)) op arms) where
+  -- as many are there
   pub ended-long : length after ≡ length arms
   ended-long = ap length after-is ∙ length-changed_at (asked_left (rows_emitted d op)) op arms
 
+  -- the others are as they were
   pub ended-other : (k : ℕ) → k ≢ op → nth after k ≡ nth arms k
   ended-other k ne = ap (λ xs. nth xs k) after-is ∙ nth-other (asked_left (rows_emitted d op)) op arms k ne
 
+  -- this one is as it is to be
   pub ended-here : nth arms op ≡ nth first op → nth after op ≡ Some (cut_at first d op)
   ended-here same =
       ap (λ xs. nth xs op) after-is ∙ nth-here (asked_left (rows_emitted d op)) op arms some
@@ -26,6 +29,7 @@ module _ (first : List Asked) (d : DataflowState) (arms after : List Asked) (op 
 
 -- ---- all of them
 
+-- once each was, what is left is what a cut leaves
 pub ended-all : (first : List Asked) (d : DataflowState) (arms : List Asked) (count : ℕ) → length first ≡ length d.flow → length arms ≡ length first → length d.flow ≤ count
     → ((op : ℕ) → 0 < op → op ≤ count → nth arms op ≡ Some (cut_at first d op)) → arms ≡ cut_arms first d
 ended-all first d arms count long same all done =

@@ -101,6 +101,7 @@ in-force-worked query start reached parts asked h is =
 
 -- ---- a leg begins
 
+-- no row that is gone comes back as a leg begins
 begun-on : (to_end : Bool) (crew : ℕ) (state : State) → StayGone crew state (leg_start to_end state)
 unfolding begin_leg begin_last_leg
 begun-on to_end crew state worker inside = by to_end
@@ -112,6 +113,7 @@ begun-on to_end crew state worker inside = by to_end
     by true = released
     by false = released
 
+-- where all was taken back only the constants are left
 cleared : (crew later : List Position) (asked : Asked) (arms : Arms) → IsAskedOf crew asked arms → IsAskedOf later (without_asked asked) (without_arms arms)
 cleared crew later asked arms is = record { pause = refl; count = tt; when = refl; constants = is.constants }
 
@@ -129,6 +131,7 @@ in-force-begun flow state asked true is = record {
 
 -- ---- a command is done at rest
 
+-- nor where the row of a held worker is dropped
 without_held-on : (p : Position) → IsPrefix p.outcomes (without_held p).outcomes
 without_held-on p = by p.restraint.held
   where
@@ -175,11 +178,13 @@ module _ (flow : List Operator) (state : State) (asked : List Asked) (is : IsInF
     abbrev IsAskedAfter : ℕ → Type 0
     IsAskedAfter op = IsAskedOf (crew_at flow state op) (asked_at (changed_at change effect.op asked) op) (arms_at after op)
 
+    -- at the operator that it names
     changed-here : IsAskedAfter effect.op
     changed-here =
         rw (at-here no_asked change effect.op asked there.0 (rw is.all there.1), at-here no_arms change_arms effect.op state.arms there.0 (rw long there.1))
         (asked-changed (crew_at flow state effect.op) effect.arming (asked_at asked effect.op) (arms_at state effect.op) (is.each effect.op))
 
+    -- and at each
     changed-at : (op : ℕ) → IsAskedAfter op
     changed-at op =
         elim (eqb_tells op effect.op) [
@@ -198,6 +203,7 @@ module _ (flow : List Operator) (state : State) (asked : List Asked) (is : IsInF
 
   -- ---- a leg is cut
 
+  -- what is left of a count
   left-count : (op : ℕ) (kept : Option Target) (count : Option Counting) → IsCountOf (crew_at flow state op) kept count
       → IsCountOf (crew_at flow state op) (if is_reached kept (emitted_of (crew_at flow state op)) then None else kept) (count_left flow state op count)
   left-count op None None one = tt
@@ -210,10 +216,12 @@ module _ (flow : List Operator) (state : State) (asked : List Asked) (is : IsInF
       by true = tt
       by false = one
 
+  -- what is left of a pause
   left-pause : (op : ℕ) (pause : Option ℕ) → (if stands_after pause (emitted_by flow state op) then None else pause) ≡ pause_left flow state op pause
   left-pause op None = refl
   left-pause op (Some n) = refl
 
+  -- what is left at an operator
   left-at : (op : ℕ) → IsAskedOf (crew_at flow state op) (asked_left (emitted_by flow state op) (asked_at asked op)) (arms_left flow state op)
   unfolding emitted_by
   left-at op =

@@ -100,6 +100,7 @@ module _ (e : HomeState) (d : DataflowState) (arms : List Asked) (leg : IsWithin
     held-begun : held_of d ≡ []
     held-begun = sym (ap (held_stops query.flow (role_in query)) (sym reached-begun) ∙ held-are query begun d leg.positions leg.at) ∙ none-begun query (rest_state e)
 
+    -- so the stops are the others
     stops-begun : stops_in query begun ≡ other_stops arms d
     stops-begun =
         ap (stops_in query) (sym reached-begun)

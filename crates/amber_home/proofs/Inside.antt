@@ -21,6 +21,7 @@ module _ (i : Inside) (home : IsHome (seen i) (kept i)) (old : HomeState) (is : 
   pub all-there : has_crew old.phase ≡ true → AreAllThere i.dataflow
   all-there there = home-there (seen i) (kept i) i.phase home (ap (λ (h : HomeState). has_crew h.phase) is ∙ there)
 
+  -- and nobody is held
   pub all-loose : has_crew old.phase ≡ true → held_of i.dataflow ≡ []
   all-loose there = home-loose (seen i) (kept i) i.phase home (ap (λ (h : HomeState). has_crew h.phase) is ∙ there)
 
@@ -31,6 +32,7 @@ module _ (i : Inside) (home : IsHome (seen i) (kept i)) (old : HomeState) (is : 
   pub there-within : is_open old.phase ≡ true → AreAllThere i.dataflow
   there-within within = home-there (seen i) (kept i) i.phase home (open-there i.phase (opens within))
 
+  -- and nobody is held
   pub loose-within : is_open old.phase ≡ true → held_of i.dataflow ≡ []
   loose-within within = home-loose (seen i) (kept i) i.phase home (open-there i.phase (opens within))
 

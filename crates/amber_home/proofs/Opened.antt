@@ -61,6 +61,7 @@ module _ (e : HomeState) (live : LiveState) (rest : IsAtRest e live) (legal : Is
   pub steps-rest : steps_in state ≡ step_count live.dataflow
   steps-rest = ap steps_in (sym listed-rest) ∙ stand-steps query state live.dataflow (position_at state.positions) rest.at
 
+  -- the rows that an operator has emitted
   pub emitted-rest : (op : ℕ) → emitted_by query.flow state op ≡ rows_emitted live.dataflow op
   emitted-rest op =
       ap (λ s. emitted_by query.flow s op) (sym listed-rest) ∙ stand-emitted query state live.dataflow (position_at state.positions) rest.at op

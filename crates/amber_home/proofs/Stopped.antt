@@ -28,6 +28,7 @@ use Rattle.amber_home.proofs.Reached.{in-force-reached, no-stops-among, none-hel
 
 -- ---- lists of stops
 
+-- what gives the same stops of each of these gives the same of all
 same-stops : (f g : ℕ → List Stop) (xs : List ℕ) → ((x : ℕ) → among x xs ≡ true → f x ≡ g x) → flat_map f xs ≡ flat_map g xs
 same-stops f g [] same = refl
 same-stops f g (x ∷ xs) same = rw (same x (among-first x xs), same-stops f g xs (λ y known. same y (among-more y x xs known))) refl
@@ -54,6 +55,7 @@ module _ (query : Query) (start : State) (d : DataflowState) (positions : ℕ �
       ∙ ap (λ (f : List Operator). held_stop (op_of f worker) (worker - first_worker_of f (op_of f worker))
       (worker_state_at d.workers worker).restraint.held (worker_state_at d.workers worker).pending) (sym stand.flow)
 
+  -- of all of them
   pub held-are : held_stops query.flow (role_in query) reached ≡ held_of d
   unfolding held_stops held_of
   held-are =
@@ -63,6 +65,7 @@ module _ (query : Query) (start : State) (d : DataflowState) (positions : ℕ �
       (stop_of_worker d) (numbers_below (crew_of query.flow)) (λ worker known. held-is worker (below-in (crew_of query.flow) worker known))
       ∙ ap (λ (f : List Operator). flat_map (stop_of_worker d) (numbers_below (crew_of f))) (sym stand.flow)
 
+  -- the stop of the end
   ends-are : end_stop reached ≡ stop_at_end d
   ends-are = ap (λ b. if b then stop.End ∷ [] else []) (stand-finished query start d positions stand)
 
@@ -77,6 +80,7 @@ module _ (query : Query) (start : State) (d : DataflowState) (positions : ℕ �
     count-is op (Some kept) (Some counting) one =
         rw (reached-test (crew_at query.flow reached op) kept counting one, one.target) refl
 
+    -- of all of them
     counts-are : count_stops query.flow reached ≡ counts_of arms d
     unfolding count_stops
     counts-are =
@@ -91,6 +95,7 @@ module _ (query : Query) (start : State) (d : DataflowState) (positions : ℕ �
     pause-is op None = refl
     pause-is op (Some n) = refl
 
+    -- of all of them
     pauses-are : pause_stops query.flow reached ≡ pauses_of arms d
     unfolding pause_stops
     pauses-are =
@@ -109,6 +114,7 @@ module _ (query : Query) (start : State) (d : DataflowState) (positions : ℕ �
 
 -- ---- how the leg may be closed
 
+-- where none stands there is no stop of a pause
 pauses-none : (arms : List Asked) (d : DataflowState) → NoneStands arms d → pauses_of arms d ≡ []
 pauses-none arms d none =
     no-stops-among (λ op. stop_of_pause op (pause_at arms op) (rows_emitted d op)) (op_numbers d.flow)
@@ -118,6 +124,7 @@ pauses-none arms d none =
     one op None rows e = refl
     one op (Some n) rows e = ap (λ b. if b then stop.Pause op n rows ∷ [] else []) e
 
+-- nor of a count
 counts-none : (arms : List Asked) (d : DataflowState) → NoneStands arms d → counts_of arms d ≡ []
 counts-none arms d none =
     no-stops-among (λ op. stop_of_count op (count_at arms op) (rows_emitted d op)) (op_numbers d.flow)
@@ -127,10 +134,12 @@ counts-none arms d none =
     one op None rows e = refl
     one op (Some count) rows e = ap (λ b. if b then stop.Count op count.target ∷ [] else []) e
 
+-- two lists that are empty together
 both-none : {A : Type 0} (xs ys : List A) → xs ++ ys ≡ [] → (xs ≡ []) × (ys ≡ [])
 both-none [] ys e = (refl, e)
 both-none (x ∷ xs) ys e = cc
 
+-- one stop is some
 some-stop : (f : ℕ → List Stop) (xs : List ℕ) (x : ℕ) → among x xs ≡ true → f x ≢ [] → flat_map f xs ≢ []
 some-stop f [] x known some none = false≢true known
 some-stop f (y ∷ ys) x known some none =
@@ -146,10 +155,12 @@ stopped-within arms (suc i) rows e =
       | inr beyond ↦ absurd (false≢true (sym (ap (λ found. is_stopped_after (unwrap_or found no_asked) rows) (nth-past arms (suc i) (omega arith))) ∙ e))
     ]
 
+-- the number of an operator is among them
 among-ops : (flow : List Operator) (op : ℕ) → 0 < op → op ≤ length flow → among op (op_numbers flow) ≡ true
 among-ops flow zero some within = absurd (omega arith)
 among-ops flow (suc i) some within = in-row suc (length flow) i (omega arith)
 
+-- a pause that stands has a stop
 pause-stands : (op : ℕ) (pause : Option ℕ) (rows : ℕ) → stands_after pause rows ≡ true → stop_of_pause op pause rows ≢ []
 pause-stands op None rows e none = false≢true e
 pause-stands op (Some n) rows e none = cons-nil (sym (ap (λ b. if b then stop.Pause op n rows ∷ [] else []) e) ∙ none)
@@ -157,6 +168,7 @@ pause-stands op (Some n) rows e none = cons-nil (sym (ap (λ b. if b then stop.P
     cons-nil : stop.Pause op n rows ∷ [] ≡ [] → ⊥
     cons-nil e = cc
 
+-- so has a count
 count-stands : (op : ℕ) (count : Option Target) (rows : ℕ) → is_reached count rows ≡ true → stop_of_count op count rows ≢ []
 count-stands op None rows e none = false≢true e
 count-stands op (Some count) rows e none = cons-nil (sym (ap (λ b. if b then stop.Count op count.target ∷ [] else []) e) ∙ none)

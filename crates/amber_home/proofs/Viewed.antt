@@ -27,6 +27,7 @@ counted query state op (Some kept) None is = absurd is
 counted query state op (Some kept) (Some counting) is =
     λ i. Some (record { counted = sym (counted-rows (crew_at query.flow state op) kept counting is) i; target = is.target i })
 
+-- what is read of it is what the definitions say that it shows
 pub inspected : (arms : List Asked) (d : DataflowState) (op : ℕ) (constant : Option Value) (pause : Option ℕ) (count : Option Counted) (when : Option Cond) (views : List WorkerView)
     → constant ≡ first_of (asked_at arms op).constants → pause ≡ (asked_at arms op).pause → count ≡ option_map (counted_rows (rows_emitted d op)) (asked_at arms op).count
     → when ≡ (asked_at arms op).when → ShowAt d op views
