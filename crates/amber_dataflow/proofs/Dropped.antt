@@ -1,5 +1,5 @@
 -- The row before which a worker is held is dropped.
-use Rattle.std.proofs.Common.{◌≡◌, ◌≢◌, refl, sym, ap, subst, ◌∙◌, ℕ, ◌+◌, ◌<◌, List, [], length, drop, map, set, eqb, Bool, true, false, None, Option, if◌then◌else◌, is_some, inl, inr, arith, length-set}
+use Rattle.std.proofs.Common.{◌≡◌, ◌≢◌, refl, sym, ap, subst, ◌∙◌, ℕ, zero, suc, ◌+◌, ◌<◌, ◌≤◌, List, [], ◌∷◌, length, drop, map, set, eqb, Bool, true, false, None, Option, if◌then◌else◌, is_some, inl, inr, arith, length-set}
 use Rattle.std.proofs.lemmas.Bool.{cases_lt, eq-eqb, false≢true, ne_eqb}
 use Rattle.std.proofs.lemmas.List.{drop_all}
 use Rattle.amber_rows.specs.Lists.{first_of, numbers_below}
@@ -63,7 +63,7 @@ holds-row context w p shows rows held =
 module _ (query : Query) (start : State) (d : DataflowState) (positions : ℕ → Position) (stand : StandAt query start d positions)
     (none : HaveDoneNothing d) (rows : AreHeldByRows d) (worker : ℕ) (inside : worker < crew_of query.flow) where
   -- where the workers stand without it
-  pub dropped_at : ℕ → Position
+  unfoldable pub dropped_at : ℕ → Position
   dropped_at k = if eqb k worker then without_held (positions k) else positions k
 
   abbrev crew : List WorkerState
@@ -123,3 +123,20 @@ module _ (query : Query) (start : State) (d : DataflowState) (positions : ℕ �
           stand-dropped after (stand-uncounted query start d positions stand) (λ k less. refl) (λ k less. listed-at dropped_at (crew_of query.flow) k less),
         );
   }
+
+-- nobody has done anything since, where nobody had
+pub dropped-nothing : (d : DataflowState) (worker : ℕ) → HaveDoneNothing d → HaveDoneNothing (row_dropped worker d)
+unfolding journal_of
+dropped-nothing d worker none k = elim (cases_lt worker (length d.workers)) [
+  | inl there ↦
+      at-each (λ k. (worker_state_at (set d.workers worker (held_dropped (worker_state_at d.workers worker))) k).journal ≡ []) worker
+      (ap (λ (w : WorkerState). w.journal) (here-now d.workers worker (held_dropped (worker_state_at d.workers worker)) there)
+      ∙ dropped-journal (worker_state_at d.workers worker) ∙ none worker)
+      (λ k ne. ap (λ (w : WorkerState). w.journal) (there-still d.workers worker (held_dropped (worker_state_at d.workers worker)) there k ne) ∙ none k) k
+  | inr past ↦ ap (λ (crew : List WorkerState). (worker_state_at crew k).journal) (set-past d.workers worker (held_dropped (worker_state_at d.workers worker)) past) ∙ none k
+]
+  where
+    set-past : (crew : List WorkerState) (n : ℕ) (w : WorkerState) → length crew ≤ n → set crew n w ≡ crew
+    set-past [] n w past = refl
+    set-past (v ∷ crew) zero w past = absurd (omega arith)
+    set-past (v ∷ crew) (suc n) w past = ap (λ more. v ∷ more) (set-past crew n w (omega arith))

@@ -37,7 +37,7 @@ listed-at positions (suc n) k h =
           position-before (map positions (numbers_below n)) (positions n) k (rw (length-listed positions n) (omega arith)) ∙ listed-at positions n k (omega arith)
     ]
 
-listed-past : (positions : ℕ → Position) (n k : ℕ) → n ≤ k → position_at (map positions (numbers_below n)) k ≡ origin
+pub listed-past : (positions : ℕ → Position) (n k : ℕ) → n ≤ k → position_at (map positions (numbers_below n)) k ≡ origin
 listed-past positions n k past =
     position-get_or (map positions (numbers_below n)) k ∙ get_or_past (map positions (numbers_below n)) k origin (rw (length-listed positions n) past)
 

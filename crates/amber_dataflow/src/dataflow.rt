@@ -248,6 +248,15 @@ impl Dataflow {
         self.workers[worker as usize].is_held()
     }
 
+    /// Whether a worker is paused.
+    pub fn is_paused(&self, worker: u32) -> bool
+        requires workers { AreAllThere self.now }
+        requires there { worker < crew_of self.now.flow }
+        ensures { result ≡ dataflow.is_paused self.now worker }
+    {
+        self.workers[worker as usize].is_paused()
+    }
+
     // ---- another constant
 
     /// A copy of a value for each worker.

@@ -6,6 +6,7 @@ use Rattle.amber_rows.specs.FlowRules.{IsFlow}
 use Rattle.amber_rows.specs.declared.flow.Operator.{Operator}
 use Rattle.amber_lines.specs.KeptStops.{kept_stops, leg_of}
 use Rattle.amber_lines.specs.Moving.{orders_in}
+use Rattle.amber_lines.proofs.BoundedLogs.{AreBounded, open-bounded}
 use Rattle.amber_lines.proofs.Kept.{legs_keep_their_stops}
 use Rattle.amber_log.specs.declared.leg.Close.{Close}
 use Rattle.amber_log.specs.declared.leg.Close.TheVariants as close
@@ -20,39 +21,39 @@ use Rattle.amber_meaning.proofs.Crews.{op-within}
 use Rattle.amber_meaning.proofs.OneState.{legal_logs_have_one_state}
 use Rattle.amber_meaning.proofs.Rest.{ends_close, runs_close}
 use Rattle.amber_meaning.proofs.Senders.{flows_send_forward}
-use Rattle.amber_dataflow.specs.AtWork.{IsQuiet, state_reached}
+use Rattle.amber_dataflow.specs.AtWork.{state_reached}
 use Rattle.amber_dataflow.specs.Dataflow.{DataflowState, StandAt, handed_out, leg_parts}
-use Rattle.amber_dataflow.proofs.Numbered.{nth-numbers, quiet-map}
-use Rattle.amber_dataflow.proofs.Standing.{handed_out-nothing, stand-at, stand-flow, stand-handed_out, stand-position, stand-quiet, stand-steps, stand-text, stand-worked}
+use Rattle.amber_dataflow.proofs.Numbered.{nth-numbers, uncounted-map}
+use Rattle.amber_dataflow.proofs.Standing.{handed_out-nothing, stand-at, stand-flow, stand-handed_out, stand-position, stand-steps, stand-text, stand-uncounted, stand-worked}
 use Rattle.amber_home.specs.Asked.{Asked, IsInForce}
 use Rattle.amber_home.specs.HomeState.{ClosesIn, HomeState, item_of_leg, query_of, rest_state, with_item}
 use Rattle.amber_home.specs.Kept.{IsAtRest, IsWithinLeg}
 use Rattle.amber_home.specs.declared.phase.Phase.TheVariants as phase
 
--- ---- the orders that a close leaves (for now from `stand-quiet`: no run has a count or a condition yet)
+-- ---- the orders that a close leaves (for now from `stand-uncounted`: no run has a count yet)
 
-module _ (flow : List Operator) (state : State) (quiet : (op : ℕ) → IsQuiet (arms_at state op)) where
-  left-quiet : (op : ℕ) → IsQuiet (arms_left flow state op)
-  left-quiet op = record { unwatched = (quiet op).unwatched; uncounted = ap (count_left flow state op) (quiet op).uncounted }
+module _ (flow : List Operator) (state : State) (uncounted : (op : ℕ) → (arms_at state op).count ≡ None) where
+  left-uncounted : (op : ℕ) → (arms_left flow state op).count ≡ None
+  left-uncounted op = ap (count_left flow state op) (uncounted op)
 
   left-orders : (op : ℕ) → orders_of (arms_left flow state op) ≡ orders_of (arms_at state op)
   left-orders op = λ i. record {
     constants = (arms_at state op).constants;
     when = (arms_at state op).when;
-    counted = ap is_some (ap (count_left flow state op) (quiet op).uncounted ∙ sym (quiet op).uncounted) i;
+    counted = ap is_some (left-uncounted op ∙ sym (uncounted op)) i;
   }
 
   left-at : (op : ℕ) → 0 < op → op ≤ length flow → arms_at (without_stops flow state) op ≡ arms_left flow state op
   unfolding without_stops
   left-at op some within = ap (λ found. unwrap_or found no_arms) (nth-numbers (arms_left flow state) flow op some within)
 
-  pub quiet-left : (op : ℕ) → IsQuiet (arms_at (without_stops flow state) op)
+  pub uncounted-left : (op : ℕ) → (arms_at (without_stops flow state) op).count ≡ None
   unfolding without_stops
-  quiet-left op = by (nat_eq op 0)
+  uncounted-left op = by (nat_eq op 0)
     where
-      by : (b : Bool) → IsQuiet (unwrap_or (if b then None else slice_get (map (arms_left flow state) (op_numbers flow)) (op - 1)) no_arms)
-      by true = record { unwatched = refl; uncounted = refl }
-      by false = quiet-map (arms_left flow state) (op_numbers flow) left-quiet (op - 1)
+      by : (b : Bool) → (unwrap_or (if b then None else slice_get (map (arms_left flow state) (op_numbers flow)) (op - 1)) no_arms).count ≡ None
+      by true = refl
+      by false = uncounted-map (arms_left flow state) (op_numbers flow) left-uncounted (op - 1)
 
   pub orders-left : (op : ℕ) → 0 < op → op ≤ length flow → orders_of (arms_at (without_stops flow state) op) ≡ orders_of (arms_at state op)
   orders-left op some within = ap orders_of (left-at op some within) ∙ left-orders op
@@ -63,23 +64,23 @@ closed_state true query state closed = state
 closed_state false query state closed = after_close query state closed
 
 -- it has the same positions, and nothing else in force but for pauses
-module _ (query : Query) (state : State) (quiet : (op : ℕ) → IsQuiet (arms_at state op)) where
+module _ (query : Query) (state : State) (uncounted : (op : ℕ) → (arms_at state op).count ≡ None) where
   pub positions-closed : (to_end : Bool) (closed : Close) → (closed_state to_end query state closed).positions ≡ state.positions
   unfolding without_stops
   positions-closed true closed = refl
   positions-closed false close.Cut = refl
   positions-closed false close.Long = refl
 
-  pub quiet-closed : (to_end : Bool) (closed : Close) (op : ℕ) → IsQuiet (arms_at (closed_state to_end query state closed) op)
-  quiet-closed true closed op = quiet op
-  quiet-closed false close.Cut op = quiet-left query.flow state quiet op
-  quiet-closed false close.Long op = quiet op
+  pub uncounted-closed : (to_end : Bool) (closed : Close) (op : ℕ) → (arms_at (closed_state to_end query state closed) op).count ≡ None
+  uncounted-closed true closed op = uncounted op
+  uncounted-closed false close.Cut op = uncounted-left query.flow state uncounted op
+  uncounted-closed false close.Long op = uncounted op
 
   pub orders-closed : (to_end : Bool) (closed : Close) (worker : ℕ) → worker < crew_of query.flow
       → orders_in query (closed_state to_end query state closed) worker ≡ orders_in query state worker
   orders-closed true closed worker inside = refl
   orders-closed false close.Cut worker inside =
-      let placed = op-within query.flow worker inside in orders-left query.flow state quiet (op_of query.flow worker) placed.0 placed.1
+      let placed = op-within query.flow worker inside in orders-left query.flow state uncounted (op_of query.flow worker) placed.0 placed.1
   orders-closed false close.Long worker inside = refl
 
 -- ---- the leg
@@ -116,6 +117,11 @@ module _ (to_end : Bool) (e : HomeState) (d : DataflowState) (arms : List Asked)
     few = let few = leg.few in let same = stand-steps query start d leg.positions leg.at in omega arith;
   }
 
+  -- each position is bounded
+  pub bounded-within : AreBounded query reached.positions
+  unfolding is-open
+  bounded-within = open-bounded query e.log to_end (leg_parts d) is-open
+
   -- with it the log is legal
   pub legal-closed : (closed : Close) → ClosesIn to_end query reached closed
       → (more : IsLegal query (with_item e.log (item_of_leg to_end (leg_parts d) closed))) × (more.after ≡ closed_state to_end query reached closed)
@@ -142,11 +148,11 @@ module _ (to_end : Bool) (e : HomeState) (d : DataflowState) (arms : List Asked)
       let more = legal-closed closed closes in
       let after = closed_state to_end query reached closed in
       let rest : state_after query log.items ≡ after = legal_logs_have_one_state query log (flows_send_forward query.flow flow) more.0 ∙ more.1 in
-      let quiet = stand-quiet query start d leg.positions leg.at in
+      let uncounted = stand-uncounted query start d leg.positions leg.at in
       let here : (worker : ℕ) → worker < crew_of query.flow → position_at after.positions worker ≡ leg.positions worker =
-      λ worker inside. ap (λ ps. position_at ps worker) (positions-closed query reached quiet to_end closed) ∙ stand-position query start d leg.positions leg.at worker inside in
-      let given = stand-handed_out query start d leg.positions leg.at after (quiet-closed query reached quiet to_end closed)
-      (orders-closed query reached quiet to_end closed) here in
+      λ worker inside. ap (λ ps. position_at ps worker) (positions-closed query reached uncounted to_end closed) ∙ stand-position query start d leg.positions leg.at worker inside in
+      let given = stand-handed_out query start d leg.positions leg.at after (uncounted-closed query reached uncounted to_end closed)
+      (orders-closed query reached uncounted to_end closed) here in
       record {
         at = subst (λ (s : State). StandAt query s (handed_out d) (position_at s.positions)) (sym rest)
             (stand-at query after (handed_out d) leg.positions given (position_at after.positions) here);

@@ -1,157 +1,302 @@
 -- A command is done at rest: the log is legal with it, and the workers stand where it says.
-use Rattle.std.proofs.Common.{◌≡◌, ◌≢◌, refl, sym, ap, subst, ◌∙◌, ℕ, zero, suc, ◌+◌, ◌-◌, ◌≤◌, eqb, nat_eq, List, [], ◌∷◌, length, Bool, true, false, Option, None, Some, unwrap_or, if◌then◌else◌, inl, inr}
+use Rattle.std.proofs.Common.{◌≡◌, ◌≢◌, refl, sym, ap, subst, ◌∙◌, ℕ, zero, suc, ◌+◌, ◌-◌, ◌<◌, ◌≤◌, eqb, nat_eq, List, [], ◌∷◌, length, Bool, true, false, not, Option, None, Some, is_some, unwrap_or, if◌then◌else◌, inl, inr, arith}
 use Rattle.std.specs.List.{slice_get}
+use Rattle.std.proofs.lemmas.Bool.{eq-eqb, false≢true, ltb-true, ne_eqb}
 use Rattle.std.proofs.lemmas.Bool.Decides.{eqb_tells}
-use Rattle.amber_rows.specs.Topology.{op_of}
+use Rattle.amber_rows.specs.Topology.{crew_of, op_of, workers_in}
 use Rattle.amber_rows.specs.FlowRules.{IsFlow}
 use Rattle.amber_rows.specs.Lists.{changed_at, changed_from, nth}
+use Rattle.amber_rows.specs.declared.cond.Cond.{Cond}
+use Rattle.amber_rows.specs.declared.flow.Operator.{Operator}
 use Rattle.amber_rows.specs.declared.value.Value.{Value}
 use Rattle.amber_lines.specs.Moving.{orders_in}
 use Rattle.amber_lines.proofs.Kept.{commands_keep_stops}
 use Rattle.amber_log.specs.Commands.{action_of}
-use Rattle.amber_log.specs.Effect.{is_built}
-use Rattle.amber_log.specs.Fits.{fits_of}
+use Rattle.amber_log.specs.Effect.{is_put}
+use Rattle.amber_log.specs.Fits.{action_fits, fits_of, has_worker}
 use Rattle.amber_log.specs.Grammar.{IsCommand, ends_over}
 use Rattle.amber_log.specs.declared.command.Command.{Command}
-use Rattle.amber_log.specs.declared.effect.Action.TheVariants.{AtRest}
+use Rattle.amber_log.specs.declared.command.Command.TheVariants as command
+use Rattle.amber_log.specs.declared.effect.Action.{Action}
+use Rattle.amber_log.specs.declared.effect.Action.TheVariants.{AtRest, Leg}
+use Rattle.amber_log.specs.declared.effect.Change.{Change}
+use Rattle.amber_log.specs.declared.effect.Change.TheVariants as change
 use Rattle.amber_log.specs.declared.effect.Effect.{Effect}
 use Rattle.amber_log.specs.declared.log.Item.TheVariants as item
 use Rattle.amber_log.specs.declared.log.Log.{Log}
 use Rattle.amber_meaning.specs.Legal.{IsLegal, Query}
+use Rattle.amber_meaning.specs.Position.{origin}
 use Rattle.amber_meaning.specs.Replay.{state_after}
-use Rattle.amber_meaning.specs.State.{Arms, State, after_action, after_command, arms_changed, arms_at, gone_at, no_arms, orders_of, position_at, put_constant}
-use Rattle.amber_meaning.proofs.AtRest.{IsBuilt, armed-count, armed-orders, armed-when, built, built-positions, rest-there}
+use Rattle.amber_meaning.specs.Rules.{Orders}
+use Rattle.amber_meaning.specs.State.{Arms, State, after_action, after_command, arms_changed, arms_at, gone_at, no_arms, orders_of, position_at, put, put_constant, without_held, without_row, worker_at}
+use Rattle.amber_meaning.proofs.AtRest.{armed-count, rest-there}
+use Rattle.amber_meaning.proofs.Crews.{place-worker, worker-known}
 use Rattle.amber_meaning.proofs.Fronts.{legal_logs_grow}
 use Rattle.amber_meaning.proofs.Lists.{nth-next}
 use Rattle.amber_meaning.proofs.OneState.{legal_logs_have_one_state}
 use Rattle.amber_meaning.proofs.Rest.{legal_logs_rest}
 use Rattle.amber_meaning.proofs.Senders.{flows_send_forward}
-use Rattle.amber_dataflow.specs.AtWork.{IsQuiet}
-use Rattle.amber_dataflow.specs.Dataflow.{AreAllThere, DataflowState, HaveDoneNothing, StandAt, rows_emitted}
-use Rattle.amber_dataflow.proofs.Standing.{set-nothing, stand-at, stand-flow, stand-kept, stand-quiet, stand-set, stand-there}
-use Rattle.amber_home.specs.Applied.{HasOperator, arms_after, dataflow_after, with_constants}
+use Rattle.amber_dataflow.specs.Dataflow.{AreAllThere, AreHeldByRows, DataflowState, HaveDoneNothing, StandAt, row_dropped, rows_emitted}
+use Rattle.amber_dataflow.proofs.Dropped.{dropped-nothing, dropped_at, stand-dropped}
+use Rattle.amber_dataflow.proofs.Standing.{set-nothing, stand-at, stand-flow, stand-kept, stand-set, stand-there, stand-uncounted, stand-watched, watched-nothing}
+use Rattle.amber_home.specs.Applied.{HasDropped, HasOperator, arms_after, dataflow_after, with_condition, with_constants, without_dropped}
 use Rattle.amber_home.specs.Asked.{IsInForce}
 use Rattle.amber_home.specs.HomeState.{HomeState, query_of, rest_state, with_item}
 use Rattle.amber_home.specs.Kept.{IsAtRest, IsHome, LiveState, StandsIn}
 use Rattle.amber_home.specs.Parts.{open_parts}
 use Rattle.amber_home.specs.declared.phase.Phase.{Phase}
 use Rattle.amber_home.specs.declared.phase.Phase.TheVariants as phase
+use Rattle.amber_home.proofs.HeldRows.{rows-rest}
 use Rattle.amber_home.proofs.Homes.{at-rest}
 use Rattle.amber_home.proofs.InForce.{in-force-after}
 use Rattle.amber_home.proofs.Opened.{emitted-rest, first-rest}
 use Rattle.amber_home.proofs.Places.{at-here, nth-other}
 
--- ---- orders, where the arms of one operator were changed (for now from `stand-quiet`: no run has a count or a condition yet)
+-- ---- orders, where the arms of one operator were changed (no count for now, from `stand-uncounted`: no run has one yet)
 
-module _ (change : Arms → Arms) where
-  -- a fact that the change keeps
-  get-keeps : (P : Arms → Type 0) → ((one : Arms) → P one → P (change one)) → (number place : ℕ) (xs : List Arms) → ((i : ℕ) → P (unwrap_or (slice_get xs i) no_arms))
-      → (i : ℕ) → P (unwrap_or (slice_get (changed_from change number place xs) i) no_arms)
-  get-keeps P keeps number place [] was i = was i
-  get-keeps P keeps number place (x ∷ xs) was zero = by (eqb place number)
+-- a fact that a change of one operator's arms keeps
+module _ (change : Arms → Arms) (P : Arms → Type 0) (keeps : (one : Arms) → P one → P (change one)) where
+  get-keeps : (number place : ℕ) (xs : List Arms) → ((i : ℕ) → P (unwrap_or (slice_get xs i) no_arms)) → (i : ℕ) → P (unwrap_or (slice_get (changed_from change number place xs) i) no_arms)
+  get-keeps number place [] was i = was i
+  get-keeps number place (x ∷ xs) was zero = by (eqb place number)
     where
       by : (b : Bool) → P (if b then change x else x)
       by true = keeps x (was 0)
       by false = was 0
-  get-keeps P keeps number place (x ∷ xs) was (suc i) = get-keeps P keeps number (suc place) xs (λ j. was (suc j)) i
+  get-keeps number place (x ∷ xs) was (suc i) = get-keeps number (suc place) xs (λ j. was (suc j)) i
 
-  -- orders that it leaves
-  get-orders : ((one : Arms) → IsQuiet one → orders_of (change one) ≡ orders_of one) → (number place : ℕ) (xs : List Arms) → ((i : ℕ) → IsQuiet (unwrap_or (slice_get xs i) no_arms))
-      → (i : ℕ) → orders_of (unwrap_or (slice_get (changed_from change number place xs) i) no_arms) ≡ orders_of (unwrap_or (slice_get xs i) no_arms)
-  get-orders leaves number place [] quiet i = refl
-  get-orders leaves number place (x ∷ xs) quiet zero = by (eqb place number)
+  keeps-at : P no_arms → (op : ℕ) (arms : List Arms) → ((k : ℕ) → P (unwrap_or (nth arms k) no_arms)) → (k : ℕ) → P (unwrap_or (nth (changed_at change op arms) k) no_arms)
+  keeps-at none op arms was k = by (nat_eq k 0)
     where
-      by : (b : Bool) → orders_of (if b then change x else x) ≡ orders_of x
-      by true = leaves x (quiet 0)
-      by false = refl
-  get-orders leaves number place (x ∷ xs) quiet (suc i) = get-orders leaves number (suc place) xs (λ j. quiet (suc j)) i
+      by : (b : Bool) → P (unwrap_or (if b then None else slice_get (changed_at change op arms) (k - 1)) no_arms)
+      by true = none
+      by false = get-keeps op 1 arms (λ i. subst (λ found. P (unwrap_or found no_arms)) (nth-next arms i) (was (i + 1))) (k - 1)
 
-  module _ (op : ℕ) (arms : List Arms) (quiet : (k : ℕ) → IsQuiet (unwrap_or (nth arms k) no_arms)) where
-    quiet-places : (i : ℕ) → IsQuiet (unwrap_or (slice_get arms i) no_arms)
-    quiet-places i = subst (λ found. IsQuiet (unwrap_or found no_arms)) (nth-next arms i) (quiet (i + 1))
+-- the state with the arms of one operator changed
+abbrev armed : (Arms → Arms) → ℕ → State → State
+armed change op state = record state { arms = changed_at change op state.arms }
 
-    quiet-changed : ((one : Arms) → IsQuiet one → IsQuiet (change one)) → (k : ℕ) → IsQuiet (unwrap_or (nth (changed_at change op arms) k) no_arms)
-    quiet-changed keeps k = by (nat_eq k 0)
-      where
-        by : (b : Bool) → IsQuiet (unwrap_or (if b then None else slice_get (changed_at change op arms) (k - 1)) no_arms)
-        by true = record { unwatched = refl; uncounted = refl }
-        by false = get-keeps IsQuiet keeps op 1 arms quiet-places (k - 1)
+module _ (query : Query) (state : State) (change : Arms → Arms) (op : ℕ) (some : 0 < op) (within : op ≤ length state.arms) where
+  armed-here : (worker : ℕ) → op_of query.flow worker ≡ op → orders_in query (armed change op state) worker ≡ orders_of (change (arms_at state op))
+  armed-here worker same = ap (λ k. orders_of (arms_at (armed change op state) k)) same ∙ ap orders_of (at-here no_arms change op state.arms some within)
 
-    orders-changed : ((one : Arms) → IsQuiet one → orders_of (change one) ≡ orders_of one)
-        → (k : ℕ) → orders_of (unwrap_or (nth (changed_at change op arms) k) no_arms) ≡ orders_of (unwrap_or (nth arms k) no_arms)
-    orders-changed leaves k = by (nat_eq k 0)
-      where
-        by : (b : Bool) → orders_of (unwrap_or (if b then None else slice_get (changed_at change op arms) (k - 1)) no_arms) ≡ orders_of (unwrap_or (if b then None else slice_get arms (k - 1)) no_arms)
-        by true = refl
-        by false = get-orders leaves op 1 arms quiet-places (k - 1)
+  armed-elsewhere : (worker : ℕ) → op_of query.flow worker ≢ op → orders_in query (armed change op state) worker ≡ orders_in query state worker
+  armed-elsewhere worker other = ap (λ found. orders_of (unwrap_or found no_arms)) (nth-other change op state.arms (op_of query.flow worker) other)
 
 -- ---- where the workers stand
 
-pub nothing-after : (op : ℕ) (constant : Option Value) (d : DataflowState) → HaveDoneNothing d → HaveDoneNothing (with_constants op constant d)
-nothing-after op None d none = none
-nothing-after op (Some value) d none = set-nothing op value d none
+pub nothing-set : (op : ℕ) (constant : Option Value) (d : DataflowState) → HaveDoneNothing d → HaveDoneNothing (with_constants op constant d)
+nothing-set op None d none = none
+nothing-set op (Some value) d none = set-nothing op value d none
 
-flow-after : (op : ℕ) (constant : Option Value) (d : DataflowState) → (with_constants op constant d).flow ≡ d.flow
-flow-after op None d = refl
-flow-after op (Some value) d = refl
+nothing-watched : (op : ℕ) (when : Change Cond) (d : DataflowState) → HaveDoneNothing d → HaveDoneNothing (with_condition op when d)
+nothing-watched op change.Keep d none = none
+nothing-watched op change.TakeBack d none = watched-nothing op None d none
+nothing-watched op (change.Put cond) d none = watched-nothing op (Some cond) d none
+
+pub nothing-dropped : (op : ℕ) (drops : Option ℕ) (d : DataflowState) → HaveDoneNothing d → HaveDoneNothing (without_dropped op drops d)
+nothing-dropped op None d none = none
+nothing-dropped op (Some worker) d none = dropped-nothing d (worker_at d.flow op worker) none
+
+pub nothing-after : (effect : Effect) (d : DataflowState) → HaveDoneNothing d → HaveDoneNothing (dataflow_after effect d)
+nothing-after effect d none =
+    nothing-watched effect.op effect.arming.when (with_constants effect.op effect.arming.constant (without_dropped effect.op effect.drops d))
+    (nothing-set effect.op effect.arming.constant (without_dropped effect.op effect.drops d) (nothing-dropped effect.op effect.drops d none))
+
+flow-set : (op : ℕ) (constant : Option Value) (d : DataflowState) → (with_constants op constant d).flow ≡ d.flow
+flow-set op None d = refl
+flow-set op (Some value) d = refl
+
+flow-watched : (op : ℕ) (when : Change Cond) (d : DataflowState) → (with_condition op when d).flow ≡ d.flow
+flow-watched op change.Keep d = refl
+flow-watched op change.TakeBack d = refl
+flow-watched op (change.Put cond) d = refl
+
+flow-dropped : (op : ℕ) (drops : Option ℕ) (d : DataflowState) → (without_dropped op drops d).flow ≡ d.flow
+flow-dropped op None d = refl
+flow-dropped op (Some worker) d = refl
+
+flow-after : (effect : Effect) (d : DataflowState) → (dataflow_after effect d).flow ≡ d.flow
+flow-after effect d =
+    flow-watched effect.op effect.arming.when (with_constants effect.op effect.arming.constant (without_dropped effect.op effect.drops d))
+    ∙ flow-set effect.op effect.arming.constant (without_dropped effect.op effect.drops d) ∙ flow-dropped effect.op effect.drops d
 
 module _ (query : Query) (state : State) (d : DataflowState) (stand : StandAt query state d (position_at state.positions)) (none : HaveDoneNothing d)
-    (long : length state.arms ≡ length query.flow) (effect : Effect) (is : IsBuilt effect) (there : HasOperator effect.op (length query.flow)) where
+    (rows : AreHeldByRows d) (long : length state.arms ≡ length query.flow) (crew : length state.positions ≡ crew_of query.flow) where
+  uncounted : (op : ℕ) → (arms_at state op).count ≡ None
+  uncounted = stand-uncounted query state d (position_at state.positions) stand
+
+  module _ (op : ℕ) (there : HasOperator op (length query.flow)) where
+    -- a row is dropped
+    abbrev lighter : Option ℕ → State
+    lighter drops = record state { positions = without_row query.flow op drops state.positions }
+
+    dropped-at : (worker : ℕ) (inside : worker < crew_of query.flow) (k : ℕ)
+        → position_at (changed_at without_held (worker + 1) state.positions) k ≡ dropped_at query state d (position_at state.positions) stand none rows worker inside k
+    unfolding dropped_at
+    dropped-at worker inside k = elim (eqb_tells k worker) [
+      | inl same ↦
+          ap (position_at (changed_at without_held (worker + 1) state.positions)) same.1
+          ∙ at-here origin without_held (worker + 1) state.positions (omega arith) (omega arith)
+          ∙ ap (λ b. if b then without_held (position_at state.positions worker) else position_at state.positions worker) (sym (eq-eqb worker worker refl))
+          ∙ ap (λ n. if eqb n worker then without_held (position_at state.positions n) else position_at state.positions n) (sym same.1)
+      | inr other ↦
+          ap (λ found. unwrap_or found origin) (nth-other without_held (worker + 1) state.positions (k + 1) (λ is. other.1 (let is = is in omega arith)))
+          ∙ ap (λ b. if b then without_held (position_at state.positions k) else position_at state.positions k) (sym (ne_eqb k worker other.1))
+    ]
+
+    stands-dropped : (drops : Option ℕ) → HasDropped d op drops → StandAt query (lighter drops) (without_dropped op drops d) (position_at (lighter drops).positions)
+    stands-dropped None inside = stand
+    stands-dropped (Some w) inside =
+        let worker = worker_at query.flow op w in
+        let here : worker < crew_of query.flow = subst (λ (f : List Operator). worker_at f op w < crew_of f) stand.flow inside in
+        subst (λ (f : List Operator). StandAt query (lighter (Some w)) (row_dropped (worker_at f op w) d) (position_at (lighter (Some w)).positions)) (sym stand.flow)
+        (stand-at query (lighter (Some w)) (row_dropped worker d) (dropped_at query state d (position_at state.positions) stand none rows worker here)
+        (stand-dropped query state d (position_at state.positions) stand none rows worker here (lighter (Some w)) uncounted (λ k less. refl) (λ k less. dropped-at worker here k))
+        (position_at (lighter (Some w)).positions) (λ k less. dropped-at worker here k))
+
+-- another constant, and another condition or none
+module _ (query : Query) (state : State) (d : DataflowState) (stand : StandAt query state d (position_at state.positions)) (none : HaveDoneNothing d)
+    (long : length state.arms ≡ length query.flow) (effect : Effect) (gone : List ℕ) (uncounting : is_put effect.arming.count ≡ false) (there : HasOperator effect.op (length query.flow)) where
+  some : 0 < effect.op
+  some = there.0
+
+  within : effect.op ≤ length state.arms
+  within = rw long there.1
+
+  constant_changed : Arms → Arms
+  constant_changed arms = record arms { constants = put_constant effect.arming.constant arms.constants }
+
+  pub asked : Arms → Arms
+  asked = arms_changed effect.arming gone
+
+  abbrev set_state : State
+  set_state = armed constant_changed effect.op state
+
   abbrev after : State
-  after = after_action query.flow (AtRest effect) state
+  after = armed asked effect.op state
 
-  abbrev asked : Arms → Arms
-  asked = arms_changed effect.arming (gone_at query.flow state effect.op)
+  none-counted : (op : ℕ) → (arms_at state op).count ≡ None
+  none-counted = stand-uncounted query state d (position_at state.positions) stand
 
-  quiet : (op : ℕ) → IsQuiet (arms_at state op)
-  quiet = stand-quiet query state d (position_at state.positions) stand
+  uncounted-set : (op : ℕ) → (arms_at set_state op).count ≡ None
+  unfolding constant_changed
+  uncounted-set = keeps-at constant_changed (λ arms. arms.count ≡ None) (λ one was. was) refl effect.op state.arms none-counted
 
-  pub quiet-after : (op : ℕ) → IsQuiet (arms_at after op)
-  quiet-after = quiet-changed asked effect.op state.arms quiet (λ one was. record {
-    unwatched = armed-when effect.arming (gone_at query.flow state effect.op) one is.unwatched was.unwatched;
-    uncounted = armed-count effect.arming (gone_at query.flow state effect.op) one is.uncounted was.uncounted;
-  })
+  uncounted-after : (op : ℕ) → (arms_at after op).count ≡ None
+  unfolding asked
+  uncounted-after = keeps-at asked (λ arms. arms.count ≡ None) (λ one was. armed-count effect.arming gone one uncounting was) refl effect.op state.arms none-counted
 
-  positions-same : (worker : ℕ) → position_at after.positions worker ≡ position_at state.positions worker
-  positions-same worker = ap (λ ps. position_at ps worker) (built-positions query.flow effect state is)
-
-  -- the orders of an operator whose arms are quiet
-  orders-asked : (one : Arms) → IsQuiet one → orders_of (asked one) ≡ record (orders_of one) { constants = put_constant effect.arming.constant one.constants }
-  orders-asked one was = armed-orders effect (gone_at query.flow state effect.op) one is was.uncounted was.unwatched
-
-  orders-here : (worker : ℕ) → op_of query.flow worker ≡ effect.op
-      → orders_in query after worker ≡ record (orders_in query state worker) { constants = put_constant effect.arming.constant (orders_in query state worker).constants }
-  orders-here worker same =
-      ap (λ k. orders_of (arms_at after k)) same
-      ∙ ap orders_of (at-here no_arms asked effect.op state.arms there.0 (rw long there.1))
-      ∙ orders-asked (arms_at state effect.op) (quiet effect.op)
+  set-here : (worker : ℕ) → op_of query.flow worker ≡ effect.op
+      → orders_in query set_state worker ≡ record (orders_in query state worker) { constants = put_constant effect.arming.constant (orders_in query state worker).constants }
+  unfolding constant_changed
+  set-here worker same =
+      armed-here query state constant_changed effect.op some within worker same
       ∙ ap (λ k. record (orders_of (arms_at state k)) { constants = put_constant effect.arming.constant (arms_at state k).constants }) (sym same)
 
-  orders-elsewhere : (worker : ℕ) → op_of query.flow worker ≢ effect.op → orders_in query after worker ≡ orders_in query state worker
-  orders-elsewhere worker other =
-      ap (λ found. orders_of (unwrap_or found no_arms)) (nth-other asked effect.op state.arms (op_of query.flow worker) other)
+  after-here : (worker : ℕ) → op_of query.flow worker ≡ effect.op
+      → orders_in query after worker ≡ record (orders_in query set_state worker) { when = put effect.arming.when (orders_in query set_state worker).when }
+  unfolding asked
+  after-here worker same =
+      armed-here query state asked effect.op some within worker same
+      ∙ (λ i. record {
+        constants = put_constant effect.arming.constant (arms_at state effect.op).constants;
+        when = put effect.arming.when (arms_at state effect.op).when;
+        counted = (ap is_some (armed-count effect.arming gone (arms_at state effect.op) uncounting (none-counted effect.op)) ∙ ap is_some (sym (none-counted effect.op))) i;
+      })
+      ∙ ap (λ k. record (orders_of (arms_at state k)) { constants = put_constant effect.arming.constant (arms_at state k).constants; when = put effect.arming.when (arms_at state k).when }) (sym same)
+      ∙ ap (λ (o : Orders). record o { when = put effect.arming.when o.when }) (sym (set-here worker same))
 
-  stands-with : (constant : Option Value) → effect.arming.constant ≡ constant → StandAt query after (with_constants effect.op constant d) (position_at state.positions)
-  stands-with None constant =
-      stand-kept query state d (position_at state.positions) stand after quiet-after none
+  after-elsewhere : (worker : ℕ) → op_of query.flow worker ≢ effect.op → orders_in query after worker ≡ orders_in query set_state worker
+  after-elsewhere worker other =
+      armed-elsewhere query state asked effect.op some within worker other ∙ sym (armed-elsewhere query state constant_changed effect.op some within worker other)
+
+  stands-set : (constant : Option Value) → effect.arming.constant ≡ constant → StandAt query set_state (with_constants effect.op constant d) (position_at state.positions)
+  stands-set None is =
+      stand-kept query state d (position_at state.positions) stand set_state uncounted-set none
       (λ worker inside.
       elim (eqb_tells (op_of query.flow worker) effect.op) [
-        | inl same ↦ orders-here worker same.1 ∙ ap (λ c. record (orders_in query state worker) { constants = put_constant c (orders_in query state worker).constants }) constant
-        | inr other ↦ orders-elsewhere worker other.1
+        | inl same ↦ set-here worker same.1 ∙ ap (λ c. record (orders_in query state worker) { constants = put_constant c (orders_in query state worker).constants }) is
+        | inr other ↦ armed-elsewhere query state constant_changed effect.op some within worker other.1
       ])
-      (λ worker inside. positions-same worker)
-  stands-with (Some value) constant =
-      stand-set query state d (position_at state.positions) stand after quiet-after effect.op value none
-      (λ worker inside. positions-same worker)
-      (λ worker inside same. orders-here worker same ∙ ap (λ c. record (orders_in query state worker) { constants = put_constant c (orders_in query state worker).constants }) constant)
-      (λ worker inside other. orders-elsewhere worker other)
+      (λ worker inside. refl)
+  stands-set (Some value) is =
+      stand-set query state d (position_at state.positions) stand set_state uncounted-set effect.op value none
+      (λ worker inside. refl)
+      (λ worker inside same. set-here worker same ∙ ap (λ c. record (orders_in query state worker) { constants = put_constant c (orders_in query state worker).constants }) is)
+      (λ worker inside other. armed-elsewhere query state constant_changed effect.op some within worker other)
 
-  pub stands-after : StandAt query after (dataflow_after effect d) (position_at after.positions)
-  stands-after =
-      stand-at query after (dataflow_after effect d) (position_at state.positions) (stands-with effect.arming.constant refl) (position_at after.positions)
-      (λ worker inside. positions-same worker)
+  stands-watched : (d : DataflowState) → StandAt query set_state d (position_at state.positions) → HaveDoneNothing d → (when : Change Cond) → effect.arming.when ≡ when
+      → StandAt query after (with_condition effect.op when d) (position_at state.positions)
+  stands-watched d stand none change.Keep is =
+      stand-kept query set_state d (position_at state.positions) stand after uncounted-after none
+      (λ worker inside.
+      elim (eqb_tells (op_of query.flow worker) effect.op) [
+        | inl same ↦ after-here worker same.1 ∙ ap (λ w. record (orders_in query set_state worker) { when = put w (orders_in query set_state worker).when }) is
+        | inr other ↦ after-elsewhere worker other.1
+      ])
+      (λ worker inside. refl)
+  stands-watched d stand none change.TakeBack is =
+      stand-watched query set_state d (position_at state.positions) stand after uncounted-after effect.op None none
+      (λ worker inside. refl)
+      (λ worker inside same. after-here worker same ∙ ap (λ w. record (orders_in query set_state worker) { when = put w (orders_in query set_state worker).when }) is)
+      (λ worker inside other. after-elsewhere worker other)
+  stands-watched d stand none (change.Put cond) is =
+      stand-watched query set_state d (position_at state.positions) stand after uncounted-after effect.op (Some cond) none
+      (λ worker inside. refl)
+      (λ worker inside same. after-here worker same ∙ ap (λ w. record (orders_in query set_state worker) { when = put w (orders_in query set_state worker).when }) is)
+      (λ worker inside other. after-elsewhere worker other)
+
+  pub stands-armed : StandAt query after (with_condition effect.op effect.arming.when (with_constants effect.op effect.arming.constant d)) (position_at state.positions)
+  stands-armed =
+      stands-watched (with_constants effect.op effect.arming.constant d) (stands-set effect.arming.constant refl) (nothing-set effect.op effect.arming.constant d none) effect.arming.when refl
+
+-- all of it
+pub stands-after : (query : Query) (state : State) (d : DataflowState) → StandAt query state d (position_at state.positions) → HaveDoneNothing d → AreHeldByRows d
+    → length state.arms ≡ length query.flow → length state.positions ≡ crew_of query.flow → (effect : Effect) → is_put effect.arming.count ≡ false → HasOperator effect.op (length query.flow)
+    → HasDropped d effect.op effect.drops
+    → StandAt query (after_action query.flow (AtRest effect) state) (dataflow_after effect d) (position_at (after_action query.flow (AtRest effect) state).positions)
+unfolding asked
+stands-after query state d stand none rows long crew effect uncounting there inside =
+    stands-armed query (lighter query state d stand none rows long crew effect.op there effect.drops) (without_dropped effect.op effect.drops d)
+    (stands-dropped query state d stand none rows long crew effect.op there effect.drops inside)
+    (nothing-dropped effect.op effect.drops d none) long effect (gone_at query.flow state effect.op) uncounting there
+
+-- ---- the worker whose row is dropped
+
+-- a worker that an operator has
+has-count : (found : Option Operator) (worker : ℕ) → has_worker found worker ≡ true → worker < workers_in found
+has-count None worker has = absurd (false≢true has)
+has-count (Some operator) worker has = ltb-true worker operator.workers has
+
+worker-there : (flow : List Operator) (op worker : ℕ) → has_worker (nth flow op) worker ≡ true → worker_at flow op worker < crew_of flow
+worker-there flow op worker has = worker-known flow op (worker_at flow op worker) (place-worker flow op worker (has-count (nth flow op) worker has))
+
+abbrev DropsIn : DataflowState → Action → Type 0
+DropsIn d (Leg to_end) = Unit {0}
+DropsIn d (AtRest effect) = HasDropped d effect.op effect.drops
+
+drops-in : (d : DataflowState) (one : Command) → action_fits d.flow (action_of one) ≡ true → DropsIn d (action_of one)
+drops-in d command.Run fits = tt
+drops-in d command.End fits = tt
+drops-in d (command.Pause op n) fits = tt
+drops-in d (command.Count op n) fits = tt
+drops-in d (command.When op cond) fits = tt
+drops-in d (command.Clear op) fits = tt
+drops-in d (command.Set op value) fits = tt
+drops-in d (command.Drop op worker) fits = worker-there d.flow op worker fits
+drops-in d (command.Inspect op) fits = tt
+drops-in d (command.Lose op worker) fits = tt
+
+drops-there : (d : DataflowState) (one : Command) (effect : Effect) → action_of one ≡ AtRest effect → fits_of d.flow one ≡ true → HasDropped d effect.op effect.drops
+unfolding fits_of
+drops-there d one effect is fits = subst (DropsIn d) is (drops-in d one fits)
 
 -- ---- the home
+
+pub not-true : (b : Bool) → not b ≡ true → b ≡ false
+not-true true e = sym e
+not-true false e = refl
 
 module _ (e : HomeState) (live : LiveState) (home : IsHome e live) (resting : e.phase ≡ phase.Resting) where
   rest : IsAtRest e live
@@ -169,6 +314,21 @@ module _ (e : HomeState) (live : LiveState) (home : IsHome e live) (resting : e.
   long : length (rest_state e).arms ≡ length e.flow
   long = ap (λ (s : State). length s.arms) first ∙ (legal_logs_rest (query_of e) e.log home.legal).arms
 
+  crew : length (rest_state e).positions ≡ crew_of e.flow
+  crew = ap (λ (s : State). length s.positions) first ∙ (legal_logs_rest (query_of e) e.log home.legal).crew
+
+  pub few-resting : crew_of live.dataflow.flow ≤ 128
+  unfolding crew_of
+  few-resting = subst (λ (f : List Operator). crew_of f ≤ 128) (sym rest.at.flow) flow.few_workers
+
+  -- who is held stands before a row
+  pub rows-resting : AreHeldByRows live.dataflow
+  rows-resting = rows-rest e live rest home.legal
+
+  -- the worker is there whose row a command drops
+  pub drops-resting : (one : Command) (effect : Effect) → action_of one ≡ AtRest effect → fits_of e.flow one ≡ true → HasDropped live.dataflow effect.op effect.drops
+  drops-resting one effect is fits = drops-there live.dataflow one effect is (subst (λ f. fits_of f one ≡ true) (sym rest.at.flow) fits)
+
   -- the operator that a command names is there
   pub names-resting : (one : Command) (effect : Effect) → action_of one ≡ AtRest effect → fits_of e.flow one ≡ true → HasOperator effect.op (length live.arms)
   names-resting one effect is fits = rw rest.in_force.all (rest-there e.flow one effect is fits)
@@ -182,7 +342,7 @@ module _ (e : HomeState) (live : LiveState) (home : IsHome e live) (resting : e.
   flow-has one effect is fits = (rest-there e.flow one effect is fits).1
 
   module _ (one : Command) (effect : Effect) (is : action_of one ≡ AtRest effect) (more : ends_over false e.log.items ≡ false) (fits : fits_of e.flow one ≡ true)
-      (done : is_built effect ≡ true) (text : IsCommand one) where
+      (uncounting : is_put effect.arming.count ≡ false) (text : IsCommand one) where
     abbrev next : State
     next = after_action e.flow (AtRest effect) (rest_state e)
 
@@ -196,7 +356,7 @@ module _ (e : HomeState) (live : LiveState) (home : IsHome e live) (resting : e.
     module _ (log : Log) (now : LiveState) (same : live.dataflow.flow ≡ e.flow) (log-is : log ≡ with_item e.log (item.Do one)) (arms-is : now.arms ≡ arms_after effect (rows_emitted live.dataflow effect.op) live.arms)
         (dataflow-is : now.dataflow ≡ dataflow_after effect live.dataflow) (stops-is : now.stops ≡ live.stops) where
       flow-same : now.dataflow.flow ≡ e.flow
-      flow-same = ap (λ (d : DataflowState). d.flow) dataflow-is ∙ flow-after effect.op effect.arming.constant live.dataflow ∙ same
+      flow-same = ap (λ (d : DataflowState). d.flow) dataflow-is ∙ flow-after effect live.dataflow ∙ same
 
       none-open : open_parts e.phase now.dataflow ≡ []
       none-open = ap (λ (p : Phase). open_parts p now.dataflow) resting
@@ -216,13 +376,13 @@ module _ (e : HomeState) (live : LiveState) (home : IsHome e live) (resting : e.
           let grown = legal-commanded in
           let here : state_after query (with_item e.log (item.Do one)).items ≡ next =
           legal_logs_have_one_state query (with_item e.log (item.Do one)) (flows_send_forward e.flow flow) grown.0 ∙ grown.1 in
-          let can = built effect done in
           subst (λ (h : HomeState). IsHome h now) (sym state-commanded) (record {
             few = home.few;
             legal = grown.0;
             stands = subst (λ (p : Phase). StandsIn p (record e { log = with_item e.log (item.Do one); parts = [] }) now) (sym resting) (record {
-              at = rw (here, dataflow-is) (stands-after query state live.dataflow rest.at rest.none long effect can (rest-there e.flow one effect is fits));
-              none = rw dataflow-is (nothing-after effect.op effect.arming.constant live.dataflow rest.none);
+              at = rw (here, dataflow-is)
+                  (stands-after query state live.dataflow rest.at rest.none rows-resting long crew effect uncounting (rest-there e.flow one effect is fits) (drops-resting one effect is fits));
+              none = rw dataflow-is (nothing-after effect live.dataflow rest.none);
               in_force = subst (λ (s : State). IsInForce e.flow s now.arms) (sym here) (in-force-next (rest-there e.flow one effect is fits));
               stops_are = stops-is ∙ rest.stops_are ∙ sym (commands_keep_stops query e.log.items (item.Do one) refl);
             });

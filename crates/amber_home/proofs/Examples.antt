@@ -87,11 +87,14 @@ nobody_else (suc worker) apart = record {
 
 the_scan_emits_its_row : StepsOn before after
 unfolding homes_on_literals with_go
-the_scan_emits_its_row = record { only = refl; one = refl; writes = inl refl; others = nobody_else }
+the_scan_emits_its_row = record { only = refl; does = inl (record { one = refl; writes = inl refl }); others = nobody_else }
 
 two_steps_at_once : StepsOn before (within (part 0 (entry.Go 2 1 ∷ []) ∷ [])) → ⊥
 unfolding homes_on_literals
-two_steps_at_once steps = let wrong = steps.one in absurd (omega arith)
+two_steps_at_once steps = elim steps.does [
+  | inl made ↦ let wrong = made.one in absurd (omega arith)
+  | inr held ↦ let wrong = held.none in absurd (omega arith)
+]
 
 -- a step after a row that was taken writes one entry, or one more
 no_more : (entries : List Entry) → WritesStep (entry.Go 1 0 ∷ []) (entry.Go 1 1 ∷ entry.Pause ∷ entry.Resume ∷ entries) → ⊥
@@ -103,7 +106,10 @@ no_more entries (inr (inr (inr finishes))) = cc
 
 a_pause_of_its_own : StepsOn before (within (part 0 (entry.Go 1 1 ∷ entry.Pause ∷ entry.Resume ∷ []) ∷ [])) → ⊥
 unfolding homes_on_literals
-a_pause_of_its_own steps = no_more [] steps.writes
+a_pause_of_its_own steps = elim steps.does [
+  | inl made ↦ no_more [] made.writes
+  | inr held ↦ let wrong = held.none in absurd (omega arith)
+]
 
 a_pause_of_another : StepsOn before (within (part 0 (entry.Go 1 1 ∷ []) ∷ part 1 (entry.Pause ∷ entry.Resume ∷ []) ∷ [])) → ⊥
 unfolding homes_on_literals

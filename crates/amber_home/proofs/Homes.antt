@@ -8,7 +8,7 @@ use Rattle.amber_dataflow.specs.Dataflow.{AreAllThere, DataflowState, leg_begun,
 use Rattle.amber_dataflow.proofs.Standing.{begun-parts, stand-there}
 use Rattle.amber_home.specs.Asked.{Asked, without_asked}
 use Rattle.amber_home.specs.Going.{GoOn}
-use Rattle.amber_home.specs.Leg.{IsLegDone, held_of}
+use Rattle.amber_home.specs.Leg.{IsLegDone}
 use Rattle.amber_home.specs.HomeState.{ClosesIn, HomeState, has_crew, is_open, query_of, runs_to_end, state_of}
 use Rattle.amber_home.specs.Kept.{IsAtRest, IsHome, LiveState, StandsIn}
 use Rattle.amber_home.specs.Parts.{open_parts}
@@ -16,7 +16,6 @@ use Rattle.amber_home.specs.declared.phase.Phase.{Phase}
 use Rattle.amber_home.specs.declared.phase.Phase.TheVariants as phase
 use Rattle.amber_home.proofs.Legs.{closes-here, within-on}
 use Rattle.amber_home.proofs.Opened.{opened}
-use Rattle.amber_home.proofs.Reached.{none-held}
 
 pub at-rest : (e : HomeState) (live : LiveState) → IsHome e live → e.phase ≡ phase.Resting → IsAtRest e live
 at-rest e live home resting = subst (λ now. StandsIn now e live) resting home.stands
@@ -31,24 +30,24 @@ open-there phase.Spent within = within
 -- ---- a leg is opened
 
 module _ (e : HomeState) (live : LiveState) (to_end : Bool) (home : IsHome e live) (resting : e.phase ≡ phase.Resting) (more : ends_over false e.log.items ≡ false)
-    (after : DataflowState) (after-is : after ≡ leg_begun live.dataflow) (now : List Asked) (now-is : now ≡ (if to_end then map without_asked live.arms else live.arms))
+    (after : DataflowState) (after-is : after ≡ leg_begun to_end live.dataflow) (now : List Asked) (now-is : now ≡ (if to_end then map without_asked live.arms else live.arms))
     (same : live.dataflow.flow ≡ e.flow) where
   pub home-opened : IsHome (record e { flow = after.flow; phase = phase.Open to_end; parts = open_parts (phase.Open to_end) after }) (record { dataflow = after; arms = now; stops = live.stops })
   home-opened =
       subst (λ (d : DataflowState). IsHome (record e { flow = d.flow; phase = phase.Open to_end; parts = open_parts (phase.Open to_end) d }) (record { dataflow = d; arms = now; stops = live.stops }))
       (sym after-is)
-      (subst (λ (flow : List Operator). IsHome (record e { flow = flow; phase = phase.Open to_end; parts = leg_parts (leg_begun live.dataflow) }) (record { dataflow = leg_begun live.dataflow; arms = now; stops = live.stops }))
+      (subst (λ (flow : List Operator). IsHome (record e { flow = flow; phase = phase.Open to_end; parts = leg_parts (leg_begun to_end live.dataflow) }) (record { dataflow = leg_begun to_end live.dataflow; arms = now; stops = live.stops }))
       (sym same)
       (record {
         few = home.few;
         legal = home.legal;
-        stands = opened e live (at-rest e live home resting) home.legal to_end more now now-is (leg_parts (leg_begun live.dataflow));
+        stands = opened e live (at-rest e live home resting) home.legal to_end more now now-is (leg_parts (leg_begun to_end live.dataflow));
       }))
 
   pub state-opened : record e { flow = after.flow; phase = phase.Open to_end; parts = open_parts (phase.Open to_end) after } ≡ record e { phase = phase.Open to_end; parts = [] }
   state-opened =
       ap (λ (d : DataflowState). record e { flow = d.flow; phase = phase.Open to_end; parts = open_parts (phase.Open to_end) d }) after-is
-      ∙ (λ i. record e { flow = same i; phase = phase.Open to_end; parts = begun-parts live.dataflow i })
+      ∙ (λ i. record e { flow = same i; phase = phase.Open to_end; parts = begun-parts to_end live.dataflow i })
 
 -- ---- where the workers are there
 
@@ -58,13 +57,6 @@ module _ (e : HomeState) (live : LiveState) where
   home-there phase.Spent home there = absurd (false≢true there)
   home-there phase.Resting home there = stand-there _ _ live.dataflow _ home.stands.at
   home-there (phase.Open to_end) home there = stand-there _ _ live.dataflow _ home.stands.at
-
-  -- nobody is held
-  pub home-loose : (now : Phase) → IsHome (record e { phase = now }) live → has_crew now ≡ true → held_of live.dataflow ≡ []
-  home-loose phase.Over home there = absurd (false≢true there)
-  home-loose phase.Spent home there = absurd (false≢true there)
-  home-loose phase.Resting home there = none-held _ _ live.dataflow _ home.stands.at
-  home-loose (phase.Open to_end) home there = none-held _ _ live.dataflow _ home.stands.at
 
   pub long-open : (now : Phase) → IsHome (record e { phase = now }) live → is_open now ≡ true → length live.arms ≡ length e.flow
   long-open phase.Resting home within = absurd (false≢true within)

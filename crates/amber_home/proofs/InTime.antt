@@ -16,13 +16,13 @@ use Rattle.amber_meaning.proofs.OneState.{legal_logs_have_one_state}
 use Rattle.amber_meaning.proofs.Rest.{legal_logs_rest}
 use Rattle.amber_meaning.proofs.Senders.{flows_send_forward}
 use Rattle.amber_dataflow.specs.AtWork.{state_reached}
-use Rattle.amber_dataflow.specs.Dataflow.{DataflowState, have_all_finished, leg_parts, rows_emitted, step_count}
+use Rattle.amber_dataflow.specs.Dataflow.{DataflowState, leg_parts, rows_emitted, step_count}
 use Rattle.amber_dataflow.proofs.Standing.{listed-whole, stand-emitted, stand-flow}
 use Rattle.amber_home.specs.Asked.{Asked}
 use Rattle.amber_home.specs.Going.{GoOn}
 use Rattle.amber_home.specs.HomeState.{HomeState, is_open, item_of_leg, query_of, rest_state, runs_to_end}
 use Rattle.amber_home.specs.Kept.{IsHome, IsWithinLeg, LiveState}
-use Rattle.amber_home.specs.Leg.{IsLegInTime, NoneIsLate, NoneStands, held_of, other_stops, pause_at}
+use Rattle.amber_home.specs.Leg.{GoesOn, IsLegInTime, NoneIsLate, held_of, other_stops, pause_at}
 use Rattle.amber_home.specs.Parts.{open_parts}
 use Rattle.amber_home.specs.declared.phase.Phase.{Phase}
 use Rattle.amber_home.specs.declared.phase.Phase.TheVariants as phase
@@ -34,15 +34,15 @@ use Rattle.amber_home.proofs.Stopped.{held-are, others-none, stops-are}
 -- ---- of the workers
 
 -- where no stop stood they have gone on until none was late
-pub in-time-moved : (arms : List Asked) (old new : DataflowState) → NoneStands arms old → NoneIsLate arms new → (have_all_finished old ≡ true → new ≡ old) → IsLegInTime arms old new
-in-time-moved arms old new none late still = record {
-  at_once = λ some. by (have_all_finished old) refl (λ e. some (others-none arms old none e));
+pub in-time-moved : (arms : List Asked) (old new : DataflowState) → GoesOn arms old → NoneIsLate arms new → IsLegInTime arms old new
+in-time-moved arms old new goes late = record {
+  at_once = λ some. absurd (some (others-none arms old goes.none goes.unfinished));
   pauses = λ op n is. let less = late op n is in omega arith;
 }
-  where
-    by : (b : Bool) → have_all_finished old ≡ b → (have_all_finished old ≡ false → ⊥) → new ≡ old
-    by true e some = still e
-    by false e some = absurd (some e)
+
+-- and where nobody has moved
+pub in-time-still : (arms : List Asked) (d : DataflowState) → IsLegInTime arms d d
+in-time-still arms d = record { at_once = λ some. refl; pauses = λ op n is. omega arith }
 
 -- ---- of a leg in which nothing was done
 

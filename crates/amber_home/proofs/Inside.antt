@@ -1,12 +1,11 @@
 -- A home as its fields are seen: what it shows, what it keeps, and what is known of it within a leg.
-use Rattle.std.proofs.Common.{◌≡◌, ap, ◌∙◌, [], length, true}
+use Rattle.std.proofs.Common.{◌≡◌, ap, ◌∙◌, length, true}
 use Rattle.amber_dataflow.specs.Dataflow.{AreAllThere}
 use Rattle.amber_home.specs.HomeState.{HomeState, has_crew, is_open}
 use Rattle.amber_home.specs.Kept.{IsHome, LiveState}
-use Rattle.amber_home.specs.Leg.{held_of}
 use Rattle.amber_home.specs.Parts.{open_parts}
 use Rattle.amber_home.specs.declared.home.Home.TheInside.{Inside}
-use Rattle.amber_home.proofs.Homes.{home-loose, home-there, long-open, open-there}
+use Rattle.amber_home.proofs.Homes.{home-there, long-open, open-there}
 
 -- what it shows
 abbrev pub seen : Inside → HomeState
@@ -21,20 +20,12 @@ module _ (i : Inside) (home : IsHome (seen i) (kept i)) (old : HomeState) (is : 
   pub all-there : has_crew old.phase ≡ true → AreAllThere i.dataflow
   all-there there = home-there (seen i) (kept i) i.phase home (ap (λ (h : HomeState). has_crew h.phase) is ∙ there)
 
-  -- and nobody is held
-  pub all-loose : has_crew old.phase ≡ true → held_of i.dataflow ≡ []
-  all-loose there = home-loose (seen i) (kept i) i.phase home (ap (λ (h : HomeState). has_crew h.phase) is ∙ there)
-
   -- within a leg
   pub opens : is_open old.phase ≡ true → is_open i.phase ≡ true
   opens within = ap (λ (h : HomeState). is_open h.phase) is ∙ within
 
   pub there-within : is_open old.phase ≡ true → AreAllThere i.dataflow
   there-within within = home-there (seen i) (kept i) i.phase home (open-there i.phase (opens within))
-
-  -- and nobody is held
-  pub loose-within : is_open old.phase ≡ true → held_of i.dataflow ≡ []
-  loose-within within = home-loose (seen i) (kept i) i.phase home (open-there i.phase (opens within))
 
   pub long-within : is_open old.phase ≡ true → length i.arms ≡ length i.dataflow.flow
   long-within within = long-open (seen i) (kept i) i.phase home (opens within)

@@ -1,6 +1,7 @@
 -- A home within a leg: what its workers need to go on, and how they may be closed.
-use Rattle.std.proofs.Common.{◌≡◌, refl, sym, ap, subst, ◌∙◌, ℕ, ◌<◌, ◌≤◌, List, Bool, true}
+use Rattle.std.proofs.Common.{◌≡◌, refl, sym, ap, subst, ◌∙◌, ℕ, ◌<◌, ◌≤◌, List, Bool, None, true, false}
 use Rattle.amber_rows.specs.Topology.{crew_of}
+use Rattle.amber_rows.specs.declared.flow.Operator.{Operator}
 use Rattle.amber_log.specs.declared.leg.Close.{Close}
 use Rattle.amber_meaning.specs.Legal.{IsLegal, IsSettled, Query, leg_start}
 use Rattle.amber_meaning.specs.Position.{Position}
@@ -9,7 +10,7 @@ use Rattle.amber_meaning.proofs.OneState.{legal_logs_have_one_state}
 use Rattle.amber_meaning.proofs.Rest.{legal_logs_rest}
 use Rattle.amber_meaning.proofs.Senders.{flows_send_forward}
 use Rattle.amber_dataflow.specs.AtWork.{state_reached}
-use Rattle.amber_dataflow.specs.Dataflow.{DataflowState, leg_parts, step_count}
+use Rattle.amber_dataflow.specs.Dataflow.{DataflowState, is_held, leg_parts, step_count}
 use Rattle.amber_dataflow.proofs.Standing.{stand-after, stand-flow, stand-steps}
 use Rattle.amber_home.specs.Asked.{Asked, IsInForce}
 use Rattle.amber_home.specs.Going.{GoOn}
@@ -17,10 +18,11 @@ use Rattle.amber_home.specs.HomeState.{ClosesIn, HomeState, leg_state, query_of,
 use Rattle.amber_home.specs.Kept.{IsWithinLeg}
 use Rattle.amber_home.specs.Leg.{IsLegDone, count_at}
 use Rattle.amber_home.proofs.Counted.{count-none}
-use Rattle.amber_home.proofs.Opened.{position-start}
+use Rattle.amber_home.proofs.HeldRows.{rows-within}
+use Rattle.amber_home.proofs.Opened.{position-start, unwatched-start}
 use Rattle.amber_home.proofs.Stopped.{IsUnarmed, may-close}
 use Rattle.amber_home.proofs.Places.{at-map}
-use Rattle.amber_home.proofs.Reached.{settled-reached}
+use Rattle.amber_home.proofs.Reached.{loose-reached, settled-reached}
 
 -- to the end nothing is armed any more
 unarmed-start : (query : Query) (state : State) (arms : List Asked) → IsInForce query.flow (leg_start true state) arms → (op : ℕ) → IsUnarmed arms op
@@ -55,12 +57,23 @@ module _ (to_end : Bool) (e : HomeState) (d : DataflowState) (arms : List Asked)
   pub few-here : steps_in (leg_state e to_end (leg_parts d)) ≤ e.most
   few-here = rw (ap steps_in state-here ∙ stand-steps (query_of e) start d leg.positions leg.at) leg.few
 
+  -- nobody is held in a leg to the end
+  loose-here : to_end ≡ true → (worker : ℕ) → worker < crew_of d.flow → is_held d worker ≡ false
+  loose-here is worker inside =
+      loose-reached (query_of e) start d leg.positions leg.at
+      (subst (λ b. (op : ℕ) → (arms_at (leg_start b (rest_state e)) op).when ≡ None) (sym is) (unwatched-start (query_of e) (rest_state e)))
+      (λ k within. ap (λ (p : Position). p.restraint.held) (position-start to_end (rest_state e) k))
+      worker (subst (λ (f : List Operator). worker < crew_of f) leg.at.flow inside)
+
   -- as the workers are done, so may it be closed
   pub closes-here : (closed : Close) → IsLegDone closed arms e.most d → ClosesIn to_end (query_of e) (leg_state e to_end (leg_parts d)) closed
   closes-here closed done =
       subst (λ (s : State). ClosesIn to_end (query_of e) s closed) (sym state-here)
-      (may-close (query_of e) start d leg.positions leg.at arms leg.in_force hands to_end closed
-      (λ is. unarmed-start (query_of e) (rest_state e) arms (subst (λ b. IsInForce e.flow (leg_start b (rest_state e)) arms) is leg.in_force))
+      (may-close (query_of e) start d leg.positions leg.at arms leg.in_force hands (rows-within to_end e d arms leg legal) to_end closed
+      (λ is. record {
+        unarmed = unarmed-start (query_of e) (rest_state e) arms (subst (λ b. IsInForce e.flow (leg_start b (rest_state e)) arms) is leg.in_force);
+        loose = loose-here is;
+      })
       leg.few done)
 
 -- the workers go on

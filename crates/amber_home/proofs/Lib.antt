@@ -6,8 +6,10 @@ pub mod Cut
 pub mod Ended
 pub mod ExampleCounts
 pub mod Examples
+pub mod Free
 pub mod Fresh
 pub mod Going
+pub mod HeldRows
 pub mod Homes
 pub mod InForce
 pub mod InTime
@@ -18,6 +20,7 @@ pub mod Opened
 pub mod Paused
 pub mod Places
 pub mod Reached
+pub mod RowsHeld
 pub mod Saying
 pub mod Stopped
 pub mod Viewed

@@ -1,5 +1,5 @@
 -- A leg is opened: the workers stand where it begins.
-use Rattle.std.proofs.Common.{◌≡◌, refl, sym, ap, subst, ◌∙◌, ℕ, ◌≤◌, List, length, map, Bool, true, false, is_some, if◌then◌else◌, arith}
+use Rattle.std.proofs.Common.{◌≡◌, refl, sym, ap, subst, ◌∙◌, ℕ, ◌≤◌, List, length, map, Bool, true, false, None, if◌then◌else◌, arith}
 use Rattle.std.proofs.Math.ListN.{get_or-map}
 use Rattle.amber_rows.specs.Topology.{op_of}
 use Rattle.amber_log.specs.Grammar.{ends_over}
@@ -11,9 +11,9 @@ use Rattle.amber_meaning.proofs.OneState.{legal_logs_have_one_state, position-ge
 use Rattle.amber_meaning.proofs.Rest.{legal_logs_rest}
 use Rattle.amber_meaning.proofs.Senders.{flows_send_forward}
 use Rattle.amber_log.specs.declared.leg.Part.{Part}
-use Rattle.amber_dataflow.specs.AtWork.{IsQuiet, state_reached}
+use Rattle.amber_dataflow.specs.AtWork.{state_reached}
 use Rattle.amber_dataflow.specs.Dataflow.{leg_begun, rows_emitted, step_count}
-use Rattle.amber_dataflow.proofs.Standing.{begun-steps, listed-whole, stand-begun, stand-emitted, stand-flow, stand-quiet, stand-steps}
+use Rattle.amber_dataflow.proofs.Standing.{begun-steps, begun_orders, listed-whole, stand-begun, stand-emitted, stand-flow, stand-steps, stand-uncounted}
 use Rattle.amber_home.specs.Asked.{Asked, without_asked}
 use Rattle.amber_home.specs.HomeState.{HomeState, query_of, rest_state}
 use Rattle.amber_home.specs.Kept.{IsAtRest, IsWithinLeg, LiveState}
@@ -21,23 +21,23 @@ use Rattle.amber_home.specs.declared.phase.Phase.TheVariants as phase
 use Rattle.amber_home.proofs.InForce.{in-force-begun}
 use Rattle.amber_home.proofs.Places.{at-map}
 
--- ---- what is in force (for now from `stand-quiet`: no run has a count or a condition yet)
+-- ---- what is in force (no count for now, from `stand-uncounted`: no run has one yet)
 
-pub quiet-orders : (arms : Arms) → IsQuiet arms → orders_of (without_arms arms) ≡ orders_of arms
-quiet-orders arms quiet = λ i. record { constants = arms.constants; when = sym quiet.unwatched i; counted = ap is_some (sym quiet.uncounted) i }
-
-module _ (query : Query) (rest : State) (quiet : (op : ℕ) → IsQuiet (arms_at rest op)) where
-  pub orders-start : (to_end : Bool) (worker : ℕ) → orders_in query (leg_start to_end rest) worker ≡ orders_in query rest worker
+module _ (query : Query) (rest : State) where
+  pub orders-start : (to_end : Bool) (worker : ℕ) → orders_in query (leg_start to_end rest) worker ≡ begun_orders to_end (orders_in query rest worker)
   unfolding begin_leg begin_last_leg
-  orders-start true worker =
-      ap orders_of (at-map without_arms rest.arms (op_of query.flow worker) no_arms no_arms refl)
-      ∙ quiet-orders (arms_at rest (op_of query.flow worker)) (quiet (op_of query.flow worker))
+  orders-start true worker = ap orders_of (at-map without_arms rest.arms (op_of query.flow worker) no_arms no_arms refl)
   orders-start false worker = refl
 
-  pub quiet-start : (to_end : Bool) (op : ℕ) → IsQuiet (arms_at (leg_start to_end rest) op)
+  pub uncounted-start : ((op : ℕ) → (arms_at rest op).count ≡ None) → (to_end : Bool) (op : ℕ) → (arms_at (leg_start to_end rest) op).count ≡ None
   unfolding begin_leg begin_last_leg
-  quiet-start true op = subst IsQuiet (sym (at-map without_arms rest.arms op no_arms no_arms refl)) (record { unwatched = refl; uncounted = refl })
-  quiet-start false op = quiet op
+  uncounted-start uncounted true op = ap (λ (a : Arms). a.count) (at-map without_arms rest.arms op no_arms no_arms refl)
+  uncounted-start uncounted false op = uncounted op
+
+  -- to the end no condition is in force
+  pub unwatched-start : (op : ℕ) → (arms_at (leg_start true rest) op).when ≡ None
+  unfolding begin_last_leg
+  unwatched-start op = ap (λ (a : Arms). a.when) (at-map without_arms rest.arms op no_arms no_arms refl)
 
 pub position-start : (to_end : Bool) (rest : State) (worker : ℕ) → position_at (leg_start to_end rest).positions worker ≡ let_go (position_at rest.positions worker)
 unfolding begin_leg begin_last_leg
@@ -76,17 +76,17 @@ module _ (e : HomeState) (live : LiveState) (rest : IsAtRest e live) (legal : Is
 -- the workers begin a leg
 pub opened : (e : HomeState) (live : LiveState) → IsAtRest e live → IsLegal (query_of e) e.log → (to_end : Bool) → ends_over false e.log.items ≡ false
     → (now : List Asked) → now ≡ (if to_end then map without_asked live.arms else live.arms) → (parts : List Part)
-    → IsWithinLeg to_end (record e { phase = phase.Open to_end; parts = parts }) (leg_begun live.dataflow) now
+    → IsWithinLeg to_end (record e { phase = phase.Open to_end; parts = parts }) (leg_begun to_end live.dataflow) now
 opened e live rest legal to_end more now now-is parts =
     let query = query_of e in
     let state = rest_state e in
     let positions = position_at state.positions in
-    let quiet = stand-quiet query state live.dataflow positions rest.at in
+    let uncounted = stand-uncounted query state live.dataflow positions rest.at in
     record {
       more = more;
       positions = λ worker. let_go (positions worker);
-      at = stand-begun query state live.dataflow positions rest.at (leg_start to_end state) (quiet-start query state quiet to_end)
-          (λ worker inside. orders-start query state quiet to_end worker) (λ worker inside. position-start to_end state worker);
+      at = stand-begun query state live.dataflow positions rest.at (leg_start to_end state) (uncounted-start query state uncounted to_end)
+          to_end (λ worker inside. orders-start query state to_end worker) (λ worker inside. position-start to_end state worker);
       in_force = rw now-is (in-force-begun e.flow state live.arms to_end rest.in_force);
-      few = rw (begun-steps live.dataflow) (rest-few e live rest legal);
+      few = rw (begun-steps to_end live.dataflow) (rest-few e live rest legal);
     }

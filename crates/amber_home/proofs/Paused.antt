@@ -4,8 +4,7 @@ use Rattle.std.proofs.lemmas.Bool.{leb-false, or_parts}
 use Rattle.std.proofs.lemmas.Bool.Decides.{eqb_tells}
 use Rattle.amber_rows.specs.Topology.{op_of}
 use Rattle.amber_dataflow.specs.Dataflow.{DataflowState, TurnsAt, rows_emitted}
-use Rattle.amber_home.specs.Asked.{Asked, asked_at, is_reached, is_stopped_after, stands_after}
-use Rattle.amber_home.specs.Going.{MovesAlone}
+use Rattle.amber_home.specs.Asked.{Asked, is_reached, stands_after}
 use Rattle.amber_home.specs.Leg.{NoneIsLate, NoneStands, count_at, is_paused, is_stopped, pause_at}
 
 -- where none stands its pause does not
@@ -16,14 +15,6 @@ none-paused arms d op none = (or_parts (is_paused arms d op) (is_reached (count_
 pub none-counted : (arms : List Asked) (d : DataflowState) (op : ℕ) → is_stopped arms d op ≡ false → is_reached (count_at arms op) (rows_emitted d op) ≡ false
 none-counted arms d op none = (or_parts (is_paused arms d op) (is_reached (count_at arms op) (rows_emitted d op)) none).1
 
--- where no stop stood, and none stands at the operator of the one that moved, none stands
-pub none-moved : (arms : List Asked) (old new : DataflowState) (worker : ℕ) → MovesAlone old new worker → NoneStands arms old → is_stopped arms new (op_of old.flow worker) ≡ false → NoneStands arms new
-none-moved arms old new worker only none here op =
-    elim (eqb_tells op (op_of old.flow worker)) [
-      | inl same ↦ ap (is_stopped arms new) same.1 ∙ here
-      | inr other ↦ ap (is_stopped_after (asked_at arms op)) (only.emitted op other.1) ∙ none op
-    ]
-
 -- ---- in time
 
 not-yet : (pause : Option ℕ) (rows n : ℕ) → stands_after pause rows ≡ false → pause ≡ Some n → rows < n
@@ -32,6 +23,13 @@ not-yet pause rows n stands is = leb-false n rows (ap (λ found. stands_after fo
 -- where no stop stands, no pause is late
 pub none-late : (arms : List Asked) (d : DataflowState) → NoneStands arms d → NoneIsLate arms d
 none-late arms d none op n is = let less = not-yet (pause_at arms op) (rows_emitted d op) n (none-paused arms d op (none op)) is in omega arith
+
+-- nor is one after a row more
+pub late-one : (arms : List Asked) (old new : DataflowState) → NoneStands arms old → ((op : ℕ) → rows_emitted new op ≤ rows_emitted old op + 1) → NoneIsLate arms new
+late-one arms old new none more op n is =
+    let less = not-yet (pause_at arms op) (rows_emitted old op) n (none-paused arms old op (none op)) is in
+    let rows = more op in
+    omega arith
 
 -- turns of a worker, no more than rows are left to its operator's pause, make none late
 pub late-moved : (arms : List Asked) (old new : DataflowState) (worker most : ℕ) → TurnsAt most old new worker

@@ -1,5 +1,5 @@
 -- What stands at a number of a list: where the list was changed at one number, where it was mapped, and where nothing stands.
-use Rattle.std.proofs.Common.{◌≡◌, ◌≢◌, refl, sym, ap, ◌∙◌, ℕ, zero, suc, ◌+◌, ◌-◌, ◌<◌, ◌≤◌, List, [], ◌∷◌, ◌++◌, append_assoc, length, map, nat_eq, Bool, true, false, None, Some, unwrap_or, option_map, if◌then◌else◌, add-one, arith}
+use Rattle.std.proofs.Common.{◌≡◌, ◌≢◌, refl, sym, ap, ◌∙◌, ℕ, zero, suc, ◌+◌, ◌-◌, ◌<◌, ◌≤◌, List, [], ◌∷◌, ◌++◌, append-nil, append_assoc, length, map, nat_eq, Bool, true, false, None, Some, unwrap_or, option_map, if◌then◌else◌, add-one, arith}
 use Rattle.std.specs.List.{flat_map, slice_get}
 use Rattle.std.proofs.lemmas.Bool.{eq-eqb, ne_eqb}
 use Rattle.amber_rows.specs.Lists.{changed_at, changed_from, nth, numbers_below}
@@ -96,6 +96,18 @@ listed-after f n first old new is more =
     let before = flat_map f (map suc (numbers_below n)) in
     more ∙ ap (λ xs. xs ++ f (n + 1)) is ∙ append_assoc first before (f (n + 1))
     ∙ ap (λ xs. first ++ xs) (listed-more f n before (before ++ f (n + 1)) refl refl)
+
+-- the same by numbers from 0
+pub below-after : {A : Type 0} (f : ℕ → List A) (n : ℕ) (first old new : List A) → old ≡ first ++ flat_map f (numbers_below n) → new ≡ old ++ f n
+    → new ≡ first ++ flat_map f (numbers_below (n + 1))
+unfolding numbers_below
+below-after f n first old new is more =
+    more ∙ ap (λ xs. xs ++ f n) is ∙ append_assoc first (flat_map f (numbers_below n)) (f n)
+    ∙ ap (λ xs. first ++ xs) (sym (flat-last f (numbers_below n) n) ∙ ap (λ k. flat_map f (numbers_below k)) (sym (add-one n)))
+  where
+    flat-last : {A : Type 0} (f : ℕ → List A) (xs : List ℕ) (n : ℕ) → flat_map f (xs ++ n ∷ []) ≡ flat_map f xs ++ f n
+    flat-last f [] n = append-nil (f n)
+    flat-last f (x ∷ xs) n = ap (λ ys. f x ++ ys) (flat-last f xs n) ∙ sym (append_assoc (f x) (flat_map f xs) (f n))
 
 -- ---- the same at each number
 

@@ -1,29 +1,33 @@
--- What is in force where workers stand, the first that has not finished, and what nobody holds while no count and no condition is armed.
-use Rattle.std.proofs.Common.{◌≡◌, refl, sym, ap, ◌∙◌, ℕ, zero, suc, ◌-◌, ◌<◌, List, [], ◌∷◌, get_or, map, if◌then◌else◌, true, false, None, Some, is_some, subst, arith}
+-- What is in force where workers stand, the first that has not finished, and what nobody holds where no count or no condition is armed.
+use Rattle.std.proofs.Common.{◌≡◌, refl, sym, ap, ◌∙◌, ℕ, zero, suc, ◌<◌, List, [], ◌∷◌, get_or, map, if◌then◌else◌, true, false, None, Some, is_some, subst, arith}
 use Rattle.std.proofs.lemmas.Bool.{false≢true}
 use Rattle.std.specs.List.{flat_map}
-use Rattle.amber_rows.specs.Topology.{crew_of, first_worker_of, op_of}
+use Rattle.amber_rows.specs.Topology.{crew_of, op_of}
 use Rattle.amber_rows.specs.Lists.{numbers_below}
+use Rattle.amber_rows.specs.declared.value.Value.{Value}
 use Rattle.amber_log.specs.declared.entry.Entry.{Entry}
 use Rattle.amber_log.specs.declared.entry.Entry.TheVariants as entry
 use Rattle.amber_meaning.specs.declared.view.Stop.{Stop}
-use Rattle.amber_meaning.specs.Position.{Position, Restraint, origin}
-use Rattle.amber_meaning.specs.Rules.{Leads, Moves, Orders, assigned}
-use Rattle.amber_meaning.specs.State.{State, position_at}
-use Rattle.amber_meaning.specs.Stops.{held_stop}
+use Rattle.amber_meaning.specs.Position.{Position, Restraint, origin, pending_rows}
+use Rattle.amber_meaning.specs.Rules.{Leads, Moves, Orders, assigned, first_is_watched}
+use Rattle.amber_meaning.specs.State.{State, arms_at, position_at}
 use Rattle.amber_meaning.specs.Task.{Role}
-use Rattle.amber_meaning.proofs.Numbers.{among, among-first, among-more, below-in}
+use Rattle.amber_meaning.proofs.Numbers.{among, among-first, among-more}
 use Rattle.amber_meaning.proofs.OneState.{position-get_or}
 use Rattle.amber_lines.specs.Moving.{orders_in}
 use Rattle.amber_meaning.specs.Legal.{IsSettled, Query, assignment_in, entries_of, role_in}
 use Rattle.amber_dataflow.specs.AtWork.{state_reached, worker_state_at}
-use Rattle.amber_dataflow.specs.Dataflow.{DataflowState, StandAt, leg_parts}
+use Rattle.amber_dataflow.specs.Dataflow.{DataflowState, StandAt, is_held, leg_parts}
 use Rattle.amber_dataflow.proofs.Reached.{listed-at}
-use Rattle.amber_dataflow.proofs.Standing.{stand-position, stand-quiet, stand-worked}
+use Rattle.amber_dataflow.proofs.Standing.{stand-position, stand-uncounted, stand-worked}
 use Rattle.amber_home.specs.Asked.{Asked, IsInForce}
 use Rattle.amber_home.specs.HomeState.{first_unfinished}
-use Rattle.amber_home.specs.Leg.{held_of, stop_of_worker}
 use Rattle.amber_home.proofs.InForce.{in-force-worked}
+
+-- no row is watched where no condition is in force
+watched-never : (rows : List (List Value)) → first_is_watched None rows ≡ false
+watched-never [] = refl
+watched-never (row ∷ rows) = refl
 
 -- ---- no units
 
@@ -42,6 +46,26 @@ unfolding Leads
 hand-stays role orders p q [] uncounted none leads = ap (λ m. m.restraint.hand) (sym leads) ∙ none
 hand-stays role orders p q (one ∷ more) uncounted none leads =
     hand-stays role orders leads.0 q more uncounted (hand-moves role orders p leads.0 one uncounted none leads.1) leads.2
+
+-- ---- nobody held
+
+loose-moves : (role : Role) (orders : Orders) (p q : Position) (one : Entry) → orders.when ≡ None → p.restraint.held ≡ false → Moves (assigned role orders) p one q → q.restraint.held ≡ false
+loose-moves role orders p q (entry.Take from number) unwatched none moves = ap (λ m. m.restraint.held) moves.2 ∙ none
+loose-moves role orders p q (entry.Go rows outs) unwatched none moves = ap (λ m. m.restraint.held) moves.2 ∙ none
+loose-moves role orders p q (entry.Grant n) unwatched none moves = ap (λ m. m.restraint.held) moves.2 ∙ none
+loose-moves role orders p q (entry.Back n) unwatched none moves = ap (λ m. m.restraint.held) moves.2 ∙ none
+loose-moves role orders p q entry.Pause unwatched none moves = ap (λ m. m.restraint.held) moves.2 ∙ none
+loose-moves role orders p q entry.Resume unwatched none moves = ap (λ m. m.restraint.held) moves.2 ∙ none
+loose-moves role orders p q entry.Hold unwatched none moves =
+    absurd (false≢true (sym (ap (λ when. first_is_watched when (pending_rows role p)) unwatched ∙ watched-never (pending_rows role p)) ∙ moves.1.watched))
+loose-moves role orders p q entry.Finish unwatched none moves = ap (λ m. m.restraint.held) moves.2 ∙ none
+
+-- where no condition is in force, who was not held is not
+pub loose-stays : (role : Role) (orders : Orders) (p q : Position) (entries : List Entry) → orders.when ≡ None → p.restraint.held ≡ false → Leads (assigned role orders) p entries q → q.restraint.held ≡ false
+unfolding Leads
+loose-stays role orders p q [] unwatched none leads = ap (λ m. m.restraint.held) (sym leads) ∙ none
+loose-stays role orders p q (one ∷ more) unwatched none leads =
+    loose-stays role orders leads.0 q more unwatched (loose-moves role orders p leads.0 one unwatched none leads.1) leads.2
 
 -- ---- lists of stops
 
@@ -87,24 +111,27 @@ module _ (query : Query) (start : State) (d : DataflowState) (positions : ℕ �
   pub in-force-reached : (asked : List Asked) → IsInForce query.flow start asked → IsInForce query.flow (state_reached query start positions) asked
   in-force-reached asked is = in-force-worked query start (state_reached query start positions) (leg_parts d) asked (stand-worked query start d positions stand) is
 
-  -- ---- while nothing is watched or counted
+  -- a worker is held or paused as its position is
+  pub restraint-at : (worker : ℕ) → worker < crew_of query.flow → (worker_state_at d.workers worker).restraint ≡ (positions worker).restraint
+  restraint-at worker inside = (stand.work.at.at_positions.each worker inside).shows.restraint
 
-  -- nobody is held (for now from the calm of the workers: no run has a condition yet)
-  pub none-held : held_of d ≡ []
-  unfolding held_of
-  none-held =
-      no-stops-among (stop_of_worker d) (numbers_below (crew_of d.flow))
-      (λ worker known.
-      let inside : worker < crew_of query.flow = subst (λ f. worker < crew_of f) stand.flow (below-in (crew_of d.flow) worker known) in
-      ap (λ (r : Restraint). held_stop (op_of d.flow worker) (worker - first_worker_of d.flow (op_of d.flow worker)) r.held (worker_state_at d.workers worker).pending)
-      (stand.work.at.calm worker inside).loose)
+  -- nobody is held, where nobody was when the leg began and no condition is in force
+  pub loose-reached : ((op : ℕ) → (arms_at start op).when ≡ None) → ((worker : ℕ) → worker < crew_of query.flow → (position_at start.positions worker).restraint.held ≡ false)
+      → (worker : ℕ) → worker < crew_of query.flow → is_held d worker ≡ false
+  unfolding is_held
+  loose-reached unwatched none worker inside =
+      ap (λ (r : Restraint). r.held) (restraint-at worker inside)
+      ∙ loose-stays (role_in query worker) (orders_in query start worker) (position_at start.positions worker) (positions worker) (entries_of (leg_parts d) worker)
+      (unwatched (op_of query.flow worker)) (none worker inside) (leads-at worker inside)
 
-  -- no hand holds a unit, where none held one when the leg began (for now from `stand-quiet`: no run has a count yet)
+  -- ---- while nothing is counted
+
+  -- no hand holds a unit, where none held one when the leg began (for now from `stand-uncounted`: no run has a count yet)
   pub settled-reached : ((worker : ℕ) → worker < crew_of query.flow → (position_at start.positions worker).restraint.hand ≡ 0) → IsSettled query (state_reached query start positions)
   settled-reached none = record {
     hands = λ worker inside.
         ap (λ p. p.restraint.hand) (stand-position query start d positions stand worker inside)
         ∙ hand-stays (role_in query worker) (orders_in query start worker) (position_at start.positions worker) (positions worker) (entries_of (leg_parts d) worker)
-        (ap is_some (stand-quiet query start d positions stand (op_of query.flow worker)).uncounted) (none worker inside) (leads-at worker inside);
-    counts = λ op counting is. absurd (none-some (sym (stand-quiet query start d positions stand op).uncounted ∙ is));
+        (ap is_some (stand-uncounted query start d positions stand (op_of query.flow worker))) (none worker inside) (leads-at worker inside);
+    counts = λ op counting is. absurd (none-some (sym (stand-uncounted query start d positions stand op) ∙ is));
   }

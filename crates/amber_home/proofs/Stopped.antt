@@ -1,10 +1,11 @@
 -- The stops of the state that workers reached are those that they show.
-use Rattle.std.proofs.Common.{◌≡◌, ◌≢◌, refl, sym, ap, ◌∙◌, ℕ, zero, suc, ◌-◌, ◌<◌, ◌≤◌, List, [], ◌∷◌, ◌++◌, length, Bool, true, false, Option, None, Some, unwrap_or, if◌then◌else◌, ◌⊎◌, inl, inr, arith}
+use Rattle.std.proofs.Common.{◌≡◌, ◌≢◌, refl, sym, ap, ◌∙◌, ℕ, zero, suc, ◌-◌, ◌<◌, ◌≤◌, List, [], ◌∷◌, ◌++◌, length, Bool, true, false, Option, None, Some, is_some, unwrap_or, option_to_list, if◌then◌else◌, inl, inr, arith}
 use Rattle.std.specs.List.{flat_map}
 use Rattle.std.proofs.lemmas.Bool.{cases_lt, false≢true, or_cases}
 use Rattle.amber_rows.specs.Topology.{crew_of, first_worker_of, op_of}
-use Rattle.amber_rows.specs.Lists.{numbers_below}
+use Rattle.amber_rows.specs.Lists.{first_of, numbers_below}
 use Rattle.amber_rows.specs.declared.flow.Operator.{Operator}
+use Rattle.amber_rows.specs.declared.value.Value.{Value}
 use Rattle.amber_log.specs.declared.leg.Close.{Close}
 use Rattle.amber_log.specs.declared.leg.Close.TheVariants as close
 use Rattle.amber_meaning.specs.declared.view.Stop.{Stop}
@@ -13,18 +14,18 @@ use Rattle.amber_meaning.specs.Legal.{IsSettled, Query, role_in, stops_in}
 use Rattle.amber_meaning.specs.Position.{Position, Restraint, pending_rows}
 use Rattle.amber_meaning.specs.State.{Counting, State, arms_at, crew_at, emitted_by, have_finished, position_at, steps_in}
 use Rattle.amber_meaning.specs.Stops.{count_stop, count_stops, end_stop, held_stop, held_stops, op_numbers, pause_stop, pause_stops, stops_of}
-use Rattle.amber_meaning.proofs.Numbers.{among, among-first, among-more, among_step, below-in, in-row}
+use Rattle.amber_meaning.proofs.Numbers.{among, among-first, among-more, among_step, below-in, in-below, in-row}
 use Rattle.amber_dataflow.specs.AtWork.{state_reached, worker_state_at}
-use Rattle.amber_dataflow.specs.Dataflow.{DataflowState, StandAt, have_all_finished, rows_emitted, step_count}
+use Rattle.amber_dataflow.specs.Dataflow.{AreHeldByRows, DataflowState, StandAt, have_all_finished, held_row, is_held, rows_emitted, step_count}
 use Rattle.amber_dataflow.proofs.Standing.{stand-emitted, stand-finished, stand-position, stand-steps}
 use Rattle.amber_home.specs.Asked.{Asked, IsCountOf, IsInForce, asked_at, is_reached, is_stopped_after, no_asked, stands_after}
 use Rattle.amber_home.specs.HomeState.{ClosesIn}
-use Rattle.amber_home.specs.Leg.{IsLegDone, NoneStands, count_at, counts_of, held_of, is_stopped, other_stops, pause_at, pauses_of, stop_at_end, stop_of_count, stop_of_pause, stop_of_worker, stops_by}
+use Rattle.amber_home.specs.Leg.{IsCut, IsLegDone, NoneStands, count_at, counts_of, held_of, is_stopped, other_stops, pause_at, pauses_of, stop_at_end, stop_of_count, stop_of_pause, stop_of_worker, stops_by}
 use Rattle.amber_home.specs.declared.target.Target.{Target}
 use Rattle.amber_home.proofs.Counted.{reached-test}
 use Rattle.amber_home.proofs.Paused.{none-counted, none-paused}
 use Rattle.amber_home.proofs.Places.{nth-past}
-use Rattle.amber_home.proofs.Reached.{in-force-reached, no-stops-among, none-held, settled-reached}
+use Rattle.amber_home.proofs.Reached.{in-force-reached, no-stops-among, settled-reached}
 
 -- ---- lists of stops
 
@@ -184,10 +185,54 @@ others-none arms d none unfinished = rw (counts-none arms d none, pauses-none ar
 pub stops-none : (arms : List Asked) (d : DataflowState) → held_of d ≡ [] → NoneStands arms d → have_all_finished d ≡ false → stops_by arms d ≡ []
 stops-none arms d loose none unfinished = rw (loose, others-none arms d none unfinished) refl
 
--- where a stop stands at an operator, or all have finished, there is one
-pub stops-some : (arms : List Asked) (d : DataflowState) → length arms ≡ length d.flow
-    → ((op : ℕ) × (is_stopped arms d op ≡ true)) ⊎ (have_all_finished d ≡ true) → stops_by arms d ≢ []
-stops-some arms d long stands none = by stands
+-- the stop of a worker by the row before which it is held
+by-row : (op place : ℕ) (held : Bool) (pending : List (List Value)) (row : Option (List Value)) → (if held then first_of pending else None) ≡ row
+    → held_stop op place held pending ≡ flat_map (λ row. stop.Held op place row ∷ []) (option_to_list row)
+by-row op place false pending row is = rw (← is) refl
+by-row op place true [] row is = rw (← is) refl
+by-row op place true (first ∷ pending) row is = rw (← is) refl
+
+pub stop-of-none : (d : DataflowState) (worker : ℕ) → held_row d worker ≡ None → stop_of_worker d worker ≡ []
+unfolding held_row
+stop-of-none d worker is = by-row _ _ _ _ None is
+
+pub stop-of-row : (d : DataflowState) (worker : ℕ) (row : List Value) → held_row d worker ≡ Some row
+    → stop_of_worker d worker ≡ stop.Held (op_of d.flow worker) (worker - first_worker_of d.flow (op_of d.flow worker)) row ∷ []
+unfolding held_row
+stop-of-row d worker row is = by-row _ _ _ _ (Some row) is
+
+-- nobody is held
+pub held-none : (d : DataflowState) → ((worker : ℕ) → worker < crew_of d.flow → is_held d worker ≡ false) → held_of d ≡ []
+unfolding held_of is_held
+held-none d loose =
+    no-stops-among (stop_of_worker d) (numbers_below (crew_of d.flow))
+    (λ worker known.
+    ap (λ b. held_stop (op_of d.flow worker) (worker - first_worker_of d.flow (op_of d.flow worker)) b (worker_state_at d.workers worker).pending)
+    (loose worker (below-in (crew_of d.flow) worker known)))
+
+-- who is held has a stop
+held-stands : (op place : ℕ) (held : Bool) (pending : List (List Value)) → held ≡ true → is_some (if held then first_of pending else None) ≡ true → held_stop op place held pending ≢ []
+held-stands op place false pending is some none = absurd (false≢true is)
+held-stands op place true [] is some none = absurd (false≢true some)
+held-stands op place true (row ∷ pending) is some none = cons-nil none
+  where
+    cons-nil : stop.Held op place row ∷ [] ≡ [] → ⊥
+    cons-nil e = cc
+
+worker-stands : (d : DataflowState) → AreHeldByRows d → (worker : ℕ) → is_held d worker ≡ true → stop_of_worker d worker ≢ []
+unfolding is_held held_row
+worker-stands d rows worker held =
+    held-stands (op_of d.flow worker) (worker - first_worker_of d.flow (op_of d.flow worker)) (worker_state_at d.workers worker).restraint.held
+    (worker_state_at d.workers worker).pending held (rows worker held)
+
+held-some : (d : DataflowState) → AreHeldByRows d → (worker : ℕ) → worker < crew_of d.flow → is_held d worker ≡ true → held_of d ≢ []
+unfolding held_of
+held-some d rows worker inside held =
+    some-stop (stop_of_worker d) (numbers_below (crew_of d.flow)) worker (in-below (crew_of d.flow) worker inside) (worker-stands d rows worker held)
+
+-- where something stands at which a leg is cut, there is a stop
+pub stops-some : (arms : List Asked) (d : DataflowState) → length arms ≡ length d.flow → AreHeldByRows d → IsCut arms d → stops_by arms d ≢ []
+stops-some arms d long rows stands none = by stands
   where
     later : other_stops arms d ≡ []
     later = (both-none (held_of d) (other_stops arms d) none).1
@@ -198,8 +243,9 @@ stops-some arms d long stands none = by stands
     end-nil : stop.End ∷ [] ≡ [] → ⊥
     end-nil e = cc
 
-    by : ((op : ℕ) × (is_stopped arms d op ≡ true)) ⊎ (have_all_finished d ≡ true) → ⊥
-    by (inl stopped) =
+    by : IsCut arms d → ⊥
+    by (inl held) = held-some d rows held.0 held.1 held.2 (both-none (held_of d) (other_stops arms d) none).0
+    by (inr (inl stopped)) =
         let op = stopped.0 in
         let within = stopped-within arms op (rows_emitted d op) stopped.1 in
         let known = among-ops d.flow op within.0 (let most = within.1 in omega arith) in
@@ -211,11 +257,16 @@ stops-some arms d long stands none = by stands
               some-stop (λ op. stop_of_count op (count_at arms op) (rows_emitted d op)) (op_numbers d.flow) op known
               (count-stands op (count_at arms op) (rows_emitted d op) counted) (both-none (counts_of arms d) (pauses_of arms d ++ stop_at_end d) later).0
         ]
-    by (inr finished) = end-nil (sym (ap (λ b. if b then stop.End ∷ [] else []) finished) ∙ (both-none (pauses_of arms d) (stop_at_end d) last).1)
+    by (inr (inr finished)) = end-nil (sym (ap (λ b. if b then stop.End ∷ [] else []) finished) ∙ (both-none (pauses_of arms d) (stop_at_end d) last).1)
 
 -- nothing is armed at an operator
 abbrev pub IsUnarmed : List Asked → ℕ → Type 0
 IsUnarmed arms op = (pause_at arms op ≡ None) × (count_at arms op ≡ None)
+
+-- nothing is armed anywhere, and nobody is held
+pub record IsLetAlone (arms : List Asked) (d : DataflowState) : Type 0 where
+  pub unarmed : (op : ℕ) → IsUnarmed arms op
+  pub loose : (worker : ℕ) → worker < crew_of d.flow → is_held d worker ≡ false
 
 -- no stop stands where nothing is armed
 unarmed : (arms : List Asked) (d : DataflowState) (op : ℕ) → IsUnarmed arms op → is_stopped arms d op ≡ true → ⊥
@@ -227,7 +278,7 @@ unarmed arms d op none stopped =
 
 module _ (query : Query) (start : State) (d : DataflowState) (positions : ℕ → Position) (stand : StandAt query start d positions) (arms : List Asked)
     (is : IsInForce query.flow start arms)
-    (hands : (worker : ℕ) → worker < crew_of query.flow → (position_at start.positions worker).restraint.hand ≡ 0) where
+    (hands : (worker : ℕ) → worker < crew_of query.flow → (position_at start.positions worker).restraint.hand ≡ 0) (rows : AreHeldByRows d) where
   abbrev now : State
   now = state_reached query start positions
 
@@ -244,15 +295,16 @@ module _ (query : Query) (start : State) (d : DataflowState) (positions : ℕ �
   finished-now = stand-finished query start d positions stand
 
   -- so may it be closed
-  pub may-close : (to_end : Bool) (closed : Close) → (to_end ≡ true → (op : ℕ) → IsUnarmed arms op) → step_count d ≤ query.most → IsLegDone closed arms query.most d
+  pub may-close : (to_end : Bool) (closed : Close) → (to_end ≡ true → IsLetAlone arms d) → step_count d ≤ query.most → IsLegDone closed arms query.most d
       → ClosesIn to_end query now closed
   may-close false close.Cut none few done =
-      (settled-now, rw steps-now few, λ e. stops-some arms d (is.all ∙ ap length (sym stand.flow)) done (sym stops-now ∙ e))
+      (settled-now, rw steps-now few, λ e. stops-some arms d (is.all ∙ ap length (sym stand.flow)) rows done (sym stops-now ∙ e))
   may-close false close.Long none few done =
-      (settled-now, steps-now ∙ done.1, stops-now ∙ stops-none arms d (none-held query start d positions stand) done.0 done.2)
+      (settled-now, steps-now ∙ done.1, stops-now ∙ stops-none arms d (held-none d (λ worker inside. done.0.loose worker)) done.0.none done.0.unfinished)
   may-close true close.Cut none few done = (settled-now, rw steps-now few, by done)
     where
-      by : ((op : ℕ) × (is_stopped arms d op ≡ true)) ⊎ (have_all_finished d ≡ true) → have_finished now ≡ true
-      by (inl stopped) = absurd (unarmed arms d stopped.0 (none refl stopped.0) stopped.1)
-      by (inr finished) = finished-now ∙ finished
-  may-close true close.Long none few done = (settled-now, steps-now ∙ done.1, finished-now ∙ done.2)
+      by : IsCut arms d → have_finished now ≡ true
+      by (inl held) = absurd (false≢true (sym ((none refl).loose held.0 held.1) ∙ held.2))
+      by (inr (inl stopped)) = absurd (unarmed arms d stopped.0 ((none refl).unarmed stopped.0) stopped.1)
+      by (inr (inr finished)) = finished-now ∙ finished
+  may-close true close.Long none few done = (settled-now, steps-now ∙ done.1, finished-now ∙ done.0.unfinished)

@@ -1,12 +1,14 @@
 -- What a home keeps, and what its calls change.
-use Rattle.std.specs.Prelude.{◌≡◌, ◌≢◌, ℕ, suc, ◌+◌, List, [], ◌∷◌, ◌++◌, Result, Ok, Err, Bool, true, false, if◌then◌else◌}
+use Rattle.std.specs.Prelude.{◌≡◌, ◌≢◌, ◌⊎◌, ℕ, suc, ◌+◌, List, [], ◌∷◌, ◌++◌, Option, None, Some, Result, Ok, Err, Bool, true, false, not, if◌then◌else◌}
 use Rattle.amber_rows.specs.declared.flow.Operator.{Operator}
+use Rattle.amber_rows.specs.declared.value.Value.{Value}
 use Rattle.amber_lines.specs.KeptStops.{kept_stops}
 use Rattle.amber_log.specs.declared.command.Command.{Command}
 use Rattle.amber_log.specs.Commands.{action_of}
-use Rattle.amber_log.specs.Effect.{is_built}
+use Rattle.amber_log.specs.Effect.{is_put}
 use Rattle.amber_log.specs.declared.effect.Action.{Action}
 use Rattle.amber_log.specs.declared.effect.Action.TheVariants.{Leg, AtRest}
+use Rattle.amber_log.specs.declared.entry.Entry.TheVariants as entry
 use Rattle.amber_log.specs.declared.leg.Close.{Close}
 use Rattle.amber_log.specs.declared.leg.Close.TheVariants as close
 use Rattle.amber_log.specs.declared.leg.Part.{Part}
@@ -18,7 +20,8 @@ use Rattle.amber_meaning.specs.InTime.{IsInTime}
 use Rattle.amber_meaning.specs.Legal.{ClosesEnd, ClosesRun, Query, entries_of, leg_start, query_over, stops_in}
 use Rattle.amber_meaning.specs.Position.{Position}
 use Rattle.amber_meaning.specs.Replay.{after_leg, state_after}
-use Rattle.amber_meaning.specs.State.{State, have_finished, position_at, steps_in}
+use Rattle.amber_meaning.specs.State.{State, have_finished, position_at, steps_in, worker_at}
+use Rattle.amber_meaning.specs.Transcript.{held_row}
 use Rattle.amber_worker.specs.Turning.{WritesStep}
 use Rattle.amber_home.specs.declared.error.LegErr.{LegErr}
 use Rattle.amber_home.specs.declared.error.LegErr.TheVariants as leg_err
@@ -105,14 +108,27 @@ stops_of_home e = stops_at e.phase e
 abbrev pub with_item : Log → Item → Log
 with_item log one = record log { items = log.items ++ one ∷ [] }
 
--- what a home does at rest
+-- what a home does at rest: all but arming a count
 abbrev pub is_at_rest : Action → Bool
 is_at_rest (Leg to_end) = false
-is_at_rest (AtRest effect) = is_built effect
+is_at_rest (AtRest effect) = not (is_put effect.arming.count)
 
 -- a command that a home does at rest
 abbrev pub is_done_at_rest : Command → Bool
 is_done_at_rest command = is_at_rest (action_of command)
+
+-- the row that is dropped of one of an operator's workers, where one is named: the one before which it is held
+abbrev pub dropped_in : Query → State → ℕ → Option ℕ → Option (List Value)
+dropped_in query state op None = None
+dropped_in query state op (Some worker) = held_row query state (worker_at query.flow op worker)
+
+abbrev pub dropped_by_action : HomeState → Action → Option (List Value)
+dropped_by_action e (Leg to_end) = None
+dropped_by_action e (AtRest effect) = dropped_in (query_of e) (rest_state e) effect.op effect.drops
+
+-- the row that a command drops
+abbrev pub dropped_by : HomeState → Command → Option (List Value)
+dropped_by e command = dropped_by_action e (action_of command)
 
 -- a leg as an item, up to a stop or to the end
 abbrev pub item_of_leg : Bool → List Part → Close → Item
@@ -163,9 +179,23 @@ pub record IsLeftAlone (old new : HomeState) (worker : ℕ) : Type 0 where
   pub stands : position_at (state_of new).positions worker ≡ position_at (state_of old).positions worker
   pub writes : entries_of new.parts worker ≡ entries_of old.parts worker
 
--- a leg has gone on by one step, and nothing else has changed: the next worker has written that step, and the others are left alone
-pub record StepsOn (old new : HomeState) : Type 0 where
-  pub only : new ≡ record old { parts = new.parts }
+-- nobody is paused
+abbrev pub NoneIsPaused : HomeState → Type 0
+NoneIsPaused e = (worker : ℕ) → (position_at (state_of e).positions worker).restraint.paused ≡ false
+
+-- one step was made, which the next worker has written
+pub record MakesStep (old new : HomeState) : Type 0 where
   pub one : steps_in (state_of new) ≡ steps_in (state_of old) + 1
   pub writes : WritesStep (entries_of old.parts (next_worker old)) (entries_of new.parts (next_worker old))
+
+-- the next worker is held by its next row, which it has written, and no step was made
+pub record IsHeldNext (old new : HomeState) : Type 0 where
+  pub none : steps_in (state_of new) ≡ steps_in (state_of old)
+  pub held : (position_at (state_of new).positions (next_worker old)).restraint.held ≡ true
+  pub writes : entries_of new.parts (next_worker old) ≡ entries_of old.parts (next_worker old) ++ entry.Hold ∷ []
+
+-- a leg has gone on by one step, or by one hold, and nothing else has changed: the other workers are left alone
+pub record StepsOn (old new : HomeState) : Type 0 where
+  pub only : new ≡ record old { parts = new.parts }
+  pub does : MakesStep old new ⊎ IsHeldNext old new
   pub others : (worker : ℕ) → worker ≢ next_worker old → IsLeftAlone old new worker

@@ -1,8 +1,8 @@
 -- What a leg comes to.
-use Rattle.std.specs.Prelude.{◌≡◌, ◌≢◌, ℕ, ◌+◌, ◌-◌, ◌==◌, ◌≤◌, ◌⊎◌, List, [], ◌∷◌, ◌++◌, map, max, nat_le, Option, None, Some, Bool, true, false, if◌then◌else◌}
+use Rattle.std.specs.Prelude.{◌≡◌, ◌≢◌, ℕ, ◌+◌, ◌-◌, ◌==◌, ◌<◌, ◌≤◌, ◌⊎◌, List, [], ◌∷◌, ◌++◌, map, max, nat_le, Option, None, Some, Bool, true, false, if◌then◌else◌}
 use Rattle.std.specs.List.{flat_map}
 use Rattle.amber_dataflow.specs.AtWork.{state_reached, worker_state_at}
-use Rattle.amber_dataflow.specs.Dataflow.{DataflowState, StandAt, have_all_finished, rows_emitted, step_count}
+use Rattle.amber_dataflow.specs.Dataflow.{DataflowState, StandAt, have_all_finished, is_held, rows_emitted, step_count}
 use Rattle.amber_log.specs.declared.leg.Close.{Close}
 use Rattle.amber_log.specs.declared.leg.Close.TheVariants as close
 use Rattle.amber_meaning.specs.declared.view.Counted.{Counted}
@@ -44,6 +44,17 @@ NoneStands arms d = (op : ℕ) → is_stopped arms d op ≡ false
 -- no operator has emitted more rows than its pause asks for
 abbrev pub NoneIsLate : List Asked → DataflowState → Type 0
 NoneIsLate arms d = (op n : ℕ) → pause_at arms op ≡ Some n → rows_emitted d op ≤ n
+
+-- a held worker, a pause or a count stands, or all have finished
+abbrev pub IsCut : List Asked → DataflowState → Type 0
+IsCut arms d =
+    ((worker : ℕ) × (worker < crew_of d.flow) × (is_held d worker ≡ true)) ⊎ (((op : ℕ) × (is_stopped arms d op ≡ true)) ⊎ (have_all_finished d ≡ true))
+
+-- none does
+pub record GoesOn (arms : List Asked) (d : DataflowState) : Type 0 where
+  pub loose : (worker : ℕ) → is_held d worker ≡ false
+  pub none : NoneStands arms d
+  pub unfinished : have_all_finished d ≡ false
 
 -- ---- the stops that stand
 
@@ -107,8 +118,8 @@ closed_arms false close.Long arms d = arms
 
 -- a stop stands; or the steps are as many as may be, and none does
 abbrev pub IsLegDone : Close → List Asked → ℕ → DataflowState → Type 0
-IsLegDone close.Cut arms most d = ((op : ℕ) × (is_stopped arms d op ≡ true)) ⊎ (have_all_finished d ≡ true)
-IsLegDone close.Long arms most d = NoneStands arms d × (step_count d ≡ most) × (have_all_finished d ≡ false)
+IsLegDone close.Cut arms most d = IsCut arms d
+IsLegDone close.Long arms most d = GoesOn arms d × (step_count d ≡ most)
 
 -- ---- what an operator shows
 

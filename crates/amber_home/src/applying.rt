@@ -1,17 +1,19 @@
 //! A command that is done at rest: the copies that it wants, and what it changes. Over `InForce` and
 //! `Dataflow`.
 
-ghost use Rattle.std.specs.Prelude.{◌≡◌, ◌≤◌, ◌∷◌, ◌++◌, IfOk, None, OnErr, OnOk, [], length, option_map, true};
-ghost use Rattle.amber_dataflow.specs.Dataflow.{AreAllThere, HaveDoneNothing, rows_emitted};
-ghost use Rattle.amber_home.specs.Applied.{HasOperator, arms_after, copies_wanted, dataflow_after};
-ghost use Rattle.amber_log.specs.Effect.{is_built};
+ghost use Rattle.std.specs.Prelude.{◌≡◌, ◌≤◌, ◌∷◌, ◌++◌, IfOk, None, OnErr, OnOk, Some, [], length, replicate};
+ghost use Rattle.amber_rows.specs.Topology.{crew_of};
+ghost use Rattle.amber_rows.specs.declared.value.Value.{Value};
+ghost use Rattle.amber_dataflow.specs.Dataflow.{AreAllThere, AreHeldByRows, HaveDoneNothing, rows_emitted};
+ghost use Rattle.amber_home.specs.Applied.{HasDropped, HasOperator, arms_after, conditions_wanted, copies_wanted};
+ghost use Rattle.amber_home.specs.Applied.{dataflow_after, dropped_row, with_condition, with_constants, without_dropped};
 ghost use Rattle.amber_log.specs.declared.log.Item.TheVariants as item;
 ghost use Rattle.amber_meaning.specs.State.{put};
 
 use crate::in_force::InForce;
 use amber_dataflow::Dataflow;
 use amber_log::{Change, Command, Effect, Item, Items, Lent};
-use amber_rows::{Cond, Value};
+use amber_rows::{Cond, Row, Value};
 use std::alloc::{AllocError, Global};
 
 /// The copies that another constant wants, one for each worker and one more; none where there is no other.
@@ -42,6 +44,22 @@ pub(crate) fn condition_for(when: &Change<Lent<'_, Cond>>) -> Result<Option<Cond
     }
 }
 
+/// The copies of it that the workers want, one for each; none where none is put.
+pub(crate) fn conditions_for(
+    alloc: Global,
+    when: &Change<Lent<'_, Cond>>,
+    dataflow: &Dataflow,
+) -> Result<Vec<Cond>, AllocError>
+    ensures { IfOk result (λ copies. copies.items
+        ≡ conditions_wanted when.now (length dataflow.now.workers)) }
+{
+    match when {
+        Change::Keep => Ok(Vec::new(alloc)),
+        Change::TakeBack => Ok(Vec::new(alloc)),
+        Change::Put(cond) => dataflow.conditions_of(alloc, cond.get()),
+    }
+}
+
 /// Appends a command to the items.
 pub(crate) fn push_command(command: &Command, items: &mut Items) -> Result<(), AllocError>
     ensures ok { OnOk result (items.new ≡ items.old ++ item.Do command.now ∷ []) }
@@ -50,30 +68,84 @@ pub(crate) fn push_command(command: &Command, items: &mut Items) -> Result<(), A
     items.push(Item::Do(command.clone()?))
 }
 
-/// Applies a command between two runs. It cannot fail: the copies of a constant and of a condition were made
-/// before.
+// Another constant at an operator's workers, where there is one.
+fn set(effect: &Effect<'_>, copies: Vec<Value>, dataflow: &mut Dataflow)
+    requires rest { HaveDoneNothing dataflow.old }
+    requires copies { (value : Value) → effect.now.arming.constant ≡ Some value
+        → copies.items ≡ replicate (length dataflow.old.workers) value }
+    ensures { dataflow.new
+        ≡ with_constants effect.now.op effect.now.arming.constant dataflow.old }
+{
+    if let Some(value) = &effect.arming.constant {
+        dataflow.set(effect.op, value.get(), copies);
+    }
+}
+
+// Another condition at an operator's workers, or none, where one is put or taken back.
+fn watch(effect: &Effect<'_>, conditions: Vec<Cond>, dataflow: &mut Dataflow)
+    requires rest { HaveDoneNothing dataflow.old }
+    requires conditions { conditions.items
+        ≡ conditions_wanted effect.now.arming.when (length dataflow.old.workers) }
+    ensures { dataflow.new
+        ≡ with_condition effect.now.op effect.now.arming.when dataflow.old }
+{
+    match &effect.arming.when {
+        Change::Keep => {}
+        Change::TakeBack => dataflow.unwatch(effect.op),
+        Change::Put(cond) => dataflow.watch(effect.op, cond.get(), conditions),
+    }
+}
+
+// Drops the row before which the worker is held that a command names, if it names one, and hands it out.
+fn drop_row(effect: &Effect<'_>, dataflow: &mut Dataflow) -> Option<Row>
+    requires workers { AreAllThere dataflow.old }
+    requires operator { HasOperator effect.now.op (length dataflow.old.flow) }
+    requires few { crew_of dataflow.old.flow ≤ 128 }
+    requires there { HasDropped dataflow.old effect.now.op effect.now.drops }
+    requires rest { HaveDoneNothing dataflow.old }
+    requires rows { AreHeldByRows dataflow.old }
+    ensures row { result ≡ dropped_row effect.now.op effect.now.drops dataflow.old }
+    ensures dataflow { dataflow.new
+        ≡ without_dropped effect.now.op effect.now.drops dataflow.old }
+{
+    let Some(worker) = effect.drops else {
+        return None;
+    };
+    let first = dataflow.flow().first_worker(effect.op);
+    dataflow.drop_held(first + worker)
+}
+
+/// Applies a command between two runs, and gives the row that it drops. It cannot fail: the copies of a constant
+/// and of a condition were made before.
 pub(crate) fn put_in_force(
     effect: &Effect<'_>,
     mut copies: Vec<Value>,
     when: Option<Cond>,
+    conditions: Vec<Cond>,
     arms: &mut InForce,
     dataflow: &mut Dataflow,
-)
-    requires built { is_built effect.now ≡ true }
+) -> Option<Row>
     requires workers { AreAllThere dataflow.old }
     requires there { HasOperator effect.now.op (length arms.old) }
     requires within { effect.now.op ≤ length dataflow.old.flow }
+    requires few { crew_of dataflow.old.flow ≤ 128 }
+    requires worker { HasDropped dataflow.old effect.now.op effect.now.drops }
     requires rest { HaveDoneNothing dataflow.old }
+    requires rows { AreHeldByRows dataflow.old }
     requires copies { copies.items
         ≡ copies_wanted effect.now.arming.constant (length dataflow.old.workers) }
+    requires conditions { conditions.items
+        ≡ conditions_wanted effect.now.arming.when (length dataflow.old.workers) }
     requires when { when ≡ put effect.now.arming.when None }
+    ensures row { result ≡ dropped_row effect.now.op effect.now.drops dataflow.old }
     ensures arms { arms.new
         ≡ arms_after effect.now (rows_emitted dataflow.old effect.now.op) arms.old }
     ensures dataflow { dataflow.new ≡ dataflow_after effect.now dataflow.old }
 {
     let emitted = dataflow.rows_emitted(effect.op);
     arms.change(effect.op, &effect.arming, emitted, when, copies.pop());
-    if let Some(value) = &effect.arming.constant {
-        dataflow.set(effect.op, value.get(), copies);
-    }
+    let dropped = drop_row(effect, dataflow);
+    set(effect, copies, dataflow);
+    watch(effect, conditions, dataflow);
+    dropped
 }

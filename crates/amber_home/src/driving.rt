@@ -2,14 +2,15 @@
 //! budget is spent. Where a stop stands already nobody does anything. Over `Dataflow::turns`, and what
 //! `stopping` tells of stops.
 
-ghost use Rattle.std.specs.Prelude.{◌≡◌, ◌⊎◌, ◌+◌, ◌^◌, ◌<◌, ◌≤◌, IfOk, OnErr, OnOk, false, length, true};
-ghost use Rattle.amber_dataflow.specs.Dataflow.{AreAllThere, FirstHaveFinished, has_finished, have_all_finished, step_count, without_workers};
-ghost use Rattle.amber_rows.specs.Topology.{crew_of, op_of};
-ghost use Rattle.amber_home.specs.Going.{GoOn, MovesAlone};
-ghost use Rattle.amber_home.specs.Leg.{IsLegDone, IsLegInTime, NoneIsLate, NoneStands, is_paused};
+ghost use Rattle.std.specs.Prelude.{◌≡◌, ◌⊎◌, ◌+◌, ◌^◌, ◌<◌, ◌≤◌, ℕ, IfOk, OnErr, OnOk, false, length, true};
+ghost use Rattle.amber_dataflow.specs.Dataflow.{AreAllThere, have_all_finished, is_held, rows_emitted};
+ghost use Rattle.amber_dataflow.specs.Dataflow.{step_count, without_workers};
+ghost use Rattle.amber_rows.specs.Topology.{crew_of};
+ghost use Rattle.amber_home.specs.Going.{GoOn};
+ghost use Rattle.amber_home.specs.Leg.{GoesOn, IsLegDone, IsLegInTime, NoneIsLate};
 
 use crate::in_force::InForce;
-use crate::stopping::{any_stopped, is_stopped, rows_left};
+use crate::stopping::{is_stopped, rows_left, stands};
 use amber_dataflow::Dataflow;
 use amber_log::Close;
 use std::alloc::AllocError;
@@ -31,11 +32,6 @@ fn take_turns(
     ensures on { OnOk result (GoOn dataflow.old dataflow.new) }
     ensures made { IfOk result (λ made. step_count dataflow.new ≡ step_count dataflow.old + made) }
     ensures within { IfOk result (λ made. made ≤ most) }
-    ensures only { OnOk result (MovesAlone dataflow.old dataflow.new worker) }
-    ensures moves { IfOk result (λ made. 0 < most
-        → is_paused arms.now dataflow.old (op_of dataflow.old.flow worker) ≡ false
-        → FirstHaveFinished worker dataflow.old
-        → (0 < made) ⊎ (has_finished dataflow.new worker ≡ true)) }
     ensures in_time { OnOk result (NoneIsLate arms.now dataflow.old
         → NoneIsLate arms.now dataflow.new) }
     ensures err { OnErr result (dataflow.new ≡ without_workers dataflow.old) }
@@ -47,7 +43,7 @@ fn take_turns(
 }
 
 // A worker's turns of a round: it takes turns until it has made so many, or makes none, since its operator's pause
-// stands or it has nothing to do. The answer is what is left of the budget.
+// stands, it is held, or it has nothing to do. The answer is what is left of the budget.
 fn drive_worker(
     arms: &InForce,
     dataflow: &mut Dataflow,
@@ -61,11 +57,6 @@ fn drive_worker(
     ensures left { IfOk result (λ left. step_count dataflow.new + left
         ≡ step_count dataflow.old + budget) }
     ensures within { IfOk result (λ left. left ≤ budget) }
-    ensures only { OnOk result (MovesAlone dataflow.old dataflow.new worker) }
-    ensures moves { IfOk result (λ left. 0 < budget
-        → is_paused arms.now dataflow.old (op_of dataflow.old.flow worker) ≡ false
-        → FirstHaveFinished worker dataflow.old
-        → (left < budget) ⊎ (has_finished dataflow.new worker ≡ true)) }
     ensures in_time { OnOk result (NoneIsLate arms.now dataflow.old
         → NoneIsLate arms.now dataflow.new) }
     ensures err { OnErr result (dataflow.new ≡ without_workers dataflow.old) }
@@ -82,30 +73,80 @@ fn drive_worker(
     Ok(budget - made)
 }
 
-// A round: turns of each worker, in their order. It ends where a stop stands. The answer is what is left of
-// the budget.
+// A round: turns of each worker, in their order. It ends where a worker is held, or a stop stands at its operator. The
+// answer is what is left of the budget.
 fn drive_round(arms: &InForce, dataflow: &mut Dataflow, budget: u64) -> Result<u64, AllocError>
     requires workers { AreAllThere dataflow.old }
-    requires none { NoneStands arms.now dataflow.old }
-    requires some { 0 < budget }
     requires few { step_count dataflow.old + budget ≤ 2 ^ 40 }
     ensures on { OnOk result (GoOn dataflow.old dataflow.new) }
     ensures left { IfOk result (λ left. step_count dataflow.new + left
         ≡ step_count dataflow.old + budget) }
     ensures within { IfOk result (λ left. left ≤ budget) }
-    ensures moves { IfOk result (λ left. NoneStands arms.now dataflow.new
-        → (left < budget) ⊎ (have_all_finished dataflow.new ≡ true)) }
-    ensures in_time { OnOk result (NoneIsLate arms.now dataflow.new) }
+    ensures in_time { OnOk result (NoneIsLate arms.now dataflow.old
+        → NoneIsLate arms.now dataflow.new) }
     ensures err { OnErr result (dataflow.new ≡ without_workers dataflow.old) }
 {
     let mut left = budget;
     'workers: for worker in 0..dataflow.flow().workers() {
         left = drive_worker(arms, dataflow, worker, left)?;
+        if dataflow.is_held(worker) {
+            return Ok(left);
+        }
         if is_stopped(arms, dataflow, dataflow.flow().op_of(worker)) {
             return Ok(left);
         }
     }
     Ok(left)
+}
+
+// Whoever was paused goes on, and the first worker that has not finished makes a step, or is held by its next row. The
+// answer is what is left of the budget.
+fn step_on(dataflow: &mut Dataflow, budget: u64) -> Result<u64, AllocError>
+    requires workers { AreAllThere dataflow.old }
+    requires loose { (worker : ℕ) → is_held dataflow.old worker ≡ false }
+    requires unfinished { have_all_finished dataflow.old ≡ false }
+    requires some { 0 < budget }
+    requires few { step_count dataflow.old + budget ≤ 2 ^ 40 }
+    ensures on { OnOk result (GoOn dataflow.old dataflow.new) }
+    ensures left { IfOk result (λ left. step_count dataflow.new + left
+        ≡ step_count dataflow.old + budget) }
+    ensures moves { IfOk result (λ left. (left < budget)
+        ⊎ ((worker : ℕ) × (is_held dataflow.new worker ≡ true))) }
+    ensures within { IfOk result (λ left. left ≤ budget) }
+    ensures rows { OnOk result ((op : ℕ)
+        → rows_emitted dataflow.new op ≤ rows_emitted dataflow.old op + 1) }
+    ensures err { OnErr result (dataflow.new ≡ without_workers dataflow.old) }
+{
+    let before = dataflow.steps();
+    dataflow.resume()?;
+    dataflow.step_first()?;
+    Ok(budget - (dataflow.steps() - before))
+}
+
+// A round, and one step more where no stop stands after it: so the budget grows less, or a stop stands. The answer is
+// what is left of it.
+fn go_on(arms: &InForce, dataflow: &mut Dataflow, budget: u64) -> Result<u64, AllocError>
+    requires workers { AreAllThere dataflow.old }
+    requires arms { length arms.now ≡ length dataflow.old.flow }
+    requires goes { GoesOn arms.now dataflow.old }
+    requires some { 0 < budget }
+    requires few { step_count dataflow.old + budget ≤ 2 ^ 40 }
+    ensures on { OnOk result (GoOn dataflow.old dataflow.new) }
+    ensures left { IfOk result (λ left. step_count dataflow.new + left
+        ≡ step_count dataflow.old + budget) }
+    ensures moves { IfOk result (λ left. GoesOn arms.now dataflow.new → left < budget) }
+    ensures in_time { OnOk result (NoneIsLate arms.now dataflow.new) }
+    ensures err { OnErr result (dataflow.new ≡ without_workers dataflow.old) }
+{
+    let left = drive_round(arms, dataflow, budget)?;
+    if left == 0 {
+        return Ok(left);
+    }
+    if stands(arms, dataflow) {
+        return Ok(left);
+    }
+    let rest = step_on(dataflow, left)?;
+    Ok(rest)
 }
 
 /// Rounds until a stop stands or the budget is spent; none where a stop stands already. The answer says how
@@ -125,18 +166,15 @@ pub(crate) fn drive_workers(
     ensures in_time { OnOk result (IsLegInTime arms.now dataflow.old dataflow.new) }
     ensures err { OnErr result (dataflow.new ≡ without_workers dataflow.old) }
 {
-    if any_stopped(arms, dataflow) {
+    if stands(arms, dataflow) {
         return Ok(Close::Cut);
     }
     let mut left = budget;
-    'rounds: while !dataflow.have_all_finished() {
-        if left == 0 {
-            return Ok(Close::Long);
-        }
-        left = drive_round(arms, dataflow, left)?;
-        if any_stopped(arms, dataflow) {
+    'rounds: while 0 < left {
+        left = go_on(arms, dataflow, left)?;
+        if stands(arms, dataflow) {
             return Ok(Close::Cut);
         }
     }
-    Ok(Close::Cut)
+    Ok(Close::Long)
 }

@@ -1,33 +1,35 @@
 //! The home of a run: what it keeps, and its calls. Over `Dataflow`, `InForce` and the functions of the other
 //! files.
 
-ghost use Rattle.std.specs.Prelude.{◌≡◌, ◌+◌, ◌^◌, ◌<◌, ◌≤◌, ◌≢◌, [], IfOk, None, OnErr, OnOk, false, true, length};
+ghost use Rattle.std.specs.Prelude.{◌≡◌, ◌+◌, ◌^◌, ◌<◌, ◌≤◌, ◌≢◌, ℕ, [], IfOk, None, OnErr, OnOk, false, true, length, option_map};
 ghost use Rattle.amber_log.specs.Fits.{fits_of};
 ghost use Rattle.amber_log.specs.Grammar.{ends_over};
 ghost use Rattle.amber_log.specs.declared.log.Item.TheVariants as item;
 ghost use Rattle.amber_meaning.specs.InTime.{IsInTime};
 ghost use Rattle.amber_meaning.specs.Legal.{IsLegal};
 ghost use Rattle.amber_meaning.specs.Plain.{scan_count, wrong_header};
-ghost use Rattle.amber_meaning.specs.State.{have_finished, steps_in};
+ghost use Rattle.amber_meaning.specs.State.{have_finished, position_at, steps_in};
+ghost use Rattle.amber_meaning.specs.Transcript.{held_row};
 ghost use Rattle.amber_meaning.specs.Views.{answer_in, inspected_of};
+ghost use Rattle.amber_rows.specs.Topology.{crew_of};
 ghost use Rattle.amber_home.specs.Beginning.{BeginsOrNames};
-ghost use Rattle.amber_home.specs.HomeState.{ClosesIn, Ends, MayClose, StepsOn, has_crew};
-ghost use Rattle.amber_home.specs.HomeState.{is_done_at_rest, is_open, item_of_leg, query_of, rest_state, runs_to_end, state_of};
+ghost use Rattle.amber_home.specs.HomeState.{ClosesIn, Ends, MayClose, NoneIsPaused, StepsOn, has_crew};
+ghost use Rattle.amber_home.specs.HomeState.{dropped_by, is_done_at_rest, is_open, item_of_leg, query_of, rest_state, runs_to_end, state_of};
 ghost use Rattle.amber_home.specs.HomeState.{stops_of_home, with_item, with_closed_leg};
 
-use crate::applying::{condition_for, copies_for, push_command, put_in_force};
+use crate::applying::{condition_for, conditions_for, copies_for, push_command, put_in_force};
 use crate::driving::drive_workers;
 use crate::error::{HomeErr, LegErr};
 use crate::in_force::InForce;
 use crate::inspection::inspect;
 use crate::leg_item::{is_last, push_leg};
 use crate::phase::Phase;
-use crate::stopping::close_arms;
+use crate::stopping::{any_paused, close_arms};
 use crate::stops::stops_of;
 use amber_dataflow::Dataflow;
 use amber_log::{Action, Close, Command, Item, Items, Leg, Log, commands_have_text};
 use amber_meaning::{Answer, Inspected, Stops, wrong_header};
-use amber_rows::{Files, Flow};
+use amber_rows::{Files, Flow, Row};
 use std::alloc::{AllocError, Global};
 use std::marker::Model;
 
@@ -144,14 +146,16 @@ impl Home {
         })
     }
 
-    /// Does a command that is no leg: a pause, another constant, a look, or taking back all that was asked to
-    /// stop at an operator. The log grows by it, and what it names changes. If memory runs out all is as
-    /// before.
-    pub fn apply(&mut self, alloc: Global, command: &Command) -> Result<(), AllocError>
+    /// Does a command that is no leg and arms no count: a pause, a condition to stop at, another constant, a look, a
+    /// row that is dropped, a worker that is lost, or taking back all that was asked to stop at an operator. The log
+    /// grows by it, and what it names changes. The answer is the row that it drops: none where it drops none, or where
+    /// the worker that it names is not held. If memory runs out all is as before.
+    pub fn apply(&mut self, alloc: Global, command: &Command) -> Result<Option<Row>, AllocError>
         requires resting { self.old.phase ≡ Phase.Resting }
         requires open { ends_over false self.old.log.items ≡ false }
         requires fits { fits_of self.old.flow command.now ≡ true }
         requires at_rest { is_done_at_rest command.now ≡ true }
+        ensures row { IfOk result (λ row. row ≡ dropped_by self.old command.now) }
         ensures ok { OnOk result (self.new ≡ record self.old {
           log = with_item self.old.log (item.Do command.now);
         }) }
@@ -163,9 +167,16 @@ impl Home {
         commands_have_text(command);
         let copies = copies_for(alloc, &effect.arming.constant, &self.dataflow)?;
         let when = condition_for(&effect.arming.when)?;
+        let conditions = conditions_for(alloc, &effect.arming.when, &self.dataflow)?;
         push_command(command, &mut self.log.items)?;
-        put_in_force(&effect, copies, when, &mut self.arms, &mut self.dataflow);
-        Ok(())
+        Ok(put_in_force(
+            &effect,
+            copies,
+            when,
+            conditions,
+            &mut self.arms,
+            &mut self.dataflow,
+        ))
     }
 
     /// Opens a leg, up to a stop or to the end. To the end nothing is armed any more.
@@ -174,16 +185,18 @@ impl Home {
         requires open { ends_over false self.old.log.items ≡ false }
         ensures { self.new ≡ record self.old { phase = Phase.Open to_end; parts = [] } }
     {
-        self.dataflow.begin();
+        self.dataflow.begin(to_end);
         self.arms.begin_leg(to_end);
         self.phase = Phase::Open { to_end };
     }
 
-    /// One step of the unfinished worker with the smallest number. After running out of memory the log is as
-    /// before, and the run cannot go on.
+    /// One step of the unfinished worker with the smallest number, where no stop stands. Where its next row meets its
+    /// operator's condition it is held before that row instead. After running out of memory the log is as before, and
+    /// the run cannot go on.
     pub fn home_step(&mut self) -> Result<(), AllocError>
         requires within { is_open self.old.phase ≡ true }
-        requires unfinished { have_finished (state_of self.old) ≡ false }
+        requires none { stops_of_home self.old ≡ [] }
+        requires running { NoneIsPaused self.old }
         requires few { steps_in (state_of self.old) < self.old.most }
         ensures ok { OnOk result (StepsOn self.old self.new) }
         ensures err { OnErr result
@@ -289,6 +302,16 @@ impl Home {
         inspect(alloc, &self.arms, &self.dataflow, op)
     }
 
+    /// The row before which a worker is held, if it is. Workers count from 0, those of operator 1 first.
+    pub fn held_row(&self, worker: u32) -> Option<&Row>
+        requires there { has_crew self.now.phase ≡ true }
+        requires within { worker < crew_of self.now.flow }
+        ensures { option_map (λ row. row.now) result
+            ≡ held_row (query_of self.now) (state_of self.now) worker }
+    {
+        self.dataflow.held_row(worker)
+    }
+
     /// The answer, once all have finished.
     pub fn answer(&self, alloc: Global) -> Result<Answer, AllocError>
         requires there { has_crew self.now.phase ≡ true }
@@ -332,6 +355,16 @@ impl Home {
         ensures { result ≡ have_finished (state_of self.now) }
     {
         self.dataflow.have_all_finished()
+    }
+
+    /// Whether no worker is paused.
+    pub fn are_running(&self) -> bool
+        requires there { has_crew self.now.phase ≡ true }
+        ensures running { result ≡ true → NoneIsPaused self.now }
+        ensures paused { result ≡ false → (worker : ℕ)
+            × ((position_at (state_of self.now).positions worker).restraint.paused ≡ true) }
+    {
+        !any_paused(&self.dataflow)
     }
 
     /// The log of the run so far.

@@ -2,8 +2,9 @@
 //! Over `InForce`, which has the counts and the pauses, and the rows that `Dataflow` counts.
 
 ghost use Rattle.std.specs.Prelude.{◌≡◌, ◌+◌, ◌<◌, ◌≤◌, ℕ, Some, false, length, max, true};
-ghost use Rattle.amber_dataflow.specs.Dataflow.{AreAllThere, rows_emitted};
-ghost use Rattle.amber_home.specs.Leg.{NoneStands, closed_arms, cut_arms, is_paused, is_stopped, pause_at};
+ghost use Rattle.amber_dataflow.specs.Dataflow.{AreAllThere, is_held, is_paused, rows_emitted};
+ghost use Rattle.amber_rows.specs.Topology.{crew_of};
+ghost use Rattle.amber_home.specs.Leg.{GoesOn, IsCut, NoneStands, closed_arms, cut_arms, is_stopped, pause_at};
 
 use crate::in_force::InForce;
 use amber_dataflow::Dataflow;
@@ -29,7 +30,6 @@ pub(crate) fn rows_left(arms: &InForce, dataflow: &Dataflow, op: u32) -> u64
     requires workers { AreAllThere dataflow.now }
     requires some { 0 < op }
     requires within { op ≤ length dataflow.now.flow }
-    ensures some { is_paused arms.now dataflow.now op ≡ false → 0 < result }
     ensures in_time { (n : ℕ) → pause_at arms.now op ≡ Some n
         → rows_emitted dataflow.now op + result ≤ max n (rows_emitted dataflow.now op) }
 {
@@ -39,8 +39,8 @@ pub(crate) fn rows_left(arms: &InForce, dataflow: &Dataflow, op: u32) -> u64
     }
 }
 
-/// Whether a pause or a count of any operator stands.
-pub(crate) fn any_stopped(arms: &InForce, dataflow: &Dataflow) -> bool
+// Whether a pause or a count of any operator stands.
+fn any_stopped(arms: &InForce, dataflow: &Dataflow) -> bool
     requires workers { AreAllThere dataflow.now }
     requires arms { length arms.now ≡ length dataflow.now.flow }
     ensures some { result ≡ true → (op : ℕ) × (is_stopped arms.now dataflow.now op ≡ true) }
@@ -53,6 +53,46 @@ pub(crate) fn any_stopped(arms: &InForce, dataflow: &Dataflow) -> bool
         }
     }
     false
+}
+
+// Whether any worker is held.
+fn any_held(dataflow: &Dataflow) -> bool
+    requires workers { AreAllThere dataflow.now }
+    ensures some { result ≡ true → (worker : ℕ)
+        × (worker < crew_of dataflow.now.flow) × (is_held dataflow.now worker ≡ true) }
+    ensures none { result ≡ false → (worker : ℕ) → is_held dataflow.now worker ≡ false }
+{
+    'workers: for worker in 0..dataflow.flow().workers() {
+        if dataflow.is_held(worker) {
+            return true;
+        }
+    }
+    false
+}
+
+/// Whether any worker is paused.
+pub(crate) fn any_paused(dataflow: &Dataflow) -> bool
+    requires workers { AreAllThere dataflow.now }
+    ensures some { result ≡ true → (worker : ℕ)
+        × (worker < crew_of dataflow.now.flow) × (is_paused dataflow.now worker ≡ true) }
+    ensures none { result ≡ false → (worker : ℕ) → is_paused dataflow.now worker ≡ false }
+{
+    'workers: for worker in 0..dataflow.flow().workers() {
+        if dataflow.is_paused(worker) {
+            return true;
+        }
+    }
+    false
+}
+
+/// Whether a held worker, a pause or a count stands, or all have finished.
+pub(crate) fn stands(arms: &InForce, dataflow: &Dataflow) -> bool
+    requires workers { AreAllThere dataflow.now }
+    requires arms { length arms.now ≡ length dataflow.now.flow }
+    ensures some { result ≡ true → IsCut arms.now dataflow.now }
+    ensures none { result ≡ false → GoesOn arms.now dataflow.now }
+{
+    any_held(dataflow) || any_stopped(arms, dataflow) || dataflow.have_all_finished()
 }
 
 // Takes away the pauses and the counts that stand.

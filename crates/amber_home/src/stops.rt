@@ -1,22 +1,45 @@
 //! The stops that stand, in their order: held workers, counts, pauses and the end. Over `InForce`, which has
 //! the counts and the pauses, and what `Dataflow` tells of its workers.
 
-ghost use Rattle.std.specs.Prelude.{◌≡◌, ◌++◌, ◌<◌, ◌≤◌, [], IfOk, OnOk, length};
+ghost use Rattle.std.specs.Prelude.{◌≡◌, ◌++◌, ◌<◌, ◌≤◌, IfOk, OnOk, length};
+ghost use Rattle.amber_rows.specs.Topology.{crew_of};
 ghost use Rattle.amber_dataflow.specs.Dataflow.{AreAllThere, rows_emitted};
 ghost use Rattle.amber_home.specs.Leg.{count_at, counts_of, held_of, pause_at, pauses_of};
-ghost use Rattle.amber_home.specs.Leg.{stop_of_count, stop_of_pause, stops_by};
+ghost use Rattle.amber_home.specs.Leg.{stop_of_count, stop_of_pause, stop_of_worker, stops_by};
 
 use crate::in_force::InForce;
 use amber_dataflow::Dataflow;
 use amber_meaning::{Stop, Stops};
 use std::alloc::{AllocError, Global};
 
-// The stops of held workers. For now nobody is held, since no run has a condition.
-fn held_stops_of(alloc: Global, dataflow: &Dataflow) -> Vec<Stop>
-    requires none { held_of dataflow.now ≡ [] }
-    ensures { result.items ≡ held_of dataflow.now }
+// Appends the stop of a worker to the others, if it is held.
+fn add_worker(dataflow: &Dataflow, worker: u32, stops: &mut Vec<Stop>) -> Result<(), AllocError>
+    requires workers { AreAllThere dataflow.now }
+    requires there { worker < crew_of dataflow.now.flow }
+    ensures { OnOk result
+        (stops.new.items ≡ stops.old.items ++ stop_of_worker dataflow.now worker) }
 {
-    Vec::new(alloc)
+    let Some(row) = dataflow.held_row(worker) else {
+        return Ok(());
+    };
+    let op = dataflow.flow().op_of(worker);
+    stops.push(Stop::Held {
+        op,
+        worker: worker - dataflow.flow().first_worker(op),
+        row: row.clone()?,
+    })?;
+    Ok(())
+}
+
+// Appends the stops of held workers, by their numbers.
+fn add_held(dataflow: &Dataflow, stops: &mut Vec<Stop>) -> Result<(), AllocError>
+    requires workers { AreAllThere dataflow.now }
+    ensures { OnOk result (stops.new.items ≡ stops.old.items ++ held_of dataflow.now) }
+{
+    'workers: for worker in 0..dataflow.flow().workers() {
+        add_worker(dataflow, worker, stops)?;
+    }
+    Ok(())
 }
 
 // Appends the stop of an operator's count to the others, if it stands.
@@ -98,11 +121,11 @@ pub(crate) fn stops_of(
     arms: &InForce,
     dataflow: &Dataflow,
 ) -> Result<Stops, AllocError>
-    requires workers { AreAllThere dataflow.now }
-    requires none { held_of dataflow.now ≡ [] }
+    requires { AreAllThere dataflow.now }
     ensures { IfOk result (λ stops. stops ≡ stops_by arms.now dataflow.now) }
 {
-    let mut stops = held_stops_of(alloc, dataflow);
+    let mut stops = Vec::new(alloc);
+    add_held(dataflow, &mut stops)?;
     add_counts(arms, dataflow, &mut stops)?;
     add_pauses(arms, dataflow, &mut stops)?;
     if dataflow.have_all_finished() {

@@ -10,7 +10,7 @@ returns c =
     let arms = c.args.arms.now in
     let d = c.args.dataflow.now in
     let stops : c.add_pauses.new.stops.items ≡ (held_of d ++ counts_of arms d) ++ pauses_of arms d =
-    c.in_ok-add_pauses.ensures ∙ ap (λ xs. xs ++ pauses_of arms d) (c.in_ok-add_counts.ensures ∙ ap (λ xs. xs ++ counts_of arms d) c.held_stops_of-stops.ensures) in
+    c.in_ok-add_pauses.ensures ∙ ap (λ xs. xs ++ pauses_of arms d) (c.in_ok-add_counts.ensures ∙ ap (λ xs. xs ++ counts_of arms d) (c.in_ok-add_held.ensures ∙ ap (λ xs. xs ++ held_of d) c.new-stops.ensures.items)) in
     let all : c.if-have_all_finished.stops.items ≡ ((held_of d ++ counts_of arms d) ++ pauses_of arms d) ++ stop_at_end d =
     elim c.if-have_all_finished.branch [
       | then-have_all_finished+in_ok-push w ↦ (

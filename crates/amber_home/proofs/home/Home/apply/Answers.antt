@@ -2,8 +2,10 @@
 use Rattle.std.proofs.Common.{refl, ap, sym, ◌∙◌, false}
 use Rattle.amber_log.specs.Fits.{fits_of}
 use Rattle.amber_log.specs.Grammar.{ends_over}
-use Rattle.amber_home.specs.HomeState.{HomeState, is_at_rest}
-use Rattle.amber_home.proofs.Commanded.{flow-has, home-commanded, names-resting, nothing-done, there-resting}
+use Rattle.amber_log.specs.Effect.{is_put}
+use Rattle.amber_home.specs.HomeState.{HomeState, dropped_by, dropped_by_action, is_at_rest}
+use Rattle.amber_home.proofs.Commanded.{drops-resting, few-resting, flow-has, home-commanded, names-resting, not-true, nothing-done, rows-resting, there-resting}
+use Rattle.amber_home.proofs.RowsHeld.{dropped-resting}
 use Rattle.amber_home.proofs.Inside.{kept, seen}
 use Rattle.amber_home.proofs.home.Home.apply.Goals as goal
 
@@ -37,6 +39,32 @@ put_in_force-requires-clause-rest c =
     let live = kept i in
     nothing-done e live c.self.invariant (ap (λ (h : HomeState). h.phase) c.self.view_is ∙ c.requires.resting)
 
+pub put_in_force-requires-clause-rows : goal.put_in_force-requires-clause-rows
+put_in_force-requires-clause-rows c =
+    let i = c.self.inside in
+    rows-resting (seen i) (kept i) c.self.invariant (ap (λ (h : HomeState). h.phase) c.self.view_is ∙ c.requires.resting)
+
+pub put_in_force-requires-clause-few : goal.put_in_force-requires-clause-few
+put_in_force-requires-clause-few c =
+    let i = c.self.inside in
+    few-resting (seen i) (kept i) c.self.invariant (ap (λ (h : HomeState). h.phase) c.self.view_is ∙ c.requires.resting)
+
+pub put_in_force-requires-clause-worker : goal.put_in_force-requires-clause-worker
+put_in_force-requires-clause-worker c =
+    let i = c.self.inside in
+    drops-resting (seen i) (kept i) c.self.invariant (ap (λ (h : HomeState). h.phase) c.self.view_is ∙ c.requires.resting) c.args.command.now c.in-AtRest.effect
+    (sym c.action.ensures ∙ c.in-AtRest.is) (ap (λ (h : HomeState). fits_of h.flow c.args.command.now) c.self.view_is ∙ c.requires.fits)
+
+pub returns-clause-row : goal.returns-clause-row
+returns-clause-row c =
+    let i = c.self.inside in
+    c.put_in_force.ensures.row
+    ∙ dropped-resting (seen i) (kept i) c.self.invariant (ap (λ (h : HomeState). h.phase) c.self.view_is ∙ c.requires.resting) c.in-AtRest.effect
+    (drops-resting (seen i) (kept i) c.self.invariant (ap (λ (h : HomeState). h.phase) c.self.view_is ∙ c.requires.resting) c.args.command.now c.in-AtRest.effect
+    (sym c.action.ensures ∙ c.in-AtRest.is) (ap (λ (h : HomeState). fits_of h.flow c.args.command.now) c.self.view_is ∙ c.requires.fits))
+    ∙ ap (dropped_by_action (seen i)) (sym (sym c.action.ensures ∙ c.in-AtRest.is))
+    ∙ ap (λ (h : HomeState). dropped_by h c.args.command.now) c.self.view_is
+
 pub invariant_of-self-2 : goal.invariant_of-self-2
 invariant_of-self-2 c =
     let i = c.self.inside in
@@ -45,7 +73,7 @@ invariant_of-self-2 c =
     home-commanded e live c.self.invariant (ap (λ (h : HomeState). h.phase) c.self.view_is ∙ c.requires.resting) c.args.command.now c.in-AtRest.effect
     (sym c.action.ensures ∙ c.in-AtRest.is)
     (ap (λ (h : HomeState). ends_over false h.log.items) c.self.view_is ∙ c.requires.open) (ap (λ (h : HomeState). fits_of h.flow c.args.command.now) c.self.view_is ∙ c.requires.fits)
-    (ap is_at_rest (sym (sym c.action.ensures ∙ c.in-AtRest.is)) ∙ c.requires.at_rest) c.commands_have_text.ensures
+    (not-true (is_put c.in-AtRest.effect.arming.count) (ap is_at_rest (sym (sym c.action.ensures ∙ c.in-AtRest.is)) ∙ c.requires.at_rest)) c.commands_have_text.ensures
     (record { batch = i.log.batch; items = c.push_command.new.items })
     (record { dataflow = c.put_in_force.new.dataflow; arms = c.put_in_force.new.arms; stops = i.stops })
     refl (ap (λ items. record i.log { items = items }) c.in_ok-push_command.ensures.ok) c.put_in_force.ensures.arms c.put_in_force.ensures.dataflow refl

@@ -6,14 +6,11 @@ use Rattle.amber_home.specs.Kept.{IsHome}
 use Rattle.amber_home.specs.Leg.{closed_arms}
 use Rattle.amber_home.specs.declared.phase.Phase.TheVariants as phase
 use Rattle.amber_home.proofs.Closings.{closes-told, home-closed}
-use Rattle.amber_home.proofs.Inside.{kept, long-within, loose-within, opens, seen, there-within}
+use Rattle.amber_home.proofs.Inside.{kept, long-within, opens, seen, there-within}
 use Rattle.amber_home.proofs.home.Home.close_leg.Goals as goal
 
 pub stops_of-requires : goal.stops_of-requires
-stops_of-requires c = record {
-  workers = there-within c.self.inside c.self.invariant c.args.self.now c.self.view_is c.requires.within;
-  none = loose-within c.self.inside c.self.invariant c.args.self.now c.self.view_is c.requires.within;
-}
+stops_of-requires c = there-within c.self.inside c.self.invariant c.args.self.now c.self.view_is c.requires.within
 
 pub close_arms-requires-clause-workers : goal.close_arms-requires-clause-workers
 close_arms-requires-clause-workers c = there-within c.self.inside c.self.invariant c.args.self.now c.self.view_is c.requires.within

@@ -1,9 +1,11 @@
 -- One step more, and the home stays one.
 use Rattle.std.proofs.Common.{refl, ap, sym, subst, ◌∙◌, ◌<◌, arith}
-use Rattle.amber_meaning.specs.State.{have_finished, steps_in}
-use Rattle.amber_home.specs.HomeState.{HomeState, StepsOn, state_of}
+use Rattle.amber_meaning.specs.State.{steps_in}
+use Rattle.amber_home.specs.HomeState.{HomeState, NoneIsPaused, StepsOn, state_of, stops_of_home}
 use Rattle.amber_home.specs.Parts.{open_parts}
-use Rattle.amber_home.proofs.OneMore.{home-stepped, left-open, steps-open, steps-stepped}
+use Rattle.amber_home.proofs.Free.{goes-home, running-home}
+use Rattle.amber_home.proofs.Homes.{open-there}
+use Rattle.amber_home.proofs.OneMore.{home-stepped, steps-open, steps-stepped}
 use Rattle.amber_home.proofs.Inside.{kept, opens, seen, there-within}
 use Rattle.amber_home.proofs.home.Home.home_step.Goals as goal
 
@@ -13,9 +15,18 @@ step_first-requires-clause-workers c = there-within c.self.inside c.self.invaria
 pub step_first-requires-clause-unfinished : goal.step_first-requires-clause-unfinished
 step_first-requires-clause-unfinished c =
     let i = c.self.inside in
-    let e = seen i in
-    let live = kept i in
-    left-open e live i.phase c.self.invariant (opens i c.self.invariant c.args.self.now c.self.view_is c.requires.within) (ap (λ (h : HomeState). have_finished (state_of h)) c.self.view_is ∙ c.requires.unfinished)
+    (goes-home (seen i) (kept i) i.phase c.self.invariant (opens i c.self.invariant c.args.self.now c.self.view_is c.requires.within) refl
+    (ap stops_of_home c.self.view_is ∙ c.requires.none)).unfinished
+
+pub step_first-requires-clause-free : goal.step_first-requires-clause-free
+step_first-requires-clause-free c =
+    let i = c.self.inside in
+    let within = opens i c.self.invariant c.args.self.now c.self.view_is c.requires.within in
+    record {
+      loose = (goes-home (seen i) (kept i) i.phase c.self.invariant within refl (ap stops_of_home c.self.view_is ∙ c.requires.none)).loose;
+      running = running-home (seen i) (kept i) i.phase c.self.invariant (open-there i.phase within) refl
+          (subst NoneIsPaused (sym c.self.view_is) c.requires.running);
+    }
 
 pub step_first-requires-clause-few : goal.step_first-requires-clause-few
 step_first-requires-clause-few c =

@@ -2,14 +2,11 @@
 use Rattle.std.proofs.Common.{◌≡◌, sym, ap, subst, ◌∙◌, IfOk, true}
 use Rattle.amber_home.specs.HomeState.{HomeState, has_crew, stops_of_home}
 use Rattle.amber_home.proofs.Saying.{ok-copy, ok-map, stops-open, stops-rest}
-use Rattle.amber_home.proofs.Inside.{all-loose, all-there, kept, seen}
+use Rattle.amber_home.proofs.Inside.{all-there, kept, seen}
 use Rattle.amber_home.proofs.home.Home.stops.Goals as goal
 
 pub stops_of-requires : goal.stops_of-requires
-stops_of-requires c = record {
-  workers = all-there c.self.inside c.self.invariant c.args.self.now c.self.view_is c.requires.there;
-  none = all-loose c.self.inside c.self.invariant c.args.self.now c.self.view_is c.requires.there;
-}
+stops_of-requires c = all-there c.self.inside c.self.invariant c.args.self.now c.self.view_is c.requires.there
 
 pub returns-then-is_open : goal.returns-then-is_open
 returns-then-is_open c =
