@@ -56,6 +56,24 @@ pub fn last_end(batch: u32, outs: &mut Vec<Out>) -> Result<Out, Fail>
     }
 }
 
+/// Pushes a row of these numbers.
+pub fn push_row(alloc: Global, out: &mut Out, numbers: &[i64]) -> Result<(), NoMemory>
+    requires few { out.old.kept.made < 2 ^ 40 }
+    requires open { out.old.kept.ended ≡ false }
+    ensures made { out.new.kept.made ≤ out.old.kept.made + 1 }
+    ensures open { OnOk result (out.new.kept.ended ≡ false) }
+    ensures ring { out.new.ring ≡ out.old.ring }
+{
+    let mut cells = Vec::new(alloc);
+    for number in numbers {
+        cells.push(Value::Int(*number))?;
+    }
+    match out.push(Row::new(cells)) {
+        Ok(()) => Ok(()),
+        Err(_) => Err(NoMemory),
+    }
+}
+
 /// Pushes a row of one number.
 pub fn push(alloc: Global, out: &mut Out, number: i64) -> Result<(), NoMemory>
     requires few { out.old.kept.made < 2 ^ 40 }
@@ -64,12 +82,7 @@ pub fn push(alloc: Global, out: &mut Out, number: i64) -> Result<(), NoMemory>
     ensures open { OnOk result (out.new.kept.ended ≡ false) }
     ensures ring { out.new.ring ≡ out.old.ring }
 {
-    let mut cells = Vec::new(alloc);
-    cells.push(Value::Int(number))?;
-    match out.push(Row::new(cells)) {
-        Ok(()) => Ok(()),
-        Err(_) => Err(NoMemory),
-    }
+    push_row(alloc, out, &[number])
 }
 
 /// Sends a row of one number, and then the end, if it is to end.
