@@ -13,8 +13,9 @@ use Rattle.amber_rows.specs.declared.flow.What.TheVariants as what
 use Rattle.amber_rows.specs.declared.flow.Operator.{Operator}
 use Rattle.amber_log.specs.declared.command.Command.{Command}
 use Rattle.amber_log.specs.declared.command.Command.TheVariants as command
-use Rattle.amber_script.specs.Commands.{command_by, read_command}
-use Rattle.amber_script.specs.Numbers.{number_up_to}
+use Rattle.amber_log.specs.Operands.{comparison_of}
+use Rattle.amber_script.specs.Commands.{break_by, command_by, read_command}
+use Rattle.amber_script.specs.Numbers.{number_up_to, whole_number}
 use Rattle.amber_script.specs.Script.{commands_from, says, script_of}
 use Rattle.amber_script.specs.Words.{words_from, script_words_of}
 use Rattle.amber_script.specs.declared.error.ScriptWhy.{ScriptWhy}
@@ -22,13 +23,15 @@ use Rattle.amber_script.specs.declared.error.ScriptWhy.TheVariants as why
 
 -- what unfolds
 unfoldable pub scripts_on_literals : ⊤
-unfolding command_by read_command number_up_to commands_from says script_of words_from read_int_of digits is_utf8 chars lib.Utf8.encode
+unfolding break_by command_by comparison_of read_command number_up_to whole_number commands_from says script_of words_from read_int_of digits is_utf8 chars lib.Utf8.encode
 scripts_on_literals = tt
 
--- ---- a workflow: orders, those of some quantity by two workers, the sink
+-- ---- a workflow: orders, those of some quantity by two workers, those of no nuts, the sink
 
 abbrev pub orders : List Column
-orders = record { name = codes "id"; kind = kind.Int } ∷ record { name = codes "item"; kind = kind.Text } ∷ record { name = codes "qty"; kind = kind.Int } ∷ []
+orders =
+    record { name = codes "id"; kind = kind.Int } ∷ record { name = codes "item"; kind = kind.Text } ∷ record { name = codes "qty"; kind = kind.Int }
+    ∷ record { name = codes "unit price"; kind = kind.Int } ∷ []
 
 abbrev pub flow : List Operator
 flow =
@@ -105,10 +108,10 @@ quoted_hash_is_no_comment : Refuses (codes "\"#\"") 1 why.Word
 unfolding scripts_on_literals
 quoted_hash_is_no_comment = refl
 
-all_built : Reads (lines (codes "run" ∷ codes "pause f 2" ∷ codes "set f -5" ∷ codes "inspect o" ∷ codes "clear s" ∷ []))
+several_commands : Reads (lines (codes "run" ∷ codes "pause f 2" ∷ codes "set f -5" ∷ codes "inspect o" ∷ codes "clear s" ∷ []))
     (command.Run ∷ command.Pause 2 2 ∷ command.Set 2 (value.Int (negsuc 4)) ∷ command.Inspect 1 ∷ command.Clear 4 ∷ [])
 unfolding scripts_on_literals
-all_built = refl
+several_commands = refl
 
 last_line_without_feed : Reads (lines (codes "run" ∷ []) ++ codes "run") (command.Run ∷ command.Run ∷ [])
 unfolding scripts_on_literals
@@ -234,19 +237,7 @@ kind_before_mismatch : Refuses (codes "set o x") 1 why.Kind
 unfolding scripts_on_literals
 kind_before_mismatch = refl
 
--- ---- commands that no run does yet
-
-not_built : Refuses (lines (codes "run" ∷ codes "drop f 0" ∷ [])) 2 why.Word
-unfolding scripts_on_literals
-not_built = refl
-
-not_built_before_operator : Refuses (codes "break count x 1") 1 why.Word
-unfolding scripts_on_literals
-not_built_before_operator = refl
-
-stop_at_a_condition : Refuses (codes "break when f item = cog") 1 why.Word
-unfolding scripts_on_literals
-stop_at_a_condition = refl
+-- ---- a command that scripts do not have
 
 loss : Refuses (codes "lose o 0") 1 why.Word
 unfolding scripts_on_literals

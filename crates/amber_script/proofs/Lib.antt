@@ -1,9 +1,12 @@
+pub mod ExampleBreaks
 pub mod Examples
 pub mod Fitting
 pub mod Joining
 pub mod Leading
+pub mod Narrow
 pub mod NumberWords
 pub mod Pieces
 pub mod Saying
 pub mod Texts
 pub mod WordLaws
+pub mod WorkerWords

@@ -2,10 +2,11 @@
 use Rattle.std.specs.Prelude.{ℕ, ◌+◌, ◌^◌, List, [], ◌∷◌, codes, bytes_eq, not, position, Option, Some, None, option_map, option_and_then, ok_or, Result, Ok, Err, Bool, if◌then◌else◌}
 use Rattle.std.specs.List.{list_all}
 use Rattle.std.specs.Str.{is_utf8}
+use Rattle.amber_rows.specs.declared.cond.Cmp.{Cmp}
 use Rattle.amber_rows.specs.declared.cond.Cond.{Cond}
 use Rattle.amber_rows.specs.Kinds.{settable_cond}
 use Rattle.amber_rows.specs.Lists.{nth}
-use Rattle.amber_rows.specs.Columns.{column_kind_at}
+use Rattle.amber_rows.specs.Columns.{column_kind_at, schema_of}
 use Rattle.amber_rows.specs.Number.{read_int_of}
 use Rattle.amber_rows.specs.declared.value.Value.{Value}
 use Rattle.amber_rows.specs.declared.value.Value.TheVariants as value
@@ -15,14 +16,15 @@ use Rattle.amber_rows.specs.declared.column.Column.{Column}
 use Rattle.amber_rows.specs.declared.flow.What.{What}
 use Rattle.amber_rows.specs.declared.flow.Operator.{Operator}
 use Rattle.amber_log.specs.Commands.{action_of}
-use Rattle.amber_log.specs.Effect.{is_built}
-use Rattle.amber_log.specs.Fits.{is_source}
+use Rattle.amber_log.specs.Effect.{is_nobody}
+use Rattle.amber_log.specs.Fits.{has_worker, is_source}
+use Rattle.amber_log.specs.Operands.{comparison_of}
 use Rattle.amber_log.specs.declared.effect.Action.{Action}
 use Rattle.amber_log.specs.declared.effect.Action.TheVariants.{AtRest, Leg}
 use Rattle.amber_log.specs.declared.command.Command.{Command}
 use Rattle.amber_log.specs.declared.command.Command.TheVariants as command
 use Rattle.amber_rows.specs.Chain.{◌>>=◌, require}
-use Rattle.amber_script.specs.Numbers.{number_up_to}
+use Rattle.amber_script.specs.Numbers.{number_up_to, whole_number}
 use Rattle.amber_script.specs.declared.error.ScriptWhy.{ScriptWhy}
 use Rattle.amber_script.specs.declared.error.ScriptWhy.TheVariants as why
 
@@ -31,6 +33,20 @@ use Rattle.amber_script.specs.declared.error.ScriptWhy.TheVariants as why
 -- the number of the operator with this id, from 1
 abbrev pub operator_named : List Operator → List ℕ → Result ℕ ScriptWhy
 operator_named flow id = ok_or (option_map (λ place. place + 1) (position (λ operator. bytes_eq operator.id id) flow)) why.Operator
+
+-- the number of an operator with this id that emits rows
+abbrev pub source_named : List Operator → List ℕ → Result ℕ ScriptWhy
+source_named flow id = do
+  op ← operator_named flow id
+  emits ← require (is_source (nth flow op)) why.Kind
+  Ok op
+
+-- the number of a worker of this operator, within it
+abbrev pub worker_named : Option Operator → List ℕ → Result ℕ ScriptWhy
+worker_named operator word = do
+  worker ← ok_or (whole_number word) why.Number
+  there ← require (has_worker operator worker) why.Worker
+  Ok worker
 
 -- the most rows that a command may ask for
 abbrev pub row_limit : ℕ
@@ -54,6 +70,18 @@ abbrev pub script_constant : ColKind → List ℕ → Result Value ScriptWhy
 script_constant kind.Int word = ok_or (option_map (λ n. value.Int n) (read_int_of word)) why.Mismatch
 script_constant kind.Text word = Ok (value.Text word)
 
+-- the number of the column with this name, from 1
+abbrev pub column_named : List Column → List ℕ → Result ℕ ScriptWhy
+column_named columns name = ok_or (option_map (λ place. place + 1) (position (λ column. bytes_eq column.name name) columns)) why.Column
+
+-- the condition on the column of this name, where it is compared so with the constant that a word is
+abbrev pub condition_on : List Column → List ℕ → Cmp → List ℕ → Result Cond ScriptWhy
+condition_on columns name comparison word = do
+  column ← column_named columns name
+  kind ← ok_or (column_kind_at columns column) why.Column
+  constant ← script_constant kind word
+  Ok (record { column = column; op = comparison; constant = constant })
+
 -- ---- what follows a command's word
 
 -- no word
@@ -70,8 +98,7 @@ operator_behind flow (id ∷ word ∷ more) = Err why.Word
 -- an operator that emits rows, and a number of rows
 abbrev pub operator_and_rows : List Operator → List ℕ → List ℕ → Result (ℕ × ℕ) ScriptWhy
 operator_and_rows flow id word = do
-  op ← operator_named flow id
-  emits ← require (is_source (nth flow op)) why.Kind
+  op ← source_named flow id
   n ← ok_or (number_up_to row_limit word) why.Number
   Ok (op, n)
 
@@ -83,6 +110,26 @@ operator_and_constant flow id word = do
   constant ← script_constant column word
   Ok (op, constant)
 
+-- an operator, and one of its workers
+abbrev pub operator_and_worker : List Operator → List ℕ → List ℕ → Result (ℕ × ℕ) ScriptWhy
+operator_and_worker flow id word = do
+  op ← operator_named flow id
+  worker ← worker_named (nth flow op) word
+  Ok (op, worker)
+
+-- an operator that emits rows, and a condition on one of its columns: the column's name, a sign and a constant
+abbrev pub operator_and_condition : List Operator → List (List ℕ) → Result (ℕ × Cond) ScriptWhy
+operator_and_condition flow [] = Err why.Word
+operator_and_condition flow (id ∷ []) = Err why.Word
+operator_and_condition flow (id ∷ name ∷ []) = Err why.Word
+operator_and_condition flow (id ∷ name ∷ sign ∷ []) = Err why.Word
+operator_and_condition flow (id ∷ name ∷ sign ∷ word ∷ []) = do
+  comparison ← ok_or (comparison_of sign) why.Word
+  op ← source_named flow id
+  cond ← condition_on (schema_of (nth flow op)) name comparison word
+  Ok (op, cond)
+operator_and_condition flow (id ∷ name ∷ sign ∷ word ∷ next ∷ more) = Err why.Word
+
 -- what an id and one word more mean
 abbrev pub of_two : {A : Type 0} → (List ℕ → List ℕ → Result A ScriptWhy) → List (List ℕ) → Result A ScriptWhy
 of_two read [] = Err why.Word
@@ -92,13 +139,27 @@ of_two read (id ∷ word ∷ next ∷ more) = Err why.Word
 
 -- ---- commands
 
--- the command of this word and those after it, where runs do it: a line for each
+-- the command of `break`, this word and those after it: a line for each
+unfoldable pub break_by : List Operator → List ℕ → List (List ℕ) → Result Command ScriptWhy
+break_by flow stop words =
+    if bytes_eq stop (codes "count") then of_two (operator_and_rows flow) words >>= (λ said. Ok (command.Count said.0 said.1))
+    else if bytes_eq stop (codes "when") then operator_and_condition flow words >>= (λ said. Ok (command.When said.0 said.1))
+    else Err why.Word
+
+-- the command of `break` and these words
+abbrev pub break_said : List Operator → List (List ℕ) → Result Command ScriptWhy
+break_said flow [] = Err why.Word
+break_said flow (stop ∷ words) = break_by flow stop words
+
+-- the command of this word and those after it: a line for each
 unfoldable pub command_by : List Operator → List ℕ → List (List ℕ) → Result Command ScriptWhy
 command_by flow name words =
     if bytes_eq name (codes "run") then nothing_behind words >>= (λ none. Ok command.Run)
     else if bytes_eq name (codes "pause") then of_two (operator_and_rows flow) words >>= (λ said. Ok (command.Pause said.0 said.1))
+    else if bytes_eq name (codes "break") then break_said flow words
     else if bytes_eq name (codes "clear") then operator_behind flow words >>= (λ op. Ok (command.Clear op))
     else if bytes_eq name (codes "set") then of_two (operator_and_constant flow) words >>= (λ said. Ok (command.Set said.0 said.1))
+    else if bytes_eq name (codes "drop") then of_two (operator_and_worker flow) words >>= (λ said. Ok (command.Drop said.0 said.1))
     else if bytes_eq name (codes "inspect") then operator_behind flow words >>= (λ op. Ok (command.Inspect op))
     else Err why.Word
 
@@ -107,10 +168,10 @@ abbrev pub command_said : List Operator → List (List ℕ) → Result Command S
 command_said flow [] = Err why.Word
 command_said flow (name ∷ words) = command_by flow name words
 
--- a leg goes on until something stops it, and what is done at rest is done by runs
+-- a leg goes on until something stops it, and nothing that is done at rest loses a worker
 abbrev pub may_stand : Action → Bool
 may_stand (Leg to_end) = not to_end
-may_stand (AtRest effect) = is_built effect
+may_stand (AtRest effect) = is_nobody effect.loses
 
 -- a command that a script may have
 abbrev pub is_scripted : Command → Bool

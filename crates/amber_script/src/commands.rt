@@ -1,16 +1,18 @@
-//! The command that a line's words mean. Rests on `operators` and `numbers`; gives `Command` of `amber_log`.
+//! The command that a line's words mean. Rests on `operators`, `columns` and `numbers`; gives `Command` of
+//! `amber_log`.
 
 ghost use Rattle.std.specs.Prelude.{◌≡◌, IfOk, true};
 ghost use Rattle.amber_rows.specs.Lists.{nth};
 ghost use Rattle.amber_log.specs.Fits.{fits_at, fits_of};
 ghost use Rattle.amber_log.specs.declared.effect.Argument.TheVariants as argument;
-ghost use Rattle.amber_script.specs.Commands.{command_by, command_said, operator_and_constant, is_scripted, nothing_behind, of_two, operator_behind, operator_and_rows};
+ghost use Rattle.amber_script.specs.Commands.{break_by, break_said, command_by, command_said, operator_and_condition, operator_and_constant, operator_and_worker, is_scripted, nothing_behind, of_two, operator_behind, operator_and_rows};
 
+use crate::columns::{comparison_of, read_constant};
 use crate::error::ScriptWhy;
 use crate::numbers::read_number;
-use crate::operators::{find_operator, read_constant, settable_kind};
-use amber_log::{Command, is_source};
-use amber_rows::{Flow, Text, Value};
+use crate::operators::{find_condition, find_operator, find_source, find_worker, settable_kind};
+use amber_log::Command;
+use amber_rows::{Cond, Flow, Text, Value};
 use std::alloc::AllocError;
 
 // The most rows that a command may ask for.
@@ -42,10 +44,7 @@ fn operator_and_rows(flow: &Flow, id: &str, word: &str) -> Result<(u32, u64), Sc
     ensures fits { IfOk result (λ said.
         fits_at (nth flow.now said.0) (argument.Rows said.1) ≡ true) }
 {
-    let op = find_operator(flow, id)?;
-    if !is_source(flow, op) {
-        return Err(ScriptWhy::Kind);
-    }
+    let op = find_source(flow, id)?;
     match read_number(word, MOST_ROWS) {
         Some(n) => Ok((op, n)),
         None => Err(ScriptWhy::Number),
@@ -99,7 +98,82 @@ fn constant(flow: &Flow, words: &[Text]) -> Result<Result<(u32, Value), ScriptWh
     }
 }
 
-// The command of this word and those after it, where runs do it.
+fn operator_and_worker(flow: &Flow, id: &str, word: &str) -> Result<(u32, u32), ScriptWhy>
+    ensures said { result ≡ operator_and_worker flow.now id.now word.now }
+    ensures fits { IfOk result (λ said.
+        fits_at (nth flow.now said.0) (argument.Worker said.1) ≡ true) }
+{
+    let op = find_operator(flow, id)?;
+    let worker = find_worker(flow, op, word)?;
+    Ok((op, worker))
+}
+
+// An operator, and one of its workers.
+fn worker(flow: &Flow, words: &[Text]) -> Result<(u32, u32), ScriptWhy>
+    ensures said { result ≡ of_two (operator_and_worker flow.now) words.now }
+    ensures fits { IfOk result (λ said.
+        fits_at (nth flow.now said.0) (argument.Worker said.1) ≡ true) }
+{
+    match words {
+        [id, word] => operator_and_worker(flow, id.get(), word.get()),
+        _ => Err(ScriptWhy::Word),
+    }
+}
+
+// An operator that emits rows, and a condition on one of its columns.
+#[tactic(auto, using(crate::proofs::Fitting::is_tested))]
+fn condition(flow: &Flow, words: &[Text]) -> Result<Result<(u32, Cond), ScriptWhy>, AllocError>
+    ensures said { IfOk result (λ read. read ≡ operator_and_condition flow.now words.now) }
+    ensures fits { IfOk result (λ read. IfOk read (λ said.
+        fits_at (nth flow.now said.0) (argument.Condition said.1) ≡ true)) }
+{
+    let [id, name, sign, word] = words else {
+        return Ok(Err(ScriptWhy::Word));
+    };
+    let Some(comparison) = comparison_of(sign.get()) else {
+        return Ok(Err(ScriptWhy::Word));
+    };
+    let op = match find_source(flow, id.get()) {
+        Ok(op) => op,
+        Err(why) => return Ok(Err(why)),
+    };
+    match find_condition(flow, op, name.get(), comparison, word)? {
+        Ok(cond) => Ok(Ok((op, cond))),
+        Err(why) => Ok(Err(why)),
+    }
+}
+
+// The command of `break`, this word and those after it.
+#[tactic(auto, unfolding(crate::specs::Commands::break_by, amber_log::specs::Fits::fits_of))]
+fn break_by(
+    flow: &Flow,
+    stop: &str,
+    words: &[Text],
+) -> Result<Result<Command, ScriptWhy>, AllocError>
+    ensures command { IfOk result (λ read. read ≡ break_by flow.now stop.now words.now) }
+    ensures fits { IfOk result (λ read. IfOk read (λ command. fits_of flow.now command ≡ true)) }
+    ensures scripted { IfOk result (λ read. IfOk read (λ command. is_scripted command ≡ true)) }
+{
+    match stop {
+        "count" => Ok(rows(flow, words).map(|(op, n)| Command::Count { op, n })),
+        "when" => Ok(condition(flow, words)?.map(|(op, cond)| Command::When { op, cond })),
+        _ => Ok(Err(ScriptWhy::Word)),
+    }
+}
+
+// The command of `break` and these words.
+fn break_said(flow: &Flow, words: &[Text]) -> Result<Result<Command, ScriptWhy>, AllocError>
+    ensures command { IfOk result (λ read. read ≡ break_said flow.now words.now) }
+    ensures fits { IfOk result (λ read. IfOk read (λ command. fits_of flow.now command ≡ true)) }
+    ensures scripted { IfOk result (λ read. IfOk read (λ command. is_scripted command ≡ true)) }
+{
+    match words {
+        [stop, words @ ..] => break_by(flow, stop.get(), words),
+        [] => Ok(Err(ScriptWhy::Word)),
+    }
+}
+
+// The command of this word and those after it.
 #[tactic(auto, unfolding(crate::specs::Commands::command_by, amber_log::specs::Fits::fits_of))]
 fn command_by(
     flow: &Flow,
@@ -113,14 +187,16 @@ fn command_by(
     match name {
         "run" => Ok(nothing(words).map(|()| Command::Run)),
         "pause" => Ok(rows(flow, words).map(|(op, n)| Command::Pause { op, n })),
+        "break" => break_said(flow, words),
         "clear" => Ok(operator(flow, words).map(|op| Command::Clear { op })),
         "set" => Ok(constant(flow, words)?.map(|(op, value)| Command::Set { op, value })),
+        "drop" => Ok(worker(flow, words).map(|(op, worker)| Command::Drop { op, worker })),
         "inspect" => Ok(operator(flow, words).map(|op| Command::Inspect { op })),
         _ => Ok(Err(ScriptWhy::Word)),
     }
 }
 
-/// The command of these words, where runs do it, or the first reason why they mean none.
+/// The command of these words, or the first reason why they mean none.
 pub fn read_command(flow: &Flow, words: &[Text]) -> Result<Result<Command, ScriptWhy>, AllocError>
     ensures command { IfOk result (λ read. read ≡ command_said flow.now words.now) }
     ensures fits { IfOk result (λ read. IfOk read (λ command. fits_of flow.now command ≡ true)) }

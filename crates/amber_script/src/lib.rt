@@ -4,6 +4,7 @@
 //! is its first bad one and why.
 #![tactic(auto)]
 
+mod columns;
 mod commands;
 mod error;
 pub mod laws;

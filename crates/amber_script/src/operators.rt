@@ -1,14 +1,17 @@
-//! The operators and constants that a command names. Over `Flow` of `amber_rows`.
+//! The operators that a command names, their workers and their columns. Over `Flow` of `amber_rows`;
+//! conditions rest on `columns`, workers' numbers on `numbers`.
 
 ghost use Rattle.std.specs.Prelude.{◌≡◌, ◌<◌, bytes_eq, length, position, true, IfOk, IfSome};
 ghost use Rattle.amber_rows.specs.Lists.{nth};
-ghost use Rattle.amber_rows.specs.Columns.{column_kind_at, kind_of};
-ghost use Rattle.amber_rows.specs.Suits.{same_kind};
-ghost use Rattle.amber_log.specs.Fits.{is_there};
-ghost use Rattle.amber_script.specs.Commands.{script_constant, filtered_kind, operator_named, settable_kind};
+ghost use Rattle.amber_rows.specs.Columns.{schema_of};
+ghost use Rattle.amber_log.specs.Fits.{has_worker, is_cell_of, is_source, is_there};
+ghost use Rattle.amber_script.specs.Commands.{condition_on, filtered_kind, operator_named, settable_kind, source_named, worker_named};
 
+use crate::columns::{column_kind_at, read_condition};
 use crate::error::ScriptWhy;
-use amber_rows::{ColKind, Flow, Schema, Text, Value, What, read_int};
+use crate::numbers::{is_canonical, number_below};
+use amber_log::is_source;
+use amber_rows::{Cmp, ColKind, Cond, Flow, Schema, Text, What};
 use std::alloc::AllocError;
 
 fn place_of(flow: &Flow, id: &str) -> Option<usize>
@@ -33,15 +36,33 @@ pub fn find_operator(flow: &Flow, id: &str) -> Result<u32, ScriptWhy>
     }
 }
 
-fn column_kind_at(schema: &Schema, column: u32) -> Option<ColKind>
-    ensures { result ≡ column_kind_at schema.now column }
+/// The number of an operator with this id that emits rows.
+pub fn find_source(flow: &Flow, id: &str) -> Result<u32, ScriptWhy>
+    ensures number { result ≡ source_named flow.now id.now }
+    ensures source { IfOk result (λ op. is_source (nth flow.now op) ≡ true) }
 {
-    if column == 0 {
-        return None;
+    let op = find_operator(flow, id)?;
+    if !is_source(flow, op) {
+        return Err(ScriptWhy::Kind);
     }
-    match schema.get().get(column as usize - 1) {
-        None => None,
-        Some(column) => Some(column.kind),
+    Ok(op)
+}
+
+/// The number of a worker of this operator, within it.
+#[tactic(auto, unfolding(crate::specs::Numbers::whole_number))]
+pub fn find_worker(flow: &Flow, op: u32, word: &str) -> Result<u32, ScriptWhy>
+    ensures number { result ≡ worker_named (nth flow.now op) word.now }
+    ensures there { IfOk result (λ worker. has_worker (nth flow.now op) worker ≡ true) }
+{
+    if !is_canonical(word) {
+        return Err(ScriptWhy::Number);
+    }
+    match flow.operator(op) {
+        None => Err(ScriptWhy::Worker),
+        Some(operator) => match number_below(word, operator.workers) {
+            Some(worker) => Ok(worker),
+            None => Err(ScriptWhy::Worker),
+        },
     }
 }
 
@@ -50,7 +71,7 @@ fn filtered_kind(what: &What, schema: &Schema) -> Option<ColKind>
 {
     match what.settable_cond() {
         None => None,
-        Some(cond) => column_kind_at(schema, cond.column),
+        Some(cond) => column_kind_at(schema.get(), cond.column),
     }
 }
 
@@ -64,17 +85,23 @@ pub fn settable_kind(flow: &Flow, op: u32) -> Option<ColKind>
     }
 }
 
-/// The constant that a word is in a column of this kind.
-pub fn read_constant(kind: ColKind, word: &Text) -> Result<Result<Value, ScriptWhy>, AllocError>
-    ensures constant { IfOk result (λ read. read ≡ script_constant kind word.now) }
-    ensures kind { IfOk result (λ read.
-        IfOk read (λ constant. same_kind kind (kind_of constant) ≡ true)) }
+/// The condition on a column of this operator, where it is compared so with the constant that a word is.
+#[tactic(auto, using(crate::proofs::Narrow::is_narrow))]
+pub fn find_condition(
+    flow: &Flow,
+    op: u32,
+    name: &str,
+    comparison: Cmp,
+    word: &Text,
+) -> Result<Result<Cond, ScriptWhy>, AllocError>
+    ensures condition { IfOk result (λ read.
+        read ≡ condition_on (schema_of (nth flow.now op)) name.now comparison word.now) }
+    ensures cell { IfOk result (λ read. IfOk read (λ cond.
+        is_cell_of (nth (schema_of (nth flow.now op)) cond.column) cond.constant ≡ true)) }
 {
-    match kind {
-        ColKind::Int => match read_int(word.get().as_bytes()) {
-            Some(number) => Ok(Ok(Value::Int(number))),
-            None => Ok(Err(ScriptWhy::Mismatch)),
-        },
-        ColKind::Text => Ok(Ok(Value::Text(word.clone()?))),
+    let _operators = flow.get();
+    match flow.operator(op) {
+        None => Ok(Err(ScriptWhy::Column)),
+        Some(operator) => read_condition(operator.schema.get(), name, comparison, word),
     }
 }
