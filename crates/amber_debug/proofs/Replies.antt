@@ -1,5 +1,5 @@
 -- The reply to a command that is done at rest, by its effect.
-use Rattle.std.proofs.Common.{◌≡◌, refl, sym, ap, ◌∙◌, ℕ, List, Option}
+use Rattle.std.proofs.Common.{◌≡◌, refl, sym, ap, ◌∙◌, ℕ, List, Option, None, Some}
 use Rattle.amber_rows.specs.declared.flow.Operator.{Operator}
 use Rattle.amber_rows.specs.declared.value.Value.{Value}
 use Rattle.amber_log.specs.Commands.{action_of}
@@ -12,11 +12,11 @@ use Rattle.amber_log.specs.declared.log.Item.TheVariants as item
 use Rattle.amber_meaning.specs.declared.view.Inspected.{Inspected}
 use Rattle.amber_meaning.specs.Legal.{Query}
 use Rattle.amber_meaning.specs.State.{State}
-use Rattle.amber_meaning.specs.Texts.{inspected_text, ok_text}
-use Rattle.amber_meaning.specs.Transcript.{action_reply, effect_reply, reply_of}
+use Rattle.amber_meaning.specs.Texts.{drop_text, inspected_text, ok_text}
+use Rattle.amber_meaning.specs.Transcript.{action_reply, dropped_reply, effect_reply, reply_of}
 use Rattle.amber_meaning.specs.Views.{inspected_of}
 use Rattle.amber_report.specs.Replies.{action_text, done_text, dropped_text, text_by}
-use Rattle.amber_home.specs.HomeState.{HomeState, query_of, rest_state, state_of}
+use Rattle.amber_home.specs.HomeState.{HomeState, dropped_by, dropped_by_action, dropped_in, query_of, rest_state, state_of}
 use Rattle.amber_home.specs.declared.phase.Phase.TheVariants as phase
 
 state-rest : (home : HomeState) → home.phase ≡ phase.Resting → state_of home ≡ rest_state home
@@ -46,3 +46,17 @@ pub reply-done : (home : HomeState) (done : Command) (effect : Effect) (dropped 
 reply-done home done effect dropped flow text is says same e =
     e ∙ ap (λ f. done_text f done dropped) same ∙ done-ok home.flow done effect dropped is says
     ∙ replied-as (query_of home) (rest_state home) done effect reply.Done is says
+
+-- by the row that is dropped of one of an operator's workers
+dropped-as : (query : Query) (state : State) (op : ℕ) (drops : Option ℕ) (dropped : Option (List Value)) → dropped ≡ dropped_in query state op drops
+    → dropped_text query.flow op drops dropped ≡ dropped_reply query state op drops
+dropped-as query state op None dropped is = refl
+dropped-as query state op (Some worker) dropped is = ap (drop_text query.flow op worker) is
+
+pub reply-dropped : (home : HomeState) (done : Command) (effect : Effect) (dropped : Option (List Value)) (flow : List Operator) (text : List ℕ) → action_of done ≡ action.AtRest effect
+    → effect.reply ≡ reply.Dropped → flow ≡ home.flow → dropped ≡ dropped_by home done → text ≡ done_text flow done dropped → text ≡ reply_of (query_of home) (rest_state home) (item.Do done)
+reply-dropped home done effect dropped flow text is says same row e =
+    e ∙ ap (λ f. done_text f done dropped) same ∙ ap (action_text home.flow done dropped) is
+    ∙ ap (λ (told : Reply). text_by told (ok_text home.flow done) (dropped_text home.flow effect.op effect.drops dropped)) says
+    ∙ dropped-as (query_of home) (rest_state home) effect.op effect.drops dropped (row ∙ ap (dropped_by_action home) is)
+    ∙ replied-as (query_of home) (rest_state home) done effect reply.Dropped is says

@@ -148,8 +148,7 @@ fn reply_at_rest(
             let seen = home.inspect(alloc, effect.op)?;
             inspect_lines(alloc, home.flow(), &seen)
         }
-        // No run drops a row yet.
-        Reply::Dropped => unreachable!(),
+        Reply::Dropped => ok_line(alloc, home.flow(), command, home.row_to_drop(command)),
     }
 }
 
@@ -279,8 +278,7 @@ impl Debugger {
     pub fn command(&mut self, alloc: Global, command: &Command) -> Result<Done, DebugErr>
         requires fits { fits_of self.old.flow command.now ≡ true }
 
-        // Counts, conditions, drops and losses of workers are not built yet, and no script has
-        // them.
+        // Counts and losses of workers are not built yet, and no script has them.
         requires scripted { (is_scripted command.now ≡ true) ⊎ (command.now ≡ Command.End) }
         requires open { ends_over false self.old.log.items ≡ false }
         ensures does { Does result self.old self.new command.now }

@@ -338,6 +338,9 @@ module _ (e : HomeState) (live : LiveState) (home : IsHome e live) (resting : e.
   there-resting = stand-there (query_of e) (rest_state e) live.dataflow (position_at (rest_state e).positions) rest.at
 
   -- and it is one of the workflow
+  pub has-operator : (one : Command) (effect : Effect) → action_of one ≡ AtRest effect → fits_of e.flow one ≡ true → HasOperator effect.op (length e.flow)
+  has-operator one effect is fits = rest-there e.flow one effect is fits
+
   pub flow-has : (one : Command) (effect : Effect) → action_of one ≡ AtRest effect → fits_of e.flow one ≡ true → effect.op ≤ length e.flow
   flow-has one effect is fits = (rest-there e.flow one effect is fits).1
 

@@ -1,5 +1,5 @@
 -- The row before which a worker of a home is held is that of the state.
-use Rattle.std.proofs.Common.{◌≡◌, refl, sym, ap, subst, ◌∙◌, ℕ, ◌<◌, List, Option, None, Some, true, if◌then◌else◌}
+use Rattle.std.proofs.Common.{◌≡◌, refl, sym, ap, subst, ◌∙◌, ℕ, ◌<◌, List, Option, None, Some, if◌then◌else◌}
 use Rattle.amber_rows.specs.Lists.{first_of}
 use Rattle.amber_rows.specs.Topology.{crew_of}
 use Rattle.amber_rows.specs.declared.flow.Operator.{Operator}
@@ -13,13 +13,11 @@ use Rattle.amber_dataflow.specs.AtWork.{state_reached, worker_state_at}
 use Rattle.amber_dataflow.specs.Dataflow.{DataflowState, StandAt, held_row}
 use Rattle.amber_dataflow.proofs.Standing.{stand-position}
 use Rattle.amber_home.specs.Applied.{HasDropped, dropped_row}
-use Rattle.amber_home.specs.HomeState.{HomeState, dropped_in, has_crew, query_of, rest_state, state_of}
+use Rattle.amber_home.specs.HomeState.{HomeState, dropped_in, query_of, rest_state}
 use Rattle.amber_home.specs.Kept.{IsHome, LiveState}
-use Rattle.amber_home.specs.declared.phase.Phase.{Phase}
 use Rattle.amber_home.specs.declared.phase.Phase.TheVariants as phase
 use Rattle.amber_home.proofs.Homes.{at-rest}
 use Rattle.amber_home.proofs.Opened.{listed-rest}
-use Rattle.amber_home.proofs.Saying.{in_phase, stands-somewhere}
 
 -- wherever workers stand
 pub held-row : (query : Query) (start : State) (d : DataflowState) (positions : ℕ → Position) → StandAt query start d positions → (worker : ℕ) → worker < crew_of query.flow
@@ -33,13 +31,6 @@ held-row query start d positions stand worker inside =
     ∙ ap (λ (p : Position). if p.restraint.held then first_of (pending_rows (role_in query worker) p) else None) (sym (stand-position query start d positions stand worker inside))
 
 module _ (e : HomeState) (live : LiveState) where
-  pub held-home : (now : Phase) → IsHome (record e { phase = now }) live → has_crew now ≡ true → (worker : ℕ) → worker < crew_of e.flow
-      → held_row live.dataflow worker ≡ transcript.held_row (query_of e) (state_of (in_phase e live.dataflow now)) worker
-  held-home now home there worker inside =
-      let h = stands-somewhere e live now home there in
-      held-row (query_of e) h.start live.dataflow h.positions h.at worker inside
-      ∙ ap (λ (s : State). transcript.held_row (query_of e) s worker) (sym h.reached)
-
   -- the row that a command drops
   pub dropped-resting : IsHome e live → e.phase ≡ phase.Resting → (effect : Effect) → HasDropped live.dataflow effect.op effect.drops
       → dropped_row effect.op effect.drops live.dataflow ≡ dropped_in (query_of e) (rest_state e) effect.op effect.drops

@@ -1,14 +1,14 @@
 //! A command that is done at rest: the copies that it wants, and what it changes. Over `InForce` and
 //! `Dataflow`.
 
-ghost use Rattle.std.specs.Prelude.{◌≡◌, ◌≤◌, ◌∷◌, ◌++◌, IfOk, None, OnErr, OnOk, Some, [], length, replicate};
+ghost use Rattle.std.specs.Prelude.{◌≡◌, ◌<◌, ◌≤◌, ◌∷◌, ◌++◌, IfOk, None, OnErr, OnOk, Some, [], length, option_map, replicate};
 ghost use Rattle.amber_rows.specs.Topology.{crew_of};
 ghost use Rattle.amber_rows.specs.declared.value.Value.{Value};
 ghost use Rattle.amber_dataflow.specs.Dataflow.{AreAllThere, AreHeldByRows, HaveDoneNothing, rows_emitted};
 ghost use Rattle.amber_home.specs.Applied.{HasDropped, HasOperator, arms_after, conditions_wanted, copies_wanted};
 ghost use Rattle.amber_home.specs.Applied.{dataflow_after, dropped_row, with_condition, with_constants, without_dropped};
 ghost use Rattle.amber_log.specs.declared.log.Item.TheVariants as item;
-ghost use Rattle.amber_meaning.specs.State.{put};
+ghost use Rattle.amber_meaning.specs.State.{put, worker_at};
 
 use crate::in_force::InForce;
 use amber_dataflow::Dataflow;
@@ -96,6 +96,31 @@ fn watch(effect: &Effect<'_>, conditions: Vec<Cond>, dataflow: &mut Dataflow)
     }
 }
 
+// The number of one of an operator's workers, among all.
+fn worker_at(dataflow: &Dataflow, op: u32, worker: u32) -> u32
+    requires operator { HasOperator op (length dataflow.now.flow) }
+    requires few { crew_of dataflow.now.flow ≤ 128 }
+    requires there { worker_at dataflow.now.flow op worker < crew_of dataflow.now.flow }
+    ensures { result ≡ worker_at dataflow.now.flow op worker }
+{
+    dataflow.flow().first_worker(op) + worker
+}
+
+/// The row before which the worker is held that a command names, if it names one.
+pub(crate) fn row_to_drop<'a>(effect: &Effect<'_>, dataflow: &'a Dataflow) -> Option<&'a Row>
+    requires workers { AreAllThere dataflow.now }
+    requires operator { HasOperator effect.now.op (length dataflow.now.flow) }
+    requires few { crew_of dataflow.now.flow ≤ 128 }
+    requires there { HasDropped dataflow.now effect.now.op effect.now.drops }
+    ensures { option_map (λ row. row.now) result
+        ≡ dropped_row effect.now.op effect.now.drops dataflow.now }
+{
+    let Some(worker) = effect.drops else {
+        return None;
+    };
+    dataflow.held_row(worker_at(dataflow, effect.op, worker))
+}
+
 // Drops the row before which the worker is held that a command names, if it names one, and hands it out.
 fn drop_row(effect: &Effect<'_>, dataflow: &mut Dataflow) -> Option<Row>
     requires workers { AreAllThere dataflow.old }
@@ -111,8 +136,7 @@ fn drop_row(effect: &Effect<'_>, dataflow: &mut Dataflow) -> Option<Row>
     let Some(worker) = effect.drops else {
         return None;
     };
-    let first = dataflow.flow().first_worker(effect.op);
-    dataflow.drop_held(first + worker)
+    dataflow.drop_held(worker_at(dataflow, effect.op, worker))
 }
 
 /// Applies a command between two runs, and gives the row that it drops. It cannot fail: the copies of a constant

@@ -9,15 +9,15 @@ ghost use Rattle.amber_meaning.specs.InTime.{IsInTime};
 ghost use Rattle.amber_meaning.specs.Legal.{IsLegal};
 ghost use Rattle.amber_meaning.specs.Plain.{scan_count, wrong_header};
 ghost use Rattle.amber_meaning.specs.State.{have_finished, position_at, steps_in};
-ghost use Rattle.amber_meaning.specs.Transcript.{held_row};
 ghost use Rattle.amber_meaning.specs.Views.{answer_in, inspected_of};
-ghost use Rattle.amber_rows.specs.Topology.{crew_of};
 ghost use Rattle.amber_home.specs.Beginning.{BeginsOrNames};
 ghost use Rattle.amber_home.specs.HomeState.{ClosesIn, Ends, MayClose, NoneIsPaused, StepsOn, has_crew};
 ghost use Rattle.amber_home.specs.HomeState.{dropped_by, is_done_at_rest, is_open, item_of_leg, query_of, rest_state, runs_to_end, state_of};
 ghost use Rattle.amber_home.specs.HomeState.{stops_of_home, with_item, with_closed_leg};
 
-use crate::applying::{condition_for, conditions_for, copies_for, push_command, put_in_force};
+use crate::applying::{
+    condition_for, conditions_for, copies_for, push_command, put_in_force, row_to_drop,
+};
 use crate::driving::drive_workers;
 use crate::error::{HomeErr, LegErr};
 use crate::in_force::InForce;
@@ -302,14 +302,17 @@ impl Home {
         inspect(alloc, &self.arms, &self.dataflow, op)
     }
 
-    /// The row before which a worker is held, if it is. Workers count from 0, those of operator 1 first.
-    pub fn held_row(&self, worker: u32) -> Option<&Row>
-        requires there { has_crew self.now.phase ≡ true }
-        requires within { worker < crew_of self.now.flow }
-        ensures { option_map (λ row. row.now) result
-            ≡ held_row (query_of self.now) (state_of self.now) worker }
+    /// The row that a command would drop: the one before which the worker is held that it names. None where it drops
+    /// none, or where that worker is not held.
+    pub fn row_to_drop(&self, command: &Command) -> Option<&Row>
+        requires resting { self.now.phase ≡ Phase.Resting }
+        requires fits { fits_of self.now.flow command.now ≡ true }
+        ensures { option_map (λ row. row.now) result ≡ dropped_by self.now command.now }
     {
-        self.dataflow.held_row(worker)
+        match command.action() {
+            Action::Leg { to_end: _ } => None,
+            Action::AtRest(effect) => row_to_drop(&effect, &self.dataflow),
+        }
     }
 
     /// The answer, once all have finished.
