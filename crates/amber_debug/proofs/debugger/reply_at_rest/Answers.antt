@@ -1,8 +1,9 @@
--- What an operator shows, or that the command was done.
+-- What an operator shows, the row that is dropped, or that the command was done.
+use Rattle.std.specs.Prelude.{option_copied}
 use Rattle.std.proofs.Common.{None}
 use Rattle.std.proofs.lemmas.Result.{IfOk-weaker}
 use Rattle.amber_meaning.proofs.AtRest.{rest-there}
-use Rattle.amber_debug.proofs.Replies.{reply-done, reply-shown}
+use Rattle.amber_debug.proofs.Replies.{reply-done, reply-dropped, reply-shown}
 use Rattle.amber_debug.proofs.debugger.reply_at_rest.Goals as goal
 
 pub inspect-requires-clause-some : goal.inspect-requires-clause-some
@@ -23,3 +24,10 @@ returns-in-Done c =
     IfOk-weaker c.ok_line.result _ _
     (λ reply is. reply-done c.args.home.now c.args.command.now c.args.effect.now None c.flow.result.now reply c.requires.effect c.in-Done.is c.flow.ensures is)
     c.ok_line.ensures
+
+pub returns-in-Dropped : goal.returns-in-Dropped
+returns-in-Dropped c =
+    IfOk-weaker c.ok_line-in-Dropped.result _ _
+    (λ reply is. reply-dropped c.args.home.now c.args.command.now c.args.effect.now (option_copied c.row_to_drop.result) c.flow-in-Dropped.result.now reply c.requires.effect c.in-Dropped.is
+    c.flow-in-Dropped.ensures c.row_to_drop.ensures is)
+    c.ok_line-in-Dropped.ensures
