@@ -26,12 +26,17 @@ const HELP: &str = "amber answers queries over CSV files.
   amber --version        prints the version
 
 A script has a command a line; blank lines, and lines that begin with #, are ignored. OP is the id of
-an operator. A script may be empty.
+an operator, W the number of one of its workers, from 0. A word with blanks stands in double quotes. A
+script may be empty.
 
   run                    runs until something stops it, and says what
   pause OP N             asks to stop once OP has emitted N rows since the start
+  break when OP COLUMN CMP VALUE
+                         asks to stop before each row of OP whose COLUMN compares so with VALUE;
+                         CMP is one of = != < <= > >=
   inspect OP             shows how far the workers of OP are
   set OP VALUE           changes the constant of the filter OP, for the rows that it takes from then on
+  drop OP W              drops the row that the held worker W of OP is about to emit
   clear OP               takes back what was asked to stop at OP
 
 A workflow is a JSON text with a list of operators: scans of CSV files, filters, projections, joins,

@@ -7,7 +7,7 @@ use crate::home_calls::{
 };
 use amber_home::{Home, NoMemory, Phase};
 use amber_log::Command;
-use amber_rows::Value;
+use amber_rows::{Cmp, Cond, Value};
 use std::alloc::Global;
 use std::test::Fail;
 
@@ -27,7 +27,7 @@ fn has_stopped(alloc: Global, home: &Home) -> Result<bool, NoMemory> {
 // Steps of the leg that is open until a stop stands. How many were made.
 fn steps_to_a_stop(alloc: Global, home: &mut Home) -> Result<u32, NoMemory> {
     for made in 0..30 {
-        if has_stopped(alloc, home)? || !step(home)? {
+        if has_stopped(alloc, home)? || !step(alloc, home)? {
             return Ok(made);
         }
     }
@@ -148,6 +148,50 @@ fn a_constant_holds_from_the_next_row_on(rt: HostRuntime) -> Result<(), Fail> {
     expect_text(
         changed_text(alloc, &mut home)?,
         "ran true set true ended true\nrows 2\nn\n2\n4\n",
+    )
+}
+
+// ---- conditions
+
+// Asks to stop before each row of the filter of 3 or more.
+fn watch(alloc: Global, home: &mut Home) -> Result<bool, NoMemory> {
+    let cond = Cond {
+        column: 1,
+        op: Cmp::Ge,
+        constant: Value::Int(3),
+    };
+    apply(alloc, home, &Command::When { op: 2, cond })
+}
+
+// Runs a leg, and tells the stops, what the filter shows and what each worker has written down.
+fn held_text(alloc: Global, home: &mut Home) -> Result<String, Fail> {
+    let ran = run_leg(alloc, home, false)?;
+    let stops = stops(alloc, home)?;
+    let shown = shown(alloc, home)?;
+    let written = written(alloc, home)?;
+    Ok(format!(in alloc; "ran {ran}\n{stops}{shown}{written}\n")?)
+}
+
+// Stops before the 3, drops it, stops before the 4, takes the condition back, and goes on to the end.
+fn watched_text(alloc: Global, home: &mut Home) -> Result<String, Fail> {
+    let watched = watch(alloc, home)?;
+    let first = held_text(alloc, home)?;
+    let dropped = apply(alloc, home, &Command::Drop { op: 2, worker: 0 })?;
+    let second = held_text(alloc, home)?;
+    let cleared = apply(alloc, home, &Command::Clear { op: 2 })?;
+    let ended = run_leg(alloc, home, true)?;
+    let told = answer(alloc, home)?;
+    let calls = format!(in alloc; "{watched} {dropped} {cleared} {ended}")?;
+    Ok(format!(in alloc; "{first}{second}{calls}\n{told}")?)
+}
+
+#[test]
+fn a_held_row_is_dropped_or_let_go(rt: HostRuntime) -> Result<(), Fail> {
+    let alloc = rt.alloc();
+    let mut home = home_over(alloc, "n\n2\n1\n3\n4\n")?;
+    expect_text(
+        watched_text(alloc, &mut home)?,
+        "ran true\nstop held big 0 3\ninspect big filter\nconstant 2\nwhen n >= 3\nworker 0 taken 3 rest 1 out 1 pending 1 held\nnext 3\nw 0 g 4 4 f 0 0 w 1 t 0 0 g 3 1 h 0 0 \nran true\nstop held big 0 4\ninspect big filter\nconstant 2\nwhen n >= 3\nworker 0 taken 4 rest 0 out 1 pending 1 held\nnext 4\nw 1 g 1 0 h 0 0 \ntrue true true true\nrows 2\nn\n2\n4\n",
     )
 }
 

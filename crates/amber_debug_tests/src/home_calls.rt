@@ -69,9 +69,13 @@ pub fn open_leg(home: &mut Home) -> bool {
     true
 }
 
-/// One step of the leg that is open.
-pub fn step(home: &mut Home) -> Result<bool, NoMemory> {
-    if !is_within(home) || home.have_finished() || home.most() <= home.steps() {
+/// One step of the leg that is open, or one hold.
+pub fn step(alloc: Global, home: &mut Home) -> Result<bool, NoMemory> {
+    if !is_within(home) || !home.are_running() || home.most() <= home.steps() {
+        return Ok(false);
+    }
+    let stops = home.stops(alloc)?;
+    if !stops.get().is_empty() {
         return Ok(false);
     }
     home.home_step()?;

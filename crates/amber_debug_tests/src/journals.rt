@@ -11,6 +11,7 @@ pub fn entries_text(alloc: Global, entries: &[Entry]) -> Result<String, NoMemory
         let (what, one, other) = match entry {
             Entry::Take { from, batch } => ("t", u64::from(*from), *batch),
             Entry::Go { rows, outs } => ("g", *rows, *outs),
+            Entry::Hold => ("h", 0, 0),
             Entry::Finish => ("f", 0, 0),
             _ => ("?", 0, 0),
         };

@@ -1,5 +1,5 @@
 -- What a home keeps of a count, on literals: one worker, of whose rows some are gone.
-use Rattle.std.proofs.Common.{◌≡◌, ℕ, List, [], ◌∷◌, None, Some, Bool, true, false, refl, arith}
+use Rattle.std.proofs.Common.{◌≡◌, List, [], ◌∷◌, None, Some, Bool, true, false, refl, arith}
 use Rattle.amber_log.specs.declared.effect.Change.TheVariants as change
 use Rattle.amber_log.specs.Effect.{no_change}
 use Rattle.amber_meaning.specs.Position.{Position, origin}

@@ -1,5 +1,5 @@
 -- A home where no stop stands and nobody is paused: its workers are free to go on.
-use Rattle.std.proofs.Common.{◌≡◌, refl, sym, ap, subst, ◌∙◌, ℕ, ◌<◌, ◌≤◌, List, [], length, Bool, true, false, inl, inr, arith}
+use Rattle.std.proofs.Common.{◌≡◌, refl, sym, ap, subst, ◌∙◌, ℕ, ◌<◌, ◌≤◌, List, [], length, true, false, inl, inr, arith}
 use Rattle.std.proofs.Math.ListN.{get_or-eq_default}
 use Rattle.std.proofs.lemmas.Bool.{cases_lt, false_from_ne_true, false≢true}
 use Rattle.amber_rows.specs.Topology.{crew_of}
@@ -7,19 +7,19 @@ use Rattle.amber_meaning.specs.Position.{Position, Restraint}
 use Rattle.amber_meaning.specs.State.{State, position_at}
 use Rattle.amber_worker.specs.WorkerState.{WorkerState}
 use Rattle.amber_dataflow.specs.AtWork.{no_worker_state}
-use Rattle.amber_dataflow.specs.Dataflow.{AreAllThere, AreFree, AreHeldByRows, DataflowState, is_held, is_paused}
+use Rattle.amber_dataflow.specs.Dataflow.{AreAllThere, AreHeldByRows, DataflowState, is_held, is_paused}
 use Rattle.amber_dataflow.proofs.Reached.{listed-past}
 use Rattle.amber_dataflow.proofs.Standing.{stand-position}
 use Rattle.amber_home.specs.Asked.{Asked}
 use Rattle.amber_home.specs.HomeState.{HomeState, NoneIsPaused, has_crew, is_open, query_of, state_of, stops_of_home}
 use Rattle.amber_home.specs.Kept.{IsHome, LiveState}
-use Rattle.amber_home.specs.Leg.{GoesOn, IsCut, is_stopped, stops_by}
+use Rattle.amber_home.specs.Leg.{GoesOn, IsCut, stops_by}
 use Rattle.amber_home.specs.declared.phase.Phase.{Phase}
 use Rattle.amber_home.specs.declared.phase.Phase.TheVariants as phase
 use Rattle.amber_home.proofs.HeldRows.{rows-within}
 use Rattle.amber_home.proofs.Homes.{home-there, long-open, open-there}
 use Rattle.amber_home.proofs.Reached.{restraint-at}
-use Rattle.amber_home.proofs.Saying.{StandsSomewhere, in_phase, stands-somewhere, stops-open}
+use Rattle.amber_home.proofs.Saying.{in_phase, stands-somewhere, stops-open}
 use Rattle.amber_home.proofs.Stopped.{stops-some}
 
 -- ---- a worker that is not there

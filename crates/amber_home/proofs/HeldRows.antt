@@ -1,5 +1,5 @@
 -- Who is held stands before a row: so it is at rest, and within a leg.
-use Rattle.std.proofs.Common.{◌≡◌, refl, sym, ap, subst, ◌∙◌, ℕ, zero, suc, ◌<◌, List, [], ◌∷◌, drop, length, is_some, if◌then◌else◌, Bool, None, true, false, inl, inr, arith}
+use Rattle.std.proofs.Common.{◌≡◌, refl, sym, ap, subst, ◌∙◌, ℕ, zero, suc, ◌<◌, List, [], ◌∷◌, drop, length, is_some, if◌then◌else◌, Bool, None, true, inl, inr, arith}
 use Rattle.std.proofs.lemmas.Bool.{cases_lt, false≢true}
 use Rattle.std.proofs.Math.ListN.{get_or-eq_default}
 use Rattle.amber_rows.specs.Lists.{first_of}

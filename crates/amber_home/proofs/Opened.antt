@@ -1,5 +1,5 @@
 -- A leg is opened: the workers stand where it begins.
-use Rattle.std.proofs.Common.{◌≡◌, refl, sym, ap, subst, ◌∙◌, ℕ, ◌≤◌, List, length, map, Bool, true, false, None, if◌then◌else◌, arith}
+use Rattle.std.proofs.Common.{◌≡◌, refl, sym, ap, ◌∙◌, ℕ, ◌≤◌, List, length, map, Bool, true, false, None, if◌then◌else◌, arith}
 use Rattle.std.proofs.Math.ListN.{get_or-map}
 use Rattle.amber_rows.specs.Topology.{op_of}
 use Rattle.amber_log.specs.Grammar.{ends_over}

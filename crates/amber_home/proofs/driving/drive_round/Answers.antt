@@ -1,5 +1,5 @@
 -- One worker after the other makes its turns.
-use Rattle.std.proofs.Common.{◌≡◌, refl, sym, ap, subst, ◌∙◌, ◌+◌, ◌<◌, ◌≤◌, ℕ, arith}
+use Rattle.std.proofs.Common.{refl, ap, subst, ◌∙◌, ◌<◌, arith}
 use Rattle.amber_rows.specs.Topology.{crew_of}
 use Rattle.amber_meaning.proofs.Crews.{op-within}
 use Rattle.amber_home.proofs.Going.{on-refl, on-then}

@@ -1,5 +1,5 @@
 -- One round after the other.
-use Rattle.std.proofs.Common.{◌≡◌, refl, sym, ap, ◌∙◌, length, arith}
+use Rattle.std.proofs.Common.{refl, sym, ap, ◌∙◌, length}
 use Rattle.amber_home.proofs.Going.{on-refl, on-then}
 use Rattle.amber_home.proofs.InTime.{in-time-moved, in-time-still}
 use Rattle.amber_home.proofs.Paused.{none-late}

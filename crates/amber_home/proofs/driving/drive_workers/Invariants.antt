@@ -2,7 +2,7 @@
 use Rattle.std.proofs.Common.{◌≡◌, ◌+◌}
 use Rattle.amber_dataflow.specs.Dataflow.{step_count}
 use Rattle.amber_home.specs.Going.{GoOn}
-use Rattle.amber_home.specs.Leg.{GoesOn, NoneIsLate}
+use Rattle.amber_home.specs.Leg.{GoesOn}
 use Rattle.amber_home.proofs.driving.drive_workers.Given as goal
 
 abbrev pub invariant-rounds : goal.invariant-rounds

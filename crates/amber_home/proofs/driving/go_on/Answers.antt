@@ -1,5 +1,5 @@
 -- A round, and one step more.
-use Rattle.std.proofs.Common.{◌≡◌, sym, ap, ◌∙◌, ◌+◌, ◌<◌, ◌≤◌, length, inl, inr, arith}
+use Rattle.std.proofs.Common.{sym, ap, ◌∙◌, length, inl, inr, arith}
 use Rattle.std.proofs.lemmas.Bool.{false≢true}
 use Rattle.amber_home.proofs.Free.{goes-not-cut}
 use Rattle.amber_home.proofs.Going.{on-then}

@@ -1,5 +1,5 @@
 -- All go on, and then the first makes a step or is held.
-use Rattle.std.proofs.Common.{◌≡◌, sym, ap, subst, ◌∙◌, ◌+◌, ◌<◌, ◌≤◌, ◌⊎◌, ℕ, inl, inr, false, arith}
+use Rattle.std.proofs.Common.{◌≡◌, ap, ◌∙◌, ◌+◌, ◌⊎◌, inl, inr, arith}
 use Rattle.std.proofs.lemmas.Bool.Decides.{eqb_tells}
 use Rattle.amber_rows.specs.Topology.{op_of}
 use Rattle.amber_dataflow.specs.Dataflow.{DataflowState, FirstSteps, all_resumed, have_all_finished, is_held, is_paused, rows_emitted, step_count}

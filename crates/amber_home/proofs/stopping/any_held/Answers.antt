@@ -1,5 +1,5 @@
 -- One worker more is not held.
-use Rattle.std.proofs.Common.{◌≡◌, ◌∙◌, ap, inl, inr, sym, subst, ◌≤◌, arith}
+use Rattle.std.proofs.Common.{◌∙◌, ap, inl, inr, sym, subst, ◌≤◌, arith}
 use Rattle.std.proofs.lemmas.Bool.{cases_lt}
 use Rattle.amber_rows.specs.Topology.{crew_of}
 use Rattle.amber_dataflow.specs.Dataflow.{is_held}

@@ -1,12 +1,10 @@
 -- The stop of one worker.
-use Rattle.std.proofs.Common.{◌≡◌, sym, ap, subst, ◌∙◌, ◌-◌, ◌<◌, ◌≤◌, List, [], ◌∷◌, ◌++◌, None, Some, append-nil, option_map, rules}
+use Rattle.std.proofs.Common.{◌≡◌, sym, ap, ◌∙◌, ◌-◌, List, [], ◌∷◌, ◌++◌, None, Some, append-nil, option_map, rules}
 use Rattle.amber_rows.specs.Topology.{first_worker_of, op_of}
-use Rattle.amber_rows.specs.declared.value.Value.{Value}
 use Rattle.amber_rows.specs.declared.flow.Operator.{Operator}
 use Rattle.amber_meaning.specs.declared.view.Stop.TheVariants as stop
 use Rattle.amber_meaning.proofs.Crews.{op-within, own-worker, worker-within}
 use Rattle.amber_dataflow.specs.Dataflow.{held_row}
-use Rattle.amber_home.specs.Leg.{stop_of_worker}
 use Rattle.amber_home.proofs.Stopped.{stop-of-none, stop-of-row}
 use Rattle.amber_home.proofs.stops.add_worker.Goals as goal
 

@@ -1,5 +1,5 @@
 -- The row is that of the state.
-use Rattle.std.proofs.Common.{◌≡◌, sym, ap, ◌∙◌}
+use Rattle.std.proofs.Common.{sym, ap, ◌∙◌}
 use Rattle.amber_log.specs.Fits.{fits_of}
 use Rattle.amber_home.specs.HomeState.{HomeState, dropped_by, dropped_by_action}
 use Rattle.amber_home.proofs.Commanded.{drops-resting, few-resting, has-operator, there-resting}
