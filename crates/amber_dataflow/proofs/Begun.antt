@@ -73,9 +73,6 @@ pub start-position : (flow : List Operator) (worker : ℕ) → position_at (star
 unfolding start_of
 start-position flow worker = position-get_or (replicate (crew_of flow) origin) worker ∙ at-origin (crew_of flow) worker
 
-start-uncounted : (flow : List Operator) (op : ℕ) → (arms_at (start_of flow) op).count ≡ None
-start-uncounted flow op = ap (λ arms. arms.count) (start-arms flow op)
-
 -- ---- who stands at a place
 
 sent-at : (placement : Placement) (receivers : List ℕ) (output : Output) (outs : List Downstream) (j : ℕ) (d : Downstream) → j < length outs
@@ -111,9 +108,6 @@ module _ (flow : List Operator) (files : List (List ℕ)) (parts : Parts) (crew 
       → IsAtPosition (first_context flow (records_of files flow) parts.batch_size worker) (worker_state_at crew worker) origin origin
   unfolding StandsNew
   stands worker below = subst (λ f. StandsNew (record { flow = f; number = worker; batch_size = parts.batch_size; share = share_of_worker parts.shares worker }) (worker_state_at crew worker)) flow_is (new.each worker (within worker below)).stands (records_of files flow) (dealt.dealt worker below)
-
-  unarmed : (worker : ℕ) → worker < crew_of flow → (worker_state_at crew worker).seat ≡ None
-  unarmed worker below = (new.each worker (within worker below)).unarmed
 
   number-is : (worker : ℕ) → worker < crew_of flow → (worker_state_at crew worker).number ≡ worker
   unfolding placement_of
@@ -188,7 +182,6 @@ module _ (flow : List Operator) (files : List (List ℕ)) (parts : Parts) (crew 
     at : AreJoinedAt query (start_of flow) crew (λ _. origin)
     at = record {
       flow = ok;
-      uncounted = start-uncounted flow;
       at_positions = record {
         all = new.all ∙ ap crew_of flow_is;
         each = λ worker below.
@@ -196,7 +189,6 @@ module _ (flow : List Operator) (files : List (List ℕ)) (parts : Parts) (crew 
             (subst (λ orders. IsAtPosition (record (context_in query (start_of flow) worker) { orders = orders }) (worker_state_at crew worker) origin origin)
             (sym (start-orders flow worker)) (stands worker below));
       };
-      unarmed = unarmed;
       joined = joined;
     }
 
@@ -238,6 +230,12 @@ module _ (flow : List Operator) (files : List (List ℕ)) (parts : Parts) (crew 
   no-journals worker = elim (cases_lt worker (length crew)) [
     | inl below ↦ (new.each worker (subst (λ n. worker < n) new.all below)).journal
     | inr beyond ↦ ap (λ (w : WorkerState). w.journal) (get_or-eq_default crew no_worker_state beyond)
+  ]
+
+  pub no-seats : (worker : ℕ) → (worker_state_at crew worker).seat ≡ None
+  no-seats worker = elim (cases_lt worker (length crew)) [
+    | inl below ↦ (new.each worker (subst (λ n. worker < n) new.all below)).unarmed
+    | inr beyond ↦ ap (λ (w : WorkerState). w.seat) (get_or-eq_default crew no_worker_state beyond)
   ]
 
 -- ---- one worker is made of its parts

@@ -1,5 +1,5 @@
 -- One worker's turn leaves all workers standing, and so does moving batches from one to another.
-use Rattle.std.proofs.Common.{None, Option, ◌≡◌, ◌≢◌, refl, sym, ap, subst, ◌∙◌, ℕ, ◌<◌, List, length, set, nat_eq, true, false, is_some, if◌then◌else◌, inl, inr, get_or-set_same, get_or-set_other, length-set}
+use Rattle.std.proofs.Common.{None, Option, ◌≡◌, ◌≢◌, refl, sym, ap, subst, ◌∙◌, ℕ, ◌<◌, List, length, set, nat_eq, Bool, true, false, is_some, if◌then◌else◌, inl, inr, get_or-set_same, get_or-set_other, length-set}
 use Rattle.std.proofs.lemmas.Bool.{eq-eqb, ne_eqb}
 use Rattle.std.proofs.lemmas.Bool.Decides.{eqb_tells}
 use Rattle.amber_rows.specs.Topology.{crew_of, op_of}
@@ -12,7 +12,7 @@ use Rattle.amber_worker.specs.Pairs.{AreJoined, StaysAt}
 use Rattle.amber_board.specs.declared.types.WorkSeat.{WorkSeat}
 use Rattle.amber_worker.specs.WorkerState.{WorkerState, is_armed}
 use Rattle.amber_worker.proofs.Turns.{ends-same}
-use Rattle.amber_dataflow.specs.AtWork.{AreJoinedAt, context_in, no_worker_state, worker_state_at}
+use Rattle.amber_dataflow.specs.AtWork.{AreJoinedAt, context_in, is_counted, no_worker_state, worker_state_at}
 use Rattle.amber_dataflow.proofs.Linked.{joined-still}
 
 -- ---- positions
@@ -25,7 +25,7 @@ placed positions worker p other = if nat_eq other worker then p else positions o
 pub at-each : (P : ℕ → Type 0) (place : ℕ) → P place → ((other : ℕ) → other ≢ place → P other) → (k : ℕ) → P k
 at-each P place here there k = elim (eqb_tells k place) [ inl h ↦ subst P (sym h.1) here | inr h ↦ there k h.1 ]
 
-same-place : (place : ℕ) → nat_eq place place ≡ true
+pub same-place : (place : ℕ) → nat_eq place place ≡ true
 same-place place = eq-eqb place place refl
 
 -- ---- a worker in the place of another
@@ -36,13 +36,6 @@ module _ (crew : List WorkerState) (worker : ℕ) (now : WorkerState) (inside : 
 
   pub there-still : (other : ℕ) → other ≢ worker → worker_state_at (set crew worker now) other ≡ worker_state_at crew other
   there-still other ne = get_or-set_other crew worker other now no_worker_state ne
-
-  -- all are unarmed, where this one is
-  pub unarmed-each : (many : ℕ) → ((k : ℕ) → k < many → (worker_state_at crew k).seat ≡ None) → now.seat ≡ None
-      → (k : ℕ) → k < many → (worker_state_at (set crew worker now) k).seat ≡ None
-  unarmed-each many unarmed here = at-each (λ k. k < many → (worker_state_at (set crew worker now) k).seat ≡ None) worker
-      (λ h. rw here-now here)
-      (λ k ne h. rw (there-still k ne) (unarmed k h))
 
   -- all have the same ends, where this one has
   pub ends-each : HasSameEnds (worker_state_at crew worker) now → (k : ℕ) → HasSameEnds (worker_state_at crew k) (worker_state_at (set crew worker now) k)
@@ -59,24 +52,20 @@ joined-each old new same from to joined =
 -- ---- a turn
 
 module _ (query : Query) (start : State) (crew : List WorkerState) (positions : ℕ → Position) (worker : ℕ) (now : WorkerState) where
-  pub uncounted : AreJoinedAt query start crew positions → (orders_in query start worker).counted ≡ false
-  uncounted at = ap (λ count. is_some count) (at.uncounted (op_of query.flow worker))
-
-  -- a worker that kept standing, with the same ends, and is unarmed, may take the place of what it was
-  pub joined-turned : AreJoinedAt query start crew positions → worker < length crew
-      → KeepsUnder (is_armed (worker_state_at crew worker)) (worker_state_at crew worker) now → HasSameEnds (worker_state_at crew worker) now → now.seat ≡ None
+  -- a worker that kept standing, with the same ends, may take the place of what it was
+  pub joined-turned : AreJoinedAt query start crew positions → worker < length crew → (counted : Bool) → is_counted query start worker ≡ counted
+      → KeepsUnder counted (worker_state_at crew worker) now → HasSameEnds (worker_state_at crew worker) now
       → (q : Position) × AreJoinedAt query start (set crew worker now) (placed positions worker q)
   unfolding KeepsUnder
-  joined-turned at inside keeps same unarmed =
+  joined-turned at inside counted under keeps same =
       let here : worker < crew_of query.flow = rw (← at.at_positions.all) inside in
       let moved = keeps (context_in query start worker) (position_at start.positions worker) (positions worker)
-      (uncounted at ∙ sym (ap (λ (s : Option WorkSeat). is_some s) (at.unarmed worker here)))
+      under
       (at.at_positions.each worker here) in
       let q = moved.0 in (
         q,
         record {
           flow = at.flow;
-          uncounted = at.uncounted;
           at_positions = record {
             all = length-set crew worker now ∙ at.at_positions.all;
             each = at-each (λ k. k < crew_of query.flow → IsAtPosition (context_in query start k)
@@ -84,7 +73,6 @@ module _ (query : Query) (start : State) (crew : List WorkerState) (positions : 
                 (λ h. rw (here-now crew worker now inside, same-place worker) moved.1)
                 (λ k ne h. rw (there-still crew worker now inside k ne, ne_eqb k worker ne) (at.at_positions.each k h));
           };
-          unarmed = unarmed-each crew worker now inside (crew_of query.flow) at.unarmed unarmed;
           joined = λ from to from-in to-in.
               joined-each crew (set crew worker now) (ends-each crew worker now inside same) from to (at.joined from to from-in to-in);
         },
@@ -93,13 +81,12 @@ module _ (query : Query) (start : State) (crew : List WorkerState) (positions : 
 -- ---- batches go on
 
 module _ (query : Query) (start : State) (crew : List WorkerState) (positions : ℕ → Position) (worker : ℕ) (now : WorkerState) where
-  -- a worker that stays where it stood, with the same ends and the same seat, may take the place of what it was
+  -- a worker that stays where it stood, with the same ends, may take the place of what it was
   pub joined-stays : AreJoinedAt query start crew positions → worker < length crew → StaysAt (worker_state_at crew worker) now → HasSameEnds (worker_state_at crew worker) now
-      → now.seat ≡ (worker_state_at crew worker).seat → AreJoinedAt query start (set crew worker now) positions
+      → AreJoinedAt query start (set crew worker now) positions
   unfolding StaysAt
-  joined-stays at inside stays same seat = record {
+  joined-stays at inside stays same = record {
     flow = at.flow;
-    uncounted = at.uncounted;
     at_positions = record {
       all = length-set crew worker now ∙ at.at_positions.all;
       each = at-each (λ k. k < crew_of query.flow → IsAtPosition (context_in query start k)
@@ -108,7 +95,6 @@ module _ (query : Query) (start : State) (crew : List WorkerState) (positions : 
           (stays (context_in query start worker) (position_at start.positions worker) (positions worker) (at.at_positions.each worker h)))
           (λ k ne h. rw (there-still crew worker now inside k ne) (at.at_positions.each k h));
     };
-    unarmed = unarmed-each crew worker now inside (crew_of query.flow) at.unarmed (seat ∙ at.unarmed worker (rw (← at.at_positions.all) inside));
     joined = λ from to from-in to-in.
         joined-each crew (set crew worker now) (ends-each crew worker now inside same) from to (at.joined from to from-in to-in);
   }

@@ -20,7 +20,7 @@ use Rattle.amber_dataflow.specs.Dataflow.{AreHeldByRows, DataflowState, HaveDone
 use Rattle.amber_dataflow.proofs.Crews.{at-each, here-now, there-still}
 use Rattle.amber_dataflow.proofs.Reached.{listed-at}
 use Rattle.amber_dataflow.proofs.Renewed.{HasItsEnds, renewed}
-use Rattle.amber_dataflow.proofs.Standing.{stand-all, stand-uncounted}
+use Rattle.amber_dataflow.proofs.Standing.{stand-all}
 use Rattle.amber_dataflow.proofs.Steps.{sum-more}
 
 -- a list that goes on behind so many has more
@@ -35,8 +35,8 @@ dropped-ends : (w : WorkerState) → HasItsEnds w (held_dropped w)
 dropped-ends w = by w.restraint.held
   where
     by : (b : Bool) → HasItsEnds w (if b then record w { restraint = record w.restraint { held = false }; pending = drop 1 w.pending } else w)
-    by true = record { number = refl; ins = refl; outs = refl; seat = refl }
-    by false = record { number = refl; ins = refl; outs = refl; seat = refl }
+    by true = record { number = refl; ins = refl; outs = refl }
+    by false = record { number = refl; ins = refl; outs = refl }
 
 dropped-journal : (w : WorkerState) → (held_dropped w).journal ≡ w.journal
 dropped-journal w = by w.restraint.held
@@ -78,7 +78,7 @@ module _ (query : Query) (start : State) (d : DataflowState) (positions : ℕ �
   same : (k : ℕ) → HasItsEnds (worker_state_at crew k) (worker_state_at (set crew worker now) k)
   same = at-each (λ k. HasItsEnds (worker_state_at crew k) (worker_state_at (set crew worker now) k)) worker
       (rw (here-now crew worker now there) (dropped-ends (worker_state_at crew worker)))
-      (λ k ne. rw (there-still crew worker now there k ne) (record { number = refl; ins = refl; outs = refl; seat = refl }))
+      (λ k ne. rw (there-still crew worker now there k ne) (record { number = refl; ins = refl; outs = refl }))
 
   -- one of them, with nothing done since
   at : (k : ℕ) → k < crew_of query.flow → IsAtPosition (context_in query start k) (worker_state_at (set crew worker now) k) (dropped_at k) (dropped_at k)
@@ -99,11 +99,11 @@ module _ (query : Query) (start : State) (d : DataflowState) (positions : ℕ �
       (record { leads = rw (none k) refl; text = rw (none k) tt; shows = (stand.work.at.at_positions.each k less).shows }))
 
   -- and all of them, in another state with the same orders
-  pub stand-dropped : (after : State) → ((op : ℕ) → (arms_at after op).count ≡ None) → ((k : ℕ) → k < crew_of query.flow → orders_in query after k ≡ orders_in query start k)
+  pub stand-dropped : (after : State) → ((k : ℕ) → k < crew_of query.flow → orders_in query after k ≡ orders_in query start k)
       → ((k : ℕ) → k < crew_of query.flow → position_at after.positions k ≡ dropped_at k) → StandAt query after (row_dropped worker d) dropped_at
-  stand-dropped after uncounted orders is = record {
+  stand-dropped after orders is = record {
     flow = stand.flow;
-    work = renewed query start after crew (set crew worker now) positions dropped_at stand.work (length-set crew worker now) same uncounted
+    work = renewed query start after crew (set crew worker now) positions dropped_at stand.work (length-set crew worker now) same
         (λ k less. rw (orders k less, is k less) (at k less));
   }
 
@@ -120,7 +120,7 @@ module _ (query : Query) (start : State) (d : DataflowState) (positions : ℕ �
           query,
           after,
           dropped_at,
-          stand-dropped after (stand-uncounted query start d positions stand) (λ k less. refl) (λ k less. listed-at dropped_at (crew_of query.flow) k less),
+          stand-dropped after (λ k less. refl) (λ k less. listed-at dropped_at (crew_of query.flow) k less),
         );
   }
 

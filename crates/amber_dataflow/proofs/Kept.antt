@@ -22,20 +22,23 @@ use Rattle.amber_meaning.proofs.Crews.{op-within, worker-known}
 use Rattle.amber_meaning.proofs.Numbers.{among, among-first, among-more}
 use Rattle.amber_worker.specs.AtPosition.{placement_of}
 use Rattle.amber_worker.specs.Changes.{at_leg_start, resumed_at}
-use Rattle.amber_worker.specs.WorkerState.{IsFree, WorkerState, steps_made}
+use Rattle.amber_board.specs.declared.types.Board.{Board}
+use Rattle.amber_worker.specs.Counting.{IsBoardOf}
+use Rattle.amber_worker.specs.WorkerState.{IsFree, WorkerState, is_armed, needs_unit, steps_made}
 use Rattle.amber_dataflow.specs.Answers.{IsGathered, ShowAll, ShowWorkers}
-use Rattle.amber_dataflow.specs.AtWork.{AreAtWork, GoesOn, HaveFinished, IsCrew, IsHeldAt, KeepsPosition, MakesStepAt, MakesTurnsAt, state_reached, steps_by, worker_state_at}
-use Rattle.amber_dataflow.specs.Dataflow.{AreAllThere, AreFree, DataflowState, HasStopped, HaveDoneNothing, IsAnswerOf, IsDataflow, IsFirst, IsHeldNow, IsStarved, MadeStep, ShowAt, StandAgain, TurnsAt, all_resumed, leg_begun, handed_out, has_finished, is_held, is_paused, have_all_finished, journal_of, rows_emitted, step_count, constant_put, when_put, worker_begun, worker_resumed, worker_set, worker_watching}
+use Rattle.amber_dataflow.specs.AtWork.{AreAtWork, GoesOn, HaveFinished, IsCrewUnder, IsHeldAt, KeepsPosition, MakesStepAt, MakesTurnsAt, state_reached, steps_by, worker_state_at}
+use Rattle.amber_dataflow.specs.Dataflow.{AreAllThere, AreFree, DataflowState, HasStopped, HaveDoneNothing, IsAnswerOf, IsDataflow, IsFirst, IsHeldNow, IsIdle, MadeStep, MovesUnder, ShowAt, StandAgain, StandsUnder, TurnsAt, all_resumed, leg_begun, handed_out, has_finished, has_room, is_armed_at, is_held, is_paused, is_short, have_all_finished, journal_of, rows_emitted, seat_of, step_count, units_counted, constant_put, when_put, worker_begun, worker_resumed, worker_set, worker_watching}
 use Rattle.amber_dataflow.specs.Parts.{without_journal}
 use Rattle.amber_dataflow.specs.Stopping.{WorkerHasStopped}
 use Rattle.amber_dataflow.proofs.Answered.{at-work-show, some-crew}
 use Rattle.amber_dataflow.proofs.Emitted.{crew-few, others-emitted, own-emitted}
-use Rattle.amber_dataflow.proofs.Numbered.{nth-numbers, uncounted-map}
+use Rattle.amber_dataflow.proofs.Numbered.{nth-numbers}
 use Rattle.amber_dataflow.proofs.Reached.{listed-at}
 use Rattle.amber_dataflow.proofs.Said.{all-have}
 use Rattle.amber_dataflow.proofs.Split.{read-at}
-use Rattle.amber_dataflow.proofs.Standing.{begun_orders, begun-steps, handed_out-steps, set-steps, stand-begun, stand-handed_out, stand-set, stand-uncounted, stand-watched, watched-steps}
+use Rattle.amber_dataflow.proofs.Standing.{agree-same, begun_orders, begun-steps, handed_out-steps, set-steps, stand-begun, stand-handed_out, stand-set, stand-watched, watched-steps}
 use Rattle.amber_dataflow.proofs.Steps.{steps-none, sum-member}
+use Rattle.amber_dataflow.proofs.Units.{others-units, own-more, own-units}
 use Rattle.amber_dataflow.proofs.Within.{position-here, steps-reached}
 
 -- a slice of a `Vec` that comes back as long as it was
@@ -54,24 +57,26 @@ pub loose-lent : (d : DataflowState) (lent : List WorkerState) → lent ≡ d.wo
 unfolding is_held
 loose-lent d lent is none = λ k e less. ap (λ (w : WorkerState). w.restraint.held) (read-at lent k e less) ∙ ap (λ crew. (worker_state_at crew k).restraint.held) is ∙ none k
 
--- no count is armed where none is at any operator
-listed-uncounted : (arms : ℕ → Arms) (flow : List Operator) (positions : List Position) → ((op : ℕ) → (arms op).count ≡ None)
-    → (k : ℕ) → (arms_at (record { arms = map arms (op_numbers flow); positions = positions }) k).count ≡ None
-listed-uncounted arms flow positions none k = by (nat_eq k 0)
-  where
-    by : (b : Bool) → (unwrap_or (if b then None else slice_get (map arms (op_numbers flow)) (k - 1)) no_arms).count ≡ None
-    by true = refl
-    by false = uncounted-map arms (op_numbers flow) none (k - 1)
-
 module _ (d : DataflowState) (keeps : IsDataflow d) where
   -- ---- where workers are left
 
-  crew-is : AreAllThere d → IsCrew d.workers
-  crew-is there = let stand = keeps.stand there in (stand.0, stand.1, stand.2, stand.3.work)
-
   -- as they are lent
-  pub crew-lent : (lent : List WorkerState) → lent ≡ d.workers → AreAllThere d → IsCrew lent
-  crew-lent lent is there = subst IsCrew (sym is) (crew-is there)
+  pub crew-lent : (lent : List WorkerState) (worker : ℕ) → lent ≡ d.workers → StandsUnder (is_armed_at d worker) d worker
+      → IsCrewUnder (is_armed (worker_state_at lent worker)) worker lent
+  unfolding seat_of
+  crew-lent lent worker is under =
+      subst (λ crew. IsCrewUnder (is_armed (worker_state_at crew worker)) worker crew) (sym is) (under.0, under.1, under.2, under.3.work, under.4)
+
+  -- the board of one of them
+  pub own-lent : (lent : List WorkerState) (worker : ℕ) (board : Option Board) → lent ≡ d.workers → IsBoardOf board (seat_of d worker)
+      → IsBoardOf board (worker_state_at lent worker).seat
+  unfolding seat_of
+  own-lent lent worker board is own = subst (λ crew. IsBoardOf board (worker_state_at crew worker).seat) (sym is) own
+
+  -- one of them is not short of units
+  pub fed-lent : (lent : List WorkerState) (worker : ℕ) → lent ≡ d.workers → is_short d worker ≡ false → needs_unit (worker_state_at lent worker) ≡ false
+  unfolding is_short
+  fed-lent lent worker is fed = ap (λ crew. needs_unit (worker_state_at crew worker)) is ∙ fed
 
   -- each has made few steps, with those to come
   pub few-lent : (lent : List WorkerState) (worker more : ℕ) → lent ≡ d.workers → step_count d + more ≤ 2 ^ 40 → steps_made (worker_state_at lent worker) + more ≤ 2 ^ 40
@@ -109,20 +114,27 @@ module _ (d : DataflowState) (keeps : IsDataflow d) where
 
   -- one of them has made turns
   turned : (now : List WorkerState) (worker most : ℕ) → length now ≡ crew_of d.flow → MakesTurnsAt most d.workers now worker → TurnsAt most d (record d { workers = now }) worker
-  unfolding GoesOn journal_of has_finished rows_emitted
+  unfolding GoesOn MovesUnder journal_of has_finished has_room rows_emitted seat_of units_counted
   turned now worker most there turns = record {
     flow = refl;
     there = there;
-    on = λ query start positions stand.
-        let next = turns.on query start positions stand.work in
+    on = λ query start positions stand under.
+        let next = turns.on query start positions stand.work under in
         (next.0, record { flow = stand.flow; work = next.1 }, next.2);
     writes = turns.writes;
     others = λ other apart. record {
       finished = ap (λ (w : WorkerState). w.finished) (turns.only other apart);
       journal = ap (λ (w : WorkerState). w.journal) (turns.only other apart);
+      seat = ap (λ (w : WorkerState). w.seat) (turns.only other apart);
+      room = ap (λ (w : WorkerState). w.reserved) (turns.only other apart);
     };
     rows = own-emitted d.workers now worker most turns.only turns.rows d.flow (op_of d.flow worker);
+    more = own-more d.workers now worker turns.only turns.more (workers_of d.flow (op_of d.flow worker));
     emitted = λ op apart. others-emitted d.flow d.workers now worker op turns.only apart;
+    seat = turns.seat;
+    room = turns.reserved;
+    units = λ armed. own-units d.flow d.workers now worker turns.only (turns.mine armed);
+    counted = λ op apart. others-units d.flow d.workers now worker op turns.only apart;
   }
 
   -- as they were lent and come back
@@ -160,10 +172,10 @@ module _ (d : DataflowState) (keeps : IsDataflow d) where
         by (inr held) = let none = held.none in omega arith
 
     -- what is known of all workers still is
-    pub kept-stepped : MakesStepAt lent now worker ⊎ IsHeldAt lent now worker → step_count d < 2 ^ 40 → IsDataflow back
-    kept-stepped does few =
-        let stand = keeps.stand there in
-        let next = turned-back.on stand.0 stand.1 stand.2 stand.3 in
+    pub kept-stepped : StandsUnder (is_armed_at d worker) d worker → MakesStepAt lent now worker ⊎ IsHeldAt lent now worker → step_count d < 2 ^ 40 → IsDataflow back
+    unfolding MovesUnder
+    kept-stepped stand does few =
+        let next = turned-back.on stand.0 stand.1 stand.2 stand.3 stand.4 in
         record {
           flow = keeps.flow;
           few = let most = count-most does in omega arith;
@@ -177,19 +189,24 @@ module _ (d : DataflowState) (keeps : IsDataflow d) where
       count-back = ap step_count (sym back-is) ∙ count ∙ ap (λ crew. steps_by crew + made) is
 
       -- what is known of all workers still is
-      pub kept-back : step_count d + made ≤ 2 ^ 40 → IsDataflow back
-      kept-back few =
-          let stand = keeps.stand there in
-          let next = turned-back.on stand.0 stand.1 stand.2 stand.3 in
+      pub kept-back : StandsUnder (is_armed_at d worker) d worker → step_count d + made ≤ 2 ^ 40 → IsDataflow back
+      unfolding MovesUnder
+      kept-back stand few =
+          let next = turned-back.on stand.0 stand.1 stand.2 stand.3 stand.4 in
           record {
             flow = keeps.flow;
             few = rw count-back few;
             stand = λ has. (stand.0, stand.1, next.0, next.1);
           }
 
+    -- the board is still that of its seat
+    pub own-back : (board : Option Board) → IsBoardOf board (worker_state_at now worker).seat → IsBoardOf board (seat_of back worker)
+    unfolding seat_of
+    own-back board own = subst (λ (e : DataflowState). IsBoardOf board (worker_state_at e.workers worker).seat) back-is own
+
     -- it has stopped
     pub stopped-back : WorkerHasStopped (worker_state_at now worker) → HasStopped back worker
-    unfolding has_finished is_held is_paused IsStarved
+    unfolding has_finished is_held is_paused is_short IsIdle
     stopped-back stopped = subst (λ (e : DataflowState). WorkerHasStopped (worker_state_at e.workers worker)) back-is stopped
 
   -- ---- a leg begins, and journals are handed out
@@ -204,11 +221,6 @@ module _ (d : DataflowState) (keeps : IsDataflow d) where
   begun-arms-orders true arms = refl
   begun-arms-orders false arms = refl
 
-  begun-uncounted : (to_end : Bool) (arms : Arms) → arms.count ≡ None → (begun_arms to_end arms).count ≡ None
-  unfolding begun_arms
-  begun-uncounted true arms none = refl
-  begun-uncounted false arms none = none
-
   pub kept-begun : (to_end : Bool) → IsDataflow (leg_begun to_end d)
   kept-begun to_end = record {
     flow = keeps.flow;
@@ -217,13 +229,11 @@ module _ (d : DataflowState) (keeps : IsDataflow d) where
         let stand = keeps.stand (sym (length-map d.workers (worker_begun to_end)) ∙ there) in
         let later : ℕ → Position = λ worker. let_go (stand.2 worker) in
         let arms : ℕ → Arms = λ op. begun_arms to_end (arms_at stand.1 op) in
-        let now : State = record { arms = map arms (op_numbers stand.0.flow); positions = map later (numbers_below (crew_of stand.0.flow)) } in
-        let uncounted = stand-uncounted stand.0 stand.1 d stand.2 stand.3 in (
+        let now : State = record { arms = map arms (op_numbers stand.0.flow); positions = map later (numbers_below (crew_of stand.0.flow)) } in (
           stand.0,
           now,
           later,
-          stand-begun stand.0 stand.1 d stand.2 stand.3 now
-              (listed-uncounted arms stand.0.flow now.positions (λ op. begun-uncounted to_end (arms_at stand.1 op) (uncounted op))) to_end
+          stand-begun stand.0 stand.1 d stand.2 stand.3 now to_end
               (λ worker inside.
               let placed = op-within stand.0.flow worker inside in
               ap (λ found. orders_of (unwrap_or found no_arms)) (nth-numbers arms stand.0.flow (op_of stand.0.flow worker) placed.0 placed.1)
@@ -242,32 +252,20 @@ module _ (d : DataflowState) (keeps : IsDataflow d) where
           stand.0,
           now,
           stand.2,
-          stand-handed_out stand.0 stand.1 d stand.2 stand.3 now (stand-uncounted stand.0 stand.1 d stand.2 stand.3) (λ worker inside. refl)
+          stand-handed_out stand.0 stand.1 d stand.2 stand.3 now (λ worker inside. record { constants = refl; when = refl })
               (λ worker inside. listed-at stand.2 (crew_of stand.0.flow) worker inside),
         );
   }
 
 -- ---- another constant, or another condition
 
--- a state in which what is in force at an operator was changed, but for a count
-module _ (query : Query) (start : State) (positions : ℕ → Position) (op : ℕ) (change : Arms → Arms) (leaves : (arms : Arms) → (change arms).count ≡ arms.count)
-    (uncounted : (k : ℕ) → (arms_at start k).count ≡ None) where
+-- a state in which what is in force at an operator was changed
+module _ (query : Query) (start : State) (positions : ℕ → Position) (op : ℕ) (change : Arms → Arms) where
   changed_arms : ℕ → Arms
   changed_arms k = if eqb k op then change (arms_at start k) else arms_at start k
 
   abbrev changed_state : State
   changed_state = record { arms = map changed_arms (op_numbers query.flow); positions = map positions (numbers_below (crew_of query.flow)) }
-
-  uncounted-one : (k : ℕ) → (changed_arms k).count ≡ None
-  unfolding changed_arms
-  uncounted-one k = by (eqb k op)
-    where
-      by : (b : Bool) → (if b then change (arms_at start k) else arms_at start k).count ≡ None
-      by true = leaves (arms_at start k) ∙ uncounted k
-      by false = uncounted k
-
-  uncounted-changed : (k : ℕ) → (arms_at changed_state k).count ≡ None
-  uncounted-changed k = listed-uncounted changed_arms query.flow changed_state.positions uncounted-one k
 
   arms-changed : (worker : ℕ) → worker < crew_of query.flow → arms_at changed_state (op_of query.flow worker) ≡ changed_arms (op_of query.flow worker)
   arms-changed worker inside =
@@ -293,15 +291,14 @@ kept-set d op value keeps none = record {
   few = rw (set-steps op value d) keeps.few;
   stand = λ there.
       let stand = keeps.stand (sym (length-map d.workers (worker_set op value)) ∙ there) in
-      let uncounted = stand-uncounted stand.0 stand.1 d stand.2 stand.3 in
       let change : Arms → Arms = λ arms. record arms { constants = value ∷ [] } in
-      let now = changed_state stand.0 stand.1 stand.2 op change (λ arms. refl) uncounted in (
+      let now = changed_state stand.0 stand.1 stand.2 op change in (
         stand.0,
         now,
         stand.2,
-        stand-set stand.0 stand.1 d stand.2 stand.3 now (uncounted-changed stand.0 stand.1 stand.2 op change (λ arms. refl) uncounted) op value none
+        stand-set stand.0 stand.1 d stand.2 stand.3 now op value none
             (λ worker inside. listed-at stand.2 (crew_of stand.0.flow) worker inside)
-            (orders-here stand.0 stand.1 stand.2 op change (λ arms. refl) uncounted) (orders-elsewhere stand.0 stand.1 stand.2 op change (λ arms. refl) uncounted),
+            (orders-here stand.0 stand.1 stand.2 op change) (orders-elsewhere stand.0 stand.1 stand.2 op change),
       );
 }
 
@@ -311,15 +308,15 @@ kept-watched d op when keeps none = record {
   few = rw (watched-steps op when d) keeps.few;
   stand = λ there.
       let stand = keeps.stand (sym (length-map d.workers (worker_watching op when)) ∙ there) in
-      let uncounted = stand-uncounted stand.0 stand.1 d stand.2 stand.3 in
       let change : Arms → Arms = λ arms. record arms { when = when } in
-      let now = changed_state stand.0 stand.1 stand.2 op change (λ arms. refl) uncounted in (
+      let now = changed_state stand.0 stand.1 stand.2 op change in (
         stand.0,
         now,
         stand.2,
-        stand-watched stand.0 stand.1 d stand.2 stand.3 now (uncounted-changed stand.0 stand.1 stand.2 op change (λ arms. refl) uncounted) op when none
+        stand-watched stand.0 stand.1 d stand.2 stand.3 now op when none
             (λ worker inside. listed-at stand.2 (crew_of stand.0.flow) worker inside)
-            (orders-here stand.0 stand.1 stand.2 op change (λ arms. refl) uncounted) (orders-elsewhere stand.0 stand.1 stand.2 op change (λ arms. refl) uncounted),
+            (λ worker inside same. agree-same (orders_in stand.0 now worker) (record (orders_in stand.0 stand.1 worker) { when = when }) (orders-here stand.0 stand.1 stand.2 op change worker inside same))
+            (λ worker inside other. agree-same (orders_in stand.0 now worker) (orders_in stand.0 stand.1 worker) (orders-elsewhere stand.0 stand.1 stand.2 op change worker inside other)),
       );
 }
 

@@ -27,6 +27,7 @@ pub mod Refusing
 pub mod Renewed
 pub mod Resumed
 pub mod Said
+pub mod Seated
 pub mod Sending
 pub mod SortedRefusals
 pub mod Split
@@ -34,6 +35,7 @@ pub mod Standing
 pub mod Starved
 pub mod Stepped
 pub mod Steps
+pub mod Units
 pub mod Untold
 pub mod Viewed
 pub mod Webs

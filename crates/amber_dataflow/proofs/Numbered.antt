@@ -45,9 +45,3 @@ nth-numbers f flow (suc i) some within = ap (nth (map f (op_numbers flow))) (sym
 
 pub length-ops : (flow : List Operator) → length (op_numbers flow) ≡ length flow
 length-ops flow = length-map (numbers_below (length flow)) suc ∙ length-numbers (length flow)
-
--- a count is armed nowhere in a list of arms, where each has none
-pub uncounted-map : (f : ℕ → Arms) (xs : List ℕ) → ((x : ℕ) → (f x).count ≡ None) → (i : ℕ) → (unwrap_or (slice_get (map f xs) i) no_arms).count ≡ None
-uncounted-map f [] uncounted i = refl
-uncounted-map f (x ∷ xs) uncounted zero = uncounted x
-uncounted-map f (x ∷ xs) uncounted (suc i) = uncounted-map f xs uncounted i

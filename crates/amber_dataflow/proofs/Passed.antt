@@ -95,20 +95,14 @@ module _ (old new : List WorkerState) (from to : ℕ) (passed : PassedOn old fro
   pub passed-length : length new ≡ length old
   passed-length = ap length passed.is ∙ length-set between to passed.to_now ∙ length-set old from passed.from_now
 
-  from-seat : passed.from_now.seat ≡ (worker_state_at old from).seat
-  from-seat = ap (λ (w : WorkerState). w.seat) passed.passes.from_only
-
-  to-seat : passed.to_now.seat ≡ (worker_state_at old to).seat
-  to-seat = ap (λ (w : WorkerState). w.seat) passed.passes.to_only
-
   -- all stand where they stood
   pub put-passed : StayPut old new
   unfolding StayPut
   put-passed query start positions at =
       subst (λ crew. AreJoinedAt query start crew positions) (sym passed.is)
       (joined-stays query start between positions to passed.to_now
-      (joined-stays query start old positions from passed.from_now at from-inside passed.from_stays passed.from_ends from-seat) to-inside
-      (rw to-between passed.to_stays) (rw to-between passed.to_ends) (rw to-between to-seat))
+      (joined-stays query start old positions from passed.from_now at from-inside passed.from_stays passed.from_ends) to-inside
+      (rw to-between passed.to_stays) (rw to-between passed.to_ends))
 
   -- the link is settled
   pub settled-passed : Settled new from to

@@ -35,12 +35,12 @@ module _ (op : ℕ) (value : Value) where
   set-at (w ∷ crew) (suc k) less = set-at crew k (omega arith)
 
   pub ends-set : (crew : List WorkerState) (k : ℕ) → HasItsEnds (worker_state_at crew k) (worker_state_at (map (worker_set op value) crew) k)
-  ends-set [] k = record { number = refl; ins = refl; outs = refl; seat = refl }
+  ends-set [] k = record { number = refl; ins = refl; outs = refl }
   ends-set (w ∷ crew) zero = by (eqb w.op op)
     where
       by : (b : Bool) → HasItsEnds w (if b then record w { operator_state = with_value value w.operator_state } else w)
-      by true = record { number = refl; ins = refl; outs = refl; seat = refl }
-      by false = record { number = refl; ins = refl; outs = refl; seat = refl }
+      by true = record { number = refl; ins = refl; outs = refl }
+      by false = record { number = refl; ins = refl; outs = refl }
   ends-set (w ∷ crew) (suc k) = ends-set crew k
 
   pub journal-set : (crew : List WorkerState) (k : ℕ) → (worker_state_at (map (worker_set op value) crew) k).journal ≡ (worker_state_at crew k).journal
@@ -76,12 +76,12 @@ module _ (op : ℕ) (when : Option Cond) where
   watched-at (w ∷ crew) (suc k) less = watched-at crew k (omega arith)
 
   pub ends-watched : (crew : List WorkerState) (k : ℕ) → HasItsEnds (worker_state_at crew k) (worker_state_at (map (worker_watching op when) crew) k)
-  ends-watched [] k = record { number = refl; ins = refl; outs = refl; seat = refl }
+  ends-watched [] k = record { number = refl; ins = refl; outs = refl }
   ends-watched (w ∷ crew) zero = by (eqb w.op op)
     where
       by : (b : Bool) → HasItsEnds w (if b then record w { when = when } else w)
-      by true = record { number = refl; ins = refl; outs = refl; seat = refl }
-      by false = record { number = refl; ins = refl; outs = refl; seat = refl }
+      by true = record { number = refl; ins = refl; outs = refl }
+      by false = record { number = refl; ins = refl; outs = refl }
   ends-watched (w ∷ crew) (suc k) = ends-watched crew k
 
   pub journal-watched : (crew : List WorkerState) (k : ℕ) → (worker_state_at (map (worker_watching op when) crew) k).journal ≡ (worker_state_at crew k).journal

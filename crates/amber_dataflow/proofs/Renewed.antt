@@ -10,12 +10,11 @@ use Rattle.amber_worker.specs.WorkerState.{WorkerState}
 use Rattle.amber_dataflow.specs.AtWork.{AreAtWork, context_in, worker_state_at}
 use Rattle.amber_dataflow.proofs.Linked.{settled-same}
 
--- the same ends, just as they were, and the same seat
+-- the same ends, just as they were
 pub record HasItsEnds (old new : WorkerState) : Type 0 where
   pub number : new.number ≡ old.number
   pub ins : new.ins ≡ old.ins
   pub outs : new.outs ≡ old.outs
-  pub seat : new.seat ≡ old.seat
 
 -- workers of whom each has the same ends are joined alike
 joined-same : (from to from_now to_now : WorkerState) → HasItsEnds from from_now → HasItsEnds to to_now → AreJoined from to → AreJoined from_now to_now
@@ -29,16 +28,14 @@ joined-same from to from_now to_now out_ends in_ends joined j k places one other
     }) one other)
 
 module _ (query : Query) (start now : State) (crew after : List WorkerState) (positions later : ℕ → Position) (work : AreAtWork query start crew positions) where
-  pub renewed : length after ≡ length crew → ((k : ℕ) → HasItsEnds (worker_state_at crew k) (worker_state_at after k)) → ((op : ℕ) → (arms_at now op).count ≡ None)
+  pub renewed : length after ≡ length crew → ((k : ℕ) → HasItsEnds (worker_state_at crew k) (worker_state_at after k))
       → ((worker : ℕ) → worker < crew_of query.flow
       → IsAtPosition (context_in query now worker) (worker_state_at after worker) (position_at now.positions worker) (later worker))
       → AreAtWork query now after later
-  renewed long same uncounted each = record {
+  renewed long same each = record {
     at = record {
       flow = work.at.flow;
-      uncounted = uncounted;
       at_positions = record { all = long ∙ work.at.at_positions.all; each = each };
-      unarmed = λ worker inside. (same worker).seat ∙ work.at.unarmed worker inside;
       joined = λ from to from-in to-in.
           joined-same (worker_state_at crew from) (worker_state_at crew to) (worker_state_at after from) (worker_state_at after to) (same from) (same to)
           (work.at.joined from to from-in to-in);

@@ -9,11 +9,11 @@ use Rattle.amber_meaning.specs.State.{State}
 use Rattle.amber_worker.specs.Changes.{resumed_at}
 use Rattle.amber_worker.specs.WorkerState.{WorkerState, steps_made}
 use Rattle.amber_dataflow.specs.AtWork.{KeepsPosition, worker_state_at}
-use Rattle.amber_dataflow.specs.Dataflow.{AreAllThere, DataflowState, IsDataflow, StandAgain, StandAt, all_resumed, has_finished, have_all_finished, is_held, is_paused, rows_emitted, step_count, worker_resumed}
+use Rattle.amber_dataflow.specs.Dataflow.{AreAllThere, AreArmed, DataflowState, IsDataflow, StandAgain, StandAt, all_resumed, has_finished, have_all_finished, is_held, is_paused, rows_emitted, seat_of, step_count, worker_resumed}
 use Rattle.amber_dataflow.proofs.Emitted.{emitted-same}
 use Rattle.amber_dataflow.proofs.GoneOn.{stands-again}
 use Rattle.amber_dataflow.proofs.Renewed.{HasItsEnds, renewed}
-use Rattle.amber_dataflow.proofs.Standing.{stand-uncounted, steps-mapped}
+use Rattle.amber_dataflow.proofs.Standing.{steps-mapped}
 
 pub resumed-at : (crew : List WorkerState) (k : ℕ) → worker_state_at (map worker_resumed crew) k ≡ worker_resumed (worker_state_at crew k)
 resumed-at [] k = refl
@@ -24,8 +24,8 @@ resumed-ends : (w : WorkerState) → HasItsEnds w (worker_resumed w)
 resumed-ends w = by w.restraint.paused
   where
     by : (b : Bool) → HasItsEnds w (if b then resumed_at w else w)
-    by true = record { number = refl; ins = refl; outs = refl; seat = refl }
-    by false = record { number = refl; ins = refl; outs = refl; seat = refl }
+    by true = record { number = refl; ins = refl; outs = refl }
+    by false = record { number = refl; ins = refl; outs = refl }
 
 pub resumed-steps : (d : DataflowState) → step_count (all_resumed d) ≡ step_count d
 unfolding step_count
@@ -36,29 +36,28 @@ resumed-steps d = steps-mapped worker_resumed (λ w. same w w.restraint.paused) 
     same w false = refl
 
 pub stand-resumed : (d : DataflowState) → ((worker : ℕ) → KeepsPosition (worker_state_at d.workers worker) (worker_state_at (map worker_resumed d.workers) worker)) → StandAgain d (all_resumed d)
-unfolding StandAgain
-stand-resumed d keeps query start positions stand =
+unfolding StandAgain seat_of
+stand-resumed d keeps query start positions stand armed =
     let crew = d.workers in
     let now = map worker_resumed crew in
     let same : (k : ℕ) → HasItsEnds (worker_state_at crew k) (worker_state_at now k) = λ k. rw (resumed-at crew k) (resumed-ends (worker_state_at crew k)) in
-    let gone = stands-again query start crew now positions stand.work.at (length-map crew worker_resumed) keeps in (
+    let gone = stands-again query start crew now positions stand.work.at armed (length-map crew worker_resumed) keeps in (
       (λ worker. (gone worker).0),
       record {
         flow = stand.flow;
         work = renewed query start start crew now positions (λ worker. (gone worker).0) stand.work (length-map crew worker_resumed) same
-            (stand-uncounted query start d positions stand) (λ worker inside. (gone worker).1 inside);
+            (λ worker inside. (gone worker).1 inside);
       },
     )
 
-pub kept-resumed : (d : DataflowState) → IsDataflow d → ((worker : ℕ) → KeepsPosition (worker_state_at d.workers worker) (worker_state_at (map worker_resumed d.workers) worker)) → IsDataflow (all_resumed d)
+pub kept-resumed : (d : DataflowState) → IsDataflow d → AreArmed d → ((worker : ℕ) → KeepsPosition (worker_state_at d.workers worker) (worker_state_at (map worker_resumed d.workers) worker)) → IsDataflow (all_resumed d)
 unfolding StandAgain
-kept-resumed d keeps each = record {
+kept-resumed d keeps armed each = record {
   flow = keeps.flow;
   few = rw (resumed-steps d) keeps.few;
   stand = λ there.
-      let stand = keeps.stand (sym (length-map d.workers worker_resumed) ∙ there) in
-      let next = stand-resumed d each stand.0 stand.1 stand.2 stand.3 in
-      (stand.0, stand.1, next.0, next.1);
+      let next = stand-resumed d each armed.0 armed.1 armed.2 armed.3 armed.4 in
+      (armed.0, armed.1, next.0, next.1);
 }
 
 -- ---- what is read of them

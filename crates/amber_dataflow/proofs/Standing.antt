@@ -60,9 +60,9 @@ begun-at to_end (w ∷ crew) zero less = refl
 begun-at to_end (w ∷ crew) (suc k) less = begun-at to_end crew k (omega arith)
 
 ends-begun : (to_end : Bool) (crew : List WorkerState) (k : ℕ) → HasItsEnds (worker_state_at crew k) (worker_state_at (map (worker_begun to_end) crew) k)
-ends-begun to_end [] k = record { number = refl; ins = refl; outs = refl; seat = refl }
-ends-begun true (w ∷ crew) zero = record { number = refl; ins = refl; outs = refl; seat = refl }
-ends-begun false (w ∷ crew) zero = record { number = refl; ins = refl; outs = refl; seat = refl }
+ends-begun to_end [] k = record { number = refl; ins = refl; outs = refl }
+ends-begun true (w ∷ crew) zero = record { number = refl; ins = refl; outs = refl }
+ends-begun false (w ∷ crew) zero = record { number = refl; ins = refl; outs = refl }
 ends-begun to_end (w ∷ crew) (suc k) = ends-begun to_end crew k
 
 -- one stands where the leg begins, under the orders of that leg
@@ -118,8 +118,34 @@ stands-handed context w start p stands = record {
   };
 }
 
+-- one that has done nothing has done nothing with another condition
+watching-nothing : (op : ℕ) (when : Option Cond) (w : WorkerState) → w.journal ≡ [] → (worker_watching op when w).journal ≡ []
+watching-nothing op when w none = by (eqb w.op op)
+  where
+    by : (b : Bool) → (if b then record w { when = when } else w).journal ≡ []
+    by true = none
+    by false = none
+
+-- orders that are the same but for whether a count is armed
+pub record AgreeButCount (now before : Orders) : Type 0 where
+  pub constants : now.constants ≡ before.constants
+  pub when : now.when ≡ before.when
+
+pub agree-same : (now before : Orders) → now ≡ before → AgreeButCount now before
+agree-same now before same = record { constants = ap (λ (o : Orders). o.constants) same; when = ap (λ (o : Orders). o.when) same }
+
+-- where nothing was done, a worker stands where it stood under such orders
+recounted : (context : Context) (w : WorkerState) (p : Position) (orders : Orders) → AgreeButCount orders context.orders → w.journal ≡ [] → IsAtPosition context w p p
+    → IsAtPosition (record context { orders = orders }) w p p
+recounted context w p orders agree none stands =
+    let same : record context.orders { when = orders.when; counted = orders.counted } ≡ orders = (λ i. record orders { constants = sym agree.constants i }) in
+    let is : record w { when = orders.when } ≡ w = (λ i. record w { when = (agree.when ∙ sym stands.shows.when) i }) in
+    subst (λ (v : WorkerState). IsAtPosition (record context { orders = orders }) v p p) is
+    (subst (λ (o : Orders). IsAtPosition (record context { orders = o }) (record w { when = orders.when }) p p) same
+    (stands-watched context w p orders.when orders.counted stands none))
+
 ends-handed : (crew : List WorkerState) (k : ℕ) → HasItsEnds (worker_state_at crew k) (worker_state_at (map without_journal crew) k)
-ends-handed crew k = rw (handed-at crew k) (record { number = refl; ins = refl; outs = refl; seat = refl })
+ends-handed crew k = rw (handed-at crew k) (record { number = refl; ins = refl; outs = refl })
 
 -- ---- where they stand
 
@@ -132,9 +158,6 @@ module _ (query : Query) (start : State) (d : DataflowState) (positions : ℕ �
 
   pub stand-flow : IsFlow query.flow
   stand-flow = work.at.flow
-
-  pub stand-uncounted : (op : ℕ) → (arms_at start op).count ≡ None
-  stand-uncounted op = work.at.uncounted op
 
   pub stand-all : length d.workers ≡ crew_of query.flow
   stand-all = work.at.at_positions.all
@@ -191,19 +214,17 @@ module _ (query : Query) (start : State) (d : DataflowState) (positions : ℕ �
     work = record {
       at = record {
         flow = work.at.flow;
-        uncounted = work.at.uncounted;
         at_positions = record {
           all = work.at.at_positions.all;
           each = λ worker inside. rw (same worker inside) (work.at.at_positions.each worker inside);
         };
-        unarmed = work.at.unarmed;
         joined = work.at.joined;
       };
       settled = work.settled;
     };
   }
 
-  module _ (now : State) (uncounted : (op : ℕ) → (arms_at now op).count ≡ None) where
+  module _ (now : State) where
     -- a leg begins
     pub stand-begun : (to_end : Bool) → ((worker : ℕ) → worker < crew_of query.flow → orders_in query now worker ≡ begun_orders to_end (orders_in query start worker))
         → ((worker : ℕ) → worker < crew_of query.flow → position_at now.positions worker ≡ let_go (positions worker))
@@ -211,7 +232,7 @@ module _ (query : Query) (start : State) (d : DataflowState) (positions : ℕ �
     stand-begun to_end orders at = record {
       flow = stand.flow;
       work = renewed query start now d.workers (map (worker_begun to_end) d.workers) positions (λ worker. let_go (positions worker)) work
-          (length-map d.workers (worker_begun to_end)) (ends-begun to_end d.workers) uncounted
+          (length-map d.workers (worker_begun to_end)) (ends-begun to_end d.workers)
           (λ worker inside.
           let here : worker < length d.workers = rw stand-all inside in
           let w = worker_state_at d.workers worker in
@@ -220,17 +241,18 @@ module _ (query : Query) (start : State) (d : DataflowState) (positions : ℕ �
     }
 
     -- the journals were handed out
-    pub stand-handed_out : ((worker : ℕ) → worker < crew_of query.flow → orders_in query now worker ≡ orders_in query start worker)
+    pub stand-handed_out : ((worker : ℕ) → worker < crew_of query.flow → AgreeButCount (orders_in query now worker) (orders_in query start worker))
         → ((worker : ℕ) → worker < crew_of query.flow → position_at now.positions worker ≡ positions worker)
         → StandAt query now (handed_out d) positions
     stand-handed_out orders at = record {
       flow = stand.flow;
       work = renewed query start now d.workers (map without_journal d.workers) positions positions work
-          (length-map d.workers without_journal) (ends-handed d.workers) uncounted
+          (length-map d.workers without_journal) (ends-handed d.workers)
           (λ worker inside.
-          rw (handed-at d.workers worker, orders worker inside, at worker inside)
+          rw (handed-at d.workers worker, at worker inside)
+          (recounted (context_in query start worker) (without_journal (worker_state_at d.workers worker)) (positions worker) (orders_in query now worker) (orders worker inside) refl
           (stands-handed (context_in query start worker) (worker_state_at d.workers worker) (position_at start.positions worker) (positions worker)
-          (work.at.at_positions.each worker inside)));
+          (work.at.at_positions.each worker inside))));
     }
 
     -- another constant, where nothing was done since a leg began
@@ -246,7 +268,7 @@ module _ (query : Query) (start : State) (d : DataflowState) (positions : ℕ �
       stand-set here elsewhere = record {
         flow = stand.flow;
         work = renewed query start now d.workers (map (worker_set op value) d.workers) positions positions work
-            (length-map d.workers (worker_set op value)) (ends-set op value d.workers) uncounted
+            (length-map d.workers (worker_set op value)) (ends-set op value d.workers)
             (λ worker inside.
             let there : worker < length d.workers = rw stand-all inside in
             let w = worker_state_at d.workers worker in
@@ -261,38 +283,43 @@ module _ (query : Query) (start : State) (d : DataflowState) (positions : ℕ �
       }
 
     module _ (op : ℕ) (when : Option Cond) (none : HaveDoneNothing d) (at : (worker : ℕ) → worker < crew_of query.flow → position_at now.positions worker ≡ positions worker) where
-      pub stand-watched : ((worker : ℕ) → worker < crew_of query.flow → op_of query.flow worker ≡ op → orders_in query now worker ≡ record (orders_in query start worker) { when = when })
-          → ((worker : ℕ) → worker < crew_of query.flow → op_of query.flow worker ≢ op → orders_in query now worker ≡ orders_in query start worker)
+      pub stand-watched : ((worker : ℕ) → worker < crew_of query.flow → op_of query.flow worker ≡ op → AgreeButCount (orders_in query now worker) (record (orders_in query start worker) { when = when }))
+          → ((worker : ℕ) → worker < crew_of query.flow → op_of query.flow worker ≢ op → AgreeButCount (orders_in query now worker) (orders_in query start worker))
           → StandAt query now (when_put op when d) positions
       unfolding placement_of journal_of
       stand-watched here elsewhere = record {
         flow = stand.flow;
         work = renewed query start now d.workers (map (worker_watching op when) d.workers) positions positions work
-            (length-map d.workers (worker_watching op when)) (ends-watched op when d.workers) uncounted
+            (length-map d.workers (worker_watching op when)) (ends-watched op when d.workers)
             (λ worker inside.
             let there : worker < length d.workers = rw stand-all inside in
             let w = worker_state_at d.workers worker in
             let was = at-rest none worker inside in
             rw (watched-at op when d.workers worker there, at worker inside)
             (elim (eqb_tells (op_of query.flow worker) op) [
-              | inl same ↦ rw (here worker inside same.1) (watches op when (context_in query start worker) w (positions worker) same.1 (none worker) was)
+              | inl same ↦
+                  recounted (with_when when (orders_in query start worker).counted (context_in query start worker)) (worker_watching op when w) (positions worker) (orders_in query now worker)
+                  (here worker inside same.1) (watching-nothing op when w (none worker))
+                  (watches op when (context_in query start worker) w (positions worker) same.1 (none worker) was)
               | inr other ↦
                   let apart : w.op ≢ op = λ is. other.1 (sym was.shows.op ∙ is) in
-                  rw (elsewhere worker inside other.1, unwatched op when w apart) was
+                  rw (unwatched op when w apart)
+                  (recounted (context_in query start worker) w (positions worker) (orders_in query now worker) (elsewhere worker inside other.1) (none worker) was)
             ]));
       }
 
     -- nothing else, where nothing was done since a leg began
-    pub stand-kept : HaveDoneNothing d → ((worker : ℕ) → worker < crew_of query.flow → orders_in query now worker ≡ orders_in query start worker)
+    pub stand-kept : HaveDoneNothing d → ((worker : ℕ) → worker < crew_of query.flow → AgreeButCount (orders_in query now worker) (orders_in query start worker))
         → ((worker : ℕ) → worker < crew_of query.flow → position_at now.positions worker ≡ positions worker)
         → StandAt query now d positions
     unfolding journal_of Leads AreEntries
     stand-kept none orders at = record {
       flow = stand.flow;
-      work = renewed query start now d.workers d.workers positions positions work refl (λ k. record { number = refl; ins = refl; outs = refl; seat = refl }) uncounted
+      work = renewed query start now d.workers d.workers positions positions work refl (λ k. record { number = refl; ins = refl; outs = refl })
           (λ worker inside.
-          rw (orders worker inside, at worker inside)
-          (record { leads = rw (none worker) refl; text = rw (none worker) tt; shows = (work.at.at_positions.each worker inside).shows }));
+          rw (at worker inside)
+          (recounted (context_in query start worker) (worker_state_at d.workers worker) (positions worker) (orders_in query now worker) (orders worker inside) (none worker)
+          (record { leads = rw (none worker) refl; text = rw (none worker) tt; shows = (work.at.at_positions.each worker inside).shows })));
     }
 
 -- ---- journals

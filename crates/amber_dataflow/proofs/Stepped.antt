@@ -1,19 +1,21 @@
 -- Turns of one worker, one or many, and then its links settled again: all are at work.
-use Rattle.std.proofs.Common.{◌≡◌, ◌≢◌, ◌⊎◌, refl, sym, ap, subst, ◌∙◌, ℕ, suc, ◌+◌, ◌<◌, List, [], ◌∷◌, length, get_or, set, nat_eq, None, true, if◌then◌else◌, inl, inr, arith, length-set}
+use Rattle.std.proofs.Common.{◌≡◌, ◌≢◌, ◌⊎◌, refl, sym, ap, subst, ◌∙◌, ℕ, suc, ◌+◌, ◌<◌, List, [], ◌∷◌, length, get_or, set, nat_eq, Bool, Option, None, true, if◌then◌else◌, inl, inr, arith, length-set}
 use Rattle.std.specs.List.{list_any}
 use Rattle.std.proofs.lemmas.Bool.{ne_eqb}
 use Rattle.amber_meaning.specs.Legal.{Query}
 use Rattle.amber_meaning.specs.Position.{Position}
 use Rattle.amber_meaning.specs.State.{State}
 use Rattle.amber_link.specs.Sides.{Pairwise}
+use Rattle.amber_board.specs.declared.types.Board.{Board}
 use Rattle.amber_worker.specs.AtPosition.{HasSameEnds}
+use Rattle.amber_worker.specs.Counting.{IsBoardOf, IsSameSeat, mine_in}
 use Rattle.amber_worker.specs.Links.{HaveSentNothing}
 use Rattle.amber_worker.specs.Turning.{HaveMoreCome, MakesTurns, WritesStep, other_entries}
 use Rattle.amber_worker.specs.Steps.{held_at}
 use Rattle.amber_worker.specs.Turning.{MakesStep}
-use Rattle.amber_worker.specs.WorkerState.{WorkerState, steps_made}
+use Rattle.amber_worker.specs.WorkerState.{WorkerState, is_armed, needs_unit, steps_made}
 use Rattle.amber_worker.proofs.StepFacts.{step-steps, step-writes}
-use Rattle.amber_dataflow.specs.AtWork.{AreAtWork, AreJoinedAt, GoesOn, IsCrew, IsJoinedCrew, IsHeldAt, MakesStepAt, MakesTurnsAt, MovesOnly, SendsTo, StayPut, WritesHolds, steps_by, worker_state_at}
+use Rattle.amber_dataflow.specs.AtWork.{AreAtWork, AreJoinedAt, GoesOn, IsCrewUnder, IsJoinedCrew, IsHeldAt, MakesStepAt, MakesTurnsAt, MovesOnly, SendsTo, StayPut, WritesHolds, is_counted, steps_by, worker_state_at}
 use Rattle.amber_dataflow.specs.Passing.{AreSameBesides, Come, IsSettledAt, Settled}
 use Rattle.amber_dataflow.specs.Stopping.{WorkerHasStopped}
 use Rattle.amber_dataflow.proofs.Crews.{at-each, here-now, joined-turned, placed, there-still}
@@ -23,7 +25,6 @@ use Rattle.amber_dataflow.proofs.Sending.{sending, sending-out}
 use Rattle.amber_dataflow.proofs.Split.{read-at}
 use Rattle.amber_dataflow.proofs.Starved.{StaysEmpty, idle-still, stay-empty}
 use Rattle.amber_dataflow.proofs.Steps.{steps-cons, sum-more}
-use Rattle.amber_dataflow.proofs.Untold.{still-unarmed}
 
 -- the steps of workers that are the same but for their links
 pub steps-besides : (old new : List WorkerState) → length new ≡ length old → AreSameBesides old new → steps_by new ≡ steps_by old
@@ -32,10 +33,6 @@ steps-besides [] (w ∷ new) long same = absurd (omega arith)
 steps-besides (w ∷ old) [] long same = absurd (omega arith)
 steps-besides (w ∷ old) (v ∷ new) long same =
     rw (steps-cons w old, steps-cons v new, ap steps_made (same 0), steps-besides old new (omega (arith, long)) (λ k. same (suc k))) refl
-
--- workers at work are joined
-pub at-crew : (crew : List WorkerState) → IsCrew crew → IsJoinedCrew crew
-at-crew crew work = (work.0, work.1, work.2, work.3.at)
 
 -- turns of a worker in which nothing was sent, and nothing written but steps and holds
 pub record TurnsUnsent (most : ℕ) (old new : WorkerState) : Type 0 where
@@ -48,10 +45,10 @@ pub at-place : (crew : List WorkerState) (number most : ℕ) (now d : WorkerStat
     → TurnsUnsent most (worker_state_at crew number) now
 at-place crew number most now d inside turns = subst (λ w. TurnsUnsent most w now) (read-at crew number d inside) turns
 
--- at one that is read no count is armed
-pub unarmed-read : (crew : List WorkerState) (number : ℕ) (d : WorkerState) → IsCrew crew → number < length crew → (get_or crew number d).seat ≡ None
-unarmed-read crew number d work inside =
-    ap (λ (w : WorkerState). w.seat) (read-at crew number d inside) ∙ work.3.at.unarmed number (rw (← work.3.at.at_positions.all) inside)
+-- the board of one that is read
+pub own-read : (crew : List WorkerState) (number : ℕ) (board : Option Board) (d : WorkerState) → number < length crew
+    → IsBoardOf board (worker_state_at crew number).seat → IsBoardOf board (get_or crew number d).seat
+own-read crew number board d inside own = subst (λ (w : WorkerState). IsBoardOf board w.seat) (sym (read-at crew number d inside)) own
 
 module _ (crew : List WorkerState) (number : ℕ) (now : WorkerState) (inside : number < length crew) (most : ℕ) (turns : TurnsUnsent most (worker_state_at crew number) now) where
   abbrev makes : MakesTurns most (worker_state_at crew number) now
@@ -60,20 +57,22 @@ module _ (crew : List WorkerState) (number : ℕ) (now : WorkerState) (inside : 
   abbrev turned : List WorkerState
   turned = set crew number now
 
+  abbrev armed : Bool
+  armed = is_armed (worker_state_at crew number)
+
   -- wherever they stood, they stand again
-  on : (query : Query) (start : State) (positions : ℕ → Position) → AreJoinedAt query start crew positions
+  on : (query : Query) (start : State) (positions : ℕ → Position) → AreJoinedAt query start crew positions → is_counted query start number ≡ armed
       → (q : Position) × AreJoinedAt query start turned (placed positions number q)
-  on query start positions at = joined-turned query start crew positions number now at inside makes.keeps makes.ends
-      (still-unarmed most (worker_state_at crew number) now makes (at.unarmed number (rw (← at.at_positions.all) inside)))
+  on query start positions at under = joined-turned query start crew positions number now at inside armed under makes.keeps makes.ends
 
   -- they are joined again
-  pub joined-then : IsJoinedCrew crew → IsJoinedCrew turned
-  joined-then joined = let next = on joined.0 joined.1 joined.2 joined.3 in (joined.0, joined.1, placed joined.2 number next.0, next.1)
+  pub joined-then : IsCrewUnder armed number crew → IsJoinedCrew turned
+  joined-then work = let next = on work.0 work.1 work.2 work.3.at work.4 in (work.0, work.1, placed work.2 number next.0, next.1)
 
   -- what was sent has come
-  pub come-then : IsCrew crew → (to : ℕ) → list_any (λ one. nat_eq one.to to) (worker_state_at turned number).outs ≡ true → Come turned number to
+  pub come-then : IsCrewUnder armed number crew → (to : ℕ) → list_any (λ one. nat_eq one.to to) (worker_state_at turned number).outs ≡ true → Come turned number to
   come-then work to known =
-      let next = on work.0 work.1 work.2 work.3.at in
+      let next = on work.0 work.1 work.2 work.3.at work.4 in
       let one = sending-out work.0 work.1 turned (placed work.2 number next.0) next.1 number to (rw length-set inside) known in
       let apart : to ≢ number = λ same. let before = one.before in absurd (omega arith) in
       rw (here-now crew number now inside, there-still crew number now inside to apart)
@@ -87,16 +86,16 @@ module _ (crew : List WorkerState) (number : ℕ) (now : WorkerState) (inside : 
     here-after = settled.aside number
         ∙ ap (λ (w : WorkerState). record w { ins = (worker_state_at after number).ins; outs = (worker_state_at after number).outs }) (here-now crew number now inside)
 
-    module _ (query : Query) (start : State) (positions : ℕ → Position) (work : AreAtWork query start crew positions) where
+    module _ (query : Query) (start : State) (positions : ℕ → Position) (work : AreAtWork query start crew positions) (under : is_counted query start number ≡ armed) where
       abbrev later : ℕ → Position
-      later = placed positions number (on query start positions work.at).0
+      later = placed positions number (on query start positions work.at under).0
 
       abbrev turned-at : AreJoinedAt query start turned later
-      turned-at = (on query start positions work.at).1
+      turned-at = (on query start positions work.at under).1
 
       -- the other positions are as they were
       elsewhere : (other : ℕ) → other ≢ number → later other ≡ positions other
-      elsewhere other apart = ap (λ b. if b then (on query start positions work.at).0 else positions other) (ne_eqb other number apart)
+      elsewhere other apart = ap (λ b. if b then (on query start positions work.at under).0 else positions other) (ne_eqb other number apart)
 
       -- all stand where they stood after the turns
       after-at : AreJoinedAt query start after later
@@ -127,24 +126,30 @@ module _ (crew : List WorkerState) (number : ℕ) (now : WorkerState) (inside : 
       idle-then (inl finished) = inl (ap (λ (w : WorkerState). w.finished) here-after ∙ finished)
       idle-then (inr (inl held)) = inr (inl (ap (λ (w : WorkerState). w.restraint.held) here-after ∙ held))
       idle-then (inr (inr (inl paused))) = inr (inr (inl (ap (λ (w : WorkerState). w.restraint.paused) here-after ∙ paused)))
-      idle-then (inr (inr (inr idle))) =
+      idle-then (inr (inr (inr (inl short)))) = inr (inr (inr (inl (ap needs_unit here-after ∙ short))))
+      idle-then (inr (inr (inr (inr idle)))) =
           let same = here-now crew number now inside in
-          inr (inr (inr (idle-still now (worker_state_at after number) here-after
+          inr (inr (inr (inr (idle-still now (worker_state_at after number) here-after
           (subst (λ (w : WorkerState). Pairwise StaysEmpty w.ins (worker_state_at after number).ins) same
           (stay-empty query start crew turned after positions later number inside work turned-at work-then elsewhere
           (subst (λ w. HasSameEnds (worker_state_at crew number) w) (sym same) makes.ends)
-          (subst (λ (w : WorkerState). Pairwise HaveMoreCome (worker_state_at crew number).ins w.ins) (sym same) makes.come) settled.put)) idle)))
+          (subst (λ (w : WorkerState). Pairwise HaveMoreCome (worker_state_at crew number).ins w.ins) (sym same) makes.come) settled.put)) idle))))
 
     -- one has moved on
     goes-on : GoesOn crew after number
     unfolding GoesOn
-    goes-on query start positions work = (later query start positions work, work-then query start positions work, elsewhere query start positions work)
+    goes-on query start positions work under =
+        (later query start positions work under, work-then query start positions work under, elsewhere query start positions work under)
 
     -- none but this one has done anything
     only-then : MovesOnly crew after number
     only-then other not-this =
         settled.aside other ∙ ap (λ (w : WorkerState). record w { ins = (worker_state_at after other).ins; outs = (worker_state_at after other).outs })
         (there-still crew number now inside other not-this)
+
+    -- its seat is as its turns left it
+    pub seat-then : (worker_state_at after number).seat ≡ now.seat
+    seat-then = ap (λ (w : WorkerState). w.seat) here-after
 
     -- the worker has made its turns
     pub turns-then : MakesTurnsAt most crew after number
@@ -156,7 +161,18 @@ module _ (crew : List WorkerState) (number : ℕ) (now : WorkerState) (inside : 
           let rows = makes.rows in
           let same = ap (λ (w : WorkerState). w.emitted) here-after in
           omega arith;
+      more =
+          let grown = makes.emitted in
+          let same = ap (λ (w : WorkerState). w.emitted) here-after in
+          omega arith;
       writes = (turns.writes.0, ap (λ (w : WorkerState). other_entries w.journal) here-after ∙ turns.writes.1);
+      seat = subst (IsSameSeat (worker_state_at crew number).seat) (sym seat-then) makes.seat;
+      mine = λ is.
+          let counted = makes.mine is in
+          let seat = ap mine_in seat-then in
+          let rows = ap (λ (w : WorkerState). w.emitted) here-after in
+          omega arith;
+      reserved = ap (λ (w : WorkerState). w.reserved) here-after ∙ makes.reserved;
     }
 
     -- what it has done stands in its journal
@@ -164,17 +180,17 @@ module _ (crew : List WorkerState) (number : ℕ) (now : WorkerState) (inside : 
     journal-then = ap (λ (w : WorkerState). w.journal) here-after
 
     -- the steps of all rise by its own
-    pub steps-then : IsCrew crew → (made : ℕ) → steps_made now ≡ steps_made (worker_state_at crew number) + made → steps_by after ≡ steps_by crew + made
+    pub steps-then : IsCrewUnder armed number crew → (made : ℕ) → steps_made now ≡ steps_made (worker_state_at crew number) + made → steps_by after ≡ steps_by crew + made
     steps-then work made more =
-        steps-besides turned after (length-put turned after (joined-then (at-crew crew work)) settled.put) settled.aside
+        steps-besides turned after (length-put turned after (joined-then work) settled.put) settled.aside
         ∙ sum-more crew number made now inside more
 
     -- where it has stopped, it still has
-    pub stopped-then : IsCrew crew → WorkerHasStopped now → WorkerHasStopped (worker_state_at after number)
-    stopped-then work stopped = idle-then work.0 work.1 work.2 work.3 stopped
+    pub stopped-then : IsCrewUnder armed number crew → WorkerHasStopped now → WorkerHasStopped (worker_state_at after number)
+    stopped-then work stopped = idle-then work.0 work.1 work.2 work.3 work.4 stopped
 
     -- a step of it, or that its next row holds it
-    pub does-then : IsCrew crew → MakesStep (worker_state_at crew number) now ⊎ (now ≡ held_at (worker_state_at crew number))
+    pub does-then : IsCrewUnder armed number crew → MakesStep (worker_state_at crew number) now ⊎ (now ≡ held_at (worker_state_at crew number))
         → MakesStepAt crew after number ⊎ IsHeldAt crew after number
     does-then work (inl step) = inl (record {
       one = steps-then work 1 (step-steps (worker_state_at crew number) now step);

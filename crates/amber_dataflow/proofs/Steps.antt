@@ -20,7 +20,7 @@ use Rattle.amber_worker.specs.AtPosition.{placement_of, stream_to}
 use Rattle.amber_worker.specs.Turning.{HasTurned, IsNextTurn, MakesStep}
 use Rattle.amber_worker.specs.Pairs.{OffersAll, made_for}
 use Rattle.amber_worker.specs.Steps.{held_at}
-use Rattle.amber_worker.specs.WorkerState.{IsFree, WorkerState, next_turn, steps_made}
+use Rattle.amber_worker.specs.WorkerState.{IsFree, WorkerState, is_armed, needs_unit, next_turn, steps_made}
 use Rattle.amber_worker.specs.declared.turn.Turn.{Turn}
 use Rattle.amber_worker.specs.declared.turn.Turn.TheVariants as turn
 use Rattle.amber_worker.proofs.Idle.{has_marked, has_marked-chunks_of, never_idle}
@@ -32,8 +32,8 @@ use Rattle.amber_worker.proofs.Turns.{looked-none}
 use Rattle.amber_dataflow.proofs.Linked.{pairwise-at}
 use Rattle.amber_dataflow.proofs.Sending.{sending-in}
 use Rattle.amber_dataflow.proofs.Split.{read-at}
-use Rattle.amber_dataflow.proofs.Untold.{never-starves}
-use Rattle.amber_dataflow.specs.AtWork.{AreAtWork, AreJoinedAt, HaveFinished, IsCrew, context_in, placement_at, steps_by, worker_state_at}
+use Rattle.amber_dataflow.proofs.Untold.{starving}
+use Rattle.amber_dataflow.specs.AtWork.{AreAtWork, AreJoinedAt, HaveFinished, IsCrewUnder, context_in, placement_at, steps_by, worker_state_at}
 
 -- ---- who has something to do
 
@@ -126,10 +126,10 @@ module _ (query : Query) (start : State) (crew : List WorkerState) (positions : 
         idle
 
 -- an unfinished worker that is neither held nor paused, and whose senders have all finished, makes a step or is held by its next row
-pub moves : (crew : List WorkerState) (worker : ℕ) (now d : WorkerState) (done : Turn) → IsCrew crew → worker < length crew → HaveFinished worker crew
-    → IsFree (worker_state_at crew worker) → IsNextTurn (get_or crew worker d) done → HasTurned done (get_or crew worker d) now
+pub moves : (crew : List WorkerState) (worker : ℕ) (now d : WorkerState) (done : Turn) → IsCrewUnder (is_armed (worker_state_at crew worker)) worker crew → worker < length crew → HaveFinished worker crew
+    → IsFree (worker_state_at crew worker) → needs_unit (worker_state_at crew worker) ≡ false → IsNextTurn (get_or crew worker d) done → HasTurned done (get_or crew worker d) now
     → MakesStep (worker_state_at crew worker) now ⊎ (now ≡ held_at (worker_state_at crew worker))
-moves crew worker now d done work inside finished may is turned =
+moves crew worker now d done work inside finished may fed is turned =
     by done (subst (λ w. IsNextTurn w done) (read-at crew worker d inside) is) (subst (λ w. HasTurned done w now) (read-at crew worker d inside) turned)
   where
     by : (done : Turn) → IsNextTurn (worker_state_at crew worker) done → HasTurned done (worker_state_at crew worker) now
@@ -138,7 +138,7 @@ moves crew worker now d done work inside finished may is turned =
     by turn.Idle is turned = absurd (busy work.0 work.1 crew work.2 work.3 worker inside finished is.found is.looked (sym is.is))
     by turn.Held is turned = inr (turned ∙ ap (λ b. if b then worker_state_at crew worker else held_at (worker_state_at crew worker)) may.loose)
     by turn.Starved is turned =
-        absurd (never-starves (worker_state_at crew worker) (work.3.at.unarmed worker (rw (← work.3.at.at_positions.all) inside)) is)
+        absurd (false≢true (sym fed ∙ starving (worker_state_at crew worker) is))
     by turn.Paused is turned = absurd (false≢true (sym may.running ∙ pauses-by (worker_state_at crew worker) is))
     by turn.Ended is turned = absurd (false≢true (sym may.unfinished ∙ ends-by (worker_state_at crew worker) is))
 

@@ -1,25 +1,25 @@
--- Turns of a worker that is told nothing, and of which no count is armed.
-use Rattle.std.proofs.Common.{◌≡◌, ℕ, ◌+◌, ◌⊎◌, ◌==◌, ◌&&◌, List, [], ◌∷◌, ◌++◌, Option, None, Some, not, Bool, true, false, Result, Ok, Err, if◌then◌else◌, refl, sym, ap, ◌∙◌, subst, inl, inr, append-nil, append_assoc, arith}
+-- Turns of a worker that is told nothing.
+use Rattle.std.proofs.Common.{◌≡◌, ℕ, ◌+◌, ◌⊎◌, ◌==◌, ◌&&◌, ◌||◌, List, [], ◌∷◌, ◌++◌, Option, None, Some, not, Bool, true, false, Result, Ok, Err, if◌then◌else◌, refl, sym, ap, ◌∙◌, subst, inl, inr, append-nil, append_assoc, arith}
 use Rattle.std.specs.Prelude.{filter, replicate}
 use Rattle.std.specs.Option.{is_some}
 use Rattle.std.specs.Result.{IfOk, OnOk}
 use Rattle.std.proofs.lemmas.Bool.{false≢true}
 use Rattle.std.proofs.lemmas.List.{replicate-append-replicate}
 use Rattle.std.proofs.lemmas.List.Elements.{filter-append}
-use Rattle.amber_board.specs.declared.types.WorkSeat.{WorkSeat}
 use Rattle.amber_log.specs.declared.entry.Entry.{Entry}
 use Rattle.amber_log.specs.declared.entry.Entry.TheVariants as entry
+use Rattle.amber_link.specs.Links.{has_some}
+use Rattle.amber_link.specs.Sides.{have_all_ended}
 use Rattle.amber_worker.specs.AtPosition.{HasSameEnds, KeepsUnder}
-use Rattle.amber_worker.specs.Counting.{IsSameSeat}
 use Rattle.amber_worker.specs.Links.{HaveSentNothing}
 use Rattle.amber_worker.specs.Steps.{held_at}
 use Rattle.amber_worker.specs.Turning.{HasTurned, IsNextTurn, MakesTurn, MakesTurns, TurnsUnder, other_entries, tells_steps}
-use Rattle.amber_worker.specs.WorkerState.{WorkerState, is_armed, steps_made}
+use Rattle.amber_worker.specs.WorkerState.{WorkerState, has_ready, is_armed, is_starved, must_hold, needs_unit, steps_made}
 use Rattle.amber_worker.specs.declared.turn.Turn.{Turn}
 use Rattle.amber_worker.specs.declared.turn.Turn.TheVariants as turn
 use Rattle.amber_worker.proofs.ManyTurns.{makes-armed, makes-same, makes-then, makes-turn, same-step, steps_in, turned-rows, turned-steps}
 use Rattle.amber_worker.proofs.StepFacts.{step-writes}
-use Rattle.amber_worker.proofs.TurnCases.{ends-by, pauses-by, starves-by}
+use Rattle.amber_worker.proofs.TurnCases.{ends-by, pauses-by, turn_by}
 use Rattle.amber_dataflow.specs.AtWork.{WritesHolds}
 use Rattle.amber_dataflow.specs.Stopping.{WorkerHasStopped}
 
@@ -33,14 +33,6 @@ pub alone-makes : {E : Type 0} (r : Result Turn E) (old new : WorkerState) → K
     → IfOk r (TurnsUnder None old new) → OnOk r (MakesTurns 1 old new)
 alone-makes (Ok done) old new keeps ends turns = makes-turn None old new done keeps ends turns
 alone-makes (Err e) old new keeps ends turns = tt
-
--- no seat comes
-same-seat : (seat now : Option WorkSeat) → seat ≡ None → IsSameSeat seat now → now ≡ None
-same-seat None now none same = same
-same-seat (Some seat) now none same = cc
-
-pub still-unarmed : (n : ℕ) (old new : WorkerState) → MakesTurns n old new → old.seat ≡ None → new.seat ≡ None
-still-unarmed n old new makes none = same-seat old.seat new.seat none makes.seat
 
 -- ---- what is written
 
@@ -87,22 +79,39 @@ no-step done (inr (inr (inl is))) = ap steps_in is
 no-step done (inr (inr (inr (inl is)))) = ap steps_in is
 no-step done (inr (inr (inr (inr is)))) = ap steps_in is
 
--- one of which no count is armed does not starve
-pub never-starves : (w : WorkerState) → w.seat ≡ None → IsNextTurn w turn.Starved → ⊥
-never-starves w unarmed next = false≢true (sym (ap (λ (s : Option WorkSeat). is_some s && (w.restraint.hand == 0)) unarmed) ∙ starves-by w next)
+-- one that starves needs a unit
+starves-test : (a b c d e f g h i : Bool) → turn.Starved ≡ turn_by a b c d e f g h i → (e && (d || g)) ≡ true
+starves-test true b c d e f g h i is = cc
+starves-test false true c d e f g h i is = cc
+starves-test false false true d e f g h i is = cc
+starves-test false false false true true f g h i is = refl
+starves-test false false false false true f true h i is = refl
+starves-test false false false false true f false true i is = cc
+starves-test false false false false true f false false true is = cc
+starves-test false false false false true f false false false is = cc
+starves-test false false false true false true g h i is = cc
+starves-test false false false true false false g h i is = cc
+starves-test false false false false false f true h i is = cc
+starves-test false false false false false f false true i is = cc
+starves-test false false false false false f false false true is = cc
+starves-test false false false false false f false false false is = cc
+
+pub starving : (w : WorkerState) → IsNextTurn w turn.Starved → needs_unit w ≡ true
+starving w next =
+    starves-test w.finished w.restraint.paused w.restraint.held (has_some w.pending) (is_starved w) (must_hold w) (has_some w.rest) (has_ready next.found) (have_all_ended next.found) next.is
 
 -- a worker that makes no step has stopped
-pub has-stopped : (done : Turn) (old new : WorkerState) → old.seat ≡ None → MakesTurn old new done → steps_in done ≡ 0 → WorkerHasStopped new
-has-stopped turn.Moved old new unarmed makes none = absurd (omega (arith, none))
-has-stopped turn.Idle old new unarmed makes none = inr (inr (inr makes.turned.idle))
-has-stopped turn.Held old new unarmed makes none = inr (inl (ap (λ (w : WorkerState). w.restraint.held) makes.turned ∙ by old.restraint.held refl))
+pub has-stopped : (done : Turn) (old new : WorkerState) → MakesTurn old new done → steps_in done ≡ 0 → WorkerHasStopped new
+has-stopped turn.Moved old new makes none = absurd (omega (arith, none))
+has-stopped turn.Idle old new makes none = inr (inr (inr (inr makes.turned.idle)))
+has-stopped turn.Held old new makes none = inr (inl (ap (λ (w : WorkerState). w.restraint.held) makes.turned ∙ by old.restraint.held refl))
   where
     by : (b : Bool) → old.restraint.held ≡ b → (if b then old else held_at old).restraint.held ≡ true
     by true is = is
     by false is = refl
-has-stopped turn.Starved old new unarmed makes none = absurd (never-starves old unarmed makes.next)
-has-stopped turn.Paused old new unarmed makes none = inr (inr (inl (ap (λ (w : WorkerState). w.restraint.paused) makes.turned ∙ pauses-by old makes.next)))
-has-stopped turn.Ended old new unarmed makes none = inl (ap (λ (w : WorkerState). w.finished) makes.turned ∙ ends-by old makes.next)
+has-stopped turn.Starved old new makes none = inr (inr (inr (inl (ap needs_unit makes.turned ∙ starving old makes.next))))
+has-stopped turn.Paused old new makes none = inr (inr (inl (ap (λ (w : WorkerState). w.restraint.paused) makes.turned ∙ pauses-by old makes.next)))
+has-stopped turn.Ended old new makes none = inl (ap (λ (w : WorkerState). w.finished) makes.turned ∙ ends-by old makes.next)
 
 -- a turn makes as many steps as it is said to
 exactly : (done : Turn) (old new : WorkerState) → MakesTurns 1 old new → HasTurned done old new → MakesTurns (steps_in done) old new
@@ -125,16 +134,15 @@ exactly done old new makes turned =
 
 -- ---- many turns
 
--- an unarmed worker made so many turns, each of them a step
+-- a worker made so many turns, each of them a step
 pub record HasMade (made : ℕ) (old new : WorkerState) : Type 0 where
   pub makes : MakesTurns made old new
   pub unsent : HaveSentNothing old.outs new.outs
-  pub unarmed : new.seat ≡ None
   pub writes : WritesHolds old.journal new.journal
   pub steps : steps_made new ≡ steps_made old + made
 
-pub made-none : (w : WorkerState) → w.seat ≡ None → HasMade 0 w w
-made-none w unarmed = record { makes = makes-same w; unsent = refl; unarmed = unarmed; writes = holds-none w.journal; steps = omega arith }
+pub made-none : (w : WorkerState) → HasMade 0 w w
+made-none w = record { makes = makes-same w; unsent = refl; writes = holds-none w.journal; steps = omega arith }
 
 -- and then one that is a step, or none
 pub made-then : (n m : ℕ) (done : Turn) (a b c : WorkerState) → steps_in done ≡ m → HasMade n a b → MakesTurns 1 b c → HaveSentNothing b.outs c.outs
@@ -145,7 +153,6 @@ made-then n m done a b c so before makes unsent turn =
     record {
       makes = makes-then n m a b c (makes-armed n a b before.makes) before.makes one;
       unsent = unsent ∙ before.unsent;
-      unarmed = still-unarmed 1 b c makes before.unarmed;
       writes = holds-then a.journal b.journal c.journal before.writes (turn-writes b c done turn.turned);
       steps = omega (arith, steps, so, before.steps);
     }

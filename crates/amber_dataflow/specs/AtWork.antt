@@ -1,5 +1,5 @@
 -- Where workers stand, one by one, and who sends to whom.
-use Rattle.std.specs.Prelude.{◌≡◌, ◌≢◌, ℕ, ◌+◌, ◌<◌, ◌≤◌, ◌==◌, List, [], ◌∷◌, ◌++◌, map, replicate, slice_index_or, length, sum_by, None, true}
+use Rattle.std.specs.Prelude.{◌≡◌, ◌≢◌, ℕ, ◌+◌, ◌<◌, ◌≤◌, ◌==◌, List, [], ◌∷◌, ◌++◌, map, replicate, slice_index_or, length, sum_by, Bool, true}
 use Rattle.std.specs.List.{list_any}
 use Rattle.rtrb.specs.Ring.{known_items, received, sent}
 use Rattle.amber_rows.specs.Topology.{crew_of, senders_of}
@@ -13,8 +13,9 @@ use Rattle.amber_link.specs.declared.upstreams.Upstream.{Upstream}
 use Rattle.amber_lines.specs.Moving.{orders_in}
 use Rattle.amber_meaning.specs.Legal.{Query}
 use Rattle.amber_meaning.specs.Position.{Position}
-use Rattle.amber_meaning.specs.State.{State, arms_at, position_at}
+use Rattle.amber_meaning.specs.State.{State, position_at}
 use Rattle.amber_worker.specs.AtPosition.{Context, IsAtPosition, KeepsUnder, Placement, no_base, placement_of}
+use Rattle.amber_worker.specs.Counting.{IsSameSeat, mine_in}
 use Rattle.amber_worker.specs.Pairs.{AreJoined, AreSettledAt, IsLinkAt}
 use Rattle.amber_worker.specs.Turning.{WritesStep, other_entries}
 use Rattle.amber_worker.specs.WorkerState.{WorkerState, empty_worker_state, is_armed, steps_made}
@@ -63,12 +64,10 @@ pub record AreAtPositions (query : Query) (start : State) (crew : List WorkerSta
   pub each : (worker : ℕ) → worker < crew_of query.flow
       → IsAtPosition (context_in query start worker) (worker_state_at crew worker) (position_at start.positions worker) (positions worker)
 
--- the workers of a workflow stand somewhere, who sends to whom hold the two ends of a link, and no count is armed
+-- the workers of a workflow stand somewhere, and who sends to whom hold the two ends of a link
 pub record AreJoinedAt (query : Query) (start : State) (crew : List WorkerState) (positions : ℕ → Position) : Type 0 where
   pub flow : IsFlow query.flow
-  pub uncounted : (op : ℕ) → (arms_at start op).count ≡ None
   pub at_positions : AreAtPositions query start crew positions
-  pub unarmed : (worker : ℕ) → worker < crew_of query.flow → (worker_state_at crew worker).seat ≡ None
   pub joined : (from to : ℕ) → from < crew_of query.flow → to < crew_of query.flow → AreJoined (worker_state_at crew from) (worker_state_at crew to)
 
 -- and all that they made is in the inboxes
@@ -79,6 +78,15 @@ pub record AreAtWork (query : Query) (start : State) (crew : List WorkerState) (
 -- the workers of some workflow stand somewhere
 abbrev pub IsJoinedCrew : List WorkerState → Type 0
 IsJoinedCrew crew = (query : Query) × (start : State) × (positions : ℕ → Position) × AreJoinedAt query start crew positions
+
+-- whether a count is in force at a worker's operator in a leg that began in this state
+abbrev pub is_counted : Query → State → ℕ → Bool
+is_counted query start worker = (orders_in query start worker).counted
+
+-- the workers of some workflow are at work in a leg in which a count is in force at the operator of this worker, or none is
+abbrev pub IsCrewUnder : Bool → ℕ → List WorkerState → Type 0
+IsCrewUnder counted worker crew =
+    (query : Query) × (start : State) × (positions : ℕ → Position) × AreAtWork query start crew positions × (is_counted query start worker ≡ counted)
 
 -- the workers of some workflow are at work
 abbrev pub IsCrew : List WorkerState → Type 0
@@ -94,9 +102,10 @@ KeepsPosition old new = KeepsUnder (is_armed old) old new
 unfoldable pub StayPut : List WorkerState → List WorkerState → Type 0
 StayPut old new = (query : Query) (start : State) (positions : ℕ → Position) → AreJoinedAt query start old positions → AreJoinedAt query start new positions
 
--- one of them has moved on, and the others stand where they stood
+-- one of them has moved on, armed or not as a count is in force there, and the others stand where they stood
 unfoldable pub GoesOn : List WorkerState → List WorkerState → ℕ → Type 0
 GoesOn old new worker = (query : Query) (start : State) (positions : ℕ → Position) → AreAtWork query start old positions
+    → is_counted query start worker ≡ is_armed (worker_state_at old worker)
     → (later : ℕ → Position) × AreAtWork query start new later × ((other : ℕ) → other ≢ worker → later other ≡ positions other)
 
 -- a worker has perhaps other batches at the ends of its links, and is as it was but for that
@@ -116,11 +125,21 @@ pub record MakesTurnsAt (most : ℕ) (old new : List WorkerState) (worker : ℕ)
   pub on : GoesOn old new worker
   pub only : MovesOnly old new worker
   pub rows : (worker_state_at new worker).emitted ≤ (worker_state_at old worker).emitted + most
+  pub more : (worker_state_at old worker).emitted ≤ (worker_state_at new worker).emitted
   pub writes : WritesHolds (worker_state_at old worker).journal (worker_state_at new worker).journal
+  -- it keeps its seat, on which it has counted a unit for each row that it has emitted, and the room of its journal
+  pub seat : IsSameSeat (worker_state_at old worker).seat (worker_state_at new worker).seat
+  pub mine : is_armed (worker_state_at old worker) ≡ true
+      → mine_in (worker_state_at new worker).seat + (worker_state_at old worker).emitted ≡ mine_in (worker_state_at old worker).seat + (worker_state_at new worker).emitted
+  pub reserved : (worker_state_at new worker).reserved ≡ (worker_state_at old worker).reserved
 
 -- the rows that these of them have emitted
 abbrev pub emitted_at : List WorkerState → List ℕ → ℕ
 emitted_at crew workers = sum_by (λ worker. (worker_state_at crew worker).emitted) workers
+
+-- the units that they have counted
+abbrev pub units_at : List WorkerState → List ℕ → ℕ
+units_at crew workers = sum_by (λ worker. mine_in (worker_state_at crew worker).seat) workers
 
 -- the steps that they have made together
 unfoldable pub steps_by : List WorkerState → ℕ

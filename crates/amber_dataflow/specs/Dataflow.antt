@@ -15,12 +15,14 @@ use Rattle.amber_meaning.specs.State.{State}
 use Rattle.amber_meaning.specs.Views.{answer_in, inspected_of}
 use Rattle.amber_meaning.specs.declared.answer.Answer.{Answer}
 use Rattle.amber_meaning.specs.declared.view.WorkerView.{WorkerView}
-use Rattle.amber_worker.specs.Changes.{at_leg_start, held_dropped, resumed_at, row_held, with_value}
+use Rattle.amber_board.specs.declared.types.WorkSeat.{WorkSeat}
+use Rattle.amber_worker.specs.Changes.{armed_at, at_leg_start, disarmed_at, held_dropped, resumed_at, row_held, with_value}
+use Rattle.amber_worker.specs.Counting.{IsSameSeat}
 use Rattle.amber_worker.specs.Turning.{WritesStep}
-use Rattle.amber_worker.specs.WorkerState.{WorkerState, next_turn}
+use Rattle.amber_worker.specs.WorkerState.{WorkerState, needs_unit, next_turn}
 use Rattle.amber_worker.specs.declared.turn.Turn.TheVariants as turn
 use Rattle.amber_dataflow.specs.Passing.{AreSameBesides}
-use Rattle.amber_dataflow.specs.AtWork.{AreAtWork, AreJoinedAt, WritesHolds, emitted_at, state_reached, steps_by, worker_state_at}
+use Rattle.amber_dataflow.specs.AtWork.{AreAtWork, AreJoinedAt, WritesHolds, emitted_at, is_counted, state_reached, steps_by, units_at, worker_state_at}
 use Rattle.amber_dataflow.specs.Parts.{parts_from, without_journal}
 
 pub record DataflowState : Type 0 where
@@ -54,6 +56,30 @@ is_held d worker = (worker_state_at d.workers worker).restraint.held
 
 unfoldable pub is_paused : DataflowState → ℕ → Bool
 is_paused d worker = (worker_state_at d.workers worker).restraint.paused
+
+-- the seat of a worker, where a count is armed at it
+unfoldable pub seat_of : DataflowState → ℕ → Option WorkSeat
+seat_of d worker = (worker_state_at d.workers worker).seat
+
+-- whether one is
+abbrev pub is_armed_at : DataflowState → ℕ → Bool
+is_armed_at d worker = is_some (seat_of d worker)
+
+-- the units in its hand
+unfoldable pub hand_of : DataflowState → ℕ → ℕ
+hand_of d worker = (worker_state_at d.workers worker).restraint.hand
+
+-- it needs a unit for its next row, and has none in hand
+unfoldable pub is_short : DataflowState → ℕ → Bool
+is_short d worker = needs_unit (worker_state_at d.workers worker)
+
+-- room for an entry is kept in its journal
+unfoldable pub has_room : DataflowState → ℕ → Bool
+has_room d worker = (worker_state_at d.workers worker).reserved
+
+-- the units that an operator's workers have counted
+unfoldable pub units_counted : DataflowState → ℕ → ℕ
+units_counted d op = units_at d.workers (workers_of d.flow op)
 
 -- what a worker has done since its journal was handed out
 unfoldable pub journal_of : DataflowState → ℕ → List Entry
@@ -113,6 +139,18 @@ AreHeldByRows d = (worker : ℕ) → is_held d worker ≡ true → is_some (held
 abbrev pub row_dropped : ℕ → DataflowState → DataflowState
 row_dropped worker d = record d { workers = slice_set d.workers worker (held_dropped (worker_state_at d.workers worker)) }
 
+-- room is kept in a worker's journal
+abbrev pub room_kept : ℕ → DataflowState → DataflowState
+room_kept worker d = record d { workers = slice_set d.workers worker (record (worker_state_at d.workers worker) { reserved = true }) }
+
+-- a worker has this seat
+abbrev pub worker_armed : ℕ → WorkSeat → DataflowState → DataflowState
+worker_armed worker seat d = record d { workers = slice_set d.workers worker (armed_at seat (worker_state_at d.workers worker)) }
+
+-- it has none, and has given back the units that were in its hand
+abbrev pub worker_disarmed : ℕ → DataflowState → DataflowState
+worker_disarmed worker d = record d { workers = slice_set d.workers worker (disarmed_at (worker_state_at d.workers worker)) }
+
 -- a worker that was paused goes on
 abbrev pub worker_resumed : WorkerState → WorkerState
 worker_resumed w = if w.restraint.paused then resumed_at w else w
@@ -149,9 +187,27 @@ pub record AreBack (crew : List WorkerState) (d : DataflowState) : Type 0 where
       → StandAt query start d positions
   pub same : AreSameBesides crew d.workers
 
--- wherever they stood, they stand again, in the same leg
+-- in a leg that began in this state workers are armed just where a count is in force
+abbrev pub AreArmedIn : Query → State → DataflowState → Type 0
+AreArmedIn query start d = (worker : ℕ) → worker < crew_of query.flow → is_counted query start worker ≡ is_armed_at d worker
+
+-- there is such a leg
+abbrev pub AreArmed : DataflowState → Type 0
+AreArmed d = (query : Query) × (start : State) × (positions : ℕ → Position) × StandAt query start d positions × AreArmedIn query start d
+
+-- there is a leg in which a count is in force at this worker's operator, or one in which none is
+abbrev pub StandsUnder : Bool → DataflowState → ℕ → Type 0
+StandsUnder counted d worker =
+    (query : Query) × (start : State) × (positions : ℕ → Position) × StandAt query start d positions × (is_counted query start worker ≡ counted)
+
+-- wherever they stood in such a leg they stand again, and only this worker has moved
+unfoldable pub MovesUnder : Bool → DataflowState → DataflowState → ℕ → Type 0
+MovesUnder counted old new worker = (query : Query) (start : State) (positions : ℕ → Position) → StandAt query start old positions → is_counted query start worker ≡ counted
+    → (later : ℕ → Position) × StandAt query start new later × ((other : ℕ) → other ≢ worker → later other ≡ positions other)
+
+-- wherever they stood, armed as counts were in force, they stand again, in the same leg
 unfoldable pub StandAgain : DataflowState → DataflowState → Type 0
-StandAgain old new = (query : Query) (start : State) (positions : ℕ → Position) → StandAt query start old positions
+StandAgain old new = (query : Query) (start : State) (positions : ℕ → Position) → StandAt query start old positions → AreArmedIn query start old
     → (later : ℕ → Position) × StandAt query start new later
 
 -- ---- turns
@@ -160,26 +216,36 @@ StandAgain old new = (query : Query) (start : State) (positions : ℕ → Positi
 pub record IsUnmoved (old new : DataflowState) (worker : ℕ) : Type 0 where
   pub finished : has_finished new worker ≡ has_finished old worker
   pub journal : journal_of new worker ≡ journal_of old worker
+  pub seat : seat_of new worker ≡ seat_of old worker
+  pub room : has_room new worker ≡ has_room old worker
 
 -- a worker has made turns, so many or fewer, what it has written tells of steps and holds alone, and the others have done nothing
 pub record TurnsAt (most : ℕ) (old new : DataflowState) (worker : ℕ) : Type 0 where
   pub flow : new.flow ≡ old.flow
   pub there : AreAllThere new
-  pub on : (query : Query) (start : State) (positions : ℕ → Position) → StandAt query start old positions
-      → (later : ℕ → Position) × StandAt query start new later × ((other : ℕ) → other ≢ worker → later other ≡ positions other)
+  pub on : MovesUnder (is_armed_at old worker) old new worker
   pub writes : WritesHolds (journal_of old worker) (journal_of new worker)
   pub others : (other : ℕ) → other ≢ worker → IsUnmoved old new other
   -- of the rows that operators have emitted at most so many more at its own
   pub rows : rows_emitted new (op_of old.flow worker) ≤ rows_emitted old (op_of old.flow worker) + most
+  pub more : rows_emitted old (op_of old.flow worker) ≤ rows_emitted new (op_of old.flow worker)
   pub emitted : (op : ℕ) → op ≢ op_of old.flow worker → rows_emitted new op ≡ rows_emitted old op
+  -- it keeps its seat, on which it has counted a unit for each row that it has emitted, and the room of its journal
+  pub seat : IsSameSeat (seat_of old worker) (seat_of new worker)
+  pub room : has_room new worker ≡ has_room old worker
+  pub units : is_armed_at old worker ≡ true
+      → units_counted new (op_of old.flow worker) + rows_emitted old (op_of old.flow worker)
+      ≡ units_counted old (op_of old.flow worker) + rows_emitted new (op_of old.flow worker)
+  pub counted : (op : ℕ) → op ≢ op_of old.flow worker → units_counted new op ≡ units_counted old op
 
 -- a worker can do nothing until a batch comes
-unfoldable pub IsStarved : DataflowState → ℕ → Type 0
-IsStarved d worker = next_turn (worker_state_at d.workers worker) ≡ turn.Idle
+unfoldable pub IsIdle : DataflowState → ℕ → Type 0
+IsIdle d worker = next_turn (worker_state_at d.workers worker) ≡ turn.Idle
 
--- it makes no more turns: it has finished, is held or paused, or can do nothing until a batch comes
+-- it makes no more turns: it has finished, is held or paused, needs a unit and has none, or can do nothing until a batch comes
 abbrev pub HasStopped : DataflowState → ℕ → Type 0
-HasStopped d worker = (has_finished d worker ≡ true) ⊎ ((is_held d worker ≡ true) ⊎ ((is_paused d worker ≡ true) ⊎ IsStarved d worker))
+HasStopped d worker =
+    (has_finished d worker ≡ true) ⊎ ((is_held d worker ≡ true) ⊎ ((is_paused d worker ≡ true) ⊎ ((is_short d worker ≡ true) ⊎ IsIdle d worker)))
 
 -- ---- a step
 
@@ -209,12 +275,6 @@ pub record IsHeldNow (old new : DataflowState) (worker : ℕ) : Type 0 where
 pub record StepsAt (old new : DataflowState) (worker : ℕ) : Type 0 where
   pub turns : TurnsAt 1 old new worker
   pub does : MadeStep old new worker ⊎ IsHeldNow old new worker
-
--- the first that has not finished has made a step, or is held
-pub record FirstSteps (old new : DataflowState) : Type 0 where
-  pub worker : ℕ
-  pub is : IsFirst old worker
-  pub steps : StepsAt old new worker
 
 -- ---- what they give
 

@@ -2,6 +2,8 @@
 //! the functions of the other files, each of which does one of these for all workers.
 
 ghost use Rattle.std.specs.Prelude.{◌≡◌, ◌+◌, ◌^◌, ◌<◌, ◌≤◌, ℕ, IfOk, None, OnErr, OnOk, Some, false, length, option_map, replicate};
+ghost use Rattle.std.specs.Option.{option_copied};
+ghost use Rattle.amber_worker.specs.Counting.{IsBoardOf};
 ghost use Rattle.amber_rows.specs.Topology.{crew_of};
 ghost use Rattle.amber_meaning.specs.Legal.{query_over};
 ghost use Rattle.amber_meaning.specs.Plain.{wrong_header};
@@ -9,8 +11,10 @@ ghost use Rattle.amber_meaning.specs.Position.{origin};
 ghost use Rattle.amber_meaning.specs.State.{start_of};
 ghost use Rattle.amber_dataflow.specs.Dataflow as dataflow;
 ghost use Rattle.amber_dataflow.specs.AtWork.{steps_by};
-ghost use Rattle.amber_dataflow.specs.Dataflow.{AreAllThere, AreBack, AreCrewOf, AreFree, AreHeldByRows, FirstSteps, HasStopped, HaveDoneNothing, IsAnswerOf, ShowAt, StandAgain, StandAt, TurnsAt};
-ghost use Rattle.amber_dataflow.specs.Dataflow.{all_resumed, constant_put, handed_out, leg_begun, leg_parts, row_dropped, step_count, when_put, without_workers};
+ghost use Rattle.amber_dataflow.specs.Dataflow.{AreAllThere, AreArmed, AreBack, AreCrewOf, AreFree, AreHeldByRows, HasStopped, HaveDoneNothing, IsAnswerOf, IsFirst, ShowAt, StandAgain, StandAt, StandsUnder, StepsAt, TurnsAt};
+ghost use Rattle.amber_dataflow.specs.Dataflow.{all_resumed, constant_put, handed_out, is_armed_at, is_short, leg_begun, leg_parts, row_dropped, seat_of, step_count, when_put, without_workers};
+
+mod units;
 
 use crate::counts::{emitted_by, have_finished, steps_of};
 use crate::gathering::{gather, gather_all};
@@ -22,6 +26,7 @@ use crate::setting::{
 use crate::settling::settle_all;
 use crate::stepping::{first_unfinished, step_worker, turn_worker};
 use crate::views::views_of;
+use amber_board::Board;
 use amber_log::Parts;
 use amber_meaning::{Answer, Views};
 use amber_rows::{Cond, Files, Flow, Row, Value};
@@ -65,6 +70,7 @@ impl Dataflow {
         ensures start { IfOk result (λ made. (most : ℕ) → StandAt
             (query_over flow files.now batch_size most) (start_of flow) made (λ _. origin)) }
         ensures journals { IfOk result HaveDoneNothing }
+        ensures unarmed { IfOk result (λ made. (worker : ℕ) → seat_of made worker ≡ None) }
     {
         let workers = start_crew(alloc, &flow, files, batch_size)?;
         Ok(Dataflow { flow, workers })
@@ -87,20 +93,29 @@ impl Dataflow {
         begin_all(to_end, self.workers.as_mut_slice());
     }
 
-    /// Turns of a worker, until so many are made, it has finished, is held or paused, or can do nothing until a batch
-    /// comes. What it has made goes on to its receivers. The answer is how many turns were made. After running out of
+    /// Turns of a worker, until so many are made, it has finished, is held or paused, needs a unit and has none, or can do
+    /// nothing until a batch comes. The board is that of its operator's count, and is there exactly where one is armed at
+    /// the worker. What it has made goes on to its receivers. The answer is how many turns were made. After running out of
     /// memory no worker is left.
-    pub fn turns(&mut self, worker: u32, most: u64) -> Result<u64, AllocError>
+    pub fn turns(
+        &mut self,
+        worker: u32,
+        board: Option<&Board>,
+        most: u64,
+    ) -> Result<u64, AllocError>
         requires workers { AreAllThere self.old }
         requires there { worker < crew_of self.old.flow }
+        requires own { IsBoardOf (option_copied board) (seat_of self.old worker) }
+        requires under { StandsUnder (is_armed_at self.old worker) self.old worker }
         requires few { step_count self.old + most ≤ 2 ^ 40 }
         ensures turns { IfOk result (λ made. TurnsAt made self.old self.new worker) }
         ensures made { IfOk result (λ made. step_count self.new ≡ step_count self.old + made) }
         ensures within { IfOk result (λ made. made ≤ most) }
         ensures stops { IfOk result (λ made. made < most → HasStopped self.new worker) }
+        ensures own { OnOk result (IsBoardOf (option_copied board.entry) (seat_of self.new worker)) }
         ensures err { OnErr result (self.new ≡ without_workers self.old) }
     {
-        match turn_worker(self.workers.as_mut_slice(), worker as usize, most) {
+        match turn_worker(self.workers.as_mut_slice(), worker as usize, board, most) {
             Ok(made) => Ok(made),
             Err(error) => {
                 self.workers.clear();
@@ -109,19 +124,31 @@ impl Dataflow {
         }
     }
 
+    /// The number of the first worker that has not finished.
+    pub fn first_unfinished(&self) -> u32
+        requires workers { AreAllThere self.now }
+        requires unfinished { dataflow.have_all_finished self.now ≡ false }
+        ensures { IsFirst self.now result }
+    {
+        first_unfinished(self.workers.as_slice()) as u32
+    }
+
     /// One step of the first worker that has not finished; where its next row meets the condition there and was not waved
-    /// on, the worker is held before it instead. What it has made goes on to its receivers. After running out of memory
-    /// no worker is left.
-    pub fn step_first(&mut self) -> Result<(), AllocError>
+    /// on, the worker is held before it instead. The board is as for `turns`. What it has made goes on to its receivers.
+    /// After running out of memory no worker is left.
+    pub fn step(&mut self, worker: u32, board: Option<&Board>) -> Result<(), AllocError>
         requires workers { AreAllThere self.old }
-        requires unfinished { dataflow.have_all_finished self.old ≡ false }
+        requires first { IsFirst self.old worker }
         requires free { AreFree self.old }
+        requires fed { is_short self.old worker ≡ false }
+        requires own { IsBoardOf (option_copied board) (seat_of self.old worker) }
+        requires under { StandsUnder (is_armed_at self.old worker) self.old worker }
         requires few { step_count self.old < 2 ^ 40 }
-        ensures steps { OnOk result (FirstSteps self.old self.new) }
+        ensures steps { OnOk result (StepsAt self.old self.new worker) }
+        ensures own { OnOk result (IsBoardOf (option_copied board.entry) (seat_of self.new worker)) }
         ensures err { OnErr result (self.new ≡ without_workers self.old) }
     {
-        let worker = first_unfinished(self.workers.as_slice());
-        match step_worker(self.workers.as_mut_slice(), worker) {
+        match step_worker(self.workers.as_mut_slice(), worker as usize, board) {
             Ok(()) => Ok(()),
             Err(error) => {
                 self.workers.clear();
@@ -150,6 +177,7 @@ impl Dataflow {
     /// Each worker goes on that was paused. After running out of memory no worker is left.
     pub fn resume(&mut self) -> Result<(), AllocError>
         requires loose { (worker : ℕ) → dataflow.is_held self.old worker ≡ false }
+        requires armed { AreArmed self.old }
         ensures ok { OnOk result (self.new ≡ all_resumed self.old) }
         ensures stand { OnOk result (StandAgain self.old self.new) }
         ensures err { OnErr result (self.new ≡ without_workers self.old) }

@@ -73,6 +73,8 @@ pub(crate) fn start_crew(
         (λ _. origin)) }
     ensures journals { IfOk result (λ crew. (worker : ℕ)
         → (worker_state_at crew.items worker).journal ≡ []) }
+    ensures unarmed { IfOk result (λ crew. (worker : ℕ)
+        → (worker_state_at crew.items worker).seat ≡ None) }
 {
     let _operators = flow.get();
     let shares = deal_all(alloc, flow, files)?;

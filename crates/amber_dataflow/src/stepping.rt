@@ -3,44 +3,63 @@
 
 ghost use Rattle.std.specs.Prelude.{◌≡◌, ◌⊎◌, ◌+◌, ◌^◌, ◌<◌, ◌≤◌, IfOk, OnOk, false, length};
 ghost use Rattle.std.specs.List.{list_all};
-ghost use Rattle.amber_worker.specs.WorkerState.{IsFree, steps_made};
-ghost use Rattle.amber_dataflow.specs.AtWork.{HaveFinished, IsCrew, IsHeldAt, MakesStepAt, MakesTurnsAt, steps_by, worker_state_at};
+ghost use Rattle.std.specs.Option.{option_copied};
+ghost use Rattle.amber_worker.specs.Counting.{IsBoardOf};
+ghost use Rattle.amber_worker.specs.WorkerState.{IsFree, is_armed, needs_unit, steps_made};
+ghost use Rattle.amber_dataflow.specs.AtWork.{HaveFinished, IsCrewUnder, IsHeldAt, MakesStepAt, MakesTurnsAt, steps_by, worker_state_at};
 ghost use Rattle.amber_dataflow.specs.Stopping.{WorkerHasStopped};
 
 use crate::settling::settle_worker;
 use crate::turning::{make_turn, make_turns};
+use amber_board::Board;
 use amber_worker::Worker;
 use std::alloc::AllocError;
 
 /// One step of a worker whose senders have all finished, or its next row holds it. What it has made goes on to its
 /// receivers.
-pub(crate) fn step_worker(crew: &mut [Worker], number: usize) -> Result<(), AllocError>
+pub(crate) fn step_worker(
+    crew: &mut [Worker],
+    number: usize,
+    board: Option<&Board>,
+) -> Result<(), AllocError>
     requires there { number < length crew.old }
-    requires crew { IsCrew crew.old }
+    requires crew { IsCrewUnder (is_armed (worker_state_at crew.old number)) number crew.old }
     requires first { HaveFinished number crew.old }
     requires free { IsFree (worker_state_at crew.old number) }
+    requires fed { needs_unit (worker_state_at crew.old number) ≡ false }
+    requires own { IsBoardOf (option_copied board) (worker_state_at crew.old number).seat }
     requires few { steps_made (worker_state_at crew.old number) < 2 ^ 40 }
     ensures turns { OnOk result (MakesTurnsAt 1 crew.old crew.new number) }
     ensures does { OnOk result
         (MakesStepAt crew.old crew.new number ⊎ IsHeldAt crew.old crew.new number) }
+    ensures own { OnOk result
+        (IsBoardOf (option_copied board.entry) (worker_state_at crew.new number).seat) }
 {
-    make_turn(&mut crew[number])?;
+    make_turn(&mut crew[number], board)?;
     settle_worker(crew, number)
 }
 
-/// Turns of a worker, until so many are made, it has finished, is held or paused, or can do nothing until a batch comes.
-/// What it has made goes on to its receivers. The answer is how many turns were made.
-pub(crate) fn turn_worker(crew: &mut [Worker], number: usize, most: u64) -> Result<u64, AllocError>
+/// Turns of a worker, until so many are made, it has finished, is held or paused, needs a unit and has none, or can do
+/// nothing until a batch comes. What it has made goes on to its receivers. The answer is how many turns were made.
+pub(crate) fn turn_worker(
+    crew: &mut [Worker],
+    number: usize,
+    board: Option<&Board>,
+    most: u64,
+) -> Result<u64, AllocError>
     requires there { number < length crew.old }
-    requires crew { IsCrew crew.old }
+    requires crew { IsCrewUnder (is_armed (worker_state_at crew.old number)) number crew.old }
+    requires own { IsBoardOf (option_copied board) (worker_state_at crew.old number).seat }
     requires few { steps_made (worker_state_at crew.old number) + most ≤ 2 ^ 40 }
     ensures turns { IfOk result (λ made. MakesTurnsAt made crew.old crew.new number) }
     ensures made { IfOk result (λ made. steps_by crew.new ≡ steps_by crew.old + made) }
     ensures within { IfOk result (λ made. made ≤ most) }
     ensures stops { IfOk result (λ made. made < most
         → WorkerHasStopped (worker_state_at crew.new number)) }
+    ensures own { OnOk result
+        (IsBoardOf (option_copied board.entry) (worker_state_at crew.new number).seat) }
 {
-    let made = make_turns(&mut crew[number], most)?;
+    let made = make_turns(&mut crew[number], board, most)?;
     settle_worker(crew, number)?;
     Ok(made)
 }

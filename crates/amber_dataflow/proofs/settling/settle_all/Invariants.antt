@@ -1,5 +1,4 @@
 -- What was made for the workers so far has come.
-use Rattle.std.proofs.Common.{◌≡◌}
 use Rattle.amber_dataflow.specs.AtWork.{StayPut}
 use Rattle.amber_dataflow.specs.Passing.{AreAllSettled, AreSameBesides}
 use Rattle.amber_dataflow.proofs.settling.settle_all.Given as goal

@@ -1,4 +1,4 @@
--- A turn of a worker of which no count is armed.
+-- A turn of a worker that is told nothing.
 use Rattle.amber_dataflow.proofs.Untold.{alone-makes, alone-writes}
 use Rattle.amber_dataflow.proofs.turning.make_turn.Goals as goal
 

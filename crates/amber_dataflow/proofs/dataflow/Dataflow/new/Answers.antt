@@ -1,6 +1,6 @@
 -- The workers are at work where a run starts.
 use Rattle.std.proofs.Common.{refl}
-use Rattle.amber_dataflow.specs.Dataflow.{journal_of}
+use Rattle.amber_dataflow.specs.Dataflow.{journal_of, seat_of}
 use Rattle.amber_dataflow.proofs.Kept.{kept-new}
 use Rattle.amber_dataflow.proofs.dataflow.Dataflow.new.Goals as goal
 
@@ -13,3 +13,7 @@ returns-clause-start c most = record { flow = refl; work = c.in_ok-workers.ensur
 pub returns-clause-journals : goal.returns-clause-journals
 unfolding journal_of
 returns-clause-journals c = c.in_ok-workers.ensures.journals
+
+pub returns-clause-unarmed : goal.returns-clause-unarmed
+unfolding seat_of
+returns-clause-unarmed c = c.in_ok-workers.ensures.unarmed

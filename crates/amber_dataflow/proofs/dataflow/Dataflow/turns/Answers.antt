@@ -1,8 +1,10 @@
 -- One of the workers has made turns, or none is left.
 use Rattle.std.proofs.Common.{◌+◌, ◌<◌, ◌≤◌, ◌^◌, sym, ap, subst, ◌∙◌, length, take, drop, ◌++◌, arith}
+use Rattle.std.specs.Option.{option_copied}
+use Rattle.amber_worker.specs.Counting.{IsBoardOf}
 use Rattle.amber_rows.specs.Topology.{crew_of}
-use Rattle.amber_dataflow.specs.Dataflow.{AreAllThere, DataflowState, TurnsAt, step_count}
-use Rattle.amber_dataflow.proofs.Kept.{count-back, crew-lent, few-lent, kept-back, none-left, stopped-back, turned-back}
+use Rattle.amber_dataflow.specs.Dataflow.{AreAllThere, DataflowState, StandsUnder, TurnsAt, is_armed_at, seat_of, step_count}
+use Rattle.amber_dataflow.proofs.Kept.{count-back, crew-lent, few-lent, kept-back, none-left, own-back, own-lent, stopped-back, turned-back}
 use Rattle.amber_dataflow.proofs.dataflow.Dataflow.turns.Goals as goal
 
 pub turn_worker-requires-clause-there : goal.turn_worker-requires-clause-there
@@ -15,8 +17,13 @@ turn_worker-requires-clause-there c =
 
 pub turn_worker-requires-clause-crew : goal.turn_worker-requires-clause-crew
 turn_worker-requires-clause-crew c =
-    crew-lent (record { flow = c.self.inside.flow; workers = c.self.inside.workers.items }) c.self.invariant c.as_mut_slice.result.now c.as_mut_slice.ensures.value
-    (subst AreAllThere (sym c.self.view_is) c.requires.workers)
+    crew-lent (record { flow = c.self.inside.flow; workers = c.self.inside.workers.items }) c.self.invariant c.as_mut_slice.result.now c.args.worker c.as_mut_slice.ensures.value
+    (subst (λ d. StandsUnder (is_armed_at d c.args.worker) d c.args.worker) (sym c.self.view_is) c.requires.under)
+
+pub turn_worker-requires-clause-own : goal.turn_worker-requires-clause-own
+turn_worker-requires-clause-own c =
+    own-lent (record { flow = c.self.inside.flow; workers = c.self.inside.workers.items }) c.self.invariant c.as_mut_slice.result.now c.args.worker (option_copied c.args.board)
+    c.as_mut_slice.ensures.value (subst (λ d. IsBoardOf (option_copied c.args.board) (seat_of d c.args.worker)) (sym c.self.view_is) c.requires.own)
 
 pub turn_worker-requires-clause-few : goal.turn_worker-requires-clause-few
 turn_worker-requires-clause-few c =
@@ -31,7 +38,8 @@ invariant_of-self c =
     let t = c.in-Ok.ensures in
     let within = t.within in
     kept-back d c.self.invariant c.as_mut_slice.result.now c.turn_worker.new.crew i.workers.len c.args.worker c.in-Ok.made c.as_mut_slice.ensures.value c.turn_worker.auto.crew i.workers.ok.0
-    (subst AreAllThere (sym c.self.view_is) c.requires.workers) t.turns t.made (omega arith)
+    (subst AreAllThere (sym c.self.view_is) c.requires.workers) t.turns t.made
+    (subst (λ d. StandsUnder (is_armed_at d c.args.worker) d c.args.worker) (sym c.self.view_is) c.requires.under) (omega arith)
 
 pub returns-in-Ok-clause-turns : goal.returns-in-Ok-clause-turns
 returns-in-Ok-clause-turns c =
@@ -58,6 +66,14 @@ returns-in-Ok-clause-stops c less =
     let t = c.in-Ok.ensures in
     stopped-back d c.self.invariant c.as_mut_slice.result.now c.turn_worker.new.crew i.workers.len c.args.worker c.in-Ok.made c.as_mut_slice.ensures.value c.turn_worker.auto.crew i.workers.ok.0
     (subst AreAllThere (sym c.self.view_is) c.requires.workers) t.turns (t.stops less)
+
+pub returns-in-Ok-clause-own : goal.returns-in-Ok-clause-own
+returns-in-Ok-clause-own c =
+    let i = c.self.inside in
+    let d : DataflowState = record { flow = i.flow; workers = i.workers.items } in
+    let t = c.in-Ok.ensures in
+    own-back d c.self.invariant c.as_mut_slice.result.now c.turn_worker.new.crew i.workers.len c.args.worker c.in-Ok.made c.as_mut_slice.ensures.value c.turn_worker.auto.crew i.workers.ok.0
+    (subst AreAllThere (sym c.self.view_is) c.requires.workers) t.turns (option_copied c.args.board) t.own
 
 pub invariant_of-self-in-Err : goal.invariant_of-self-in-Err
 invariant_of-self-in-Err c =
