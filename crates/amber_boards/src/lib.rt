@@ -1,0 +1,19 @@
+//! The units of counts: for each operator whose count is in force a board, on which each of its workers has a seat.
+//!
+//! Workers of an operator that counts emit a row only with a unit in hand. `Boards` makes a board for each count, with as
+//! many units as rows are left to its target, and arms the workers on it; hands the units that are left to a worker that
+//! needs one; and disarms the workers and closes the boards. A closed board has had no more units counted than it had, so
+//! no count passes its target.
+//!
+//! For instance, of a filter that has emitted 3 rows since its count of 5 was put, `arm` makes a board with 2 units. Its
+//! worker needs a unit for its next row: `hand_out` grants it both. After `disarm` the unit that it did not use is
+//! journalled as given back, and the filter has emitted 4 rows or 5.
+#![tactic(auto)]
+
+pub mod boards;
+mod counter;
+pub mod target;
+
+pub use boards::Boards;
+pub use std::alloc::AllocError as NoMemory;
+pub use target::Target;
