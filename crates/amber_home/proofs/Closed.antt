@@ -15,73 +15,56 @@ use Rattle.amber_log.specs.declared.log.Log.{Log}
 use Rattle.amber_meaning.specs.declared.view.Stop.{Stop}
 use Rattle.amber_meaning.specs.Legal.{IsLegal, IsOpen, IsWorked, Query, after_close, leg_start, stops_in}
 use Rattle.amber_meaning.specs.Replay.{state_after}
-use Rattle.amber_meaning.specs.State.{State, arms_at, no_arms, orders_of, position_at}
-use Rattle.amber_meaning.specs.Stops.{arms_left, count_left, op_numbers, without_stops}
+use Rattle.amber_meaning.specs.State.{Arms, State, arms_at, no_arms, orders_of, position_at}
+use Rattle.amber_meaning.specs.Stops.{arms_left, without_stops}
 use Rattle.amber_meaning.proofs.Crews.{op-within}
 use Rattle.amber_meaning.proofs.OneState.{legal_logs_have_one_state}
 use Rattle.amber_meaning.proofs.Rest.{ends_close, runs_close}
 use Rattle.amber_meaning.proofs.Senders.{flows_send_forward}
 use Rattle.amber_dataflow.specs.AtWork.{state_reached}
 use Rattle.amber_dataflow.specs.Dataflow.{DataflowState, StandAt, handed_out, leg_parts}
-use Rattle.amber_dataflow.proofs.Numbered.{nth-numbers, uncounted-map}
-use Rattle.amber_dataflow.proofs.Standing.{handed_out-nothing, stand-at, stand-flow, stand-handed_out, stand-position, stand-steps, stand-text, stand-uncounted, stand-worked}
+use Rattle.amber_dataflow.proofs.Numbered.{nth-numbers}
+use Rattle.amber_dataflow.proofs.Standing.{AgreeButCount, handed_out-nothing, stand-at, stand-flow, stand-handed_out, stand-position, stand-steps, stand-text, stand-worked}
+use Rattle.amber_boards.specs.Boards.{AreBelow}
 use Rattle.amber_home.specs.Asked.{Asked, IsInForce}
 use Rattle.amber_home.specs.HomeState.{ClosesIn, HomeState, item_of_leg, query_of, rest_state, with_item}
-use Rattle.amber_home.specs.Kept.{IsAtRest, IsWithinLeg}
+use Rattle.amber_home.specs.Kept.{HaveNoUnits, IsAtRest, IsWithinLeg}
+use Rattle.amber_home.specs.Leg.{counts_asked}
 use Rattle.amber_home.specs.declared.phase.Phase.TheVariants as phase
+use Rattle.amber_home.proofs.Units.{below-kept, empty-kept, keep-handed_out, unarmed-kept}
 
--- ---- the orders that a close leaves (for now from `stand-uncounted`: no run has a count yet)
+-- ---- the orders that a close leaves: a count may be taken away
 
-module _ (flow : List Operator) (state : State) (uncounted : (op : ℕ) → (arms_at state op).count ≡ None) where
-  left-uncounted : (op : ℕ) → (arms_left flow state op).count ≡ None
-  left-uncounted op = ap (count_left flow state op) (uncounted op)
-
-  left-orders : (op : ℕ) → orders_of (arms_left flow state op) ≡ orders_of (arms_at state op)
-  left-orders op = λ i. record {
-    constants = (arms_at state op).constants;
-    when = (arms_at state op).when;
-    counted = ap is_some (left-uncounted op ∙ sym (uncounted op)) i;
-  }
-
+module _ (flow : List Operator) (state : State) where
   left-at : (op : ℕ) → 0 < op → op ≤ length flow → arms_at (without_stops flow state) op ≡ arms_left flow state op
   unfolding without_stops
   left-at op some within = ap (λ found. unwrap_or found no_arms) (nth-numbers (arms_left flow state) flow op some within)
 
-  pub uncounted-left : (op : ℕ) → (arms_at (without_stops flow state) op).count ≡ None
-  unfolding without_stops
-  uncounted-left op = by (nat_eq op 0)
-    where
-      by : (b : Bool) → (unwrap_or (if b then None else slice_get (map (arms_left flow state) (op_numbers flow)) (op - 1)) no_arms).count ≡ None
-      by true = refl
-      by false = uncounted-map (arms_left flow state) (op_numbers flow) left-uncounted (op - 1)
-
-  pub orders-left : (op : ℕ) → 0 < op → op ≤ length flow → orders_of (arms_at (without_stops flow state) op) ≡ orders_of (arms_at state op)
-  orders-left op some within = ap orders_of (left-at op some within) ∙ left-orders op
+  pub orders-left : (op : ℕ) → 0 < op → op ≤ length flow → AgreeButCount (orders_of (arms_at (without_stops flow state) op)) (orders_of (arms_at state op))
+  orders-left op some within = record {
+    constants = ap (λ (a : Arms). a.constants) (left-at op some within);
+    when = ap (λ (a : Arms). a.when) (left-at op some within);
+  }
 
 -- the state after a close
 abbrev pub closed_state : Bool → Query → State → Close → State
 closed_state true query state closed = state
 closed_state false query state closed = after_close query state closed
 
--- it has the same positions, and nothing else in force but for pauses
-module _ (query : Query) (state : State) (uncounted : (op : ℕ) → (arms_at state op).count ≡ None) where
+-- it has the same positions, and nothing else in force but for pauses and counts
+module _ (query : Query) (state : State) where
   pub positions-closed : (to_end : Bool) (closed : Close) → (closed_state to_end query state closed).positions ≡ state.positions
   unfolding without_stops
   positions-closed true closed = refl
   positions-closed false close.Cut = refl
   positions-closed false close.Long = refl
 
-  pub uncounted-closed : (to_end : Bool) (closed : Close) (op : ℕ) → (arms_at (closed_state to_end query state closed) op).count ≡ None
-  uncounted-closed true closed op = uncounted op
-  uncounted-closed false close.Cut op = uncounted-left query.flow state uncounted op
-  uncounted-closed false close.Long op = uncounted op
-
   pub orders-closed : (to_end : Bool) (closed : Close) (worker : ℕ) → worker < crew_of query.flow
-      → orders_in query (closed_state to_end query state closed) worker ≡ orders_in query state worker
-  orders-closed true closed worker inside = refl
+      → AgreeButCount (orders_in query (closed_state to_end query state closed) worker) (orders_in query state worker)
+  orders-closed true closed worker inside = record { constants = refl; when = refl }
   orders-closed false close.Cut worker inside =
-      let placed = op-within query.flow worker inside in orders-left query.flow state uncounted (op_of query.flow worker) placed.0 placed.1
-  orders-closed false close.Long worker inside = refl
+      let placed = op-within query.flow worker inside in orders-left query.flow state (op_of query.flow worker) placed.0 placed.1
+  orders-closed false close.Long worker inside = record { constants = refl; when = refl }
 
 -- ---- the leg
 
@@ -140,23 +123,28 @@ module _ (to_end : Bool) (e : HomeState) (d : DataflowState) (arms : List Asked)
 
   -- and at rest they stand where it says
   pub rest-closed : (closed : Close) → ClosesIn to_end query reached closed → (now : List Asked) (stops : List Stop)
-      → IsInForce query.flow (closed_state to_end query reached closed) now → stops ≡ stops_in query reached
+      → IsInForce query.flow (closed_state to_end query reached closed) now → stops ≡ stops_in query reached → AreBelow (counts_asked now) d
+      → HaveNoUnits (record { dataflow = d; arms = now; boards = []; stops = stops })
       → IsAtRest (record e { log = with_item e.log (item_of_leg to_end (leg_parts d) closed); phase = phase.Resting; parts = [] })
-      (record { dataflow = handed_out d; arms = now; stops = stops })
-  rest-closed closed closes now stops now-is stops-are =
+      (record { dataflow = handed_out d; arms = now; boards = []; stops = stops })
+  rest-closed closed closes now stops now-is stops-are below units =
       let log = with_item e.log (item_of_leg to_end (leg_parts d) closed) in
       let more = legal-closed closed closes in
       let after = closed_state to_end query reached closed in
       let rest : state_after query log.items ≡ after = legal_logs_have_one_state query log (flows_send_forward query.flow flow) more.0 ∙ more.1 in
-      let uncounted = stand-uncounted query start d leg.positions leg.at in
       let here : (worker : ℕ) → worker < crew_of query.flow → position_at after.positions worker ≡ leg.positions worker =
-      λ worker inside. ap (λ ps. position_at ps worker) (positions-closed query reached uncounted to_end closed) ∙ stand-position query start d leg.positions leg.at worker inside in
-      let given = stand-handed_out query start d leg.positions leg.at after (uncounted-closed query reached uncounted to_end closed)
-      (orders-closed query reached uncounted to_end closed) here in
+      λ worker inside. ap (λ ps. position_at ps worker) (positions-closed query reached to_end closed) ∙ stand-position query start d leg.positions leg.at worker inside in
+      let given = stand-handed_out query start d leg.positions leg.at after (orders-closed query reached to_end closed) here in
       record {
         at = subst (λ (s : State). StandAt query s (handed_out d) (position_at s.positions)) (sym rest)
             (stand-at query after (handed_out d) leg.positions given (position_at after.positions) here);
         none = handed_out-nothing d;
         in_force = subst (λ (s : State). IsInForce query.flow s now) (sym rest) now-is;
+        below = below-kept d (handed_out d) (keep-handed_out d) (counts_asked now) below;
+        units = record {
+          none = refl;
+          unarmed = unarmed-kept d (handed_out d) (keep-handed_out d) units.unarmed;
+          empty = empty-kept d (handed_out d) (keep-handed_out d) units.empty;
+        };
         stops_are = stops-are ∙ sym (kept-closed closed);
       }

@@ -12,7 +12,6 @@ use Rattle.amber_rows.specs.declared.value.Value.{Value}
 use Rattle.amber_lines.specs.Moving.{orders_in}
 use Rattle.amber_lines.proofs.Kept.{commands_keep_stops}
 use Rattle.amber_log.specs.Commands.{action_of}
-use Rattle.amber_log.specs.Effect.{is_put}
 use Rattle.amber_log.specs.Fits.{action_fits, fits_of, has_worker}
 use Rattle.amber_log.specs.Grammar.{IsCommand, ends_over}
 use Rattle.amber_log.specs.declared.command.Command.{Command}
@@ -29,7 +28,7 @@ use Rattle.amber_meaning.specs.Position.{origin}
 use Rattle.amber_meaning.specs.Replay.{state_after}
 use Rattle.amber_meaning.specs.Rules.{Orders}
 use Rattle.amber_meaning.specs.State.{Arms, State, after_action, after_command, arms_changed, arms_at, gone_at, no_arms, orders_of, position_at, put, put_constant, without_held, without_row, worker_at}
-use Rattle.amber_meaning.proofs.AtRest.{armed-count, rest-there}
+use Rattle.amber_meaning.proofs.AtRest.{rest-there}
 use Rattle.amber_meaning.proofs.Crews.{place-worker, worker-known}
 use Rattle.amber_meaning.proofs.Fronts.{legal_logs_grow}
 use Rattle.amber_meaning.proofs.Lists.{nth-next}
@@ -38,39 +37,25 @@ use Rattle.amber_meaning.proofs.Rest.{legal_logs_rest}
 use Rattle.amber_meaning.proofs.Senders.{flows_send_forward}
 use Rattle.amber_dataflow.specs.Dataflow.{AreAllThere, AreHeldByRows, DataflowState, HaveDoneNothing, StandAt, row_dropped, rows_emitted}
 use Rattle.amber_dataflow.proofs.Dropped.{dropped-nothing, dropped_at, stand-dropped}
-use Rattle.amber_dataflow.proofs.Standing.{set-nothing, stand-at, stand-flow, stand-kept, stand-set, stand-there, stand-uncounted, stand-watched, watched-nothing}
+use Rattle.amber_dataflow.proofs.Standing.{AgreeButCount, agree-same, set-nothing, stand-at, stand-flow, stand-kept, stand-set, stand-there, stand-watched, watched-nothing}
 use Rattle.amber_home.specs.Applied.{HasDropped, HasOperator, arms_after, dataflow_after, with_condition, with_constants, without_dropped}
-use Rattle.amber_home.specs.Asked.{IsInForce}
+use Rattle.amber_boards.specs.Boards.{AreBelow}
+use Rattle.amber_home.specs.Asked.{Asked, IsInForce}
+use Rattle.amber_home.specs.Leg.{counts_asked}
 use Rattle.amber_home.specs.HomeState.{HomeState, query_of, rest_state, with_item}
 use Rattle.amber_home.specs.Kept.{IsAtRest, IsHome, LiveState, StandsIn}
 use Rattle.amber_home.specs.Parts.{open_parts}
 use Rattle.amber_home.specs.declared.phase.Phase.{Phase}
 use Rattle.amber_home.specs.declared.phase.Phase.TheVariants as phase
 use Rattle.amber_home.proofs.HeldRows.{rows-rest}
+use Rattle.amber_home.proofs.Below.{below-after, keep-after}
 use Rattle.amber_home.proofs.Homes.{at-rest}
 use Rattle.amber_home.proofs.InForce.{in-force-after}
 use Rattle.amber_home.proofs.Opened.{emitted-rest, first-rest}
 use Rattle.amber_home.proofs.Places.{at-here, nth-other}
+use Rattle.amber_home.proofs.Units.{KeepUnits, empty-kept, unarmed-kept}
 
--- ---- orders, where the arms of one operator were changed (no count for now, from `stand-uncounted`: no run has one yet)
-
--- a fact that a change of one operator's arms keeps
-module _ (change : Arms → Arms) (P : Arms → Type 0) (keeps : (one : Arms) → P one → P (change one)) where
-  get-keeps : (number place : ℕ) (xs : List Arms) → ((i : ℕ) → P (unwrap_or (slice_get xs i) no_arms)) → (i : ℕ) → P (unwrap_or (slice_get (changed_from change number place xs) i) no_arms)
-  get-keeps number place [] was i = was i
-  get-keeps number place (x ∷ xs) was zero = by (eqb place number)
-    where
-      by : (b : Bool) → P (if b then change x else x)
-      by true = keeps x (was 0)
-      by false = was 0
-  get-keeps number place (x ∷ xs) was (suc i) = get-keeps number (suc place) xs (λ j. was (suc j)) i
-
-  keeps-at : P no_arms → (op : ℕ) (arms : List Arms) → ((k : ℕ) → P (unwrap_or (nth arms k) no_arms)) → (k : ℕ) → P (unwrap_or (nth (changed_at change op arms) k) no_arms)
-  keeps-at none op arms was k = by (nat_eq k 0)
-    where
-      by : (b : Bool) → P (unwrap_or (if b then None else slice_get (changed_at change op arms) (k - 1)) no_arms)
-      by true = none
-      by false = get-keeps op 1 arms (λ i. subst (λ found. P (unwrap_or found no_arms)) (nth-next arms i) (was (i + 1))) (k - 1)
+-- ---- orders, where the arms of one operator were changed
 
 -- the state with the arms of one operator changed
 abbrev armed : (Arms → Arms) → ℕ → State → State
@@ -123,9 +108,6 @@ flow-after effect d =
 
 module _ (query : Query) (state : State) (d : DataflowState) (stand : StandAt query state d (position_at state.positions)) (none : HaveDoneNothing d)
     (rows : AreHeldByRows d) (long : length state.arms ≡ length query.flow) (crew : length state.positions ≡ crew_of query.flow) where
-  uncounted : (op : ℕ) → (arms_at state op).count ≡ None
-  uncounted = stand-uncounted query state d (position_at state.positions) stand
-
   module _ (op : ℕ) (there : HasOperator op (length query.flow)) where
     -- a row is dropped
     abbrev lighter : Option ℕ → State
@@ -152,12 +134,12 @@ module _ (query : Query) (state : State) (d : DataflowState) (stand : StandAt qu
         let here : worker < crew_of query.flow = subst (λ (f : List Operator). worker_at f op w < crew_of f) stand.flow inside in
         subst (λ (f : List Operator). StandAt query (lighter (Some w)) (row_dropped (worker_at f op w) d) (position_at (lighter (Some w)).positions)) (sym stand.flow)
         (stand-at query (lighter (Some w)) (row_dropped worker d) (dropped_at query state d (position_at state.positions) stand none rows worker here)
-        (stand-dropped query state d (position_at state.positions) stand none rows worker here (lighter (Some w)) uncounted (λ k less. refl) (λ k less. dropped-at worker here k))
+        (stand-dropped query state d (position_at state.positions) stand none rows worker here (lighter (Some w)) (λ k less. refl) (λ k less. dropped-at worker here k))
         (position_at (lighter (Some w)).positions) (λ k less. dropped-at worker here k))
 
 -- another constant, and another condition or none
 module _ (query : Query) (state : State) (d : DataflowState) (stand : StandAt query state d (position_at state.positions)) (none : HaveDoneNothing d)
-    (long : length state.arms ≡ length query.flow) (effect : Effect) (gone : List ℕ) (uncounting : is_put effect.arming.count ≡ false) (there : HasOperator effect.op (length query.flow)) where
+    (long : length state.arms ≡ length query.flow) (effect : Effect) (gone : List ℕ) (there : HasOperator effect.op (length query.flow)) where
   some : 0 < effect.op
   some = there.0
 
@@ -176,17 +158,6 @@ module _ (query : Query) (state : State) (d : DataflowState) (stand : StandAt qu
   abbrev after : State
   after = armed asked effect.op state
 
-  none-counted : (op : ℕ) → (arms_at state op).count ≡ None
-  none-counted = stand-uncounted query state d (position_at state.positions) stand
-
-  uncounted-set : (op : ℕ) → (arms_at set_state op).count ≡ None
-  unfolding constant_changed
-  uncounted-set = keeps-at constant_changed (λ arms. arms.count ≡ None) (λ one was. was) refl effect.op state.arms none-counted
-
-  uncounted-after : (op : ℕ) → (arms_at after op).count ≡ None
-  unfolding asked
-  uncounted-after = keeps-at asked (λ arms. arms.count ≡ None) (λ one was. armed-count effect.arming gone one uncounting was) refl effect.op state.arms none-counted
-
   set-here : (worker : ℕ) → op_of query.flow worker ≡ effect.op
       → orders_in query set_state worker ≡ record (orders_in query state worker) { constants = put_constant effect.arming.constant (orders_in query state worker).constants }
   unfolding constant_changed
@@ -194,18 +165,17 @@ module _ (query : Query) (state : State) (d : DataflowState) (stand : StandAt qu
       armed-here query state constant_changed effect.op some within worker same
       ∙ ap (λ k. record (orders_of (arms_at state k)) { constants = put_constant effect.arming.constant (arms_at state k).constants }) (sym same)
 
+  -- but for a count
   after-here : (worker : ℕ) → op_of query.flow worker ≡ effect.op
-      → orders_in query after worker ≡ record (orders_in query set_state worker) { when = put effect.arming.when (orders_in query set_state worker).when }
+      → AgreeButCount (orders_in query after worker) (record (orders_in query set_state worker) { when = put effect.arming.when (orders_in query set_state worker).when })
   unfolding asked
   after-here worker same =
-      armed-here query state asked effect.op some within worker same
-      ∙ (λ i. record {
-        constants = put_constant effect.arming.constant (arms_at state effect.op).constants;
-        when = put effect.arming.when (arms_at state effect.op).when;
-        counted = (ap is_some (armed-count effect.arming gone (arms_at state effect.op) uncounting (none-counted effect.op)) ∙ ap is_some (sym (none-counted effect.op))) i;
-      })
-      ∙ ap (λ k. record (orders_of (arms_at state k)) { constants = put_constant effect.arming.constant (arms_at state k).constants; when = put effect.arming.when (arms_at state k).when }) (sym same)
-      ∙ ap (λ (o : Orders). record o { when = put effect.arming.when o.when }) (sym (set-here worker same))
+      let now = armed-here query state asked effect.op some within worker same in
+      let was = set-here worker same in
+      record {
+        constants = ap (λ (o : Orders). o.constants) now ∙ ap (λ k. put_constant effect.arming.constant (arms_at state k).constants) (sym same) ∙ sym (ap (λ (o : Orders). o.constants) was);
+        when = ap (λ (o : Orders). o.when) now ∙ ap (λ k. put effect.arming.when (arms_at state k).when) (sym same) ∙ ap (put effect.arming.when) (sym (ap (λ (o : Orders). o.when) was));
+      }
 
   after-elsewhere : (worker : ℕ) → op_of query.flow worker ≢ effect.op → orders_in query after worker ≡ orders_in query set_state worker
   after-elsewhere worker other =
@@ -213,39 +183,48 @@ module _ (query : Query) (state : State) (d : DataflowState) (stand : StandAt qu
 
   stands-set : (constant : Option Value) → effect.arming.constant ≡ constant → StandAt query set_state (with_constants effect.op constant d) (position_at state.positions)
   stands-set None is =
-      stand-kept query state d (position_at state.positions) stand set_state uncounted-set none
+      stand-kept query state d (position_at state.positions) stand set_state none
       (λ worker inside.
       elim (eqb_tells (op_of query.flow worker) effect.op) [
-        | inl same ↦ set-here worker same.1 ∙ ap (λ c. record (orders_in query state worker) { constants = put_constant c (orders_in query state worker).constants }) is
-        | inr other ↦ armed-elsewhere query state constant_changed effect.op some within worker other.1
+        | inl same ↦
+            agree-same (orders_in query set_state worker) (orders_in query state worker)
+            (set-here worker same.1 ∙ ap (λ c. record (orders_in query state worker) { constants = put_constant c (orders_in query state worker).constants }) is)
+        | inr other ↦
+            agree-same (orders_in query set_state worker) (orders_in query state worker) (armed-elsewhere query state constant_changed effect.op some within worker other.1)
       ])
       (λ worker inside. refl)
   stands-set (Some value) is =
-      stand-set query state d (position_at state.positions) stand set_state uncounted-set effect.op value none
+      stand-set query state d (position_at state.positions) stand set_state effect.op value none
       (λ worker inside. refl)
       (λ worker inside same. set-here worker same ∙ ap (λ c. record (orders_in query state worker) { constants = put_constant c (orders_in query state worker).constants }) is)
       (λ worker inside other. armed-elsewhere query state constant_changed effect.op some within worker other)
 
+  -- the same, where the change of the condition is this one
+  agree-put : (worker : ℕ) (when : Change Cond) → effect.arming.when ≡ when
+      → AgreeButCount (orders_in query after worker) (record (orders_in query set_state worker) { when = put effect.arming.when (orders_in query set_state worker).when })
+      → AgreeButCount (orders_in query after worker) (record (orders_in query set_state worker) { when = put when (orders_in query set_state worker).when })
+  agree-put worker when is agree = record { constants = agree.constants; when = agree.when ∙ ap (λ w. put w (orders_in query set_state worker).when) is }
+
   stands-watched : (d : DataflowState) → StandAt query set_state d (position_at state.positions) → HaveDoneNothing d → (when : Change Cond) → effect.arming.when ≡ when
       → StandAt query after (with_condition effect.op when d) (position_at state.positions)
   stands-watched d stand none change.Keep is =
-      stand-kept query set_state d (position_at state.positions) stand after uncounted-after none
+      stand-kept query set_state d (position_at state.positions) stand after none
       (λ worker inside.
       elim (eqb_tells (op_of query.flow worker) effect.op) [
-        | inl same ↦ after-here worker same.1 ∙ ap (λ w. record (orders_in query set_state worker) { when = put w (orders_in query set_state worker).when }) is
-        | inr other ↦ after-elsewhere worker other.1
+        | inl same ↦ agree-put worker change.Keep is (after-here worker same.1)
+        | inr other ↦ agree-same (orders_in query after worker) (orders_in query set_state worker) (after-elsewhere worker other.1)
       ])
       (λ worker inside. refl)
   stands-watched d stand none change.TakeBack is =
-      stand-watched query set_state d (position_at state.positions) stand after uncounted-after effect.op None none
+      stand-watched query set_state d (position_at state.positions) stand after effect.op None none
       (λ worker inside. refl)
-      (λ worker inside same. after-here worker same ∙ ap (λ w. record (orders_in query set_state worker) { when = put w (orders_in query set_state worker).when }) is)
-      (λ worker inside other. after-elsewhere worker other)
+      (λ worker inside same. agree-put worker change.TakeBack is (after-here worker same))
+      (λ worker inside other. agree-same (orders_in query after worker) (orders_in query set_state worker) (after-elsewhere worker other))
   stands-watched d stand none (change.Put cond) is =
-      stand-watched query set_state d (position_at state.positions) stand after uncounted-after effect.op (Some cond) none
+      stand-watched query set_state d (position_at state.positions) stand after effect.op (Some cond) none
       (λ worker inside. refl)
-      (λ worker inside same. after-here worker same ∙ ap (λ w. record (orders_in query set_state worker) { when = put w (orders_in query set_state worker).when }) is)
-      (λ worker inside other. after-elsewhere worker other)
+      (λ worker inside same. agree-put worker (change.Put cond) is (after-here worker same))
+      (λ worker inside other. agree-same (orders_in query after worker) (orders_in query set_state worker) (after-elsewhere worker other))
 
   pub stands-armed : StandAt query after (with_condition effect.op effect.arming.when (with_constants effect.op effect.arming.constant d)) (position_at state.positions)
   stands-armed =
@@ -253,14 +232,14 @@ module _ (query : Query) (state : State) (d : DataflowState) (stand : StandAt qu
 
 -- all of it
 pub stands-after : (query : Query) (state : State) (d : DataflowState) → StandAt query state d (position_at state.positions) → HaveDoneNothing d → AreHeldByRows d
-    → length state.arms ≡ length query.flow → length state.positions ≡ crew_of query.flow → (effect : Effect) → is_put effect.arming.count ≡ false → HasOperator effect.op (length query.flow)
+    → length state.arms ≡ length query.flow → length state.positions ≡ crew_of query.flow → (effect : Effect) → HasOperator effect.op (length query.flow)
     → HasDropped d effect.op effect.drops
     → StandAt query (after_action query.flow (AtRest effect) state) (dataflow_after effect d) (position_at (after_action query.flow (AtRest effect) state).positions)
 unfolding asked
-stands-after query state d stand none rows long crew effect uncounting there inside =
+stands-after query state d stand none rows long crew effect there inside =
     stands-armed query (lighter query state d stand none rows long crew effect.op there effect.drops) (without_dropped effect.op effect.drops d)
     (stands-dropped query state d stand none rows long crew effect.op there effect.drops inside)
-    (nothing-dropped effect.op effect.drops d none) long effect (gone_at query.flow state effect.op) uncounting there
+    (nothing-dropped effect.op effect.drops d none) long effect (gone_at query.flow state effect.op) there
 
 -- ---- the worker whose row is dropped
 
@@ -345,7 +324,7 @@ module _ (e : HomeState) (live : LiveState) (home : IsHome e live) (resting : e.
   flow-has one effect is fits = (rest-there e.flow one effect is fits).1
 
   module _ (one : Command) (effect : Effect) (is : action_of one ≡ AtRest effect) (more : ends_over false e.log.items ≡ false) (fits : fits_of e.flow one ≡ true)
-      (uncounting : is_put effect.arming.count ≡ false) (text : IsCommand one) where
+      (text : IsCommand one) where
     abbrev next : State
     next = after_action e.flow (AtRest effect) (rest_state e)
 
@@ -357,7 +336,7 @@ module _ (e : HomeState) (live : LiveState) (home : IsHome e live) (resting : e.
 
     -- where the log has the command, and what it asks for is done
     module _ (log : Log) (now : LiveState) (same : live.dataflow.flow ≡ e.flow) (log-is : log ≡ with_item e.log (item.Do one)) (arms-is : now.arms ≡ arms_after effect (rows_emitted live.dataflow effect.op) live.arms)
-        (dataflow-is : now.dataflow ≡ dataflow_after effect live.dataflow) (stops-is : now.stops ≡ live.stops) where
+        (dataflow-is : now.dataflow ≡ dataflow_after effect live.dataflow) (boards-is : now.boards ≡ live.boards) (stops-is : now.stops ≡ live.stops) where
       flow-same : now.dataflow.flow ≡ e.flow
       flow-same = ap (λ (d : DataflowState). d.flow) dataflow-is ∙ flow-after effect live.dataflow ∙ same
 
@@ -366,6 +345,10 @@ module _ (e : HomeState) (live : LiveState) (home : IsHome e live) (resting : e.
 
       pub state-commanded : record e { flow = now.dataflow.flow; log = log; parts = open_parts e.phase now.dataflow } ≡ record e { log = with_item e.log (item.Do one); parts = [] }
       state-commanded = λ i. record e { flow = flow-same i; log = log-is i; parts = none-open i }
+
+      -- no unit changes hands
+      kept-units : KeepUnits live.dataflow now.dataflow
+      kept-units = subst (KeepUnits live.dataflow) (sym dataflow-is) (keep-after effect live.dataflow there-resting (drops-resting one effect is fits))
 
       -- what it asks for is in force
       in-force-next : HasOperator effect.op (length e.flow) → IsInForce e.flow next now.arms
@@ -384,9 +367,16 @@ module _ (e : HomeState) (live : LiveState) (home : IsHome e live) (resting : e.
             legal = grown.0;
             stands = subst (λ (p : Phase). StandsIn p (record e { log = with_item e.log (item.Do one); parts = [] }) now) (sym resting) (record {
               at = rw (here, dataflow-is)
-                  (stands-after query state live.dataflow rest.at rest.none rows-resting long crew effect uncounting (rest-there e.flow one effect is fits) (drops-resting one effect is fits));
+                  (stands-after query state live.dataflow rest.at rest.none rows-resting long crew effect (rest-there e.flow one effect is fits) (drops-resting one effect is fits));
               none = rw dataflow-is (nothing-after effect live.dataflow rest.none);
               in_force = subst (λ (s : State). IsInForce e.flow s now.arms) (sym here) (in-force-next (rest-there e.flow one effect is fits));
+              below = subst (λ (arms : List Asked). AreBelow (counts_asked arms) now.dataflow) (sym arms-is)
+                  (below-after e.flow one effect live.arms live.dataflow now.dataflow is fits (names-resting one effect is fits) kept-units rest.below);
+              units = record {
+                none = boards-is ∙ rest.units.none;
+                unarmed = unarmed-kept live.dataflow now.dataflow kept-units rest.units.unarmed;
+                empty = empty-kept live.dataflow now.dataflow kept-units rest.units.empty;
+              };
               stops_are = stops-is ∙ rest.stops_are ∙ sym (commands_keep_stops query e.log.items (item.Do one) refl);
             });
           })

@@ -11,7 +11,7 @@ use Rattle.amber_log.specs.declared.effect.Change.TheVariants as change
 use Rattle.amber_meaning.specs.Position.{Position, emitted_count, is_emitted}
 use Rattle.amber_meaning.specs.State.{Arms, Counting, arms_changed, counted_by, counting_from, emitted_since, put, put_constant}
 use Rattle.amber_home.specs.Asked.{AreGone, Asked, IsAskedOf, IsCountOf, IsTargetOf, asked_changed, counting_since, emitted_of}
-use Rattle.amber_home.specs.declared.target.Target.{Target}
+use Rattle.amber_boards.specs.declared.target.Target.{Target}
 
 -- ---- one worker
 

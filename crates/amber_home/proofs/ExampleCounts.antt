@@ -5,7 +5,7 @@ use Rattle.amber_log.specs.Effect.{no_change}
 use Rattle.amber_meaning.specs.Position.{Position, origin}
 use Rattle.amber_meaning.specs.State.{Counting, counted_by}
 use Rattle.amber_home.specs.Asked.{Asked, IsCountOf, IsTargetOf, asked_changed, asked_left, no_asked}
-use Rattle.amber_home.specs.declared.target.Target.{Target}
+use Rattle.amber_boards.specs.declared.target.Target.{Target}
 
 -- a worker of whose rows these were emitted or dropped
 abbrev worker : List Bool → List Position

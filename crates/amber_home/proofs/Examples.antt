@@ -1,6 +1,6 @@
 -- Homes on literals: a step of a home, a leg, and what a home keeps; each also with data that are wrong.
 use Rattle.std.specs.Prelude.{⊤}
-use Rattle.std.proofs.Common.{◌≡◌, ◌≢◌, ℕ, zero, suc, ◌+◌, ◌*◌, ◌^◌, ◌<◌, ◌≤◌, length, max, pos, List, [], ◌∷◌, ◌++◌, codes, None, Some, unwrap_or, false, inl, inr, refl, sym, ap, subst, ◌∙◌, add-one, arith}
+use Rattle.std.proofs.Common.{◌≡◌, ◌≢◌, ◌⊎◌, ℕ, zero, suc, ◌+◌, ◌*◌, ◌^◌, ◌<◌, ◌≤◌, length, max, pos, List, [], ◌∷◌, ◌++◌, codes, None, Some, unwrap_or, false, inl, inr, refl, sym, ap, subst, ◌∙◌, add-one, arith}
 use Rattle.std.specs.List.{slice_get}
 use Rattle.std.proofs.lemmas.Bool.{ne_eqb}
 use Rattle.std.proofs.lemmas.List.{append_cancel_left}
@@ -33,10 +33,11 @@ use Rattle.amber_worker.specs.Steps.{with_go}
 use Rattle.amber_worker.specs.Turning.{WritesStep}
 use Rattle.amber_worker.proofs.ExampleFlow.{from_two}
 use Rattle.amber_home.specs.Asked.{Asked, no_asked}
-use Rattle.amber_home.specs.HomeState.{ClosesLeg, HomeState, IsLeftAlone, StepsOn, first_unfinished, leg_state, query_of, rest_state, state_of}
+use Rattle.amber_home.specs.HomeState.{ClosesLeg, HandsOut, HomeState, IsHeldNext, IsLeftAlone, MakesStep, StepsOn, first_unfinished, leg_state, next_worker, query_of, rest_state, state_of}
 use Rattle.amber_dataflow.specs.Dataflow.{DataflowState}
 use Rattle.amber_dataflow.proofs.Standing.{stand-there}
 use Rattle.amber_home.specs.Kept.{IsHome, LiveState}
+use Rattle.amber_home.specs.declared.phase.Counts.TheVariants.{Unarmed}
 use Rattle.amber_home.specs.declared.phase.Phase.{Phase}
 use Rattle.amber_home.specs.declared.phase.Phase.TheVariants as phase
 
@@ -64,7 +65,7 @@ part worker entries = record { worker = worker; entries = entries }
 
 -- within the first leg, of which this was done
 abbrev within : List Part → HomeState
-within parts = home [] (phase.Open false) parts
+within parts = home [] (phase.Open false Unarmed) parts
 
 -- the scan has taken a row, and emits it
 abbrev before : HomeState
@@ -87,11 +88,24 @@ nobody_else (suc worker) apart = record {
 
 the_scan_emits_its_row : StepsOn before after
 unfolding homes_on_literals with_go
-the_scan_emits_its_row = record { only = refl; does = inl (record { one = refl; writes = inl refl }); others = nobody_else }
+the_scan_emits_its_row = record { only = refl; fed = before; feeds = inl refl; does = inl (record { one = refl; writes = inl refl }); others = nobody_else }
+
+-- where no count is in force no units are handed out
+none_handed : (fed : HomeState) → HandsOut before fed → ⊥
+unfolding homes_on_literals
+none_handed fed handed = let wrong = handed.counted in cc
+
+-- so a step is one of the home as it was
+one_alone : (new : HomeState) → StepsOn before new → (MakesStep before new ⊎ IsHeldNext before new) × ((worker : ℕ) → worker ≢ next_worker before → IsLeftAlone before new worker)
+one_alone new steps = elim steps.feeds [
+  | inl same ↦
+      subst (λ (fed : HomeState). (MakesStep fed new ⊎ IsHeldNext fed new) × ((worker : ℕ) → worker ≢ next_worker fed → IsLeftAlone fed new worker)) same (steps.does, steps.others)
+  | inr handed ↦ absurd (none_handed steps.fed handed)
+]
 
 two_steps_at_once : StepsOn before (within (part 0 (entry.Go 2 1 ∷ []) ∷ [])) → ⊥
 unfolding homes_on_literals
-two_steps_at_once steps = elim steps.does [
+two_steps_at_once steps = elim (one_alone _ steps).0 [
   | inl made ↦ let wrong = made.one in absurd (omega arith)
   | inr held ↦ let wrong = held.none in absurd (omega arith)
 ]
@@ -106,14 +120,14 @@ no_more entries (inr (inr (inr finishes))) = cc
 
 a_pause_of_its_own : StepsOn before (within (part 0 (entry.Go 1 1 ∷ entry.Pause ∷ entry.Resume ∷ []) ∷ [])) → ⊥
 unfolding homes_on_literals
-a_pause_of_its_own steps = elim steps.does [
+a_pause_of_its_own steps = elim (one_alone _ steps).0 [
   | inl made ↦ no_more [] made.writes
   | inr held ↦ let wrong = held.none in absurd (omega arith)
 ]
 
 a_pause_of_another : StepsOn before (within (part 0 (entry.Go 1 1 ∷ []) ∷ part 1 (entry.Pause ∷ entry.Resume ∷ []) ∷ [])) → ⊥
 unfolding homes_on_literals
-a_pause_of_another steps = let wrong = (steps.others 1 (λ same. absurd (omega arith))).writes in cc
+a_pause_of_another steps = let wrong = ((one_alone _ steps).1 1 (λ same. absurd (omega arith))).writes in cc
 
 a_command_with_the_step : StepsOn before (record after { log = record { batch = 400; items = item.Do (command.Pause 2 1) ∷ [] } }) → ⊥
 a_command_with_the_step steps = let wrong = ap (λ (h : HomeState). h.log.items) steps.only in cc
@@ -248,7 +262,7 @@ nothing_done_is_legal = record { text = record { batch = (omega arith, omega ari
 
 -- with no workers, nothing in force and no stops
 abbrev nobody : List Operator → LiveState
-nobody flow = record { dataflow = record { flow = flow; workers = [] }; arms = []; stops = [] }
+nobody flow = record { dataflow = record { flow = flow; workers = [] }; arms = []; boards = []; stops = [] }
 
 nothing_is_said_of_workers : IsHome (home [] phase.Spent []) (nobody [])
 nothing_is_said_of_workers = record { few = omega arith; legal = nothing_done_is_legal; stands = tt }
@@ -264,10 +278,10 @@ nobody_is_there : IsHome (home [] phase.Resting []) (record (nobody from_two) { 
 unfolding homes_on_literals
 nobody_is_there keeps = let wrong = stand-there _ _ _ _ keeps.stands.at in absurd (omega arith)
 
-what_nobody_asked_for : (d : DataflowState) → IsHome (home [] phase.Resting []) (record { dataflow = d; arms = asked_once; stops = [] }) → ⊥
+what_nobody_asked_for : (d : DataflowState) → IsHome (home [] phase.Resting []) (record { dataflow = d; arms = asked_once; boards = []; stops = [] }) → ⊥
 unfolding state_after after_items start_of
 what_nobody_asked_for d keeps = none_some 1 (sym (keeps.stands.in_force.each 2).pause)
 
-a_stop_before_any_leg : (d : DataflowState) (arms : List Asked) → IsHome (home [] phase.Resting []) (record { dataflow = d; arms = arms; stops = stop.End ∷ [] }) → ⊥
+a_stop_before_any_leg : (d : DataflowState) (arms : List Asked) → IsHome (home [] phase.Resting []) (record { dataflow = d; arms = arms; boards = []; stops = stop.End ∷ [] }) → ⊥
 unfolding kept_stops stops_along
 a_stop_before_any_leg d arms keeps = let wrong = keeps.stands.stops_are in cc

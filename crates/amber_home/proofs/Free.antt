@@ -58,7 +58,7 @@ module _ (e : HomeState) (live : LiveState) where
   rows-open phase.Resting home within = absurd (false≢true within)
   rows-open phase.Over home within = absurd (false≢true within)
   rows-open phase.Spent home within = absurd (false≢true within)
-  rows-open (phase.Open to_end) home within = rows-within to_end (record e { phase = phase.Open to_end }) live.dataflow live.arms home.stands home.legal
+  rows-open (phase.Open to_end counts) home within = rows-within to_end (record e { phase = phase.Open to_end counts }) live.dataflow live.arms home.stands.0 home.legal
 
   -- where no stop stands
   pub goes-home : (now : Phase) → IsHome (record e { phase = now }) live → is_open now ≡ true → live.dataflow.flow ≡ e.flow

@@ -1,21 +1,26 @@
 -- What a home keeps from call to call.
-use Rattle.std.proofs.Common.{◌≡◌, refl, sym, ap, subst, ◌∙◌, ◌+◌, ◌-◌, ◌≤◌, List, [], length, map, Bool, true, false, if◌then◌else◌, arith}
+use Rattle.std.proofs.Common.{◌≡◌, refl, sym, ap, subst, ◌∙◌, ℕ, ◌≤◌, ◌^◌, List, [], length, map, Bool, true, false, Option, None, Some, if◌then◌else◌, arith}
 use Rattle.std.proofs.lemmas.Bool.{false≢true}
 use Rattle.amber_rows.specs.declared.flow.Operator.{Operator}
 use Rattle.amber_log.specs.Grammar.{ends_over}
-use Rattle.amber_log.specs.declared.leg.Close.{Close}
-use Rattle.amber_dataflow.specs.Dataflow.{AreAllThere, DataflowState, leg_begun, leg_parts, step_count}
+use Rattle.amber_log.specs.declared.leg.Part.{Part}
+use Rattle.amber_meaning.specs.Legal.{IsLegal}
+use Rattle.amber_dataflow.specs.Dataflow.{AreAllThere, DataflowState, leg_begun, leg_parts, rows_emitted, step_count}
 use Rattle.amber_dataflow.proofs.Standing.{begun-parts, stand-there}
+use Rattle.amber_boards.specs.Boards.{AreWithin, CounterState, IsBelow, IsWithin, target_at}
+use Rattle.amber_boards.specs.declared.target.Target.{Target}
 use Rattle.amber_home.specs.Asked.{Asked, without_asked}
 use Rattle.amber_home.specs.Going.{GoOn}
-use Rattle.amber_home.specs.Leg.{IsLegDone}
-use Rattle.amber_home.specs.HomeState.{ClosesIn, HomeState, has_crew, is_open, query_of, runs_to_end, state_of}
-use Rattle.amber_home.specs.Kept.{IsAtRest, IsHome, LiveState, StandsIn}
+use Rattle.amber_home.specs.Leg.{counts_asked}
+use Rattle.amber_home.specs.HomeState.{HomeState, counts_in, has_crew, is_open, query_of, runs_to_end}
+use Rattle.amber_home.specs.Kept.{CountsStand, HaveNoUnits, IsAtRest, IsHome, IsWithinLeg, LiveState, StandsIn}
 use Rattle.amber_home.specs.Parts.{open_parts}
+use Rattle.amber_home.specs.declared.phase.Counts.{Counts}
+use Rattle.amber_home.specs.declared.phase.Counts.TheVariants.{Armed, Disarmed, Unarmed}
 use Rattle.amber_home.specs.declared.phase.Phase.{Phase}
 use Rattle.amber_home.specs.declared.phase.Phase.TheVariants as phase
-use Rattle.amber_home.proofs.Legs.{closes-here, within-on}
-use Rattle.amber_home.proofs.Opened.{opened}
+use Rattle.amber_home.proofs.Legs.{within-on}
+use Rattle.amber_home.proofs.Opened.{opened, opened-below, opened-units}
 
 pub at-rest : (e : HomeState) (live : LiveState) → IsHome e live → e.phase ≡ phase.Resting → IsAtRest e live
 at-rest e live home resting = subst (λ now. StandsIn now e live) resting home.stands
@@ -23,31 +28,53 @@ at-rest e live home resting = subst (λ now. StandsIn now e live) resting home.s
 -- a phase in which a leg is open is one in which the workers are there
 pub open-there : (now : Phase) → is_open now ≡ true → has_crew now ≡ true
 open-there phase.Resting within = refl
-open-there (phase.Open to_end) within = refl
+open-there (phase.Open to_end counts) within = refl
 open-there phase.Over within = within
 open-there phase.Spent within = within
+
+-- and it is this one
+pub open-is : (now : Phase) → is_open now ≡ true → now ≡ phase.Open (runs_to_end now) (counts_in now)
+open-is phase.Resting within = absurd (false≢true within)
+open-is (phase.Open to_end counts) within = refl
+open-is phase.Over within = absurd (false≢true within)
+open-is phase.Spent within = absurd (false≢true within)
+
+-- the home in it, with what its workers have done
+pub in-open : (e : HomeState) (d : DataflowState) (now : Phase) → is_open now ≡ true
+    → record e { phase = now; parts = open_parts now d } ≡ record e { phase = phase.Open (runs_to_end now) (counts_in now); parts = leg_parts d }
+in-open e d phase.Resting within = absurd (false≢true within)
+in-open e d (phase.Open to_end counts) within = refl
+in-open e d phase.Over within = absurd (false≢true within)
+in-open e d phase.Spent within = absurd (false≢true within)
 
 -- ---- a leg is opened
 
 module _ (e : HomeState) (live : LiveState) (to_end : Bool) (home : IsHome e live) (resting : e.phase ≡ phase.Resting) (more : ends_over false e.log.items ≡ false)
     (after : DataflowState) (after-is : after ≡ leg_begun to_end live.dataflow) (now : List Asked) (now-is : now ≡ (if to_end then map without_asked live.arms else live.arms))
     (same : live.dataflow.flow ≡ e.flow) where
-  pub home-opened : IsHome (record e { flow = after.flow; phase = phase.Open to_end; parts = open_parts (phase.Open to_end) after }) (record { dataflow = after; arms = now; stops = live.stops })
+  -- what it keeps then
+  abbrev begun : DataflowState → LiveState
+  begun d = record live { dataflow = d; arms = now }
+
+  pub home-opened : IsHome (record e { flow = after.flow; phase = phase.Open to_end Unarmed; parts = open_parts (phase.Open to_end Unarmed) after }) (begun after)
   home-opened =
-      subst (λ (d : DataflowState). IsHome (record e { flow = d.flow; phase = phase.Open to_end; parts = open_parts (phase.Open to_end) d }) (record { dataflow = d; arms = now; stops = live.stops }))
-      (sym after-is)
-      (subst (λ (flow : List Operator). IsHome (record e { flow = flow; phase = phase.Open to_end; parts = leg_parts (leg_begun to_end live.dataflow) }) (record { dataflow = leg_begun to_end live.dataflow; arms = now; stops = live.stops }))
+      subst (λ (d : DataflowState). IsHome (record e { flow = d.flow; phase = phase.Open to_end Unarmed; parts = leg_parts d }) (begun d)) (sym after-is)
+      (subst (λ (flow : List Operator). IsHome (record e { flow = flow; phase = phase.Open to_end Unarmed; parts = leg_parts (leg_begun to_end live.dataflow) }) (begun (leg_begun to_end live.dataflow)))
       (sym same)
-      (record {
+      (let rest = at-rest e live home resting in
+      record {
         few = home.few;
         legal = home.legal;
-        stands = opened e live (at-rest e live home resting) home.legal to_end more now now-is (leg_parts (leg_begun to_end live.dataflow));
+        stands = (
+          opened e live rest home.legal to_end more now now-is (leg_parts (leg_begun to_end live.dataflow)),
+          (opened-below live to_end rest.below now now-is, opened-units live to_end rest.units now),
+        );
       }))
 
-  pub state-opened : record e { flow = after.flow; phase = phase.Open to_end; parts = open_parts (phase.Open to_end) after } ≡ record e { phase = phase.Open to_end; parts = [] }
+  pub state-opened : record e { flow = after.flow; phase = phase.Open to_end Unarmed; parts = open_parts (phase.Open to_end Unarmed) after } ≡ record e { phase = phase.Open to_end Unarmed; parts = [] }
   state-opened =
-      ap (λ (d : DataflowState). record e { flow = d.flow; phase = phase.Open to_end; parts = open_parts (phase.Open to_end) d }) after-is
-      ∙ (λ i. record e { flow = same i; phase = phase.Open to_end; parts = begun-parts to_end live.dataflow i })
+      ap (λ (d : DataflowState). record e { flow = d.flow; phase = phase.Open to_end Unarmed; parts = leg_parts d }) after-is
+      ∙ (λ i. record e { flow = same i; phase = phase.Open to_end Unarmed; parts = begun-parts to_end live.dataflow i })
 
 -- ---- where the workers are there
 
@@ -56,53 +83,77 @@ module _ (e : HomeState) (live : LiveState) where
   home-there phase.Over home there = absurd (false≢true there)
   home-there phase.Spent home there = absurd (false≢true there)
   home-there phase.Resting home there = stand-there _ _ live.dataflow _ home.stands.at
-  home-there (phase.Open to_end) home there = stand-there _ _ live.dataflow _ home.stands.at
+  home-there (phase.Open to_end counts) home there = stand-there _ _ live.dataflow _ home.stands.0.at
 
   pub long-open : (now : Phase) → IsHome (record e { phase = now }) live → is_open now ≡ true → length live.arms ≡ length e.flow
   long-open phase.Resting home within = absurd (false≢true within)
   long-open phase.Over home within = absurd (false≢true within)
   long-open phase.Spent home within = absurd (false≢true within)
-  long-open (phase.Open to_end) home within = home.stands.in_force.all
+  long-open (phase.Open to_end counts) home within = home.stands.0.in_force.all
 
--- ---- within a leg the workers go on
+-- ---- within a leg
 
-module _ (e : HomeState) (live : LiveState) (now : Phase) (home : IsHome (record e { phase = now }) live) (within : is_open now ≡ true)
-    (after : DataflowState) (on : GoOn live.dataflow after) (same : live.dataflow.flow ≡ e.flow)
-    (few : step_count after ≤ step_count live.dataflow + (e.most - step_count live.dataflow)) where
-  pub home-ran : IsHome (record e { flow = after.flow; phase = now; parts = open_parts now after }) (record live { dataflow = after })
-  home-ran = subst (λ (flow : List Operator). IsHome (record e { flow = flow; phase = now; parts = open_parts now after }) (record live { dataflow = after })) (sym (on.flow ∙ same)) (by now home within)
-    where
-      by : (now : Phase) → IsHome (record e { phase = now }) live → is_open now ≡ true → IsHome (record e { phase = now; parts = open_parts now after }) (record live { dataflow = after })
-      by phase.Resting home within = absurd (false≢true within)
-      by phase.Over home within = absurd (false≢true within)
-      by phase.Spent home within = absurd (false≢true within)
-      by (phase.Open to_end) home within =
-          let leg = home.stands in
-          let most = leg.few in
-          let w = within-on to_end (record e { phase = phase.Open to_end }) live.dataflow after live.arms leg on (omega arith) in
-          record {
-            few = home.few;
-            legal = home.legal;
-            stands = record { more = w.more; positions = w.positions; at = w.at; in_force = w.in_force; few = w.few };
-          }
+-- what is known of it
+pub record IsLeg (e : HomeState) (live : LiveState) (to_end : Bool) (counts : Counts) : Type 0 where
+  pub few : e.most ≤ 2 ^ 40
+  pub legal : IsLegal (query_of e) e.log
+  pub leg : IsWithinLeg to_end e live.dataflow live.arms
+  pub stand : CountsStand counts live
 
-  -- and as they are done, so may the leg be closed
-  pub closes-ran : (closed : Close) → IsLegDone closed live.arms (step_count live.dataflow + (e.most - step_count live.dataflow)) after
-      → ClosesIn (runs_to_end now) (query_of e) (state_of (record e { flow = after.flow; phase = now; parts = open_parts now after })) closed
-  unfolding state_of
-  closes-ran closed done =
-      subst (λ (flow : List Operator). ClosesIn (runs_to_end now) (query_of e) (state_of (record e { flow = flow; phase = now; parts = open_parts now after })) closed)
-      (sym (on.flow ∙ same)) (by now home within)
-    where
-      by : (now : Phase) → IsHome (record e { phase = now }) live → is_open now ≡ true
-          → ClosesIn (runs_to_end now) (query_of e) (state_of (record e { phase = now; parts = open_parts now after })) closed
-      by phase.Resting home within = absurd (false≢true within)
-      by phase.Over home within = absurd (false≢true within)
-      by phase.Spent home within = absurd (false≢true within)
-      by (phase.Open to_end) home within =
-          let leg = home.stands in
-          let most = leg.few in
-          let whole : step_count live.dataflow + (e.most - step_count live.dataflow) ≡ e.most = omega arith in
-          let here : HomeState = record e { phase = phase.Open to_end } in
-          closes-here to_end here after live.arms (within-on to_end here live.dataflow after live.arms leg on (omega arith)) home.legal closed
-          (subst (λ n. IsLegDone closed live.arms n after) whole done)
+-- the same of a home in another phase and with other parts
+within-as : (to_end : Bool) (e : HomeState) (d : DataflowState) (arms : List Asked) (now : Phase) (parts : List Part) → IsWithinLeg to_end e d arms
+    → IsWithinLeg to_end (record e { phase = now; parts = parts }) d arms
+within-as to_end e d arms now parts leg = record { more = leg.more; positions = leg.positions; at = leg.at; in_force = leg.in_force; few = leg.few }
+
+-- of a home in which one is open
+pub leg-of : (e : HomeState) (live : LiveState) (now : Phase) → IsHome (record e { phase = now }) live → is_open now ≡ true → IsLeg e live (runs_to_end now) (counts_in now)
+leg-of e live phase.Resting home within = absurd (false≢true within)
+leg-of e live phase.Over home within = absurd (false≢true within)
+leg-of e live phase.Spent home within = absurd (false≢true within)
+leg-of e live (phase.Open to_end counts) home within =
+    let leg = home.stands.0 in
+    record {
+      few = home.few;
+      legal = home.legal;
+      leg = record { more = leg.more; positions = leg.positions; at = leg.at; in_force = leg.in_force; few = leg.few };
+      stand = home.stands.1;
+    }
+
+-- before counts are armed, and once they are
+pub leg-unarmed : (e : HomeState) (live : LiveState) (now : Phase) → IsHome (record e { phase = now }) live → is_open now ≡ true → counts_in now ≡ Unarmed → IsLeg e live (runs_to_end now) Unarmed
+leg-unarmed e live now home within unarmed = subst (IsLeg e live (runs_to_end now)) unarmed (leg-of e live now home within)
+
+pub leg-armed : (e : HomeState) (live : LiveState) (now : Phase) → IsHome (record e { phase = now }) live → is_open now ≡ true → counts_in now ≡ Armed → IsLeg e live (runs_to_end now) Armed
+leg-armed e live now home within armed = subst (IsLeg e live (runs_to_end now)) armed (leg-of e live now home within)
+
+-- and a home of it
+pub home-of : (e : HomeState) (live : LiveState) (to_end : Bool) (counts : Counts) (flow : List Operator) → flow ≡ e.flow → IsLeg e live to_end counts
+    → IsHome (record e { flow = flow; phase = phase.Open to_end counts; parts = leg_parts live.dataflow }) live
+home-of e live to_end counts flow same leg =
+    subst (λ (f : List Operator). IsHome (record e { flow = f; phase = phase.Open to_end counts; parts = leg_parts live.dataflow }) live) (sym same)
+    (record {
+      few = leg.few;
+      legal = leg.legal;
+      stands = (within-as to_end e live.dataflow live.arms (phase.Open to_end counts) (leg_parts live.dataflow) leg.leg, leg.stand);
+    })
+
+-- the workers go on, and counts stand so
+pub leg-on : (e : HomeState) (live : LiveState) (to_end : Bool) (counts later : Counts) → IsLeg e live to_end counts → (after : DataflowState) (boards : List (Option CounterState))
+    → GoOn live.arms live.dataflow after → step_count after ≤ e.most → CountsStand later (record live { dataflow = after; boards = boards })
+    → IsLeg e (record live { dataflow = after; boards = boards }) to_end later
+leg-on e live to_end counts later leg after boards on few stand = record {
+  few = leg.few;
+  legal = leg.legal;
+  leg = within-on to_end e live.dataflow after live.arms leg.leg on few;
+  stand = stand;
+}
+
+-- once boards are closed, or before they are made
+pub disarmed : (live : LiveState) (counts : Counts) → (counts ≡ Armed → ⊥) → CountsStand counts live → AreWithin (counts_asked live.arms) live.dataflow × HaveNoUnits live
+disarmed live Unarmed not stand = ((λ op. by (target_at (counts_asked live.arms) op) (rows_emitted live.dataflow op) (stand.0 op)), stand.1)
+  where
+    by : (count : Option Target) (rows : ℕ) → IsBelow count rows → IsWithin count rows
+    by None rows below = tt
+    by (Some count) rows below = (below.0, let less = below.1 in omega arith)
+disarmed live Armed not stand = absurd (not refl)
+disarmed live Disarmed not stand = stand

@@ -24,7 +24,7 @@ use Rattle.amber_meaning.proofs.Numbers.{among, among-first, among-more}
 use Rattle.amber_dataflow.proofs.Numbered.{length-ops, nth-numbers}
 use Rattle.amber_home.specs.Applied.{HasOperator}
 use Rattle.amber_home.specs.Asked.{Asked, IsAskedOf, IsCountOf, IsInForce, asked_at, asked_changed, asked_left, emitted_of, first_asked, is_reached, no_asked, stands_after, without_asked}
-use Rattle.amber_home.specs.declared.target.Target.{Target}
+use Rattle.amber_boards.specs.declared.target.Target.{Target}
 use Rattle.amber_home.proofs.Counted.{AreLater, asked-changed, asked-later, reached-test}
 use Rattle.amber_home.proofs.Places.{at-here, at-map, length-changed_at, nth-other, nth-past}
 

@@ -1,5 +1,5 @@
 -- A leg stops in time: of the workers, and of the home that runs it.
-use Rattle.std.proofs.Common.{◌≡◌, refl, sym, ap, subst, ◌∙◌, ℕ, zero, suc, ◌+◌, ◌-◌, ◌<◌, ◌≤◌, List, [], ◌∷◌, ◌++◌, length, map, true, false, Some, arith}
+use Rattle.std.proofs.Common.{◌≡◌, refl, sym, ap, subst, ◌∙◌, ℕ, zero, suc, ◌+◌, ◌-◌, ◌<◌, ◌≤◌, List, [], ◌∷◌, ◌++◌, length, map, Bool, true, false, Some, arith}
 use Rattle.std.proofs.lemmas.Bool.{false≢true}
 use Rattle.std.proofs.lemmas.List.{length-map, map-append}
 use Rattle.amber_rows.specs.Topology.{crew_of, first_worker_of, op_of}
@@ -110,7 +110,7 @@ module _ (e : HomeState) (d : DataflowState) (arms : List Asked) (leg : IsWithin
     -- as the workers do, so the leg stops in time
     pub stops-in-time : (after : DataflowState) → IsWithinLeg false e after arms → IsLegInTime arms d after → StopsInTime query 0 begun (leg_parts after)
     stops-in-time after later in_time = record {
-      at_once = λ some. ap leg_parts (in_time.at_once (λ e. some (stops-begun ∙ e))) ∙ none;
+      at_once = λ some. in_time.at_once (λ e. some (stops-begun ∙ e)) ∙ none;
       pauses = λ op n is.
           let armed : pause_at arms op ≡ Some n = (leg.in_force.each op).pause ∙ is in
           let late = in_time.pauses op n armed in
@@ -121,14 +121,8 @@ module _ (e : HomeState) (d : DataflowState) (arms : List Asked) (leg : IsWithin
 
 -- ---- of a home
 
-pub in-time-ran : (e : HomeState) (live : LiveState) (after : DataflowState) (now : Phase) → IsHome (record e { phase = now }) live → is_open now ≡ true → GoOn live.dataflow after
-    → step_count after ≤ step_count live.dataflow + (e.most - step_count live.dataflow) → IsLegInTime live.arms live.dataflow after → (closed : Close) → open_parts now live.dataflow ≡ []
-    → IsInTime (query_of e) 0 (rest_state e) (item_of_leg (runs_to_end now) (open_parts now after) closed)
-in-time-ran e live after phase.Resting home within on few in_time closed none = absurd (false≢true within)
-in-time-ran e live after phase.Over home within on few in_time closed none = absurd (false≢true within)
-in-time-ran e live after phase.Spent home within on few in_time closed none = absurd (false≢true within)
-in-time-ran e live after (phase.Open true) home within on few in_time closed none = tt
-in-time-ran e live after (phase.Open false) home within on few in_time closed none =
-    let here : HomeState = record e { phase = phase.Open false } in
-    let most = home.stands.few in
-    stops-in-time here live.dataflow live.arms home.stands home.legal none after (within-on false here live.dataflow after live.arms home.stands on (omega arith)) in_time
+pub in-time-ran : (to_end : Bool) (e : HomeState) (d after : DataflowState) (arms : List Asked) (leg : IsWithinLeg to_end e d arms) → IsLegal (query_of e) e.log
+    → IsWithinLeg to_end e after arms → IsLegInTime arms d after → (closed : Close) → leg_parts d ≡ []
+    → IsInTime (query_of e) 0 (rest_state e) (item_of_leg to_end (leg_parts after) closed)
+in-time-ran true e d after arms leg legal later in_time closed none = tt
+in-time-ran false e d after arms leg legal later in_time closed none = stops-in-time e d arms leg legal none after later in_time

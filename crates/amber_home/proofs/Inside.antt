@@ -13,7 +13,7 @@ seen i = record { flow = i.dataflow.flow; files = i.files; most = i.most; log = 
 
 -- what it keeps beside its log
 abbrev pub kept : Inside → LiveState
-kept i = record { dataflow = i.dataflow; arms = i.arms; stops = i.stops }
+kept i = record { dataflow = i.dataflow; arms = i.arms; boards = i.boards; stops = i.stops }
 
 module _ (i : Inside) (home : IsHome (seen i) (kept i)) (old : HomeState) (is : seen i ≡ old) where
   -- where the workers are there

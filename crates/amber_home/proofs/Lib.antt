@@ -1,3 +1,5 @@
+pub mod Armings
+pub mod Below
 pub mod Closed
 pub mod Closings
 pub mod Commanded
@@ -6,6 +8,7 @@ pub mod Cut
 pub mod Ended
 pub mod ExampleCounts
 pub mod Examples
+pub mod Fed
 pub mod Free
 pub mod Fresh
 pub mod Going
@@ -15,13 +18,17 @@ pub mod InForce
 pub mod InTime
 pub mod Inside
 pub mod Legs
+pub mod NextStep
 pub mod OneMore
 pub mod Opened
 pub mod Paused
 pub mod Places
+pub mod Ran
 pub mod Reached
+pub mod Ready
 pub mod RowsHeld
 pub mod Saying
 pub mod Stopped
+pub mod Units
 pub mod Viewed
 pub mod Whole

@@ -1,5 +1,5 @@
 -- A leg is opened: the workers stand where it begins.
-use Rattle.std.proofs.Common.{◌≡◌, refl, sym, ap, ◌∙◌, ℕ, ◌≤◌, List, length, map, Bool, true, false, None, if◌then◌else◌, arith}
+use Rattle.std.proofs.Common.{◌≡◌, refl, sym, ap, subst, ◌∙◌, ℕ, ◌≤◌, List, length, map, Bool, true, false, None, if◌then◌else◌, arith}
 use Rattle.std.proofs.Math.ListN.{get_or-map}
 use Rattle.amber_rows.specs.Topology.{op_of}
 use Rattle.amber_log.specs.Grammar.{ends_over}
@@ -13,26 +13,26 @@ use Rattle.amber_meaning.proofs.Senders.{flows_send_forward}
 use Rattle.amber_log.specs.declared.leg.Part.{Part}
 use Rattle.amber_dataflow.specs.AtWork.{state_reached}
 use Rattle.amber_dataflow.specs.Dataflow.{leg_begun, rows_emitted, step_count}
-use Rattle.amber_dataflow.proofs.Standing.{begun-steps, begun_orders, listed-whole, stand-begun, stand-emitted, stand-flow, stand-steps, stand-uncounted}
-use Rattle.amber_home.specs.Asked.{Asked, without_asked}
+use Rattle.amber_dataflow.proofs.Standing.{begun-steps, begun_orders, listed-whole, stand-begun, stand-emitted, stand-flow, stand-steps}
+use Rattle.amber_boards.specs.Boards.{AreBelow, IsBelow}
+use Rattle.amber_home.specs.Asked.{Asked, no_asked, without_asked}
 use Rattle.amber_home.specs.HomeState.{HomeState, query_of, rest_state}
-use Rattle.amber_home.specs.Kept.{IsAtRest, IsWithinLeg, LiveState}
+use Rattle.amber_home.specs.Kept.{HaveNoUnits, IsAtRest, IsWithinLeg, LiveState}
+use Rattle.amber_home.specs.Leg.{count_at, counts_asked}
+use Rattle.amber_home.specs.declared.phase.Counts.TheVariants.{Unarmed}
 use Rattle.amber_home.specs.declared.phase.Phase.TheVariants as phase
 use Rattle.amber_home.proofs.InForce.{in-force-begun}
 use Rattle.amber_home.proofs.Places.{at-map}
+use Rattle.amber_home.proofs.Reached.{target-asked}
+use Rattle.amber_home.proofs.Units.{below-kept, empty-kept, keep-begun, unarmed-kept}
 
--- ---- what is in force (no count for now, from `stand-uncounted`: no run has one yet)
+-- ---- what is in force
 
 module _ (query : Query) (rest : State) where
   pub orders-start : (to_end : Bool) (worker : ℕ) → orders_in query (leg_start to_end rest) worker ≡ begun_orders to_end (orders_in query rest worker)
   unfolding begin_leg begin_last_leg
   orders-start true worker = ap orders_of (at-map without_arms rest.arms (op_of query.flow worker) no_arms no_arms refl)
   orders-start false worker = refl
-
-  pub uncounted-start : ((op : ℕ) → (arms_at rest op).count ≡ None) → (to_end : Bool) (op : ℕ) → (arms_at (leg_start to_end rest) op).count ≡ None
-  unfolding begin_leg begin_last_leg
-  uncounted-start uncounted true op = ap (λ (a : Arms). a.count) (at-map without_arms rest.arms op no_arms no_arms refl)
-  uncounted-start uncounted false op = uncounted op
 
   -- to the end no condition is in force
   pub unwatched-start : (op : ℕ) → (arms_at (leg_start true rest) op).when ≡ None
@@ -76,17 +76,35 @@ module _ (e : HomeState) (live : LiveState) (rest : IsAtRest e live) (legal : Is
 -- the workers begin a leg
 pub opened : (e : HomeState) (live : LiveState) → IsAtRest e live → IsLegal (query_of e) e.log → (to_end : Bool) → ends_over false e.log.items ≡ false
     → (now : List Asked) → now ≡ (if to_end then map without_asked live.arms else live.arms) → (parts : List Part)
-    → IsWithinLeg to_end (record e { phase = phase.Open to_end; parts = parts }) (leg_begun to_end live.dataflow) now
+    → IsWithinLeg to_end (record e { phase = phase.Open to_end Unarmed; parts = parts }) (leg_begun to_end live.dataflow) now
 opened e live rest legal to_end more now now-is parts =
     let query = query_of e in
     let state = rest_state e in
     let positions = position_at state.positions in
-    let uncounted = stand-uncounted query state live.dataflow positions rest.at in
     record {
       more = more;
       positions = λ worker. let_go (positions worker);
-      at = stand-begun query state live.dataflow positions rest.at (leg_start to_end state) (uncounted-start query state uncounted to_end)
+      at = stand-begun query state live.dataflow positions rest.at (leg_start to_end state)
           to_end (λ worker inside. orders-start query state to_end worker) (λ worker inside. position-start to_end state worker);
       in_force = rw now-is (in-force-begun e.flow state live.arms to_end rest.in_force);
       few = rw (begun-steps to_end live.dataflow) (rest-few e live rest legal);
+    }
+
+-- and what is said of counts stays, or nothing is said where all is taken back
+pub opened-below : (live : LiveState) (to_end : Bool) → AreBelow (counts_asked live.arms) live.dataflow → (now : List Asked) → now ≡ (if to_end then map without_asked live.arms else live.arms)
+    → AreBelow (counts_asked now) (leg_begun to_end live.dataflow)
+opened-below live true below now now-is = λ op.
+    subst (λ count. IsBelow count (rows_emitted (leg_begun true live.dataflow) op))
+    (sym (target-asked now op ∙ ap (λ arms. count_at arms op) now-is ∙ ap (λ (a : Asked). a.count) (at-map without_asked live.arms op no_asked no_asked refl))) tt
+opened-below live false below now now-is =
+    subst (λ arms. AreBelow (counts_asked arms) (leg_begun false live.dataflow)) (sym now-is)
+    (below-kept live.dataflow (leg_begun false live.dataflow) (keep-begun false live.dataflow) (counts_asked live.arms) below)
+
+pub opened-units : (live : LiveState) (to_end : Bool) → HaveNoUnits live → (now : List Asked) → HaveNoUnits (record live { dataflow = leg_begun to_end live.dataflow; arms = now })
+opened-units live to_end units now =
+    let keep = keep-begun to_end live.dataflow in
+    record {
+      none = units.none;
+      unarmed = unarmed-kept live.dataflow (leg_begun to_end live.dataflow) keep units.unarmed;
+      empty = empty-kept live.dataflow (leg_begun to_end live.dataflow) keep units.empty;
     }

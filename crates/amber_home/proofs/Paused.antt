@@ -5,15 +5,15 @@ use Rattle.std.proofs.lemmas.Bool.Decides.{eqb_tells}
 use Rattle.amber_rows.specs.Topology.{op_of}
 use Rattle.amber_dataflow.specs.Dataflow.{DataflowState, TurnsAt, rows_emitted}
 use Rattle.amber_home.specs.Asked.{Asked, is_reached, stands_after}
-use Rattle.amber_home.specs.Leg.{NoneIsLate, NoneStands, count_at, is_paused, is_stopped, pause_at}
+use Rattle.amber_home.specs.Leg.{NoneIsLate, NoneStands, count_at, is_stopped, pause_at, pause_stands}
 
 -- where none stands its pause does not
-pub none-paused : (arms : List Asked) (d : DataflowState) (op : ℕ) → is_stopped arms d op ≡ false → is_paused arms d op ≡ false
-none-paused arms d op none = (or_parts (is_paused arms d op) (is_reached (count_at arms op) (rows_emitted d op)) none).0
+pub none-paused : (arms : List Asked) (d : DataflowState) (op : ℕ) → is_stopped arms d op ≡ false → pause_stands arms d op ≡ false
+none-paused arms d op none = (or_parts (pause_stands arms d op) (is_reached (count_at arms op) (rows_emitted d op)) none).0
 
 -- nor does its count
 pub none-counted : (arms : List Asked) (d : DataflowState) (op : ℕ) → is_stopped arms d op ≡ false → is_reached (count_at arms op) (rows_emitted d op) ≡ false
-none-counted arms d op none = (or_parts (is_paused arms d op) (is_reached (count_at arms op) (rows_emitted d op)) none).1
+none-counted arms d op none = (or_parts (pause_stands arms d op) (is_reached (count_at arms op) (rows_emitted d op)) none).1
 
 -- ---- in time
 

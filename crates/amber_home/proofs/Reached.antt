@@ -1,5 +1,5 @@
 -- What is in force where workers stand, the first that has not finished, and what nobody holds where no count or no condition is armed.
-use Rattle.std.proofs.Common.{◌≡◌, refl, sym, ap, ◌∙◌, ℕ, zero, suc, ◌<◌, List, [], ◌∷◌, get_or, map, if◌then◌else◌, true, false, None, Some, is_some, subst, arith}
+use Rattle.std.proofs.Common.{◌≡◌, refl, sym, ap, ◌∙◌, ℕ, zero, suc, ◌<◌, ◌≤◌, List, [], ◌∷◌, get_or, map, Option, if◌then◌else◌, true, false, None, Some, is_some, subst, arith}
 use Rattle.std.proofs.lemmas.Bool.{false≢true}
 use Rattle.std.specs.List.{flat_map}
 use Rattle.amber_rows.specs.Topology.{crew_of, op_of}
@@ -10,19 +10,24 @@ use Rattle.amber_log.specs.declared.entry.Entry.TheVariants as entry
 use Rattle.amber_meaning.specs.declared.view.Stop.{Stop}
 use Rattle.amber_meaning.specs.Position.{Position, Restraint, origin, pending_rows}
 use Rattle.amber_meaning.specs.Rules.{Leads, Moves, Orders, assigned, first_is_watched}
-use Rattle.amber_meaning.specs.State.{State, arms_at, position_at}
+use Rattle.amber_meaning.specs.State.{Counting, State, arms_at, counted_by, crew_at, emitted_by, position_at}
 use Rattle.amber_meaning.specs.Task.{Role}
 use Rattle.amber_meaning.proofs.Numbers.{among, among-first, among-more}
 use Rattle.amber_meaning.proofs.OneState.{position-get_or}
 use Rattle.amber_lines.specs.Moving.{orders_in}
 use Rattle.amber_meaning.specs.Legal.{IsSettled, Query, assignment_in, entries_of, role_in}
 use Rattle.amber_dataflow.specs.AtWork.{state_reached, worker_state_at}
-use Rattle.amber_dataflow.specs.Dataflow.{DataflowState, StandAt, is_held, leg_parts}
+use Rattle.amber_dataflow.specs.Dataflow.{DataflowState, StandAt, hand_of, is_held, leg_parts, rows_emitted}
 use Rattle.amber_dataflow.proofs.Reached.{listed-at}
-use Rattle.amber_dataflow.proofs.Standing.{stand-position, stand-uncounted, stand-worked}
-use Rattle.amber_home.specs.Asked.{Asked, IsInForce}
+use Rattle.amber_dataflow.proofs.Standing.{stand-emitted, stand-position, stand-worked}
+use Rattle.amber_boards.specs.Boards.{AreEmptyHanded, AreWithin, IsWithin, target_at}
+use Rattle.amber_boards.specs.declared.target.Target.{Target}
+use Rattle.amber_rows.specs.declared.flow.Operator.{Operator}
+use Rattle.amber_home.specs.Asked.{Asked, IsCountOf, IsInForce, emitted_of, no_asked}
 use Rattle.amber_home.specs.HomeState.{first_unfinished}
+use Rattle.amber_home.specs.Leg.{count_at, counts_asked}
 use Rattle.amber_home.proofs.InForce.{in-force-worked}
+use Rattle.amber_home.proofs.Places.{at-map}
 
 -- no row is watched where no condition is in force
 watched-never : (rows : List (List Value)) → first_is_watched None rows ≡ false
@@ -96,8 +101,19 @@ first-listed positions n worker inside done not-yet =
 
 -- ---- where workers stand
 
-none-some : {A : Type 0} {x : A} → None ≡ Some x → ⊥
-none-some e = cc
+-- the target that is asked for at an operator
+pub target-asked : (arms : List Asked) (op : ℕ) → target_at (counts_asked arms) op ≡ count_at arms op
+target-asked arms op = at-map (λ (asked : Asked). asked.count) arms op no_asked None refl
+
+-- a count that is within its target has counted no more
+within-count : (crew : List Position) (kept : Option Target) (counting : Counting) → IsCountOf crew kept (Some counting) → IsWithin kept (emitted_of crew)
+    → counted_by counting.base crew ≤ counting.target
+within-count crew None counting is within = absurd is
+within-count crew (Some kept) counting is within =
+    let target = is.target in
+    let counted = is.counted in
+    let most = within.1 in
+    omega arith
 
 module _ (query : Query) (start : State) (d : DataflowState) (positions : ℕ → Position) (stand : StandAt query start d positions) where
   -- what a worker's journal leads from and to
@@ -124,14 +140,32 @@ module _ (query : Query) (start : State) (d : DataflowState) (positions : ℕ �
       ∙ loose-stays (role_in query worker) (orders_in query start worker) (position_at start.positions worker) (positions worker) (entries_of (leg_parts d) worker)
       (unwatched (op_of query.flow worker)) (none worker inside) (leads-at worker inside)
 
-  -- ---- while nothing is counted
+  -- ---- units
 
-  -- no hand holds a unit, where none held one when the leg began (for now from `stand-uncounted`: no run has a count yet)
-  pub settled-reached : ((worker : ℕ) → worker < crew_of query.flow → (position_at start.positions worker).restraint.hand ≡ 0) → IsSettled query (state_reached query start positions)
-  settled-reached none = record {
+  -- a worker's hand is that of its position
+  pub hand-at : (worker : ℕ) → worker < crew_of query.flow → hand_of d worker ≡ (positions worker).restraint.hand
+  unfolding hand_of
+  hand-at worker inside = ap (λ (r : Restraint). r.hand) (restraint-at worker inside)
+
+  -- where no count is in force a hand that held no unit when the leg began holds none
+  pub empty-reached : (worker : ℕ) → worker < crew_of query.flow → is_some (arms_at start (op_of query.flow worker)).count ≡ false
+      → (position_at start.positions worker).restraint.hand ≡ 0 → hand_of d worker ≡ 0
+  empty-reached worker inside uncounted none =
+      hand-at worker inside
+      ∙ hand-stays (role_in query worker) (orders_in query start worker) (position_at start.positions worker) (positions worker) (entries_of (leg_parts d) worker) uncounted none
+      (leads-at worker inside)
+
+  -- where no hand holds a unit, and no count has counted more than it asks for
+  pub settled-reached : (arms : List Asked) → IsInForce query.flow start arms → AreEmptyHanded d → AreWithin (counts_asked arms) d → IsSettled query (state_reached query start positions)
+  unfolding emitted_by
+  settled-reached arms is empty within = record {
     hands = λ worker inside.
         ap (λ p. p.restraint.hand) (stand-position query start d positions stand worker inside)
-        ∙ hand-stays (role_in query worker) (orders_in query start worker) (position_at start.positions worker) (positions worker) (entries_of (leg_parts d) worker)
-        (ap is_some (stand-uncounted query start d positions stand (op_of query.flow worker))) (none worker inside) (leads-at worker inside);
-    counts = λ op counting is. absurd (none-some (sym (stand-uncounted query start d positions stand op) ∙ is));
+        ∙ sym (hand-at worker inside) ∙ empty worker (subst (λ (f : List Operator). worker < crew_of f) (sym stand.flow) inside);
+    counts = λ op counting counts.
+        let now = state_reached query start positions in
+        within-count (crew_at query.flow now op) (count_at arms op) counting
+        (subst (IsCountOf (crew_at query.flow now op) (count_at arms op)) counts ((in-force-reached arms is).each op).count)
+        (subst (IsWithin (count_at arms op)) (sym (stand-emitted query start d positions stand op))
+        (subst (λ count. IsWithin count (rows_emitted d op)) (target-asked arms op) (within op)));
   }

@@ -50,9 +50,9 @@ stands-somewhere e live phase.Resting home there =
       in_force = rest.in_force;
       reached = sym (listed-rest (record e { phase = phase.Resting }) live rest home.legal);
     }
-stands-somewhere e live (phase.Open to_end) home there =
-    let here : HomeState = record e { phase = phase.Open to_end } in
-    let leg = home.stands in
+stands-somewhere e live (phase.Open to_end counts) home there =
+    let here : HomeState = record e { phase = phase.Open to_end counts } in
+    let leg = home.stands.0 in
     record {
       start = start to_end here live.dataflow live.arms leg home.legal;
       positions = leg.positions;
@@ -103,10 +103,10 @@ module _ (e : HomeState) (live : LiveState) where
   stops-open phase.Resting home within shown is = absurd (false≢true within)
   stops-open phase.Over home within shown is = absurd (false≢true within)
   stops-open phase.Spent home within shown is = absurd (false≢true within)
-  stops-open (phase.Open to_end) home within shown is =
-      let here : HomeState = record e { phase = phase.Open to_end } in
+  stops-open (phase.Open to_end counts) home within shown is =
+      let here : HomeState = record e { phase = phase.Open to_end counts } in
       let d = live.dataflow in
-      let leg = home.stands in
+      let leg = home.stands.0 in
       is
       ∙ sym (stops-are (query_of e) (start to_end here d live.arms leg home.legal) d leg.positions leg.at live.arms leg.in_force)
       ∙ ap (stops_in (query_of e)) (sym (state-here to_end here d live.arms leg home.legal))
@@ -117,4 +117,4 @@ module _ (e : HomeState) (live : LiveState) where
   stops-rest phase.Resting home there rests = home.stands.stops_are
   stops-rest phase.Over home there rests = absurd (false≢true there)
   stops-rest phase.Spent home there rests = absurd (false≢true there)
-  stops-rest (phase.Open to_end) home there rests = absurd (false≢true (sym rests))
+  stops-rest (phase.Open to_end counts) home there rests = absurd (false≢true (sym rests))

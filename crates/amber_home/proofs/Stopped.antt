@@ -20,8 +20,9 @@ use Rattle.amber_dataflow.specs.Dataflow.{AreHeldByRows, DataflowState, StandAt,
 use Rattle.amber_dataflow.proofs.Standing.{stand-emitted, stand-finished, stand-position, stand-steps}
 use Rattle.amber_home.specs.Asked.{Asked, IsCountOf, IsInForce, asked_at, is_reached, is_stopped_after, no_asked, stands_after}
 use Rattle.amber_home.specs.HomeState.{ClosesIn}
-use Rattle.amber_home.specs.Leg.{IsCut, IsLegDone, NoneStands, count_at, counts_of, held_of, is_stopped, other_stops, pause_at, pauses_of, stop_at_end, stop_of_count, stop_of_pause, stop_of_worker, stops_by}
-use Rattle.amber_home.specs.declared.target.Target.{Target}
+use Rattle.amber_home.specs.Leg.{IsCut, IsLegDone, NoneStands, count_at, counts_asked, counts_of, held_of, is_stopped, other_stops, pause_at, pauses_of, stop_at_end, stop_of_count, stop_of_pause, stop_of_worker, stops_by}
+use Rattle.amber_boards.specs.Boards.{AreEmptyHanded, AreWithin}
+use Rattle.amber_boards.specs.declared.target.Target.{Target}
 use Rattle.amber_home.proofs.Counted.{reached-test}
 use Rattle.amber_home.proofs.Paused.{none-counted, none-paused}
 use Rattle.amber_home.proofs.Places.{nth-past}
@@ -278,7 +279,7 @@ unarmed arms d op none stopped =
 
 module _ (query : Query) (start : State) (d : DataflowState) (positions : ℕ → Position) (stand : StandAt query start d positions) (arms : List Asked)
     (is : IsInForce query.flow start arms)
-    (hands : (worker : ℕ) → worker < crew_of query.flow → (position_at start.positions worker).restraint.hand ≡ 0) (rows : AreHeldByRows d) where
+    (empty : AreEmptyHanded d) (within : AreWithin (counts_asked arms) d) (rows : AreHeldByRows d) where
   abbrev now : State
   now = state_reached query start positions
 
@@ -286,7 +287,7 @@ module _ (query : Query) (start : State) (d : DataflowState) (positions : ℕ �
   stops-now = stops-are query start d positions stand arms is
 
   settled-now : IsSettled query now
-  settled-now = settled-reached query start d positions stand hands
+  settled-now = settled-reached query start d positions stand arms is empty within
 
   steps-now : steps_in now ≡ step_count d
   steps-now = stand-steps query start d positions stand

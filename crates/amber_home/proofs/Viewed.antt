@@ -14,7 +14,7 @@ use Rattle.amber_dataflow.specs.Dataflow.{DataflowState, ShowAt, rows_emitted}
 use Rattle.amber_dataflow.proofs.Standing.{stand-emitted}
 use Rattle.amber_home.specs.Asked.{Asked, IsCountOf, asked_at}
 use Rattle.amber_home.specs.Leg.{ShowsAt, counted_rows}
-use Rattle.amber_home.specs.declared.target.Target.{Target}
+use Rattle.amber_boards.specs.declared.target.Target.{Target}
 use Rattle.amber_home.proofs.Counted.{counted-rows}
 
 -- how far its count is

@@ -11,19 +11,22 @@ use Rattle.amber_dataflow.proofs.Standing.{stand-steps}
 use Rattle.amber_home.specs.HomeState.{ClosesIn, ClosesLeg, HomeState, has_crew, item_of_leg, query_of, rest_state, runs_to_end, state_of, with_closed_leg}
 use Rattle.amber_home.specs.Kept.{IsHome, LiveState}
 use Rattle.amber_home.specs.Parts.{open_parts}
+use Rattle.amber_home.specs.declared.phase.Counts.TheVariants.{Disarmed, Unarmed}
 use Rattle.amber_home.specs.declared.phase.Phase.{Phase}
 use Rattle.amber_home.specs.declared.phase.Phase.TheVariants as phase
 use Rattle.amber_home.proofs.Legs.{start, state-here}
 use Rattle.amber_home.proofs.Opened.{steps-rest}
 
 -- opened, gone through and closed
-pub leg-closes : (to_end : Bool) (old begun ran now : HomeState) (closed : Close) → begun ≡ record old { phase = phase.Open to_end; parts = [] } → ran ≡ record begun { parts = ran.parts }
+pub leg-closes : (to_end : Bool) (old begun ran now : HomeState) (closed : Close) → begun ≡ record old { phase = phase.Open to_end Unarmed; parts = [] }
+    → ran ≡ record begun { phase = phase.Open (runs_to_end begun.phase) Disarmed; parts = ran.parts }
     → ClosesIn (runs_to_end begun.phase) (query_of begun) (state_of ran) closed
     → (begun.parts ≡ [] → IsInTime (query_of begun) 0 (rest_state begun) (item_of_leg (runs_to_end begun.phase) ran.parts closed))
     → now ≡ with_closed_leg ran closed → ClosesLeg to_end old now closed
 unfolding state_of
 leg-closes to_end old begun ran now closed begun-is ran-is closes in_time now-is =
-    let whole : ran ≡ record old { phase = phase.Open to_end; parts = ran.parts } = ran-is ∙ ap (λ (h : HomeState). record h { parts = ran.parts }) begun-is in
+    let whole : ran ≡ record old { phase = phase.Open to_end Disarmed; parts = ran.parts } =
+    ran-is ∙ ap (λ (h : HomeState). record h { phase = phase.Open (runs_to_end h.phase) Disarmed; parts = ran.parts }) begun-is in
     record {
       parts = ran.parts;
       so = subst (λ (h : HomeState). ClosesIn to_end (query_of old) (state_of h) closed) whole
@@ -42,9 +45,9 @@ module _ (e : HomeState) (live : LiveState) where
   steps-are phase.Over home there = absurd (false≢true there)
   steps-are phase.Spent home there = absurd (false≢true there)
   steps-are phase.Resting home there = sym (steps-rest (record e { phase = phase.Resting }) live home.stands home.legal)
-  steps-are (phase.Open to_end) home there =
-      let here : HomeState = record e { phase = phase.Open to_end } in
-      let leg = home.stands in
+  steps-are (phase.Open to_end counts) home there =
+      let here : HomeState = record e { phase = phase.Open to_end counts } in
+      let leg = home.stands.0 in
       sym (ap steps_in (state-here to_end here live.dataflow live.arms leg home.legal)
       ∙ stand-steps (query_of e) (start to_end here live.dataflow live.arms leg home.legal) live.dataflow leg.positions leg.at)
 

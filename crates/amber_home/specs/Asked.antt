@@ -9,7 +9,7 @@ use Rattle.amber_log.specs.declared.effect.Change.{Change}
 use Rattle.amber_log.specs.declared.effect.Change.TheVariants as change
 use Rattle.amber_meaning.specs.Position.{Position, emitted_count}
 use Rattle.amber_meaning.specs.State.{Arms, Counting, State, arms_at, counted_by, crew_at, first_constants, put, put_constant}
-use Rattle.amber_home.specs.declared.target.Target.{Target}
+use Rattle.amber_boards.specs.declared.target.Target.{Target}
 
 -- what is in force at an operator: a pause, a count, a condition to stop at, and a filter's constants
 pub record Asked : Type 0 where

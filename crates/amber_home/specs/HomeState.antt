@@ -1,11 +1,11 @@
 -- What a home keeps, and what its calls change.
-use Rattle.std.specs.Prelude.{◌≡◌, ◌≢◌, ◌⊎◌, ℕ, suc, ◌+◌, List, [], ◌∷◌, ◌++◌, Option, None, Some, Result, Ok, Err, Bool, true, false, not, if◌then◌else◌}
+use Rattle.std.specs.Prelude.{◌≡◌, ◌≢◌, ◌⊎◌, ℕ, suc, ◌+◌, ◌-◌, ◌<◌, ◌||◌, List, [], ◌∷◌, ◌++◌, Option, None, Some, Result, Ok, Err, Bool, true, false, if◌then◌else◌}
+use Rattle.amber_rows.specs.Topology.{crew_of, op_of}
 use Rattle.amber_rows.specs.declared.flow.Operator.{Operator}
 use Rattle.amber_rows.specs.declared.value.Value.{Value}
 use Rattle.amber_lines.specs.KeptStops.{kept_stops}
 use Rattle.amber_log.specs.declared.command.Command.{Command}
 use Rattle.amber_log.specs.Commands.{action_of}
-use Rattle.amber_log.specs.Effect.{is_put}
 use Rattle.amber_log.specs.declared.effect.Action.{Action}
 use Rattle.amber_log.specs.declared.effect.Action.TheVariants.{Leg, AtRest}
 use Rattle.amber_log.specs.declared.entry.Entry.TheVariants as entry
@@ -17,14 +17,18 @@ use Rattle.amber_log.specs.declared.log.Item.TheVariants as item
 use Rattle.amber_log.specs.declared.log.Log.{Log}
 use Rattle.amber_meaning.specs.declared.view.Stop.{Stop}
 use Rattle.amber_meaning.specs.InTime.{IsInTime}
-use Rattle.amber_meaning.specs.Legal.{ClosesEnd, ClosesRun, Query, entries_of, leg_start, query_over, stops_in}
-use Rattle.amber_meaning.specs.Position.{Position}
+use Rattle.amber_meaning.specs.Legal.{ClosesEnd, ClosesRun, IsSettled, Query, entries_of, leg_start, query_over, role_in, stops_in}
+use Rattle.amber_meaning.specs.Position.{Position, pending_rows, rest_of}
 use Rattle.amber_meaning.specs.Replay.{after_leg, state_after}
-use Rattle.amber_meaning.specs.State.{State, have_finished, position_at, steps_in, worker_at}
+use Rattle.amber_meaning.specs.State.{Counting, State, arms_at, counted_at, have_finished, position_at, steps_in, worker_at}
 use Rattle.amber_meaning.specs.Transcript.{held_row}
 use Rattle.amber_worker.specs.Turning.{WritesStep}
+use Rattle.amber_link.specs.Links.{has_some}
+use Rattle.amber_worker.specs.Counting.{with_back}
 use Rattle.amber_home.specs.declared.error.LegErr.{LegErr}
 use Rattle.amber_home.specs.declared.error.LegErr.TheVariants as leg_err
+use Rattle.amber_home.specs.declared.phase.Counts.{Counts}
+use Rattle.amber_home.specs.declared.phase.Counts.TheVariants.{Armed, Disarmed, Unarmed}
 use Rattle.amber_home.specs.declared.phase.Phase.{Phase}
 use Rattle.amber_home.specs.declared.phase.Phase.TheVariants as phase
 
@@ -47,30 +51,37 @@ query_of e = query_over e.flow e.files e.log.batch e.most
 
 abbrev pub is_spent : Phase → Bool
 is_spent phase.Resting = false
-is_spent (phase.Open to_end) = false
+is_spent (phase.Open to_end counts) = false
 is_spent phase.Over = false
 is_spent phase.Spent = true
 
 -- the workers are there
 abbrev pub has_crew : Phase → Bool
 has_crew phase.Resting = true
-has_crew (phase.Open to_end) = true
+has_crew (phase.Open to_end counts) = true
 has_crew phase.Over = false
 has_crew phase.Spent = false
 
 -- a leg is open
 abbrev pub is_open : Phase → Bool
 is_open phase.Resting = false
-is_open (phase.Open to_end) = true
+is_open (phase.Open to_end counts) = true
 is_open phase.Over = false
 is_open phase.Spent = false
 
 -- the leg that is open is one to the end
 abbrev pub runs_to_end : Phase → Bool
 runs_to_end phase.Resting = false
-runs_to_end (phase.Open to_end) = to_end
+runs_to_end (phase.Open to_end counts) = to_end
 runs_to_end phase.Over = false
 runs_to_end phase.Spent = false
+
+-- how the counts of the leg that is open stand
+abbrev pub counts_in : Phase → Counts
+counts_in phase.Resting = Unarmed
+counts_in (phase.Open to_end counts) = counts
+counts_in phase.Over = Unarmed
+counts_in phase.Spent = Unarmed
 
 -- ---- where it stands
 
@@ -85,7 +96,7 @@ leg_state e to_end parts = after_leg (query_of e) (leg_start to_end (rest_state 
 -- the state in which the workers stand
 abbrev pub state_at : Phase → HomeState → State
 state_at phase.Resting e = rest_state e
-state_at (phase.Open to_end) e = leg_state e to_end e.parts
+state_at (phase.Open to_end counts) e = leg_state e to_end e.parts
 state_at phase.Over e = rest_state e
 state_at phase.Spent e = rest_state e
 
@@ -95,7 +106,7 @@ state_of e = state_at e.phase e
 -- the stops that stand within a leg; outside of one those of the last leg, before its end took any away
 abbrev pub stops_at : Phase → HomeState → List Stop
 stops_at phase.Resting e = kept_stops (query_of e) e.log.items
-stops_at (phase.Open to_end) e = stops_in (query_of e) (leg_state e to_end e.parts)
+stops_at (phase.Open to_end counts) e = stops_in (query_of e) (leg_state e to_end e.parts)
 stops_at phase.Over e = kept_stops (query_of e) e.log.items
 stops_at phase.Spent e = kept_stops (query_of e) e.log.items
 
@@ -108,10 +119,10 @@ stops_of_home e = stops_at e.phase e
 abbrev pub with_item : Log → Item → Log
 with_item log one = record log { items = log.items ++ one ∷ [] }
 
--- what a home does at rest: all but arming a count
+-- what a home does at rest: all but a leg
 abbrev pub is_at_rest : Action → Bool
 is_at_rest (Leg to_end) = false
-is_at_rest (AtRest effect) = not (is_put effect.arming.count)
+is_at_rest (AtRest effect) = true
 
 -- a command that a home does at rest
 abbrev pub is_done_at_rest : Command → Bool
@@ -194,8 +205,60 @@ pub record IsHeldNext (old new : HomeState) : Type 0 where
   pub held : (position_at (state_of new).positions (next_worker old)).restraint.held ≡ true
   pub writes : entries_of new.parts (next_worker old) ≡ entries_of old.parts (next_worker old) ++ entry.Hold ∷ []
 
--- a leg has gone on by one step, or by one hold, and nothing else has changed: the other workers are left alone
+-- ---- units
+
+-- a worker's hand
+abbrev pub hand_at : HomeState → ℕ → ℕ
+hand_at e worker = (position_at (state_of e).positions worker).restraint.hand
+
+-- the count that is in force at an operator
+abbrev pub count_in : HomeState → ℕ → Option Counting
+count_in e op = (arms_at (state_of e) op).count
+
+-- no count is in force
+abbrev pub NoneIsCounted : HomeState → Type 0
+NoneIsCounted e = (op : ℕ) → count_in e op ≡ None
+
+-- the counts that are in force are armed
+abbrev pub AreArmed : HomeState → Type 0
+AreArmed e = (counts_in e.phase ≡ Armed) ⊎ NoneIsCounted e
+
+-- a worker has written that its hand was given back, if it held units
+abbrev pub GivesBack : HomeState → HomeState → ℕ → Type 0
+GivesBack old new worker = entries_of new.parts worker ≡ with_back (hand_at old worker) (entries_of old.parts worker)
+
+-- a worker has a row pending, or one left to take
+abbrev pub has_rows : Query → State → ℕ → Bool
+has_rows query state worker =
+    has_some (pending_rows (role_in query worker) (position_at state.positions worker)) || has_some (rest_of (role_in query worker) (position_at state.positions worker))
+
+-- the next worker needs a unit and has none: the other workers of its operator have given theirs back, and it was granted all that are left
+pub record HandsOut (old new : HomeState) : Type 0 where
+  pub only : new ≡ record old { parts = new.parts }
+  pub counting : Counting
+  pub counted : count_in old (op_of old.flow (next_worker old)) ≡ Some counting
+  pub empty : hand_at old (next_worker old) ≡ 0
+  pub wants : has_rows (query_of old) (state_of old) (next_worker old) ≡ true
+  pub grant : entries_of new.parts (next_worker old) ≡ entries_of old.parts (next_worker old)
+      ++ entry.Grant (counting.target - counted_at old.flow (state_of old) (op_of old.flow (next_worker old)) counting) ∷ []
+  pub own : (worker : ℕ) → worker < crew_of old.flow → worker ≢ next_worker old → op_of old.flow worker ≡ op_of old.flow (next_worker old) → GivesBack old new worker
+  pub others : (worker : ℕ) → op_of old.flow worker ≢ op_of old.flow (next_worker old) → entries_of new.parts worker ≡ entries_of old.parts worker
+
+-- units were handed out, where the next worker needs one, and has none
+abbrev pub IsFed : HomeState → HomeState → Type 0
+IsFed old new = (new ≡ old) ⊎ HandsOut old new
+
+-- a leg has gone on by one step, or by one hold, perhaps after units were handed out, and nothing else has changed: the other workers
+-- are left alone
 pub record StepsOn (old new : HomeState) : Type 0 where
   pub only : new ≡ record old { parts = new.parts }
-  pub does : MakesStep old new ⊎ IsHeldNext old new
-  pub others : (worker : ℕ) → worker ≢ next_worker old → IsLeftAlone old new worker
+  pub fed : HomeState
+  pub feeds : IsFed old fed
+  pub does : MakesStep fed new ⊎ IsHeldNext fed new
+  pub others : (worker : ℕ) → worker ≢ next_worker fed → IsLeftAlone fed new worker
+
+-- the boards are closed: each worker's hand was given back
+pub record DisarmsLeg (old new : HomeState) : Type 0 where
+  pub only : new ≡ record old { parts = new.parts; phase = phase.Open (runs_to_end old.phase) Disarmed }
+  pub writes : (worker : ℕ) → worker < crew_of old.flow → GivesBack old new worker
+  pub settled : IsSettled (query_of new) (state_of new)

@@ -1,5 +1,5 @@
 -- What a home keeps.
-use Rattle.std.specs.Prelude.{◌≡◌, ℕ, ◌^◌, ◌≤◌, List, Bool, false}
+use Rattle.std.specs.Prelude.{◌≡◌, ℕ, ◌^◌, ◌≤◌, List, [], Option, Bool, false}
 use Rattle.amber_dataflow.specs.Dataflow.{DataflowState, HaveDoneNothing, StandAt, step_count}
 use Rattle.amber_lines.specs.KeptStops.{kept_stops}
 use Rattle.amber_log.specs.Grammar.{ends_over}
@@ -8,21 +8,37 @@ use Rattle.amber_meaning.specs.Legal.{IsLegal, leg_start}
 use Rattle.amber_meaning.specs.Position.{Position}
 use Rattle.amber_meaning.specs.State.{position_at}
 use Rattle.amber_home.specs.Asked.{Asked, IsInForce}
+use Rattle.amber_boards.specs.Boards.{AreBelow, AreEmptyHanded, AreUnarmed, AreWithin, CounterState}
 use Rattle.amber_home.specs.HomeState.{HomeState, query_of, rest_state}
+use Rattle.amber_home.specs.Going.{AreReady}
+use Rattle.amber_home.specs.Leg.{counts_asked}
+use Rattle.amber_home.specs.declared.phase.Counts.{Counts}
+use Rattle.amber_home.specs.declared.phase.Counts.TheVariants.{Armed, Disarmed, Unarmed}
 use Rattle.amber_home.specs.declared.phase.Phase.{Phase}
 use Rattle.amber_home.specs.declared.phase.Phase.TheVariants as phase
 
--- what a home keeps beside its log: its workers, what is in force at each operator, and the stops of the last leg
+-- what a home keeps beside its log: its workers, what is in force at each operator, the boards of a leg whose counts are armed, and the
+-- stops of the last leg
 pub record LiveState : Type 0 where
   pub dataflow : DataflowState
   pub arms : List Asked
+  pub boards : List (Option CounterState)
   pub stops : List Stop
 
--- at rest the workers stand where the log says, with nothing done since; what it says is in force, and the stops of the last leg are kept
+-- there are no boards, and nobody has a seat or a unit
+pub record HaveNoUnits (live : LiveState) : Type 0 where
+  pub none : live.boards ≡ []
+  pub unarmed : AreUnarmed live.dataflow
+  pub empty : AreEmptyHanded live.dataflow
+
+-- at rest the workers stand where the log says, with nothing done since; what it says is in force, no count of it has been reached, and
+-- the stops of the last leg are kept
 pub record IsAtRest (e : HomeState) (live : LiveState) : Type 0 where
   pub at : StandAt (query_of e) (rest_state e) live.dataflow (position_at (rest_state e).positions)
   pub none : HaveDoneNothing live.dataflow
   pub in_force : IsInForce e.flow (rest_state e) live.arms
+  pub below : AreBelow (counts_asked live.arms) live.dataflow
+  pub units : HaveNoUnits live
   pub stops_are : live.stops ≡ kept_stops (query_of e) e.log.items
 
 -- within a leg the workers stand somewhere after where it began, and what was in force then still is
@@ -33,10 +49,16 @@ pub record IsWithinLeg (to_end : Bool) (e : HomeState) (d : DataflowState) (arms
   pub in_force : IsInForce e.flow (leg_start to_end (rest_state e)) arms
   pub few : step_count d ≤ e.most
 
+-- before counts are armed none has been reached, once the boards are closed none has counted more than it asks for
+abbrev pub CountsStand : Counts → LiveState → Type 0
+CountsStand Unarmed live = AreBelow (counts_asked live.arms) live.dataflow × HaveNoUnits live
+CountsStand Armed live = AreReady live.arms live.boards live.dataflow
+CountsStand Disarmed live = AreWithin (counts_asked live.arms) live.dataflow × HaveNoUnits live
+
 -- at rest and within a leg it stands as the log says; in the other phases nothing is said of it
 abbrev pub StandsIn : Phase → HomeState → LiveState → Type 0
 StandsIn phase.Resting e live = IsAtRest e live
-StandsIn (phase.Open to_end) e live = IsWithinLeg to_end e live.dataflow live.arms
+StandsIn (phase.Open to_end counts) e live = IsWithinLeg to_end e live.dataflow live.arms × CountsStand counts live
 StandsIn phase.Over e live = Unit {0}
 StandsIn phase.Spent e live = Unit {0}
 

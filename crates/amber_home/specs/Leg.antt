@@ -1,8 +1,8 @@
 -- What a leg comes to.
-use Rattle.std.specs.Prelude.{◌≡◌, ◌≢◌, ℕ, ◌+◌, ◌-◌, ◌==◌, ◌<◌, ◌≤◌, ◌⊎◌, List, [], ◌∷◌, ◌++◌, map, max, nat_le, Option, None, Some, Bool, true, false, if◌then◌else◌}
+use Rattle.std.specs.Prelude.{◌≡◌, ◌≢◌, ℕ, ◌+◌, ◌-◌, ◌==◌, ◌<◌, ◌≤◌, ◌⊎◌, List, [], ◌∷◌, ◌++◌, map, max, nat_le, is_some, Option, None, Some, Bool, true, false, if◌then◌else◌}
 use Rattle.std.specs.List.{flat_map}
 use Rattle.amber_dataflow.specs.AtWork.{state_reached, worker_state_at}
-use Rattle.amber_dataflow.specs.Dataflow.{DataflowState, StandAt, have_all_finished, is_held, rows_emitted, step_count}
+use Rattle.amber_dataflow.specs.Dataflow.{DataflowState, StandAt, hand_of, have_all_finished, is_held, leg_parts, rows_emitted, step_count}
 use Rattle.amber_log.specs.declared.leg.Close.{Close}
 use Rattle.amber_log.specs.declared.leg.Close.TheVariants as close
 use Rattle.amber_meaning.specs.declared.view.Counted.{Counted}
@@ -17,7 +17,7 @@ use Rattle.amber_meaning.specs.Views.{inspected_of}
 use Rattle.amber_rows.specs.Lists.{numbers_below}
 use Rattle.amber_rows.specs.Topology.{crew_of, first_worker_of, op_of}
 use Rattle.amber_home.specs.Asked.{Asked, IsInForce, asked_at, asked_left, is_stopped_after, stands_after}
-use Rattle.amber_home.specs.declared.target.Target.{Target}
+use Rattle.amber_boards.specs.declared.target.Target.{Target}
 
 -- ---- what stands
 
@@ -29,9 +29,21 @@ pause_at arms op = (asked_at arms op).pause
 abbrev pub count_at : List Asked → ℕ → Option Target
 count_at arms op = (asked_at arms op).count
 
+-- the counts, by operator
+abbrev pub counts_asked : List Asked → List (Option Target)
+counts_asked arms = map (λ asked. asked.count) arms
+
+-- a count is in force at an operator
+abbrev pub is_counted : List Asked → ℕ → Bool
+is_counted arms op = is_some (count_at arms op)
+
+-- of the workers of operators that count no hand holds a unit
+abbrev pub AreEmptyOf : (ℕ → Bool) → DataflowState → Type 0
+AreEmptyOf counted d = (worker : ℕ) → worker < crew_of d.flow → counted (op_of d.flow worker) ≡ true → hand_of d worker ≡ 0
+
 -- a pause of this operator stands
-abbrev pub is_paused : List Asked → DataflowState → ℕ → Bool
-is_paused arms d op = stands_after (pause_at arms op) (rows_emitted d op)
+abbrev pub pause_stands : List Asked → DataflowState → ℕ → Bool
+pause_stands arms d op = stands_after (pause_at arms op) (rows_emitted d op)
 
 -- a pause or a count of this operator stands
 abbrev pub is_stopped : List Asked → DataflowState → ℕ → Bool
@@ -96,10 +108,10 @@ stops_by arms d = held_of d ++ other_stops arms d
 
 -- ---- what a leg comes to
 
--- workers stop in time: where a stop stands already nobody does anything, and else an operator with a pause has emitted in the end no
+-- workers stop in time: where a stop stands already nobody writes anything, and else an operator with a pause has emitted in the end no
 -- more rows than it asks for, or than before; nobody is held where a leg begins
 pub record IsLegInTime (arms : List Asked) (old new : DataflowState) : Type 0 where
-  pub at_once : other_stops arms old ≢ [] → new ≡ old
+  pub at_once : other_stops arms old ≢ [] → leg_parts new ≡ leg_parts old
   pub pauses : (op n : ℕ) → pause_at arms op ≡ Some n → rows_emitted new op ≤ max n (rows_emitted old op)
 
 -- what is in force at an operator once its pause and its count were taken away where they stand

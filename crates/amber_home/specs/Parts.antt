@@ -8,6 +8,6 @@ use Rattle.amber_home.specs.declared.phase.Phase.TheVariants as phase
 -- what the workers have done in it; none where none is open
 abbrev pub open_parts : Phase → DataflowState → List Part
 open_parts phase.Resting d = []
-open_parts (phase.Open to_end) d = leg_parts d
+open_parts (phase.Open to_end counts) d = leg_parts d
 open_parts phase.Over d = []
 open_parts phase.Spent d = []

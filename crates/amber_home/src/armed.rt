@@ -5,7 +5,7 @@ ghost use Rattle.std.specs.Prelude.{◌≡◌, IfOk, None, option_map, option_to
 ghost use Rattle.amber_meaning.specs.State.{first_constants, put};
 ghost use Rattle.amber_home.specs.Asked.{asked_changed, asked_left, is_reached, no_asked, stands_after, without_asked};
 
-use crate::target::Target;
+use amber_boards::Target;
 use amber_log::{Arming, Change};
 use amber_rows::{Cond, Value, What};
 use std::alloc::AllocError;

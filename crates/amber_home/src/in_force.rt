@@ -4,10 +4,11 @@
 ghost use Rattle.std.specs.Prelude.{◌≡◌, ◌<◌, ◌≤◌, IfOk, None, if◌then◌else◌, length, map, option_map};
 ghost use Rattle.amber_rows.specs.Lists.{changed_at, nth};
 ghost use Rattle.amber_meaning.specs.State.{put};
+ghost use Rattle.amber_home.specs.Leg.{counts_asked};
 ghost use Rattle.amber_home.specs.Asked.{asked_at, asked_changed, asked_left, first_asked, without_asked};
 
 use crate::armed::Armed;
-use crate::target::Target;
+use amber_boards::Target;
 use amber_log::Arming;
 use amber_rows::{Cond, Flow, Value};
 use std::alloc::{AllocError, Global};
@@ -69,6 +70,18 @@ impl InForce {
             Some(arms) => arms.count(),
             None => None,
         }
+    }
+
+    /// The counts, by operator.
+    pub fn counts(&self, alloc: Global) -> Result<Vec<Option<Target>>, AllocError>
+        ensures { IfOk result (λ counts. counts.items ≡ counts_asked self.now) }
+    {
+        let arms = self.arms.as_slice();
+        let mut counts = Vec::with_capacity(alloc, arms.len())?;
+        for armed in arms {
+            counts.push(armed.count())?;
+        }
+        Ok(counts)
     }
 
     /// Does what a command asks for at an operator, which has emitted so many rows. The condition and the

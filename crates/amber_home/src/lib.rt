@@ -20,11 +20,11 @@ mod in_force;
 mod inspection;
 mod leg_item;
 pub mod phase;
+mod stepping;
 mod stopping;
 mod stops;
-mod target;
 
 pub use error::{HomeErr, LegErr};
 pub use home::Home;
-pub use phase::Phase;
+pub use phase::{Counts, Phase};
 pub use std::alloc::AllocError as NoMemory;

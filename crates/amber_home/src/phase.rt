@@ -3,13 +3,24 @@
 ghost use Rattle.std.specs.Prelude.{◌≡◌};
 ghost use Rattle.amber_home.specs.HomeState.{is_open, runs_to_end};
 
+/// How the counts of a leg stand.
+#[derive(Clone, Copy, PartialEq, Eq)]
+pub enum Counts {
+    /// No count has its board yet.
+    Unarmed,
+    /// Each count that is in force is counted on a board, on which each worker of its operator has a seat.
+    Armed,
+    /// The boards are closed, and no hand holds a unit.
+    Disarmed,
+}
+
 /// Where a run is.
 #[derive(Clone, Copy, PartialEq, Eq)]
 pub enum Phase {
     /// At rest between two commands.
     Resting,
     /// Within a leg, up to a stop or to the end.
-    Open { to_end: bool },
+    Open { to_end: bool, counts: Counts },
     /// The workers were asked to give their answer away, and are no longer there.
     Over,
     /// Memory ran out inside a leg, and nothing can follow.
@@ -28,6 +39,6 @@ impl Phase {
     pub(crate) fn runs_to_end(self) -> bool
         ensures { result ≡ runs_to_end self }
     {
-        matches!(self, Phase::Open { to_end: true })
+        matches!(self, Phase::Open { to_end: true, .. })
     }
 }

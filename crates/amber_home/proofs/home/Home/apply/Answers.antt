@@ -73,7 +73,7 @@ invariant_of-self-2 c =
     home-commanded e live c.self.invariant (ap (λ (h : HomeState). h.phase) c.self.view_is ∙ c.requires.resting) c.args.command.now c.in-AtRest.effect
     (sym c.action.ensures ∙ c.in-AtRest.is)
     (ap (λ (h : HomeState). ends_over false h.log.items) c.self.view_is ∙ c.requires.open) (ap (λ (h : HomeState). fits_of h.flow c.args.command.now) c.self.view_is ∙ c.requires.fits)
-    (not-true (is_put c.in-AtRest.effect.arming.count) (ap is_at_rest (sym (sym c.action.ensures ∙ c.in-AtRest.is)) ∙ c.requires.at_rest)) c.commands_have_text.ensures
+    c.commands_have_text.ensures
     (record { batch = i.log.batch; items = c.push_command.new.items })
-    (record { dataflow = c.put_in_force.new.dataflow; arms = c.put_in_force.new.arms; stops = i.stops })
-    refl (ap (λ items. record i.log { items = items }) c.in_ok-push_command.ensures.ok) c.put_in_force.ensures.arms c.put_in_force.ensures.dataflow refl
+    (record { dataflow = c.put_in_force.new.dataflow; arms = c.put_in_force.new.arms; boards = i.boards; stops = i.stops })
+    refl (ap (λ items. record i.log { items = items }) c.in_ok-push_command.ensures.ok) c.put_in_force.ensures.arms c.put_in_force.ensures.dataflow refl refl

@@ -1,25 +1,32 @@
 -- One step more, and the home stays one.
-use Rattle.std.proofs.Common.{refl, ap, sym, subst, ◌∙◌, ◌<◌, arith}
+use Rattle.std.proofs.Common.{◌<◌, refl, ap, sym, subst, ◌∙◌, arith}
 use Rattle.amber_meaning.specs.State.{steps_in}
-use Rattle.amber_home.specs.HomeState.{HomeState, NoneIsPaused, StepsOn, state_of, stops_of_home}
+use Rattle.amber_home.specs.HomeState.{AreArmed, HomeState, NoneIsPaused, StepsOn, runs_to_end, state_of, stops_of_home}
 use Rattle.amber_home.specs.Parts.{open_parts}
+use Rattle.amber_home.proofs.Armings.{stands-leg}
 use Rattle.amber_home.proofs.Free.{goes-home, running-home}
-use Rattle.amber_home.proofs.Homes.{open-there}
-use Rattle.amber_home.proofs.OneMore.{home-stepped, steps-open, steps-stepped}
+use Rattle.amber_home.proofs.Homes.{leg-of, open-there}
 use Rattle.amber_home.proofs.Inside.{kept, opens, seen, there-within}
+use Rattle.amber_home.proofs.NextStep.{few-step, home-stepped, ready-step, steps-stepped}
 use Rattle.amber_home.proofs.home.Home.home_step.Goals as goal
 
-pub step_first-requires-clause-workers : goal.step_first-requires-clause-workers
-step_first-requires-clause-workers c = there-within c.self.inside c.self.invariant c.args.self.now c.self.view_is c.requires.within
+pub step_next-requires-clause-workers : goal.step_next-requires-clause-workers
+step_next-requires-clause-workers c = there-within c.self.inside c.self.invariant c.args.self.now c.self.view_is c.requires.within
 
-pub step_first-requires-clause-unfinished : goal.step_first-requires-clause-unfinished
-step_first-requires-clause-unfinished c =
+pub step_next-requires-clause-unfinished : goal.step_next-requires-clause-unfinished
+step_next-requires-clause-unfinished c =
     let i = c.self.inside in
     (goes-home (seen i) (kept i) i.phase c.self.invariant (opens i c.self.invariant c.args.self.now c.self.view_is c.requires.within) refl
     (ap stops_of_home c.self.view_is ∙ c.requires.none)).unfinished
 
-pub step_first-requires-clause-free : goal.step_first-requires-clause-free
-step_first-requires-clause-free c =
+pub step_next-requires-clause-none : goal.step_next-requires-clause-none
+step_next-requires-clause-none c =
+    let i = c.self.inside in
+    (goes-home (seen i) (kept i) i.phase c.self.invariant (opens i c.self.invariant c.args.self.now c.self.view_is c.requires.within) refl
+    (ap stops_of_home c.self.view_is ∙ c.requires.none)).none
+
+pub step_next-requires-clause-free : goal.step_next-requires-clause-free
+step_next-requires-clause-free c =
     let i = c.self.inside in
     let within = opens i c.self.invariant c.args.self.now c.self.view_is c.requires.within in
     record {
@@ -28,29 +35,44 @@ step_first-requires-clause-free c =
           (subst NoneIsPaused (sym c.self.view_is) c.requires.running);
     }
 
-pub step_first-requires-clause-few : goal.step_first-requires-clause-few
-step_first-requires-clause-few c =
+pub step_next-requires-clause-few : goal.step_next-requires-clause-few
+step_next-requires-clause-few c =
     let i = c.self.inside in
-    let e = seen i in
-    let live = kept i in
-    let made = steps-open e live i.phase c.self.invariant (opens i c.self.invariant c.args.self.now c.self.view_is c.requires.within) in
-    let few : steps_in (state_of e) < i.most = subst (λ (h : HomeState). steps_in (state_of h) < h.most) (sym c.self.view_is) c.requires.few in
-    let most = c.self.invariant.few in
+    let within = opens i c.self.invariant c.args.self.now c.self.view_is c.requires.within in
+    let leg = leg-of (seen i) (kept i) i.phase c.self.invariant within in
+    let less = few-step (seen i) (kept i) i.phase leg within (subst (λ (h : HomeState). steps_in (state_of h) < h.most) (sym c.self.view_is) c.requires.few) in
+    let most = leg.few in
     omega arith
+
+pub step_next-requires-clause-counted : goal.step_next-requires-clause-counted
+step_next-requires-clause-counted c =
+    let i = c.self.inside in
+    let within = opens i c.self.invariant c.args.self.now c.self.view_is c.requires.within in
+    ready-step (seen i) (kept i) i.phase (leg-of (seen i) (kept i) i.phase c.self.invariant within) within (subst AreArmed (sym c.self.view_is) c.requires.armed)
+
+pub step_next-requires-clause-stand : goal.step_next-requires-clause-stand
+step_next-requires-clause-stand c =
+    let i = c.self.inside in
+    let within = opens i c.self.invariant c.args.self.now c.self.view_is c.requires.within in
+    stands-leg (seen i) i.dataflow i.arms (runs_to_end i.phase) (leg-of (seen i) (kept i) i.phase c.self.invariant within).leg
 
 pub invariant_of-self-2 : goal.invariant_of-self-2
 invariant_of-self-2 c =
     let i = c.self.inside in
-    let e = seen i in
-    let live = kept i in
-    home-stepped e live i.phase c.self.invariant (opens i c.self.invariant c.args.self.now c.self.view_is c.requires.within) c.step_first.new.self refl
-    (subst (λ (h : HomeState). steps_in (state_of h) < h.most) (sym c.self.view_is) c.requires.few) c.in_ok-step_first.ensures.steps
+    let within = opens i c.self.invariant c.args.self.now c.self.view_is c.requires.within in
+    let leg = leg-of (seen i) (kept i) i.phase c.self.invariant within in
+    let next = c.in_ok-step_next.ensures in
+    home-stepped (seen i) (kept i) i.phase leg within (subst AreArmed (sym c.self.view_is) c.requires.armed)
+    (few-step (seen i) (kept i) i.phase leg within (subst (λ (h : HomeState). steps_in (state_of h) < h.most) (sym c.self.view_is) c.requires.few))
+    c.step_next.new.dataflow c.step_next.new.boards refl next.on next.steps next.counted next.targets
 
 pub returns-clause-ok : goal.returns-clause-ok
 returns-clause-ok c =
     let i = c.self.inside in
-    let e = seen i in
-    let live = kept i in
-    subst (λ (h : HomeState). StepsOn h (record e { flow = c.step_first.new.self.flow; parts = open_parts i.phase c.step_first.new.self })) c.self.view_is
-    (steps-stepped e live i.phase c.self.invariant (opens i c.self.invariant c.args.self.now c.self.view_is c.requires.within) c.step_first.new.self refl
-    (subst (λ (h : HomeState). steps_in (state_of h) < h.most) (sym c.self.view_is) c.requires.few) c.in_ok-step_first.ensures.steps)
+    let within = opens i c.self.invariant c.args.self.now c.self.view_is c.requires.within in
+    let leg = leg-of (seen i) (kept i) i.phase c.self.invariant within in
+    let next = c.in_ok-step_next.ensures in
+    subst (λ (h : HomeState). StepsOn h (record (seen i) { flow = c.step_next.new.dataflow.flow; parts = open_parts i.phase c.step_next.new.dataflow })) c.self.view_is
+    (steps-stepped (seen i) (kept i) i.phase leg within (subst AreArmed (sym c.self.view_is) c.requires.armed)
+    (few-step (seen i) (kept i) i.phase leg within (subst (λ (h : HomeState). steps_in (state_of h) < h.most) (sym c.self.view_is) c.requires.few))
+    c.step_next.new.dataflow c.step_next.new.boards refl next.on next.steps next.counted next.targets)

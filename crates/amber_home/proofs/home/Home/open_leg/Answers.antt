@@ -2,6 +2,7 @@
 use Rattle.std.proofs.Common.{refl, ap, ◌∙◌, false, []}
 use Rattle.amber_log.specs.Grammar.{ends_over}
 use Rattle.amber_home.specs.HomeState.{HomeState}
+use Rattle.amber_home.specs.declared.phase.Counts.TheVariants.{Unarmed}
 use Rattle.amber_home.specs.declared.phase.Phase.TheVariants as phase
 use Rattle.amber_home.proofs.Homes.{home-opened, state-opened}
 use Rattle.amber_home.proofs.Inside.{kept, seen}
@@ -22,4 +23,4 @@ returns c =
     let live = kept i in
     state-opened e live c.args.to_end c.self.invariant (ap (λ (h : HomeState). h.phase) c.self.view_is ∙ c.requires.resting)
     (ap (λ (h : HomeState). ends_over false h.log.items) c.self.view_is ∙ c.requires.open) c.begin.new.self c.begin.ensures c.begin_leg.new.self c.begin_leg.ensures refl
-    ∙ ap (λ (h : HomeState). record h { phase = phase.Open c.args.to_end; parts = [] }) c.self.view_is
+    ∙ ap (λ (h : HomeState). record h { phase = phase.Open c.args.to_end Unarmed; parts = [] }) c.self.view_is

@@ -1,0 +1,63 @@
+//! The step that comes next: of the first worker that has not finished, which is handed units first where it needs one and
+//! has none. Over `Dataflow::step` and `Boards::hand_out`.
+
+ghost use Rattle.std.specs.Prelude.{◌≡◌, ◌^◌, ◌<◌, OnErr, OnOk, false};
+ghost use Rattle.amber_boards.specs.Boards.{StandInForce, targets_of};
+ghost use Rattle.amber_dataflow.specs.Dataflow.{AreAllThere, AreFree, IsFirst, have_all_finished, is_short, step_count};
+ghost use Rattle.amber_home.specs.Going.{AreReady, GoOn, IsFedAt, StepsNext};
+ghost use Rattle.amber_home.specs.Leg.{NoneStands, is_counted};
+
+use crate::in_force::InForce;
+use amber_boards::Boards;
+use amber_dataflow::Dataflow;
+use std::alloc::AllocError;
+
+// Hands units to a worker where it needs one and has none.
+fn feed(
+    arms: &InForce,
+    boards: &mut Boards,
+    dataflow: &mut Dataflow,
+    worker: u32,
+) -> Result<(), AllocError>
+    requires workers { AreAllThere dataflow.old }
+    requires first { IsFirst dataflow.old worker }
+    requires none { NoneStands arms.now dataflow.old }
+    requires counted { AreReady arms.now boards.old dataflow.old }
+    requires stand { StandInForce (is_counted arms.now) dataflow.old }
+    ensures fed { OnOk result (IsFedAt boards.old dataflow.old dataflow.new worker) }
+    ensures short { OnOk result (is_short dataflow.new worker ≡ false) }
+    ensures counted { OnOk result (AreReady arms.now boards.new dataflow.new) }
+    ensures targets { OnOk result (targets_of boards.new ≡ targets_of boards.old) }
+    ensures flow { dataflow.new.flow ≡ dataflow.old.flow }
+{
+    if !dataflow.is_short(worker) {
+        return Ok(());
+    }
+    boards.hand_out(dataflow, worker)
+}
+
+/// One step of the first worker that has not finished, or its next row holds it. Where it needs a unit and has none, all
+/// units that are left at its operator were handed to it before.
+pub(crate) fn step_next(
+    arms: &InForce,
+    boards: &mut Boards,
+    dataflow: &mut Dataflow,
+) -> Result<(), AllocError>
+    requires workers { AreAllThere dataflow.old }
+    requires unfinished { have_all_finished dataflow.old ≡ false }
+    requires free { AreFree dataflow.old }
+    requires none { NoneStands arms.now dataflow.old }
+    requires few { step_count dataflow.old < 2 ^ 40 }
+    requires counted { AreReady arms.now boards.old dataflow.old }
+    requires stand { StandInForce (is_counted arms.now) dataflow.old }
+    ensures on { OnOk result (GoOn arms.now dataflow.old dataflow.new) }
+    ensures steps { OnOk result (StepsNext boards.old dataflow.old dataflow.new) }
+    ensures counted { OnOk result (AreReady arms.now boards.new dataflow.new) }
+    ensures targets { OnOk result (targets_of boards.new ≡ targets_of boards.old) }
+    ensures flow { OnErr result (dataflow.new.flow ≡ dataflow.old.flow) }
+{
+    let worker = dataflow.first_unfinished();
+    feed(arms, boards, dataflow, worker)?;
+    let op = dataflow.flow().op_of(worker);
+    dataflow.step(worker, boards.board_at(op))
+}
