@@ -2,8 +2,8 @@
 
 use crate::expected::expect_text;
 use crate::home_calls::{
-    answer, apply, close_leg, finished, home_over, numbers, open_leg, run_leg, shown, step, stops,
-    take_answer, written,
+    answer, apply, close_leg, disarm_leg, finished, home_over, numbers, open_leg, run_leg, shown,
+    step, stops, take_answer, written,
 };
 use amber_home::{Home, NoMemory, Phase};
 use amber_log::Command;
@@ -16,7 +16,7 @@ use std::test::Fail;
 // Opens a leg that stops once the filter has emitted a row. Whether it is open.
 fn begin_leg(alloc: Global, home: &mut Home) -> Result<bool, NoMemory> {
     let pause = Command::Pause { op: 2, n: 1 };
-    Ok(apply(alloc, home, &pause)? && open_leg(home))
+    Ok(apply(alloc, home, &pause)? && open_leg(alloc, home)?)
 }
 
 // Whether a stop stands.
@@ -38,7 +38,7 @@ fn steps_to_a_stop(alloc: Global, home: &mut Home) -> Result<u32, NoMemory> {
 fn leg_text(alloc: Global, home: &mut Home) -> Result<String, NoMemory> {
     let opened = begin_leg(alloc, home)?;
     let made = steps_to_a_stop(alloc, home)?;
-    let closed = close_leg(alloc, home)?;
+    let closed = disarm_leg(home) && close_leg(alloc, home)?;
     format!(in alloc; "opened {opened} steps {made} closed {closed}")
 }
 
@@ -192,6 +192,81 @@ fn a_held_row_is_dropped_or_let_go(rt: HostRuntime) -> Result<(), Fail> {
     expect_text(
         watched_text(alloc, &mut home)?,
         "ran true\nstop held big 0 3\ninspect big filter\nconstant 2\nwhen n >= 3\nworker 0 taken 3 rest 1 out 1 pending 1 held\nnext 3\nw 0 g 4 4 f 0 0 w 1 t 0 0 g 3 1 h 0 0 \nran true\nstop held big 0 4\ninspect big filter\nconstant 2\nwhen n >= 3\nworker 0 taken 4 rest 0 out 1 pending 1 held\nnext 4\nw 1 g 1 0 h 0 0 \ntrue true true true\nrows 2\nn\n2\n4\n",
+    )
+}
+
+// ---- counts
+
+// Asks the filter to stop once it has emitted `n` rows more.
+fn count(alloc: Global, home: &mut Home, n: u64) -> Result<bool, NoMemory> {
+    apply(alloc, home, &Command::Count { op: 2, n })
+}
+
+// Asks for a count, runs a leg, and tells the stops, what the filter shows and what each worker has written down.
+fn counted_text(alloc: Global, home: &mut Home, n: u64) -> Result<String, Fail> {
+    let asked = count(alloc, home, n)?;
+    let told = held_text(alloc, home)?;
+    Ok(format!(in alloc; "asked {asked} {told}")?)
+}
+
+// The filter needs a unit for its first row, is granted both, and has used them with its second.
+#[test]
+fn a_leg_stops_with_the_row_that_a_count_asks_for(rt: HostRuntime) -> Result<(), Fail> {
+    let alloc = rt.alloc();
+    let mut home = home_over(alloc, "n\n2\n1\n3\n4\n")?;
+    expect_text(
+        counted_text(alloc, &mut home, 2)?,
+        "asked true ran true\nstop count big 2\ninspect big filter\nconstant 2\nworker 0 taken 3 rest 1 out 2 pending 0 ready\nw 0 g 4 4 f 0 0 w 1 t 0 0 a 2 0 g 3 2 \n",
+    )
+}
+
+// Three rows go through, so two units are left, which are given back once all have finished.
+#[test]
+fn units_that_are_left_are_given_back(rt: HostRuntime) -> Result<(), Fail> {
+    let alloc = rt.alloc();
+    let mut home = home_over(alloc, "n\n2\n1\n3\n4\n")?;
+    expect_text(
+        counted_text(alloc, &mut home, 5)?,
+        "asked true ran true\nstop end\ninspect big filter\nconstant 2\ncount 3 of 5\nworker 0 taken 4 rest 0 out 3 pending 0 finished\nw 0 g 4 4 f 0 0 w 1 t 0 0 a 5 0 g 4 3 f 0 0 b 2 0 w 2 t 1 0 g 3 0 f 0 0 \n",
+    )
+}
+
+// A count of two and a condition: the 3 holds the filter, which has one unit left; it uses one in the next leg.
+fn count_and_watch_text(alloc: Global, home: &mut Home) -> Result<String, Fail> {
+    let watched = watch(alloc, home)?;
+    let first = counted_text(alloc, home, 2)?;
+    let second = held_text(alloc, home)?;
+    Ok(format!(in alloc; "watched {watched} {first}{second}")?)
+}
+
+#[test]
+fn a_held_row_uses_a_unit_once_it_is_emitted(rt: HostRuntime) -> Result<(), Fail> {
+    let alloc = rt.alloc();
+    let mut home = home_over(alloc, "n\n2\n1\n3\n4\n")?;
+    expect_text(
+        count_and_watch_text(alloc, &mut home)?,
+        "watched true asked true ran true\nstop held big 0 3\ninspect big filter\nconstant 2\ncount 1 of 2\nwhen n >= 3\nworker 0 taken 3 rest 1 out 1 pending 1 held\nnext 3\nw 0 g 4 4 f 0 0 w 1 t 0 0 a 2 0 g 3 1 h 0 0 b 1 0 \nran true\nstop count big 2\ninspect big filter\nconstant 2\nwhen n >= 3\nworker 0 taken 3 rest 1 out 2 pending 0 ready\nw 1 a 1 0 g 0 1 \n",
+    )
+}
+
+// Asks for a count, opens a leg, makes its steps until a stop stands, disarms the counts and closes it.
+fn counted_by_steps_text(alloc: Global, home: &mut Home, n: u64) -> Result<String, Fail> {
+    let opened = count(alloc, home, n)? && open_leg(alloc, home)?;
+    let made = steps_to_a_stop(alloc, home)?;
+    let closed = disarm_leg(home) && close_leg(alloc, home)?;
+    let stops = stops(alloc, home)?;
+    let written = written(alloc, home)?;
+    Ok(format!(in alloc; "opened {opened} steps {made} closed {closed}\n{stops}{written}")?)
+}
+
+// The scan makes nine steps, the filter takes the batch, the first row and emits it.
+#[test]
+fn units_are_handed_out_step_by_step(rt: HostRuntime) -> Result<(), Fail> {
+    let alloc = rt.alloc();
+    let mut home = home_over(alloc, "n\n2\n1\n3\n4\n")?;
+    expect_text(
+        counted_by_steps_text(alloc, &mut home, 1)?,
+        "opened true steps 12 closed true\nstop count big 1\nw 0 g 4 4 f 0 0 w 1 t 0 0 a 1 0 g 1 1 ",
     )
 }
 

@@ -2,11 +2,11 @@
 
 ghost use Rattle.std.specs.Prelude.{◌≡◌, false, true};
 ghost use Rattle.amber_log.specs.Grammar.{ends_over};
-ghost use Rattle.amber_home.specs.HomeState.{has_crew, is_done_at_rest, is_open};
+ghost use Rattle.amber_home.specs.HomeState.{counts_in, has_crew, is_done_at_rest, is_open};
 
 use crate::journals::entries_text;
 use crate::query::{files_of, query};
-use amber_home::{Home, NoMemory, Phase};
+use amber_home::{Counts, Home, NoMemory, Phase};
 use amber_log::{Close, Command, Item, Leg, fits};
 use amber_meaning::Answer;
 use amber_report::{answer_lines, inspect_lines, stop_lines};
@@ -31,12 +31,19 @@ fn are_there(home: &Home) -> bool
     matches!(home.phase(), Phase::Resting | Phase::Open { .. })
 }
 
-// Whether a leg is open.
-fn is_within(home: &Home) -> bool
-    ensures open { result ≡ is_open home.now.phase }
+// Whether a leg is open whose counts are armed.
+fn is_armed(home: &Home) -> bool
+    ensures open { result ≡ true → is_open home.now.phase ≡ true }
+    ensures armed { result ≡ true → counts_in home.now.phase ≡ Counts.Armed }
     ensures there { result ≡ true → has_crew home.now.phase ≡ true }
 {
-    matches!(home.phase(), Phase::Open { .. })
+    match home.phase() {
+        Phase::Open {
+            to_end: _,
+            counts: Counts::Armed,
+        } => true,
+        _ => false,
+    }
 }
 
 // Whether a command or a leg may come.
@@ -60,18 +67,19 @@ pub fn apply(alloc: Global, home: &mut Home, command: &Command) -> Result<bool, 
     Ok(true)
 }
 
-/// Opens a leg up to a stop.
-pub fn open_leg(home: &mut Home) -> bool {
+/// Opens a leg up to a stop, and arms its counts.
+pub fn open_leg(alloc: Global, home: &mut Home) -> Result<bool, NoMemory> {
     if !may_go_on(home) {
-        return false;
+        return Ok(false);
     }
     home.open_leg(false);
-    true
+    home.arm_leg(alloc)?;
+    Ok(true)
 }
 
-/// One step of the leg that is open, or one hold.
+/// One step of the leg that is open, whose counts are armed, or one hold.
 pub fn step(alloc: Global, home: &mut Home) -> Result<bool, NoMemory> {
-    if !is_within(home) || !home.are_running() || home.most() <= home.steps() {
+    if !is_armed(home) || !home.are_running() || home.most() <= home.steps() {
         return Ok(false);
     }
     let stops = home.stops(alloc)?;
@@ -82,10 +90,22 @@ pub fn step(alloc: Global, home: &mut Home) -> Result<bool, NoMemory> {
     Ok(true)
 }
 
-/// Closes the leg that is open, where a stop stands.
+/// Disarms the counts of the leg that is open.
+pub fn disarm_leg(home: &mut Home) -> bool {
+    if !is_armed(home) {
+        return false;
+    }
+    home.disarm_leg();
+    true
+}
+
+/// Closes the leg that is open, whose counts were disarmed, where a stop stands.
 pub fn close_leg(alloc: Global, home: &mut Home) -> Result<bool, NoMemory> {
     match home.phase() {
-        Phase::Open { to_end: false } => {
+        Phase::Open {
+            to_end: false,
+            counts: Counts::Disarmed,
+        } => {
             let stops = home.stops(alloc)?;
             if stops.get().is_empty() {
                 return Ok(false);
