@@ -1,10 +1,68 @@
--- Scripts with stops at a condition, and with rows that are dropped, read on literals.
+-- Scripts with stops at a count or a condition, and with rows that are dropped, read on literals.
 use Rattle.std.proofs.Common.{pos, negsuc, [], ◌∷◌, ◌++◌, codes, refl}
 use Rattle.amber_rows.specs.declared.cond.Cmp.TheVariants as cmp
 use Rattle.amber_rows.specs.declared.value.Value.TheVariants as value
 use Rattle.amber_log.specs.declared.command.Command.TheVariants as command
 use Rattle.amber_script.proofs.Examples.{Reads, Refuses, lines, scripts_on_literals}
 use Rattle.amber_script.specs.declared.error.ScriptWhy.TheVariants as why
+
+-- ---- stops at a count
+
+first_row : Reads (codes "break count f 1") (command.Count 2 1 ∷ [])
+unfolding scripts_on_literals
+first_row = refl
+
+most_rows : Reads (codes "break count o 1099511627776") (command.Count 1 1099511627776 ∷ [])
+unfolding scripts_on_literals
+most_rows = refl
+
+quoted_count : Reads (codes "\"break\" \"count\" \"f\" \"20\"") (command.Count 2 20 ∷ [])
+unfolding scripts_on_literals
+quoted_count = refl
+
+count_without_rows : Refuses (codes "break count f") 1 why.Word
+unfolding scripts_on_literals
+count_without_rows = refl
+
+count_with_more : Refuses (codes "break count f 1 2") 1 why.Word
+unfolding scripts_on_literals
+count_with_more = refl
+
+count_at_no_operator : Refuses (codes "break count x 1") 1 why.Operator
+unfolding scripts_on_literals
+count_at_no_operator = refl
+
+count_at_the_sink : Refuses (codes "break count s 1") 1 why.Kind
+unfolding scripts_on_literals
+count_at_the_sink = refl
+
+count_of_no_rows : Refuses (codes "break count f 0") 1 why.Number
+unfolding scripts_on_literals
+count_of_no_rows = refl
+
+count_of_too_many : Refuses (codes "break count f 1099511627777") 1 why.Number
+unfolding scripts_on_literals
+count_of_too_many = refl
+
+count_with_leading_zero : Refuses (codes "break count f 01") 1 why.Number
+unfolding scripts_on_literals
+count_with_leading_zero = refl
+
+count_that_is_none : Refuses (codes "break count f -1") 1 why.Number
+unfolding scripts_on_literals
+count_that_is_none = refl
+
+count_words_before_operator : Refuses (codes "break count x") 1 why.Word
+unfolding scripts_on_literals
+count_words_before_operator = refl
+
+count_operator_before_number : Refuses (codes "break count x 0") 1 why.Operator
+unfolding scripts_on_literals
+count_operator_before_number = refl
+
+count_kind_before_number : Refuses (codes "break count s 0") 1 why.Kind
+unfolding scripts_on_literals
+count_kind_before_number = refl
 
 -- ---- stops at a condition
 
@@ -130,13 +188,9 @@ break_alone : Refuses (codes "break") 1 why.Word
 unfolding scripts_on_literals
 break_alone = refl
 
-break_and_stop_in_one_word : Refuses (codes "\"break when\" f qty > 1") 1 why.Word
+break_and_stop_in_one_word : Refuses (codes "\"break count\" f 1") 1 why.Word
 unfolding scripts_on_literals
 break_and_stop_in_one_word = refl
-
-break_at_a_count : Refuses (codes "break count f 3") 1 why.Word
-unfolding scripts_on_literals
-break_at_a_count = refl
 
 break_at_a_pause : Refuses (codes "break pause f 1") 1 why.Word
 unfolding scripts_on_literals
@@ -226,11 +280,11 @@ large_number_before_worker = refl
 
 -- ---- whole scripts
 
-breaks_and_drops : Reads (lines (codes "break when f qty > 100" ∷ codes "run" ∷ codes "drop f 1" ∷ codes "clear f" ∷ codes "break when t id = 3" ∷ codes "run" ∷ []))
-    (command.When 2 (record { column = 3; op = cmp.Gt; constant = value.Int (pos 100) }) ∷ command.Run ∷ command.Drop 2 1 ∷ command.Clear 2 ∷ command.When 3 (record { column = 1; op = cmp.Eq; constant = value.Int (pos 3) }) ∷ command.Run ∷ [])
+all_three : Reads (lines (codes "break when f qty > 100" ∷ codes "run" ∷ codes "drop f 1" ∷ codes "clear f" ∷ codes "break count t 3" ∷ codes "run" ∷ []))
+    (command.When 2 (record { column = 3; op = cmp.Gt; constant = value.Int (pos 100) }) ∷ command.Run ∷ command.Drop 2 1 ∷ command.Clear 2 ∷ command.Count 3 3 ∷ command.Run ∷ [])
 unfolding scripts_on_literals
-breaks_and_drops = refl
+all_three = refl
 
-first_of_two_bad_lines : Refuses (lines (codes "run" ∷ codes "drop f 2" ∷ codes "break count f 3" ∷ [])) 2 why.Worker
+first_of_two_bad_lines : Refuses (lines (codes "run" ∷ codes "drop f 2" ∷ codes "break count f 0" ∷ [])) 2 why.Worker
 unfolding scripts_on_literals
 first_of_two_bad_lines = refl

@@ -1,5 +1,5 @@
 -- The command that words mean, or the first reason why they mean none.
-use Rattle.std.specs.Prelude.{ℕ, ◌+◌, ◌^◌, List, [], ◌∷◌, codes, bytes_eq, not, position, Option, Some, None, option_map, option_and_then, ok_or, Result, Ok, Err, Bool, ◌&&◌, if◌then◌else◌}
+use Rattle.std.specs.Prelude.{ℕ, ◌+◌, ◌^◌, List, [], ◌∷◌, codes, bytes_eq, not, position, Option, Some, None, option_map, option_and_then, ok_or, Result, Ok, Err, Bool, if◌then◌else◌}
 use Rattle.std.specs.List.{list_all}
 use Rattle.std.specs.Str.{is_utf8}
 use Rattle.amber_rows.specs.declared.cond.Cmp.{Cmp}
@@ -16,7 +16,7 @@ use Rattle.amber_rows.specs.declared.column.Column.{Column}
 use Rattle.amber_rows.specs.declared.flow.What.{What}
 use Rattle.amber_rows.specs.declared.flow.Operator.{Operator}
 use Rattle.amber_log.specs.Commands.{action_of}
-use Rattle.amber_log.specs.Effect.{is_nobody, is_put}
+use Rattle.amber_log.specs.Effect.{is_nobody}
 use Rattle.amber_log.specs.Fits.{has_worker, is_source}
 use Rattle.amber_log.specs.Operands.{comparison_of}
 use Rattle.amber_log.specs.declared.effect.Action.{Action}
@@ -139,10 +139,11 @@ of_two read (id ∷ word ∷ next ∷ more) = Err why.Word
 
 -- ---- commands
 
--- the command of `break`, this word and those after it
+-- the command of `break`, this word and those after it: a line for each
 unfoldable pub break_by : List Operator → List ℕ → List (List ℕ) → Result Command ScriptWhy
 break_by flow stop words =
-    if bytes_eq stop (codes "when") then operator_and_condition flow words >>= (λ said. Ok (command.When said.0 said.1))
+    if bytes_eq stop (codes "count") then of_two (operator_and_rows flow) words >>= (λ said. Ok (command.Count said.0 said.1))
+    else if bytes_eq stop (codes "when") then operator_and_condition flow words >>= (λ said. Ok (command.When said.0 said.1))
     else Err why.Word
 
 -- the command of `break` and these words
@@ -167,10 +168,10 @@ abbrev pub command_said : List Operator → List (List ℕ) → Result Command S
 command_said flow [] = Err why.Word
 command_said flow (name ∷ words) = command_by flow name words
 
--- a leg goes on until something stops it; nothing that is done at rest loses a worker, and for now none arms a count
+-- a leg goes on until something stops it, and nothing that is done at rest loses a worker
 abbrev pub may_stand : Action → Bool
 may_stand (Leg to_end) = not to_end
-may_stand (AtRest effect) = not (is_put effect.arming.count) && is_nobody effect.loses
+may_stand (AtRest effect) = is_nobody effect.loses
 
 -- a command that a script may have
 abbrev pub is_scripted : Command → Bool

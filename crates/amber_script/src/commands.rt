@@ -155,6 +155,7 @@ fn break_by(
     ensures scripted { IfOk result (λ read. IfOk read (λ command. is_scripted command ≡ true)) }
 {
     match stop {
+        "count" => Ok(rows(flow, words).map(|(op, n)| Command::Count { op, n })),
         "when" => Ok(condition(flow, words)?.map(|(op, cond)| Command::When { op, cond })),
         _ => Ok(Err(ScriptWhy::Word)),
     }
