@@ -31,6 +31,7 @@ script may be empty.
 
   run                    runs until something stops it, and says what
   pause OP N             asks to stop once OP has emitted N rows since the start
+  break count OP N       asks to stop once OP has emitted N rows from here on, and not one more
   break when OP COLUMN CMP VALUE
                          asks to stop before each row of OP whose COLUMN compares so with VALUE;
                          CMP is one of = != < <= > >=
