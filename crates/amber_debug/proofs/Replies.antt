@@ -1,12 +1,9 @@
 -- The reply to a command that is done at rest, by its effect.
-use Rattle.std.proofs.Common.{◌≡◌, ◌⊎◌, inl, inr, refl, sym, ap, ◌∙◌, ℕ, List, Option, None, Some, not, true}
-use Rattle.std.proofs.lemmas.Bool.{and_parts}
+use Rattle.std.proofs.Common.{◌≡◌, refl, sym, ap, ◌∙◌, ℕ, List, Option, None, Some, true}
 use Rattle.amber_rows.specs.declared.flow.Operator.{Operator}
 use Rattle.amber_rows.specs.declared.value.Value.{Value}
 use Rattle.amber_log.specs.Commands.{action_of}
-use Rattle.amber_log.specs.Effect.{is_nobody, is_put}
 use Rattle.amber_log.specs.declared.command.Command.{Command}
-use Rattle.amber_log.specs.declared.command.Command.TheVariants as command
 use Rattle.amber_log.specs.declared.effect.Action.TheVariants as action
 use Rattle.amber_log.specs.declared.effect.Effect.{Effect}
 use Rattle.amber_log.specs.declared.effect.Reply.{Reply}
@@ -20,7 +17,6 @@ use Rattle.amber_meaning.specs.Transcript.{action_reply, dropped_reply, effect_r
 use Rattle.amber_meaning.specs.Views.{inspected_of}
 use Rattle.amber_report.specs.Replies.{action_text, done_text, dropped_text, text_by}
 use Rattle.amber_home.specs.HomeState.{HomeState, dropped_by, dropped_by_action, dropped_in, is_at_rest, is_done_at_rest, query_of, rest_state, state_of}
-use Rattle.amber_script.specs.Commands.{is_scripted, may_stand}
 use Rattle.amber_home.specs.declared.phase.Phase.TheVariants as phase
 
 state-rest : (home : HomeState) → home.phase ≡ phase.Resting → state_of home ≡ rest_state home
@@ -65,10 +61,8 @@ reply-dropped home done effect dropped flow text is says same row e =
     ∙ dropped-as (query_of home) (rest_state home) effect.op effect.drops dropped (row ∙ ap (dropped_by_action home) is)
     ∙ replied-as (query_of home) (rest_state home) done effect reply.Dropped is says
 
--- ---- what scripts have
+-- ---- what is no leg
 
--- a command of a script that is no leg is one that a home does at rest
-pub scripted-rests : (done : Command) (effect : Effect) → action_of done ≡ action.AtRest effect → (is_scripted done ≡ true) ⊎ (done ≡ command.End) → is_done_at_rest done ≡ true
-scripted-rests done effect is (inl said) =
-    ap is_at_rest is ∙ (and_parts (not (is_put effect.arming.count)) (is_nobody effect.loses) (ap may_stand (sym is) ∙ said)).0
-scripted-rests done effect is (inr end) = absurd (let never : action.Leg true ≡ action.AtRest effect = ap action_of (sym end) ∙ is in cc)
+-- a command that is no leg is one that a home does at rest
+pub no-leg-rests : (done : Command) (effect : Effect) → action_of done ≡ action.AtRest effect → is_done_at_rest done ≡ true
+no-leg-rests done effect is = ap is_at_rest is

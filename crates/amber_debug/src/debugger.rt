@@ -278,7 +278,7 @@ impl Debugger {
     pub fn command(&mut self, alloc: Global, command: &Command) -> Result<Done, DebugErr>
         requires fits { fits_of self.old.flow command.now ≡ true }
 
-        // Counts and losses of workers are not built yet, and no script has them.
+        // Losses of workers are not built yet, and no script has them.
         requires scripted { (is_scripted command.now ≡ true) ⊎ (command.now ≡ Command.End) }
         requires open { ends_over false self.old.log.items ≡ false }
         ensures does { Does result self.old self.new command.now }
