@@ -217,7 +217,7 @@ pub record ChangeUnits (counted : ℕ → Bool) (old new : DataflowState) : Type
 abbrev pub WritesBack : DataflowState → DataflowState → ℕ → Type 0
 WritesBack old new worker = journal_of new worker ≡ with_back (hand_of old worker) (journal_of old worker)
 
--- each worker of the operators that count is armed with an empty hand, and nobody has written anything
+-- the workers of the operators that count are armed, and nobody has written anything: so no hand holds a unit
 pub record ArmsAll (counts : List (Option Target)) (old new : DataflowState) : Type 0 where
   pub units : ChangeUnits (has_target counts) old new
   pub writes : (worker : ℕ) → journal_of new worker ≡ journal_of old worker

@@ -5,9 +5,9 @@
 //! needs one; and disarms the workers and closes the boards. A closed board has had no more units counted than it had, so
 //! no count passes its target.
 //!
-//! For instance, of a filter that has emitted 3 rows since its count of 5 was put, `arm` makes a board with 2 units. Its
-//! worker needs a unit for its next row: `hand_out` grants it both. After `disarm` the unit that it did not use is
-//! journalled as given back, and the filter has emitted 4 rows or 5.
+//! For instance, where a filter has emitted 3 rows since a count of 5 was put, `arm` makes a board with 2 units. Its worker
+//! needs a unit for its next row: `hand_out` grants it both. If it emits one row more, `disarm` journals the unit that is
+//! left as given back.
 #![tactic(auto)]
 
 pub mod boards;

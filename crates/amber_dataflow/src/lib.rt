@@ -7,8 +7,8 @@
 //! to stop is for its caller.
 //!
 //! For instance, of a scan of five records, a filter that passes three of them and a sink, with one worker
-//! each, `turns(0, 1024)` makes the scan's eleven steps, and answers 11: each record is taken and emitted, and
-//! then the scan has finished. After `turns(1, 1024)` `rows_emitted(2)` is 3.
+//! each, `turns(0, None, 1024)` makes the scan's eleven steps, and answers 11: each record is taken and emitted, and
+//! then the scan has finished. After `turns(1, None, 1024)` `rows_emitted(2)` is 3.
 //!
 //! Where memory runs out within a step the workers are dropped, and none is left.
 #![tactic(auto)]

@@ -244,7 +244,7 @@ pub record HandsOut (old new : HomeState) : Type 0 where
   pub own : (worker : ℕ) → worker < crew_of old.flow → worker ≢ next_worker old → op_of old.flow worker ≡ op_of old.flow (next_worker old) → GivesBack old new worker
   pub others : (worker : ℕ) → op_of old.flow worker ≢ op_of old.flow (next_worker old) → entries_of new.parts worker ≡ entries_of old.parts worker
 
--- units were handed out, where the next worker needs one, and has none
+-- units were handed out, since the next worker needs one and has none, or were not
 abbrev pub IsFed : HomeState → HomeState → Type 0
 IsFed old new = (new ≡ old) ⊎ HandsOut old new
 

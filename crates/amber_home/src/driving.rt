@@ -49,7 +49,7 @@ fn take_turns(
 }
 
 // A worker's turns of a round: it takes turns until it has made so many, or makes none, since its operator's pause
-// stands, it is held, or it has nothing to do. The answer is what is left of the budget.
+// stands, it is held, it needs a unit and has none, or it has nothing to do. The answer is what is left of the budget.
 fn drive_worker(
     arms: &InForce,
     boards: &Boards,

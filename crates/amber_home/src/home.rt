@@ -1,17 +1,16 @@
-//! The home of a run: what it keeps, and its calls. Over `Dataflow`, `InForce` and the functions of the other
+//! The home of a run: what it keeps, and its calls. Over `Dataflow`, `Boards`, `InForce` and the functions of the other
 //! files.
 
-ghost use Rattle.std.specs.Prelude.{◌≡◌, ◌+◌, ◌^◌, ◌<◌, ◌≤◌, ◌≢◌, ℕ, [], IfOk, None, OnErr, OnOk, false, true, length, option_map};
+ghost use Rattle.std.specs.Prelude.{◌≡◌, ◌+◌, ◌^◌, ◌<◌, ◌≤◌, ◌≢◌, [], IfOk, None, OnErr, OnOk, false, true, length};
 ghost use Rattle.amber_log.specs.Fits.{fits_of};
 ghost use Rattle.amber_log.specs.Grammar.{ends_over};
 ghost use Rattle.amber_log.specs.declared.log.Item.TheVariants as item;
 ghost use Rattle.amber_meaning.specs.InTime.{IsInTime};
-ghost use Rattle.amber_meaning.specs.Legal.{IsLegal};
 ghost use Rattle.amber_meaning.specs.Plain.{scan_count, wrong_header};
-ghost use Rattle.amber_meaning.specs.State.{have_finished, position_at, steps_in};
-ghost use Rattle.amber_meaning.specs.Views.{answer_in, inspected_of};
+ghost use Rattle.amber_meaning.specs.State.{have_finished, steps_in};
+ghost use Rattle.amber_meaning.specs.Views.{answer_in};
 ghost use Rattle.amber_home.specs.Beginning.{BeginsOrNames};
-ghost use Rattle.amber_home.specs.HomeState.{AreArmed, ClosesIn, DisarmsLeg, Ends, MayClose, NoneIsPaused, StepsOn, counts_in, has_crew};
+ghost use Rattle.amber_home.specs.HomeState.{AreArmed, ClosesIn, DisarmsLeg, Ends, MayClose, NoneIsPaused, StepsOn, counts_in};
 ghost use Rattle.amber_home.specs.HomeState.{dropped_by, is_done_at_rest, is_open, item_of_leg, query_of, rest_state, runs_to_end, state_of};
 ghost use Rattle.amber_home.specs.HomeState.{stops_of_home, with_item, with_closed_leg};
 
@@ -320,7 +319,7 @@ impl Home {
 
     /// Runs a leg, up to a stop or to the end: the workers make their steps until a stop stands, or until all
     /// have finished. Up to a stop nobody does anything where one stands already, and no operator emits more
-    /// rows than its pause asks for. The pauses and the counts that stand at the end of such a leg are taken
+    /// rows than its pause or its count asks for. The pauses and the counts that stand at the end of such a leg are taken
     /// away; who is held stays so until the next one.
     ///
     /// # Errors
