@@ -11,9 +11,12 @@ pub fn entries_text(alloc: Global, entries: &[Entry]) -> Result<String, NoMemory
         let (what, one, other) = match entry {
             Entry::Take { from, batch } => ("t", u64::from(*from), *batch),
             Entry::Go { rows, outs } => ("g", *rows, *outs),
+            Entry::Grant { n } => ("a", *n, 0),
+            Entry::Back { n } => ("b", *n, 0),
+            Entry::Pause => ("p", 0, 0),
+            Entry::Resume => ("r", 0, 0),
             Entry::Hold => ("h", 0, 0),
             Entry::Finish => ("f", 0, 0),
-            _ => ("?", 0, 0),
         };
         told.push_str(&format!(in alloc; "{what} {one} {other} ")?)?;
     }
