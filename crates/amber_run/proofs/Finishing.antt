@@ -31,6 +31,7 @@ use Rattle.amber_run.specs.UnderWay.{EndsTorn, Halts, HasAnswer, HasText, IsAt, 
 use Rattle.amber_run.specs.RunTask.{AlterNothing, RunTask, end_alone, ends_long, most_steps, query_at}
 use Rattle.amber_course.specs.declared.failure.Failure.{Failure}
 use Rattle.amber_course.specs.declared.failure.Failure.TheVariants as failure
+use Rattle.amber_run.proofs.CountStops.{stop-for-counts}
 use Rattle.amber_run.proofs.Working.{ends_long-push, keeps-same, last-is}
 
 -- ---- the last item
@@ -213,5 +214,10 @@ halts-failure other t now flow h = absurd h
 -- the commands were done, or one was not
 pub worked-script : {A : Type 0} (r : Result A Failure) (t : RunTask) (script : List Command) (d : Session) (now : World) → IsFlow t.flow → t.commands ≡ script ++ end_alone
     → MatchResult r (λ rows. IsAt t [] d now) (Halts t now) → Worked r t now
-worked-script (Ok rows) t script d now flow all h = (d.log, h.way, has-answer t script d.log now flow all h.way)
+worked-script (Ok rows) t script d now flow all h = record {
+  log = d.log;
+  way = h.way;
+  answer = has-answer t script d.log now flow all h.way;
+  counts = stop-for-counts (query_at t d.log.batch) d.log flow h.way.legal;
+}
 worked-script (Err s) t script d now flow all h = halts-failure s t now flow h

@@ -73,9 +73,9 @@ left-short before now run result h is =
 done-short : (before now : World) (run : RunJob) → IsDone (run_task_of before run) now → RunsLong status.Ok before.files now.files run.log
 done-short before now run h =
     inr (
-      h.0,
-      (log_text h.0, h.1.place, reads-whole h.0 h.1.legal.text),
-      ((λ e. cc), (λ long. absurd (let two : false ≡ true = sym h.1.short ∙ long in cc))),
+      h.log,
+      (log_text h.log, h.way.place, reads-whole h.log h.way.legal.text),
+      ((λ e. cc), (λ long. absurd (let two : false ≡ true = sym h.way.short ∙ long in cc))),
     )
 
 broke-long : (one : Job) (before mid : World) (run : RunJob) (result : Status) → one ≡ job.Run run → BreaksOff one failure.Long before mid → result ≡ status.Long

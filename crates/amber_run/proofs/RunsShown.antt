@@ -74,10 +74,10 @@ way-from t left log world h = record {
 }
 
 pub done-to : (t : RunTask) (world : World) → IsDoneShown (task_shown t) (shown_in world) → IsDone t world
-done-to t world h = (h.0, way-to t [] h.0 world h.1, h.2)
+done-to t world h = record { log = h.log; way = way-to t [] h.log world h.way; answer = h.answer; counts = h.counts }
 
 pub done-from : (t : RunTask) (world : World) → IsDone t world → IsDoneShown (task_shown t) (shown_in world)
-done-from t world h = (h.0, way-from t [] h.0 world h.1, h.2)
+done-from t world h = record { log = h.log; way = way-from t [] h.log world h.way; answer = h.answer; counts = h.counts }
 
 -- ---- what a failed write leaves
 

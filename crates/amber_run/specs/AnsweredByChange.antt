@@ -33,6 +33,7 @@ use Rattle.amber_course.specs.declared.status.Status.TheVariants as status
 use Rattle.amber_course.specs.declared.failure.Failure.{Failure}
 use Rattle.amber_course.specs.declared.failure.Failure.TheVariants as failure
 use Rattle.amber_debug.specs.Session.{command_of, most_late, one_more}
+use Rattle.amber_run.specs.CountStops.{StopForCounts}
 use Rattle.amber_run.specs.RunTask.{AlterNothing, end_alone, ends_long, most_steps}
 use Rattle.amber_run.specs.UnderWay.{ClosesAs, IsTorn, log_of_items}
 use Rattle.amber_run.specs.Outcome.{Answered, Answers, AsksFor, AsksNoRun, IsSinkStatus, MeetsLimit, Stops, TellsLong}
@@ -123,8 +124,12 @@ HasAnswerShown t log =
     → reply_of (query_shown t log.batch) (state_after (query_shown t log.batch) done) last ≡ answer_text t.flow (answer_of t.flow t.inputs)
 
 -- a run that has done all
-abbrev pub IsDoneShown : TaskShown → Shown → Type 0
-IsDoneShown t shown = (log : Log) × IsUnderWayShown t [] log shown × HasAnswerShown t log
+pub record IsDoneShown (t : TaskShown) (shown : Shown) : Type 0 where
+  pub log : Log
+  pub way : IsUnderWayShown t [] log shown
+  pub answer : HasAnswerShown t log
+  -- its legs stop for counts exactly at their targets, and say so
+  pub counts : StopForCounts (query_shown t log.batch) log.items
 
 -- an item by which the log may grow at a command: with it the log is legal, and it stops in time
 pub record IsItemShown (t : TaskShown) (log : Log) (done : Command) (one : Item) : Type 0 where

@@ -1,5 +1,6 @@
 pub mod AnsweredByChange
 pub mod Answering
+pub mod CountStops
 pub mod Outcome
 pub mod RunTask
 pub mod UnderWay

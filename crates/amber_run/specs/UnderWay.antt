@@ -19,6 +19,7 @@ use Rattle.amber_meaning.specs.Texts.{answer_text}
 use Rattle.amber_meaning.specs.Total.{step_total}
 use Rattle.amber_meaning.specs.Transcript.{replies, reply_of, transcript_of}
 use Rattle.amber_debug.specs.Session.{Session, command_of, most_late, one_more}
+use Rattle.amber_run.specs.CountStops.{StopForCounts}
 use Rattle.amber_run.specs.RunTask.{AlterNothing, IsSession, RunTask, ends_long, most_steps, query_at}
 use Rattle.amber_course.specs.declared.failure.Failure.{Failure}
 use Rattle.amber_course.specs.declared.failure.Failure.TheVariants as failure
@@ -62,8 +63,12 @@ HasAnswer t log =
     → reply_of (query_at t log.batch) (state_after (query_at t log.batch) done) last ≡ answer_text t.flow (answer_of t.flow t.inputs)
 
 -- a run that has done all
-abbrev pub IsDone : RunTask → World → Type 0
-IsDone t world = (log : Log) × IsUnderWay t [] log world × HasAnswer t log
+pub record IsDone (t : RunTask) (world : World) : Type 0 where
+  pub log : Log
+  pub way : IsUnderWay t [] log world
+  pub answer : HasAnswer t log
+  -- its legs stop for counts exactly at their targets, and say so
+  pub counts : StopForCounts (query_at t log.batch) log.items
 
 -- ---- what a failed write leaves of the log
 
