@@ -2,6 +2,7 @@
 
 ghost use Rattle.std.specs.Prelude.{◌≡◌, []};
 
+use crate::filling::{add_missing_sum, add_piece, kept_length};
 use std::alloc::{AllocError, Global};
 
 /// A piece of a text.
@@ -15,6 +16,12 @@ pub enum Piece {
     Filled { length: u64, bytes: Vec<u8> },
     /// A number in a range, in decimal.
     Number { least: u64, most: u64 },
+    /// Such a number, which is added to those before it.
+    Summand { least: u64, most: u64 },
+    /// Nothing, where the summands that came since the last sum add up to a number in the range.
+    Sum { least: u64, most: u64 },
+    /// The first of these texts that was found there.
+    OneOf(Vec<Vec<u8>>),
     /// Of all that follows only the first bytes, as many as a failing call keeps.
     Front,
 }
@@ -29,6 +36,9 @@ impl Drop for Piece {
                 bytes: _,
             } => {}
             Piece::Number { least: _, most: _ } => {}
+            Piece::Summand { least: _, most: _ } => {}
+            Piece::Sum { least: _, most: _ } => {}
+            Piece::OneOf(_) => {}
             Piece::Front => {}
         }
     }
@@ -66,102 +76,19 @@ impl CaseText {
 
     /// The bytes of the text, where `found` was found and a failing call keeps `keep` bytes.
     ///
-    /// A number of the text is the one that was found at its place, where that is in the range.
+    /// What the text leaves open is what was found at its place, where that fits.
     pub fn bytes(&self, alloc: Global, keep: u64, found: &[u8]) -> Result<Vec<u8>, AllocError> {
         let mut all = Vec::new(alloc);
         let mut length = usize::MAX;
+        let mut summands = Vec::new(alloc);
         for piece in self.pieces.iter() {
             if let Piece::Front = piece {
                 length = kept_length(all.len(), keep);
             }
-            add_piece(alloc, &mut all, piece, found)?;
+            add_piece(alloc, &mut all, &mut summands, piece, found)?;
         }
+        add_missing_sum(&mut all, &summands)?;
         all.truncate(length);
         Ok(all)
     }
-}
-
-// How many bytes are left, where of those after `start` only the first `keep` are kept.
-fn kept_length(start: usize, keep: u64) -> usize {
-    match usize::try_from(keep) {
-        Ok(keep) => start.saturating_add(keep),
-        Err(_) => usize::MAX,
-    }
-}
-
-// Adds the bytes of one piece.
-fn add_piece(
-    alloc: Global,
-    all: &mut Vec<u8>,
-    piece: &Piece,
-    found: &[u8],
-) -> Result<(), AllocError> {
-    match piece {
-        Piece::Front => Ok(()),
-        Piece::Bytes(bytes) => all.extend_from_slice(bytes.as_slice()),
-        Piece::Repeated { times, bytes } => repeat(all, *times, bytes.as_slice()),
-        Piece::Filled { length, bytes } => fill(all, *length, bytes.as_slice()),
-        Piece::Number { least, most } => add_number(alloc, all, *least, *most, found),
-    }
-}
-
-// Adds a piece `times` times.
-fn repeat(all: &mut Vec<u8>, times: u64, piece: &[u8]) -> Result<(), AllocError> {
-    for _ in 0..times {
-        all.extend_from_slice(piece)?;
-    }
-    Ok(())
-}
-
-// Adds a piece again and again, the last time perhaps in part, up to `length` bytes in all.
-fn fill(all: &mut Vec<u8>, length: u64, piece: &[u8]) -> Result<(), AllocError> {
-    let missing = length.saturating_sub(all.len() as u64);
-    let size = piece.len() as u64;
-    if size == 0 {
-        return Ok(());
-    }
-    repeat(all, missing / size, piece)?;
-    let rest = (missing % size) as usize;
-    all.extend_from_slice(piece.get(..rest).unwrap_or(piece))
-}
-
-// The digits at a place.
-fn digits_at(bytes: &[u8], place: usize) -> &[u8] {
-    let rest = bytes.get(place..).unwrap_or(b"");
-    for (count, byte) in rest.iter().enumerate() {
-        if !byte.is_ascii_digit() {
-            return rest.get(..count).unwrap_or(b"");
-        }
-    }
-    rest
-}
-
-// Whether digits are a number in the range, without a leading zero.
-fn is_between(digits: &[u8], least: u64, most: u64) -> bool {
-    if digits.len() > 1 && digits[0] == b'0' {
-        return false;
-    }
-    let Ok(text) = str::from_utf8(digits) else {
-        return false;
-    };
-    match text.parse::<u64>() {
-        Ok(number) => least <= number && number <= most,
-        Err(_) => false,
-    }
-}
-
-// Adds the number that was found at the end of `all`, or, where it is not in the range, the range.
-fn add_number(
-    alloc: Global,
-    all: &mut Vec<u8>,
-    least: u64,
-    most: u64,
-    found: &[u8],
-) -> Result<(), AllocError> {
-    let digits = digits_at(found, all.len());
-    if is_between(digits, least, most) {
-        return all.extend_from_slice(digits);
-    }
-    let range = format!(in alloc; "{{{least}..{most}}}")?;
-    all.extend_from_slice(range.as_bytes())
 }

@@ -32,22 +32,17 @@ pub(crate) fn number_and_rest<'a>(written: &'a str, end: &str) -> Result<(u64, &
     }
 }
 
-/// A range in braces, of which the second is left out: what stands before it, and its two numbers.
-pub(crate) struct Range<'a> {
-    pub before: &'a str,
-    pub least: u64,
-    pub most: u64,
+/// The two numbers of a range.
+pub(crate) fn range(written: &str) -> Result<(u64, u64), Why> {
+    let (least, rest) = number_and_rest(written, "..")?;
+    Ok((least, number(rest)?))
 }
 
-/// Reads what comes before the second brace of a range.
-pub(crate) fn ranged(written: &str) -> Result<Range<'_>, Why> {
-    let Some((before, rest)) = written.split_once('{') else {
-        return Err(Why::Number);
-    };
-    let (least, rest) = number_and_rest(rest, "..")?;
-    Ok(Range {
-        before,
-        least,
-        most: number(rest)?,
-    })
+/// The two numbers of a range, or one number, which is a range of its own.
+pub(crate) fn range_or_number(written: &str) -> Result<(u64, u64), Why> {
+    if written.contains("..") {
+        return range(written);
+    }
+    let only = number(written)?;
+    Ok((only, only))
 }

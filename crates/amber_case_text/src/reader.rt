@@ -1,11 +1,12 @@
-//! The reader of case files. Rests on `escapes` and `numbers`; gives `Case`.
+//! The reader of case files. Rests on `escapes`, `numbers` and `open`; gives `Case`.
 
 use crate::case::{After, Case, Left, NamedText, find_text};
 use crate::case_text::{CaseText, Piece};
 use crate::escapes::{unescaped, words};
 use crate::fault::{Broken, Why, push};
 use crate::names::add_name;
-use crate::numbers::{Range, add_numbers, number_and_rest, ranged};
+use crate::numbers::{add_numbers, number_and_rest};
+use crate::open::{braced, is_open, line_or_none, sum, whole_line};
 use std::alloc::Global;
 use std::collections::BTreeSet;
 use std::mem;
@@ -92,7 +93,7 @@ impl Reader {
                 }
             }
             "=" => self.add_shared(rest),
-            "~" => self.add_ranges(rest),
+            "~" => self.add_open_line(rest),
             _ => self.add_piece(read_piece(self.alloc, head, rest)?),
         }
     }
@@ -180,28 +181,26 @@ impl Reader {
         Ok(())
     }
 
-    // Adds a line with numbers in ranges.
-    fn add_ranges(&mut self, line: &str) -> Result<(), Why> {
-        let Some((ranges, behind)) = line.rsplit_once('}') else {
+    // Adds a line with pieces in braces.
+    fn add_open_line(&mut self, line: &str) -> Result<(), Why> {
+        let Some((parts, behind)) = line.rsplit_once('}') else {
             return Err(Why::Number);
         };
-        for one in ranges.split('}') {
-            self.add_range(one)?;
+        for part in parts.split('}') {
+            self.add_open_part(part)?;
         }
         let behind = whole_line(self.alloc, behind)?;
         self.add_piece(Piece::Bytes(behind))
     }
 
-    // Adds a number in a range, and what stands before it.
-    fn add_range(&mut self, written: &str) -> Result<(), Why> {
-        let Range {
-            before,
-            least,
-            most,
-        } = ranged(written)?;
+    // Adds a piece in braces, of which the second is left out, and what stands before it.
+    fn add_open_part(&mut self, part: &str) -> Result<(), Why> {
+        let Some((before, written)) = part.split_once('{') else {
+            return Err(Why::Number);
+        };
         let before = Vec::from_slice(self.alloc, before.as_bytes())?;
         self.add_piece(Piece::Bytes(before))?;
-        self.add_piece(Piece::Number { least, most })
+        self.add_piece(braced(self.alloc, written)?)
     }
 
     // Adds a piece to the text that has begun.
@@ -315,11 +314,6 @@ fn left_of(alloc: Global, written: &str) -> Left {
     }
 }
 
-// Whether a piece leaves open which bytes it is.
-fn is_open(piece: &Piece) -> bool {
-    matches!(piece, Piece::Number { .. } | Piece::Front)
-}
-
 // A line of a case that is no text.
 fn read_values(case: &mut Case, alloc: Global, head: &str, rest: &str) -> Result<(), Why> {
     match head {
@@ -339,18 +333,13 @@ fn read_values(case: &mut Case, alloc: Global, head: &str, rest: &str) -> Result
     }
 }
 
-// A line of a text with its line feed.
-fn whole_line(alloc: Global, line: &str) -> Result<Vec<u8>, Why> {
-    let mut bytes = Vec::from_slice(alloc, line.as_bytes())?;
-    push(&mut bytes, b'\n')?;
-    Ok(bytes)
-}
-
 // A line of a text.
 fn read_piece(alloc: Global, head: &str, rest: &str) -> Result<Piece, Why> {
     match head {
         "|" => Ok(Piece::Bytes(whole_line(alloc, rest)?)),
         "\\" => Ok(Piece::Bytes(unescaped(alloc, rest)?)),
+        "?" => line_or_none(alloc, rest),
+        "sum" => sum(rest),
         "front" => Ok(Piece::Front),
         "*" => {
             let (times, written) = number_and_rest(rest, " ")?;
