@@ -78,6 +78,7 @@ impl Pending {
     }
 
     // A row is pending, where none was.
+    #[inline(always)]
     pub fn put(&mut self, row: Row)
         requires { self.old ≡ [] }
         ensures { self.new ≡ row ∷ [] }

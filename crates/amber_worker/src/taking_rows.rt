@@ -265,6 +265,7 @@ fn take_any(
 }
 
 // Takes the next row or record.
+#[inline(always)]
 pub(crate) fn take_next(
     rest: &mut Rest,
     op: u32,

@@ -50,6 +50,7 @@ impl UsedRows {
     }
 
     // Whether it is time to look for rows that have come back: none is left, and the last look in vain was not just now.
+    #[inline(always)]
     pub fn is_due(&mut self) -> bool {
         if !self.rows.is_empty() {
             return false;
@@ -63,6 +64,7 @@ impl UsedRows {
     }
 
     // Keeps a row, or drops it where there is no space.
+    #[inline(always)]
     pub fn keep(&mut self, row: Row) {
         if self.rows.len() < MOST {
             let _ = self.rows.push(row);

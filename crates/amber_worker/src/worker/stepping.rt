@@ -54,6 +54,7 @@ impl Worker {
     }
 
     // Has rows that a receiver is done with, to write over, where none is left and it is time to look.
+    #[inline(always)]
     fn fetch_used(&mut self)
         ensures { self.new ≡ self.old }
     {
@@ -92,16 +93,16 @@ impl Worker {
         ensures some { IfSome result (StandsStill self.now) }
         ensures none { IfNone result (IsFree self.now) }
     {
+        if !(self.finished | self.flags.paused | self.flags.held) {
+            return None;
+        }
         if self.finished {
             return Some(Turn::Ended);
         }
         if self.flags.paused {
             return Some(Turn::Paused);
         }
-        if self.flags.held {
-            return Some(Turn::Held);
-        }
-        None
+        Some(Turn::Held)
     }
 
     // Whether the next row holds the worker: it meets the condition, and was not waved on.
@@ -109,7 +110,7 @@ impl Worker {
     fn must_hold(&self) -> bool
         ensures { result ≡ must_hold self.now }
     {
-        !self.flags.waved && is_first_watched(&self.when, &self.gains.pending)
+        is_first_watched(&self.when, &self.gains.pending) && !self.flags.waved
     }
 
     // Deals with the hand so, and makes no step.
@@ -197,8 +198,7 @@ impl Worker {
         Ok(())
     }
 
-    // The place of a sender from which a batch may be taken. Nothing is taken, but more batches may be
-    // known than before.
+    // The place of a sender from which a batch may be taken. None is taken, but more may be known.
     fn ready(&mut self) -> Option<usize>
         ensures looked { IsLookedAt self.old self.new }
         ensures none { IfNone result (has_ready self.new.ins ≡ false) }
@@ -338,6 +338,7 @@ impl Worker {
     }
 
     // Deals with the hand so, and takes the next of what is left, where it has a unit.
+    #[inline(always)]
     fn take_row(&mut self, board: Option<&Board>, how: Dealing) -> Result<Turn, AllocError>
         requires few { steps_made self.old < 2 ^ 40 }
         requires own { IsBoardOf (option_copied board) self.old.seat }
