@@ -15,6 +15,7 @@ use amber_worker::{Turn, Worker};
 use std::alloc::AllocError;
 
 /// One turn of a worker.
+#[inline(always)]
 pub(crate) fn make_turn(worker: &mut Worker, board: Option<&Board>) -> Result<Turn, AllocError>
     requires own { IsBoardOf (option_copied board) worker.old.seat }
     requires few { steps_made worker.old < 2 ^ 40 }
