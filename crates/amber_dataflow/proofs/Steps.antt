@@ -148,7 +148,7 @@ pub steps-cons : (w : WorkerState) (crew : List WorkerState) → steps_by (w ∷
 unfolding steps_by
 steps-cons w crew = sum_by-cons steps_made w crew
 
-sum-set : (crew : List WorkerState) (i : ℕ) (w : WorkerState) → i < length crew → steps_by (set crew i w) + steps_made (worker_state_at crew i) ≡ steps_by crew + steps_made w
+pub sum-set : (crew : List WorkerState) (i : ℕ) (w : WorkerState) → i < length crew → steps_by (set crew i w) + steps_made (worker_state_at crew i) ≡ steps_by crew + steps_made w
 sum-set [] i w h = absurd (omega arith)
 sum-set (x ∷ xs) zero w h =
     rw (steps-cons w xs, steps-cons x xs) (omega arith)

@@ -130,6 +130,7 @@ exactly done old new makes turned =
       batches = makes.batches;
       rows = turned-rows done old new turned;
       steps = omega (arith, steps);
+      more = makes.more;
     }
 
 -- ---- many turns

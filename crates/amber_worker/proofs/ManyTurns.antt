@@ -173,6 +173,7 @@ makes-looked old new looked =
       batches = rw looked.only (omega arith);
       rows = rw looked.only (omega arith);
       steps = rw looked.only (omega arith);
+      more = rw looked.only (omega arith);
     }
 
 -- nor does nothing
@@ -194,6 +195,7 @@ makes-then m n a b c armed one two = record {
   batches = omega (arith, one.batches, two.batches);
   rows = omega (arith, one.rows, two.rows);
   steps = omega (arith, one.steps, two.steps);
+  more = omega (arith, one.more, two.more);
 }
 
 -- batches that were sent
@@ -245,6 +247,7 @@ makes-sent old new turned sent = subst (MakesTurns 0 old) (sym sent.only) (recor
   batches = omega arith;
   rows = omega arith;
   steps = omega arith;
+  more = omega arith;
 })
 
 -- where so many were made, no more than a greater number were
@@ -262,6 +265,7 @@ makes-more m n old new within makes = record {
   batches = makes.batches;
   rows = omega (arith, makes.rows);
   steps = omega (arith, makes.steps);
+  more = makes.more;
 }
 
 -- a count stays armed or not
@@ -323,4 +327,5 @@ makes-turn told old new done keeps ends turns =
       batches = omega (arith, acted.batches, counts.batches);
       rows = omega (arith, acted.taken, acted.emitted, rows, few);
       steps = omega (arith, acted.steps, steps, few);
+      more = omega (arith, acted.steps, steps);
     }

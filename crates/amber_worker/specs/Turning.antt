@@ -117,8 +117,8 @@ constants_in (operator_state.Group state) = []
 constants_in operator_state.Sink = []
 
 -- turns were made, this many or fewer: the worker keeps what it stands for, its ends, its constant, its seat and the room of its
--- journal; no count falls, rows taken and emitted and steps rise by at most so many, and under a count as many units were counted as
--- rows were emitted
+-- journal; no count falls, nor do steps, rows taken and emitted and steps rise by at most so many, and under a count as many units were
+-- counted as rows were emitted
 pub record MakesTurns (most : ℕ) (old new : WorkerState) : Type 0 where
   pub keeps : KeepsUnder (is_armed old) old new
   pub ends : HasSameEnds old new
@@ -132,6 +132,7 @@ pub record MakesTurns (most : ℕ) (old new : WorkerState) : Type 0 where
   pub batches : old.batches ≤ new.batches
   pub rows : new.taken + new.emitted ≤ old.taken + old.emitted + most
   pub steps : steps_made new ≤ steps_made old + most
+  pub more : steps_made old ≤ steps_made new
 
 -- nothing is watched, no count is armed, and nothing holds it back or lets it on
 pub record IsCalm (w : WorkerState) : Type 0 where
