@@ -31,6 +31,10 @@ late-one arms old new none more op n is =
     let rows = more op in
     omega arith
 
+-- where no operator emits a row none gets late
+pub late-rows : (arms : List Asked) (old new : DataflowState) → ((op : ℕ) → rows_emitted new op ≡ rows_emitted old op) → NoneIsLate arms old → NoneIsLate arms new
+late-rows arms old new same late op n is = rw (same op) (late op n is)
+
 -- turns of a worker, no more than rows are left to its operator's pause, make none late
 pub late-moved : (arms : List Asked) (old new : DataflowState) (worker most : ℕ) → TurnsAt most old new worker
     → ((n : ℕ) → pause_at arms (op_of old.flow worker) ≡ Some n → rows_emitted old (op_of old.flow worker) + most ≤ max n (rows_emitted old (op_of old.flow worker)))

@@ -2,12 +2,12 @@
 use Rattle.std.specs.Prelude.{◌≡◌, ◌⊎◌, ℕ, List, Option, true}
 use Rattle.amber_rows.specs.Topology.{op_of}
 use Rattle.amber_boards.specs.Boards.{AreCounted, AreInForce, CounterState, HandsOut, board_at, has_board, target_of_count}
-use Rattle.amber_dataflow.specs.Dataflow.{AreAllThere, DataflowState, IsFirst, StandAt, StepsAt, is_armed_at, is_short}
+use Rattle.amber_dataflow.specs.Dataflow.{AreAllThere, DataflowState, IsFirst, StandAt, StepsAt, has_finished, is_armed_at, is_short}
 use Rattle.amber_meaning.specs.Legal.{Query}
 use Rattle.amber_meaning.specs.Position.{Position}
 use Rattle.amber_meaning.specs.State.{State}
 use Rattle.amber_home.specs.Asked.{Asked}
-use Rattle.amber_home.specs.Leg.{count_at, is_counted}
+use Rattle.amber_home.specs.Leg.{count_at, is_counted, is_stopped}
 
 -- of whatever query they are the workers, in a leg with these counts, they have moved on
 pub record GoOn (arms : List Asked) (old new : DataflowState) : Type 0 where
@@ -32,6 +32,10 @@ pub record FirstSteps (old new : DataflowState) : Type 0 where
 -- units were handed to a worker, where it needs one and has none
 abbrev pub IsFedAt : List (Option CounterState) → DataflowState → DataflowState → ℕ → Type 0
 IsFedAt boards old new worker = (new ≡ old) ⊎ ((is_short old worker ≡ true) × HandsOut boards old new worker)
+
+-- a worker may need a unit and have none: it has finished, or a stop stands at its operator
+abbrev pub MayStarve : List Asked → DataflowState → ℕ → Type 0
+MayStarve arms d worker = (has_finished d worker ≡ true) ⊎ (is_stopped arms d (op_of d.flow worker) ≡ true)
 
 -- the first that has not finished was handed units where it needs one, and then it has made a step, or is held
 pub record StepsNext (boards : List (Option CounterState)) (old new : DataflowState) : Type 0 where

@@ -1,6 +1,7 @@
 //! Driving a leg: it goes in rounds, in each of which each worker makes some turns, until a stop stands or the
 //! budget is spent. Where a stop stands already nobody does anything. Before it counts are armed, and after it they are
-//! disarmed. Over `Dataflow::turns`, `step_next` of `stepping`, `Boards`, and what `stopping` tells of stops.
+//! disarmed; before its turns a worker is handed units where it needs one and has none. Over `Dataflow::turns`, what
+//! `stepping` does, `Boards`, and what `stopping` tells of stops.
 
 ghost use Rattle.std.specs.Prelude.{◌≡◌, ◌⊎◌, ◌+◌, ◌^◌, ◌<◌, ◌≤◌, ℕ, IfOk, OnErr, OnOk, [], length, true};
 ghost use Rattle.amber_boards.specs.Boards.{AreBelow, AreEmptyHanded, AreUnarmed, AreWithin, StandInForce};
@@ -10,7 +11,7 @@ ghost use Rattle.amber_home.specs.Going.{AreReady, GoOn};
 ghost use Rattle.amber_home.specs.Leg.{AreEmptyOf, GoesOn, IsLegDone, IsLegInTime, NoneIsLate, counts_asked, is_counted};
 
 use crate::in_force::InForce;
-use crate::stepping::step_next;
+use crate::stepping::{feed_in_turn, step_next};
 use crate::stopping::{is_stopped, rows_left, stands};
 use amber_boards::Boards;
 use amber_dataflow::Dataflow;
@@ -48,11 +49,12 @@ fn take_turns(
     Ok(made)
 }
 
-// A worker's turns of a round: it takes turns until it has made so many, or makes none, since its operator's pause
-// stands, it is held, it needs a unit and has none, or it has nothing to do. The answer is what is left of the budget.
+// A worker's turns of a round: it takes turns until it has made so many, or makes none, since a stop stands at its
+// operator, it is held, or it has nothing to do. Before them, wherever it needs a unit and has none, all that are left at
+// its operator are handed to it. The answer is what is left of the budget.
 fn drive_worker(
     arms: &InForce,
-    boards: &Boards,
+    boards: &mut Boards,
     dataflow: &mut Dataflow,
     worker: u32,
     budget: u64,
@@ -60,7 +62,7 @@ fn drive_worker(
     requires workers { AreAllThere dataflow.old }
     requires there { worker < crew_of dataflow.old.flow }
     requires few { step_count dataflow.old + budget ≤ 2 ^ 40 }
-    requires counted { AreReady arms.now boards.now dataflow.old }
+    requires counted { AreReady arms.now boards.old dataflow.old }
     requires stand { StandInForce (is_counted arms.now) dataflow.old }
     ensures on { OnOk result (GoOn arms.now dataflow.old dataflow.new) }
     ensures left { IfOk result (λ left. step_count dataflow.new + left
@@ -68,12 +70,13 @@ fn drive_worker(
     ensures within { IfOk result (λ left. left ≤ budget) }
     ensures in_time { OnOk result (NoneIsLate arms.now dataflow.old
         → NoneIsLate arms.now dataflow.new) }
-    ensures counted { OnOk result (AreReady arms.now boards.now dataflow.new) }
+    ensures counted { OnOk result (AreReady arms.now boards.new dataflow.new) }
     ensures flow { OnErr result (dataflow.new.flow ≡ dataflow.old.flow) }
 {
     let most = budget.min(ROUND);
     let mut made = 0;
     'calls: while made < most {
+        feed_in_turn(arms, boards, dataflow, worker)?;
         let more = take_turns(arms, boards, dataflow, worker, most - made)?;
         if more == 0 {
             return Ok(budget - made);
@@ -87,13 +90,13 @@ fn drive_worker(
 // answer is what is left of the budget.
 fn drive_round(
     arms: &InForce,
-    boards: &Boards,
+    boards: &mut Boards,
     dataflow: &mut Dataflow,
     budget: u64,
 ) -> Result<u64, AllocError>
     requires workers { AreAllThere dataflow.old }
     requires few { step_count dataflow.old + budget ≤ 2 ^ 40 }
-    requires counted { AreReady arms.now boards.now dataflow.old }
+    requires counted { AreReady arms.now boards.old dataflow.old }
     requires stand { StandInForce (is_counted arms.now) dataflow.old }
     ensures on { OnOk result (GoOn arms.now dataflow.old dataflow.new) }
     ensures left { IfOk result (λ left. step_count dataflow.new + left
@@ -101,7 +104,7 @@ fn drive_round(
     ensures within { IfOk result (λ left. left ≤ budget) }
     ensures in_time { OnOk result (NoneIsLate arms.now dataflow.old
         → NoneIsLate arms.now dataflow.new) }
-    ensures counted { OnOk result (AreReady arms.now boards.now dataflow.new) }
+    ensures counted { OnOk result (AreReady arms.now boards.new dataflow.new) }
     ensures flow { OnErr result (dataflow.new.flow ≡ dataflow.old.flow) }
 {
     let mut left = budget;

@@ -2,8 +2,9 @@
 //!
 //! A home keeps its log legal, and while a run can go on its workers stand where the log says, whatever
 //! commands were given. It runs without threads: a leg goes in rounds, in each of which each worker makes up to
-//! 1,024 turns, one worker after the other. `home_step` makes one step, of the unfinished worker with the
-//! smallest number.
+//! 1,024 turns, one worker after the other. A worker whose operator's count is in force makes them with units
+//! of it: all that are left are handed to it before, where it needs one and has none. `home_step` makes one
+//! step, of the unfinished worker with the smallest number.
 //!
 //! For instance, a home of a workflow of a scan of five records, a filter that passes three of them and a
 //! sink rests at first with an empty log. After `apply` of a pause of the filter after two rows, and a leg up

@@ -11,6 +11,15 @@ use Rattle.amber_home.proofs.Going.{on-then, one-on, stand-on}
 use Rattle.amber_home.proofs.Ready.{armed-counted, boards-counted, own-board, ready-turned, stands-under}
 use Rattle.amber_home.proofs.stepping.step_next.Goals as goal
 
+pub feed-requires-clause-there : goal.feed-requires-clause-there
+feed-requires-clause-there c = c.first_unfinished-worker.ensures.there
+
+pub feed-requires-clause-unfinished : goal.feed-requires-clause-unfinished
+feed-requires-clause-unfinished c = c.first_unfinished-worker.ensures.unfinished
+
+pub feed-requires-clause-none : goal.feed-requires-clause-none
+feed-requires-clause-none c = c.requires.none (op_of c.args.dataflow.now.flow c.first_unfinished-worker.result)
+
 pub step-requires-clause-workers : goal.step-requires-clause-workers
 step-requires-clause-workers c =
     let worker = c.first_unfinished-worker.result in
