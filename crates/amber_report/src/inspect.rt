@@ -1,4 +1,4 @@
-//! What an operator shows of its workers and of what is armed for it. Over `Inspected` of `amber_meaning`.
+//! What an operator shows of its workers and of what is in force there. Over `Inspected` of `amber_meaning`.
 
 ghost use Rattle.std.specs.Prelude.{◌≡◌, ◌+◌, [], ◌∷◌, ◌++◌, codes, decimal, IfOk, OnOk};
 ghost use Rattle.std.specs.List.{flat_map};
@@ -63,7 +63,7 @@ fn push_constant(text: &mut Vec<u8>, constant: &Option<Value>) -> Result<(), All
     end_line(text)
 }
 
-// The pause that is armed.
+// The pause that is in force.
 #[tactic(auto, unfolding(amber_meaning::specs::Texts::words_line))]
 fn push_pause(text: &mut Vec<u8>, pause: Option<u64>) -> Result<(), AllocError>
     ensures { OnOk result (text.new.items ≡ text.old.items ++ pause_text pause) }
@@ -76,7 +76,7 @@ fn push_pause(text: &mut Vec<u8>, pause: Option<u64>) -> Result<(), AllocError>
     end_line(text)
 }
 
-// The count that is armed.
+// The count that is in force.
 #[tactic(auto, unfolding(amber_meaning::specs::Texts::words_line))]
 fn push_count(text: &mut Vec<u8>, count: Option<Counted>) -> Result<(), AllocError>
     ensures { OnOk result (text.new.items ≡ text.old.items ++ count_text count) }
@@ -91,7 +91,7 @@ fn push_count(text: &mut Vec<u8>, count: Option<Counted>) -> Result<(), AllocErr
     end_line(text)
 }
 
-// The condition that is armed.
+// The condition that is in force.
 #[tactic(auto, using(crate::proofs::Lines::whole_line))]
 fn push_when(
     text: &mut Vec<u8>,
@@ -186,7 +186,7 @@ fn push_views(alloc: Global, text: &mut Vec<u8>, views: &Views) -> Result<(), Al
     Ok(())
 }
 
-/// The reply to a command to inspect an operator: which it is; a filter's constant; what is armed; a line for
+/// The reply to a command to inspect an operator: which it is; a filter's constant; what is in force; a line for
 /// each worker, and after it the first of its pending rows.
 #[tactic(auto, unfolding(amber_meaning::specs::Texts::inspected_text))]
 pub fn inspect_lines(alloc: Global, flow: &Flow, seen: &Inspected) -> Result<Bytes, AllocError>
