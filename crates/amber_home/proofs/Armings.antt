@@ -1,5 +1,5 @@
 -- Counts of a home's leg are armed, and disarmed.
-use Rattle.std.proofs.Common.{◌≡◌, refl, sym, ap, subst, ◌∙◌, ℕ, zero, suc, ◌+◌, ◌<◌, ◌≤◌, List, [], ◌∷◌, length, Bool, true, false, Option, None, Some, is_some, inl, inr, arith}
+use Rattle.std.proofs.Common.{◌≡◌, refl, sym, ap, subst, ◌∙◌, ℕ, suc, ◌+◌, ◌<◌, ◌≤◌, List, [], ◌∷◌, length, Bool, true, false, Option, is_some, arith}
 use Rattle.amber_rows.specs.Topology.{crew_of, op_of}
 use Rattle.amber_rows.specs.declared.flow.Operator.{Operator}
 use Rattle.amber_log.specs.declared.leg.Close.{Close}
@@ -172,7 +172,7 @@ module _ (e : HomeState) (live : LiveState) (to_end : Bool) (leg : IsLeg e live 
 -- what the home is seen to do
 pub disarms-home : (e : HomeState) (live : LiveState) (now : Phase) (within : is_open now ≡ true) → counts_in now ≡ Armed → (leg : IsLeg e live (runs_to_end now) Armed)
     → (after : DataflowState) (disarms : DisarmsAll live.boards live.dataflow after) → live.dataflow.flow ≡ e.flow → (boards : List (Option CounterState)) → boards ≡ []
-    → DisarmsLeg (record e { phase = now; parts = open_parts now live.dataflow }) (record e { flow = after.flow; phase = phase.Open (runs_to_end now) Disarmed; parts = leg_parts after })
+    → DisarmsLeg (record e { phase = now; parts = open_parts now live }) (record e { flow = after.flow; phase = phase.Open (runs_to_end now) Disarmed; parts = leg_parts after })
 disarms-home e live now within is leg after disarms same boards none =
     let d = live.dataflow in
     let arms = live.arms in
@@ -180,7 +180,7 @@ disarms-home e live now within is leg after disarms same boards none =
     let later = within-on to_end e d after arms leg.leg (disarmed-on e live to_end leg after disarms) (disarmed-few e live to_end leg after disarms) in
     let stand = (disarmed-leg e live to_end leg after disarms boards none).stand in
     subst (λ (h : HomeState). DisarmsLeg h (record e { flow = after.flow; phase = phase.Open to_end Disarmed; parts = leg_parts after }))
-    (sym (in-open e d now within ∙ ap (λ counts. record e { phase = phase.Open to_end counts; parts = leg_parts d }) is))
+    (sym (in-open e live now within ∙ ap (λ counts. record e { phase = phase.Open to_end counts; parts = leg_parts d }) is))
     (subst (λ flow. DisarmsLeg (at_work to_end Armed e d arms leg.leg leg.legal) (record e { flow = flow; phase = phase.Open to_end Disarmed; parts = leg_parts after }))
     (sym (disarms.units.flow ∙ same))
     (record {

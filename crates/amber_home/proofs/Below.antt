@@ -3,7 +3,6 @@ use Rattle.std.proofs.Common.{◌≡◌, ◌≢◌, refl, sym, ap, subst, ◌∙
 use Rattle.std.specs.Prelude.{nat_le, nat_lt}
 use Rattle.std.proofs.lemmas.Bool.{and_parts, leb-true, ltb-true}
 use Rattle.std.proofs.lemmas.Bool.Decides.{eqb_tells}
-use Rattle.amber_rows.specs.Topology.{crew_of}
 use Rattle.amber_rows.specs.Lists.{nth}
 use Rattle.amber_rows.specs.declared.cond.Cond.{Cond}
 use Rattle.amber_rows.specs.declared.flow.Operator.{Operator}
@@ -22,7 +21,7 @@ use Rattle.amber_worker.specs.Changes.{held_dropped, with_value}
 use Rattle.amber_worker.specs.WorkerState.{WorkerState}
 use Rattle.amber_dataflow.specs.AtWork.{worker_state_at}
 use Rattle.amber_dataflow.specs.Dataflow.{AreAllThere, DataflowState, rows_emitted, worker_set, worker_watching}
-use Rattle.amber_boards.specs.Boards.{AreBelow, IsBelow, target_at}
+use Rattle.amber_boards.specs.Boards.{AreBelow, IsBelow}
 use Rattle.amber_boards.specs.declared.target.Target.{Target}
 use Rattle.amber_home.specs.Applied.{HasDropped, HasOperator, arms_after, dataflow_after, with_condition, with_constants, without_dropped}
 use Rattle.amber_home.specs.Asked.{Asked, asked_changed, counting_since, no_asked}

@@ -1,6 +1,5 @@
 -- A leg is closed: the log is legal with it, and the workers stand where it says.
-use Rattle.std.proofs.Common.{◌≡◌, refl, sym, ap, subst, ◌∙◌, ℕ, ◌-◌, ◌<◌, ◌≤◌, List, [], ◌∷◌, ◌++◌, length, map, nat_eq, Bool, true, false, None, is_some, unwrap_or, if◌then◌else◌, arith}
-use Rattle.std.specs.List.{slice_get}
+use Rattle.std.proofs.Common.{◌≡◌, refl, sym, ap, subst, ◌∙◌, ℕ, ◌<◌, ◌≤◌, List, [], ◌∷◌, ◌++◌, length, Bool, true, false, unwrap_or, arith}
 use Rattle.amber_rows.specs.Topology.{crew_of, op_of}
 use Rattle.amber_rows.specs.FlowRules.{IsFlow}
 use Rattle.amber_rows.specs.declared.flow.Operator.{Operator}
@@ -26,6 +25,7 @@ use Rattle.amber_dataflow.specs.Dataflow.{DataflowState, StandAt, handed_out, le
 use Rattle.amber_dataflow.proofs.Numbered.{nth-numbers}
 use Rattle.amber_dataflow.proofs.Standing.{AgreeButCount, handed_out-nothing, stand-at, stand-flow, stand-handed_out, stand-position, stand-steps, stand-text, stand-worked}
 use Rattle.amber_boards.specs.Boards.{AreBelow}
+use Rattle.amber_worker.specs.WorkerState.{WorkerState}
 use Rattle.amber_home.specs.Asked.{Asked, IsInForce}
 use Rattle.amber_home.specs.HomeState.{ClosesIn, HomeState, item_of_leg, query_of, rest_state, with_item}
 use Rattle.amber_home.specs.Kept.{HaveNoUnits, IsAtRest, IsWithinLeg}
@@ -122,12 +122,12 @@ module _ (to_end : Bool) (e : HomeState) (d : DataflowState) (arms : List Asked)
       same-item false = refl
 
   -- and at rest they stand where it says
-  pub rest-closed : (closed : Close) → ClosesIn to_end query reached closed → (now : List Asked) (stops : List Stop)
+  pub rest-closed : (closed : Close) → ClosesIn to_end query reached closed → (now : List Asked) (stops : List Stop) (back : List WorkerState)
       → IsInForce query.flow (closed_state to_end query reached closed) now → stops ≡ stops_in query reached → AreBelow (counts_asked now) d
-      → HaveNoUnits (record { dataflow = d; arms = now; boards = []; stops = stops })
+      → HaveNoUnits [] d
       → IsAtRest (record e { log = with_item e.log (item_of_leg to_end (leg_parts d) closed); phase = phase.Resting; parts = [] })
-      (record { dataflow = handed_out d; arms = now; boards = []; stops = stops })
-  rest-closed closed closes now stops now-is stops-are below units =
+      (record { dataflow = handed_out d; arms = now; boards = []; stops = stops; back = back })
+  rest-closed closed closes now stops back now-is stops-are below units =
       let log = with_item e.log (item_of_leg to_end (leg_parts d) closed) in
       let more = legal-closed closed closes in
       let after = closed_state to_end query reached closed in

@@ -1,5 +1,5 @@
 -- A leg of a home may be closed, and the home after that.
-use Rattle.std.proofs.Common.{◌≡◌, ◌≢◌, refl, sym, ap, subst, ◌∙◌, ℕ, zero, suc, ◌+◌, ◌<◌, ◌≤◌, List, [], ◌∷◌, length, Bool, true, false, Option, None, Some, unwrap_or, if◌then◌else◌, inl, inr, arith}
+use Rattle.std.proofs.Common.{◌≡◌, ◌≢◌, refl, sym, ap, subst, ◌∙◌, ℕ, zero, suc, ◌+◌, ◌<◌, ◌≤◌, List, [], length, Bool, true, false, Option, None, Some, unwrap_or, if◌then◌else◌, inl, inr, arith}
 use Rattle.std.proofs.lemmas.Bool.{cases_lt, eq-eqb, false≢true}
 use Rattle.std.proofs.lemmas.Bool.Decides.{eqb_tells}
 use Rattle.std.proofs.lemmas.List.{length-map}
@@ -98,18 +98,18 @@ pub home-closed : (e : HomeState) (live : LiveState) (to_end : Bool) (counts : C
     → log ≡ with_item e.log (item_of_leg to_end (leg_parts live.dataflow) closed)
     → later ≡ closed_arms to_end closed live.arms live.dataflow
     → kept ≡ stops_by live.arms live.dataflow
-    → IsHome (record e { log = log; phase = phase.Resting; parts = [] }) (record { dataflow = handed_out live.dataflow; arms = later; boards = live.boards; stops = kept })
+    → IsHome (record e { log = log; phase = phase.Resting; parts = [] }) (record live { dataflow = handed_out live.dataflow; arms = later; stops = kept })
 home-closed e live to_end counts leg not closed log later kept closes log-is later-is kept-is =
     let d = live.dataflow in
     let begin = start to_end e d live.arms leg.leg leg.legal in
     let may = subst (λ (s : State). ClosesIn to_end (query_of e) s closed) (state-here to_end e d live.arms leg.leg leg.legal) closes in
     let stand = disarmed live counts not leg.stand in
     let below = subst (λ now. AreBelow (counts_asked now) d) (sym later-is) (closed-below e live to_end counts leg stand.0 closed closes) in
-    subst (λ boards. IsHome (record e { log = log; phase = phase.Resting; parts = [] }) (record { dataflow = handed_out d; arms = later; boards = boards; stops = kept })) (sym stand.1.none)
-    (subst (λ (l : Log). IsHome (record e { log = l; phase = phase.Resting; parts = [] }) (record { dataflow = handed_out d; arms = later; boards = []; stops = kept })) (sym log-is) (record {
+    subst (λ boards. IsHome (record e { log = log; phase = phase.Resting; parts = [] }) (record live { dataflow = handed_out d; arms = later; boards = boards; stops = kept })) (sym stand.1.none)
+    (subst (λ (l : Log). IsHome (record e { log = l; phase = phase.Resting; parts = [] }) (record live { dataflow = handed_out d; arms = later; boards = []; stops = kept })) (sym log-is) (record {
       few = leg.few;
       legal = (legal-closed to_end e d live.arms leg.leg leg.legal closed may).0;
-      stands = rest-closed to_end e d live.arms leg.leg leg.legal closed may later kept
+      stands = rest-closed to_end e d live.arms leg.leg leg.legal closed may later kept live.back
           (rw later-is (in-force-closed (query_of e) begin d leg.leg.positions leg.leg.at live.arms leg.leg.in_force to_end closed))
           (kept-is ∙ sym (stops-are (query_of e) begin d leg.leg.positions leg.leg.at live.arms leg.leg.in_force))
           below (record { none = refl; unarmed = stand.1.unarmed; empty = stand.1.empty });
@@ -138,6 +138,8 @@ pub told-of : (e : HomeState) (now : Phase) → is_open now ≡ true → (closed
 unfolding state_of stops_of_home
 told-of e phase.Resting within closed closes = absurd (false≢true within)
 told-of e phase.Over within closed closes = absurd (false≢true within)
+told-of e (phase.Lent to_end) within closed closes = absurd (false≢true within)
+told-of e (phase.Unsettled to_end) within closed closes = absurd (false≢true within)
 told-of e phase.Spent within closed closes = absurd (false≢true within)
 told-of e (phase.Open true counts) within close.Cut closes = closes.2
 told-of e (phase.Open true counts) within close.Long closes = (closes.1, closes.2)

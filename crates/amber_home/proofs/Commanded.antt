@@ -1,11 +1,10 @@
 -- A command is done at rest: the log is legal with it, and the workers stand where it says.
-use Rattle.std.proofs.Common.{◌≡◌, ◌≢◌, refl, sym, ap, subst, ◌∙◌, ℕ, zero, suc, ◌+◌, ◌-◌, ◌<◌, ◌≤◌, eqb, nat_eq, List, [], ◌∷◌, length, Bool, true, false, not, Option, None, Some, is_some, unwrap_or, if◌then◌else◌, inl, inr, arith}
-use Rattle.std.specs.List.{slice_get}
+use Rattle.std.proofs.Common.{◌≡◌, ◌≢◌, refl, sym, ap, subst, ◌∙◌, ℕ, ◌+◌, ◌<◌, ◌≤◌, eqb, List, [], length, Bool, true, false, not, Option, None, Some, unwrap_or, if◌then◌else◌, inl, inr, arith}
 use Rattle.std.proofs.lemmas.Bool.{eq-eqb, false≢true, ltb-true, ne_eqb}
 use Rattle.std.proofs.lemmas.Bool.Decides.{eqb_tells}
 use Rattle.amber_rows.specs.Topology.{crew_of, op_of, workers_in}
 use Rattle.amber_rows.specs.FlowRules.{IsFlow}
-use Rattle.amber_rows.specs.Lists.{changed_at, changed_from, nth}
+use Rattle.amber_rows.specs.Lists.{changed_at, nth}
 use Rattle.amber_rows.specs.declared.cond.Cond.{Cond}
 use Rattle.amber_rows.specs.declared.flow.Operator.{Operator}
 use Rattle.amber_rows.specs.declared.value.Value.{Value}
@@ -31,7 +30,6 @@ use Rattle.amber_meaning.specs.State.{Arms, State, after_action, after_command, 
 use Rattle.amber_meaning.proofs.AtRest.{rest-there}
 use Rattle.amber_meaning.proofs.Crews.{place-worker, worker-known}
 use Rattle.amber_meaning.proofs.Fronts.{legal_logs_grow}
-use Rattle.amber_meaning.proofs.Lists.{nth-next}
 use Rattle.amber_meaning.proofs.OneState.{legal_logs_have_one_state}
 use Rattle.amber_meaning.proofs.Rest.{legal_logs_rest}
 use Rattle.amber_meaning.proofs.Senders.{flows_send_forward}
@@ -340,10 +338,10 @@ module _ (e : HomeState) (live : LiveState) (home : IsHome e live) (resting : e.
       flow-same : now.dataflow.flow ≡ e.flow
       flow-same = ap (λ (d : DataflowState). d.flow) dataflow-is ∙ flow-after effect live.dataflow ∙ same
 
-      none-open : open_parts e.phase now.dataflow ≡ []
-      none-open = ap (λ (p : Phase). open_parts p now.dataflow) resting
+      none-open : open_parts e.phase now ≡ []
+      none-open = ap (λ (p : Phase). open_parts p now) resting
 
-      pub state-commanded : record e { flow = now.dataflow.flow; log = log; parts = open_parts e.phase now.dataflow } ≡ record e { log = with_item e.log (item.Do one); parts = [] }
+      pub state-commanded : record e { flow = now.dataflow.flow; log = log; parts = open_parts e.phase now } ≡ record e { log = with_item e.log (item.Do one); parts = [] }
       state-commanded = λ i. record e { flow = flow-same i; log = log-is i; parts = none-open i }
 
       -- no unit changes hands
@@ -355,7 +353,7 @@ module _ (e : HomeState) (live : LiveState) (home : IsHome e live) (resting : e.
       in-force-next there =
           rw (arms-is, ← emitted-rest e live rest home.legal effect.op) (in-force-after e.flow (rest_state e) live.arms rest.in_force effect there long)
 
-      pub home-commanded : IsHome (record e { flow = now.dataflow.flow; log = log; parts = open_parts e.phase now.dataflow }) now
+      pub home-commanded : IsHome (record e { flow = now.dataflow.flow; log = log; parts = open_parts e.phase now }) now
       home-commanded =
           let query = query_of e in
           let state = rest_state e in

@@ -56,7 +56,7 @@ file = codes "n" ++ 10 ∷ codes "2" ++ 10 ∷ codes "1" ++ 10 ∷ codes "3" ++ 
 
 -- a home of the workflow that keeps the numbers from 2 up
 abbrev home : List Item → Phase → List Part → HomeState
-home items now parts = record { flow = from_two; files = file ∷ []; most = 100; log = record { batch = 400; items = items }; phase = now; parts = parts }
+home items now parts = record { flow = from_two; files = file ∷ []; most = 100; log = record { batch = 400; items = items }; phase = now; parts = parts; alone = 0 }
 
 abbrev part : ℕ → List Entry → Part
 part worker entries = record { worker = worker; entries = entries }
@@ -72,7 +72,7 @@ abbrev before : HomeState
 before = within (part 0 (entry.Go 1 0 ∷ []) ∷ [])
 
 abbrev after : HomeState
-after = within (part 0 (entry.Go 1 1 ∷ []) ∷ [])
+after = record (within (part 0 (entry.Go 1 1 ∷ []) ∷ [])) { alone = 1 }
 
 nothing_of_others : (worker : ℕ) (entries : List Entry) → entries_of (part 0 entries ∷ []) (suc worker) ≡ []
 unfolding entries_of
@@ -262,7 +262,7 @@ nothing_done_is_legal = record { text = record { batch = (omega arith, omega ari
 
 -- with no workers, nothing in force and no stops
 abbrev nobody : List Operator → LiveState
-nobody flow = record { dataflow = record { flow = flow; workers = [] }; arms = []; boards = []; stops = [] }
+nobody flow = record { dataflow = record { flow = flow; workers = [] }; arms = []; boards = []; stops = []; back = [] }
 
 nothing_is_said_of_workers : IsHome (home [] phase.Spent []) (nobody [])
 nothing_is_said_of_workers = record { few = omega arith; legal = nothing_done_is_legal; stands = tt }
@@ -278,10 +278,10 @@ nobody_is_there : IsHome (home [] phase.Resting []) (record (nobody from_two) { 
 unfolding homes_on_literals
 nobody_is_there keeps = let wrong = stand-there _ _ _ _ keeps.stands.at in absurd (omega arith)
 
-what_nobody_asked_for : (d : DataflowState) → IsHome (home [] phase.Resting []) (record { dataflow = d; arms = asked_once; boards = []; stops = [] }) → ⊥
+what_nobody_asked_for : (d : DataflowState) → IsHome (home [] phase.Resting []) (record { dataflow = d; arms = asked_once; boards = []; stops = []; back = [] }) → ⊥
 unfolding state_after after_items start_of
 what_nobody_asked_for d keeps = none_some 1 (sym (keeps.stands.in_force.each 2).pause)
 
-a_stop_before_any_leg : (d : DataflowState) (arms : List Asked) → IsHome (home [] phase.Resting []) (record { dataflow = d; arms = arms; boards = []; stops = stop.End ∷ [] }) → ⊥
+a_stop_before_any_leg : (d : DataflowState) (arms : List Asked) → IsHome (home [] phase.Resting []) (record { dataflow = d; arms = arms; boards = []; stops = stop.End ∷ []; back = [] }) → ⊥
 unfolding kept_stops stops_along
 a_stop_before_any_leg d arms keeps = let wrong = keeps.stands.stops_are in cc

@@ -1,21 +1,20 @@
 -- Units that change hands leave all else of the workers as it was.
-use Rattle.std.proofs.Common.{◌≡◌, ◌≢◌, ◌⊎◌, refl, sym, ap, subst, ◌∙◌, ℕ, zero, suc, ◌+◌, ◌<◌, List, [], ◌∷◌, length, Bool, true, false, Option, None, Some, Result, Ok, Err, inl, inr, arith}
+use Rattle.std.proofs.Common.{◌≡◌, refl, sym, ap, subst, ◌∙◌, ℕ, suc, ◌+◌, ◌<◌, List, [], ◌∷◌, length, Bool, false, Option, None, Some, Result, Ok, Err, inl, inr, arith}
 use Rattle.std.specs.Result.{OnOk}
 use Rattle.std.proofs.lemmas.Bool.{eq-eqb, false≢true}
-use Rattle.amber_rows.specs.Topology.{crew_of, op_of, workers_of}
+use Rattle.amber_rows.specs.Topology.{crew_of, workers_of}
 use Rattle.amber_rows.specs.declared.flow.Operator.{Operator}
 use Rattle.amber_worker.specs.WorkerState.{WorkerState, steps_made}
 use Rattle.amber_dataflow.specs.AtWork.{emitted_at, steps_by, worker_state_at}
-use Rattle.amber_dataflow.specs.Dataflow.{AreFree, DataflowState, IsFirst, has_finished, is_held, is_paused, is_short, rows_emitted, seat_of, step_count}
+use Rattle.amber_dataflow.specs.Dataflow.{AreFree, DataflowState, IsFirst, has_finished, is_held, is_paused, rows_emitted, step_count}
 use Rattle.amber_dataflow.proofs.Emitted.{emitted-same}
 use Rattle.amber_dataflow.proofs.Steps.{steps-cons}
-use Rattle.amber_boards.specs.Boards.{ChangeUnits, CounterState, HandsOut, HasLeft, board_at, has_board, target_of_count}
+use Rattle.amber_boards.specs.Boards.{ChangeUnits, CounterState, HasLeft, board_at, has_board, target_of_count}
 use Rattle.amber_boards.specs.declared.target.Target.{Target}
 use Rattle.amber_home.specs.Asked.{Asked, is_reached}
-use Rattle.amber_home.specs.Going.{AreReady, GoOn, IsFedAt}
-use Rattle.amber_home.specs.Leg.{NoneStands, count_at, is_stopped}
+use Rattle.amber_home.specs.Going.{GoOn, IsFedAt}
+use Rattle.amber_home.specs.Leg.{NoneStands, count_at}
 use Rattle.amber_home.proofs.Going.{on-refl, units-on}
-use Rattle.amber_home.proofs.Paused.{none-counted}
 use Rattle.amber_home.proofs.Ready.{boards-counted}
 
 -- ---- where units changed hands

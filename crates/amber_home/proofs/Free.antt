@@ -57,19 +57,21 @@ module _ (e : HomeState) (live : LiveState) where
   rows-open : (now : Phase) → IsHome (record e { phase = now }) live → is_open now ≡ true → AreHeldByRows live.dataflow
   rows-open phase.Resting home within = absurd (false≢true within)
   rows-open phase.Over home within = absurd (false≢true within)
+  rows-open (phase.Lent to_end) home within = absurd (false≢true within)
+  rows-open (phase.Unsettled to_end) home within = absurd (false≢true within)
   rows-open phase.Spent home within = absurd (false≢true within)
   rows-open (phase.Open to_end counts) home within = rows-within to_end (record e { phase = phase.Open to_end counts }) live.dataflow live.arms home.stands.0 home.legal
 
   -- where no stop stands
   pub goes-home : (now : Phase) → IsHome (record e { phase = now }) live → is_open now ≡ true → live.dataflow.flow ≡ e.flow
-      → stops_of_home (in_phase e live.dataflow now) ≡ [] → GoesOn live.arms live.dataflow
+      → stops_of_home (in_phase e live now) ≡ [] → GoesOn live.arms live.dataflow
   goes-home now home within same none =
       goes-none live.arms live.dataflow (long-open e live now home within ∙ ap length (sym same)) (home-there e live now home (open-there now within))
       (rows-open now home within) (stops-open e live now home within (stops_by live.arms live.dataflow) refl ∙ none)
 
   -- a worker that is there is paused as its position is
   pub paused-at : (now : Phase) → IsHome (record e { phase = now }) live → has_crew now ≡ true → live.dataflow.flow ≡ e.flow → (worker : ℕ) → worker < crew_of live.dataflow.flow
-      → is_paused live.dataflow worker ≡ (position_at (state_of (in_phase e live.dataflow now)).positions worker).restraint.paused
+      → is_paused live.dataflow worker ≡ (position_at (state_of (in_phase e live now)).positions worker).restraint.paused
   unfolding is_paused
   paused-at now home there same worker inside =
       let h = stands-somewhere e live now home there in
@@ -81,7 +83,7 @@ module _ (e : HomeState) (live : LiveState) where
 
   -- where no worker is paused, no position is
   pub none-paused-home : (now : Phase) → IsHome (record e { phase = now }) live → has_crew now ≡ true → live.dataflow.flow ≡ e.flow
-      → ((worker : ℕ) → is_paused live.dataflow worker ≡ false) → NoneIsPaused (in_phase e live.dataflow now)
+      → ((worker : ℕ) → is_paused live.dataflow worker ≡ false) → NoneIsPaused (in_phase e live now)
   none-paused-home now home there same none worker = elim (cases_lt worker (crew_of live.dataflow.flow)) [
     | inl inside ↦ sym (paused-at now home there same worker inside) ∙ none worker
     | inr past ↦
@@ -92,7 +94,7 @@ module _ (e : HomeState) (live : LiveState) where
 
   -- nobody is paused
   pub running-home : (now : Phase) → IsHome (record e { phase = now }) live → has_crew now ≡ true → live.dataflow.flow ≡ e.flow
-      → NoneIsPaused (in_phase e live.dataflow now) → (worker : ℕ) → is_paused live.dataflow worker ≡ false
+      → NoneIsPaused (in_phase e live now) → (worker : ℕ) → is_paused live.dataflow worker ≡ false
   running-home now home there same none worker = elim (cases_lt worker (crew_of live.dataflow.flow)) [
     | inl inside ↦ paused-at now home there same worker inside ∙ none worker
     | inr past ↦ past-running live.dataflow (home-there e live now home there) worker past

@@ -1,10 +1,10 @@
 -- Workers that go on.
 use Rattle.std.proofs.Common.{◌≡◌, refl, sym, ap, subst, ◌∙◌, ℕ, ◌<◌, List, length, Option, option_map, arith}
-use Rattle.amber_rows.specs.Topology.{crew_of, op_of}
+use Rattle.amber_rows.specs.Topology.{crew_of}
 use Rattle.amber_rows.specs.declared.flow.Operator.{Operator}
 use Rattle.amber_dataflow.specs.Dataflow.{AreAllThere, DataflowState, MovesUnder, StandAgain, TurnsAt, all_resumed}
 use Rattle.amber_dataflow.proofs.Resumed.{resumed-there}
-use Rattle.amber_boards.specs.Boards.{AreInForce, ChangeUnits, CounterState, StandInForce}
+use Rattle.amber_boards.specs.Boards.{ChangeUnits, CounterState, StandInForce}
 use Rattle.amber_home.specs.Asked.{Asked}
 use Rattle.amber_home.specs.Going.{AreReady, GoOn}
 use Rattle.amber_home.specs.Leg.{is_counted}

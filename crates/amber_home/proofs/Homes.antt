@@ -30,6 +30,8 @@ pub open-there : (now : Phase) → is_open now ≡ true → has_crew now ≡ tru
 open-there phase.Resting within = refl
 open-there (phase.Open to_end counts) within = refl
 open-there phase.Over within = within
+open-there (phase.Lent to_end) within = within
+open-there (phase.Unsettled to_end) within = within
 open-there phase.Spent within = within
 
 -- and it is this one
@@ -37,15 +39,19 @@ pub open-is : (now : Phase) → is_open now ≡ true → now ≡ phase.Open (run
 open-is phase.Resting within = absurd (false≢true within)
 open-is (phase.Open to_end counts) within = refl
 open-is phase.Over within = absurd (false≢true within)
+open-is (phase.Lent to_end) within = absurd (false≢true within)
+open-is (phase.Unsettled to_end) within = absurd (false≢true within)
 open-is phase.Spent within = absurd (false≢true within)
 
 -- the home in it, with what its workers have done
-pub in-open : (e : HomeState) (d : DataflowState) (now : Phase) → is_open now ≡ true
-    → record e { phase = now; parts = open_parts now d } ≡ record e { phase = phase.Open (runs_to_end now) (counts_in now); parts = leg_parts d }
-in-open e d phase.Resting within = absurd (false≢true within)
-in-open e d (phase.Open to_end counts) within = refl
-in-open e d phase.Over within = absurd (false≢true within)
-in-open e d phase.Spent within = absurd (false≢true within)
+pub in-open : (e : HomeState) (live : LiveState) (now : Phase) → is_open now ≡ true
+    → record e { phase = now; parts = open_parts now live } ≡ record e { phase = phase.Open (runs_to_end now) (counts_in now); parts = leg_parts live.dataflow }
+in-open e live phase.Resting within = absurd (false≢true within)
+in-open e live (phase.Open to_end counts) within = refl
+in-open e live phase.Over within = absurd (false≢true within)
+in-open e live (phase.Lent to_end) within = absurd (false≢true within)
+in-open e live (phase.Unsettled to_end) within = absurd (false≢true within)
+in-open e live phase.Spent within = absurd (false≢true within)
 
 -- ---- a leg is opened
 
@@ -56,10 +62,10 @@ module _ (e : HomeState) (live : LiveState) (to_end : Bool) (home : IsHome e liv
   abbrev begun : DataflowState → LiveState
   begun d = record live { dataflow = d; arms = now }
 
-  pub home-opened : IsHome (record e { flow = after.flow; phase = phase.Open to_end Unarmed; parts = open_parts (phase.Open to_end Unarmed) after }) (begun after)
+  pub home-opened : IsHome (record e { flow = after.flow; phase = phase.Open to_end Unarmed; parts = open_parts (phase.Open to_end Unarmed) (begun after); alone = 0 }) (begun after)
   home-opened =
-      subst (λ (d : DataflowState). IsHome (record e { flow = d.flow; phase = phase.Open to_end Unarmed; parts = leg_parts d }) (begun d)) (sym after-is)
-      (subst (λ (flow : List Operator). IsHome (record e { flow = flow; phase = phase.Open to_end Unarmed; parts = leg_parts (leg_begun to_end live.dataflow) }) (begun (leg_begun to_end live.dataflow)))
+      subst (λ (d : DataflowState). IsHome (record e { flow = d.flow; phase = phase.Open to_end Unarmed; parts = leg_parts d; alone = 0 }) (begun d)) (sym after-is)
+      (subst (λ (flow : List Operator). IsHome (record e { flow = flow; phase = phase.Open to_end Unarmed; parts = leg_parts (leg_begun to_end live.dataflow); alone = 0 }) (begun (leg_begun to_end live.dataflow)))
       (sym same)
       (let rest = at-rest e live home resting in
       record {
@@ -67,20 +73,23 @@ module _ (e : HomeState) (live : LiveState) (to_end : Bool) (home : IsHome e liv
         legal = home.legal;
         stands = (
           opened e live rest home.legal to_end more now now-is (leg_parts (leg_begun to_end live.dataflow)),
-          (opened-below live to_end rest.below now now-is, opened-units live to_end rest.units now),
+          (opened-below live to_end rest.below now now-is, opened-units live to_end rest.units),
         );
       }))
 
-  pub state-opened : record e { flow = after.flow; phase = phase.Open to_end Unarmed; parts = open_parts (phase.Open to_end Unarmed) after } ≡ record e { phase = phase.Open to_end Unarmed; parts = [] }
+  pub state-opened : record e { flow = after.flow; phase = phase.Open to_end Unarmed; parts = open_parts (phase.Open to_end Unarmed) (begun after); alone = 0 }
+      ≡ record e { phase = phase.Open to_end Unarmed; parts = []; alone = 0 }
   state-opened =
-      ap (λ (d : DataflowState). record e { flow = d.flow; phase = phase.Open to_end Unarmed; parts = leg_parts d }) after-is
-      ∙ (λ i. record e { flow = same i; phase = phase.Open to_end Unarmed; parts = begun-parts to_end live.dataflow i })
+      ap (λ (d : DataflowState). record e { flow = d.flow; phase = phase.Open to_end Unarmed; parts = leg_parts d; alone = 0 }) after-is
+      ∙ (λ i. record e { flow = same i; phase = phase.Open to_end Unarmed; parts = begun-parts to_end live.dataflow i; alone = 0 })
 
 -- ---- where the workers are there
 
 module _ (e : HomeState) (live : LiveState) where
   pub home-there : (now : Phase) → IsHome (record e { phase = now }) live → has_crew now ≡ true → AreAllThere live.dataflow
   home-there phase.Over home there = absurd (false≢true there)
+  home-there (phase.Lent to_end) home there = absurd (false≢true there)
+  home-there (phase.Unsettled to_end) home there = absurd (false≢true there)
   home-there phase.Spent home there = absurd (false≢true there)
   home-there phase.Resting home there = stand-there _ _ live.dataflow _ home.stands.at
   home-there (phase.Open to_end counts) home there = stand-there _ _ live.dataflow _ home.stands.0.at
@@ -88,6 +97,8 @@ module _ (e : HomeState) (live : LiveState) where
   pub long-open : (now : Phase) → IsHome (record e { phase = now }) live → is_open now ≡ true → length live.arms ≡ length e.flow
   long-open phase.Resting home within = absurd (false≢true within)
   long-open phase.Over home within = absurd (false≢true within)
+  long-open (phase.Lent to_end) home within = absurd (false≢true within)
+  long-open (phase.Unsettled to_end) home within = absurd (false≢true within)
   long-open phase.Spent home within = absurd (false≢true within)
   long-open (phase.Open to_end counts) home within = home.stands.0.in_force.all
 
@@ -98,17 +109,19 @@ pub record IsLeg (e : HomeState) (live : LiveState) (to_end : Bool) (counts : Co
   pub few : e.most ≤ 2 ^ 40
   pub legal : IsLegal (query_of e) e.log
   pub leg : IsWithinLeg to_end e live.dataflow live.arms
-  pub stand : CountsStand counts live
+  pub stand : CountsStand counts live.arms live.boards live.dataflow
 
--- the same of a home in another phase and with other parts
-within-as : (to_end : Bool) (e : HomeState) (d : DataflowState) (arms : List Asked) (now : Phase) (parts : List Part) → IsWithinLeg to_end e d arms
-    → IsWithinLeg to_end (record e { phase = now; parts = parts }) d arms
-within-as to_end e d arms now parts leg = record { more = leg.more; positions = leg.positions; at = leg.at; in_force = leg.in_force; few = leg.few }
+-- the same of a home in another phase, with other parts and other steps of its own
+within-as : (to_end : Bool) (e : HomeState) (d : DataflowState) (arms : List Asked) (now : Phase) (parts : List Part) (alone : ℕ) → IsWithinLeg to_end e d arms
+    → IsWithinLeg to_end (record e { phase = now; parts = parts; alone = alone }) d arms
+within-as to_end e d arms now parts alone leg = record { more = leg.more; positions = leg.positions; at = leg.at; in_force = leg.in_force; few = leg.few }
 
 -- of a home in which one is open
 pub leg-of : (e : HomeState) (live : LiveState) (now : Phase) → IsHome (record e { phase = now }) live → is_open now ≡ true → IsLeg e live (runs_to_end now) (counts_in now)
 leg-of e live phase.Resting home within = absurd (false≢true within)
 leg-of e live phase.Over home within = absurd (false≢true within)
+leg-of e live (phase.Lent to_end) home within = absurd (false≢true within)
+leg-of e live (phase.Unsettled to_end) home within = absurd (false≢true within)
 leg-of e live phase.Spent home within = absurd (false≢true within)
 leg-of e live (phase.Open to_end counts) home within =
     let leg = home.stands.0 in
@@ -126,20 +139,24 @@ leg-unarmed e live now home within unarmed = subst (IsLeg e live (runs_to_end no
 pub leg-armed : (e : HomeState) (live : LiveState) (now : Phase) → IsHome (record e { phase = now }) live → is_open now ≡ true → counts_in now ≡ Armed → IsLeg e live (runs_to_end now) Armed
 leg-armed e live now home within armed = subst (IsLeg e live (runs_to_end now)) armed (leg-of e live now home within)
 
--- and a home of it
-pub home-of : (e : HomeState) (live : LiveState) (to_end : Bool) (counts : Counts) (flow : List Operator) → flow ≡ e.flow → IsLeg e live to_end counts
-    → IsHome (record e { flow = flow; phase = phase.Open to_end counts; parts = leg_parts live.dataflow }) live
-home-of e live to_end counts flow same leg =
-    subst (λ (f : List Operator). IsHome (record e { flow = f; phase = phase.Open to_end counts; parts = leg_parts live.dataflow }) live) (sym same)
+-- and a home of it, with so many steps of its own
+pub home-with : (e : HomeState) (live : LiveState) (to_end : Bool) (counts : Counts) (flow : List Operator) (alone : ℕ) → flow ≡ e.flow → IsLeg e live to_end counts
+    → IsHome (record e { flow = flow; phase = phase.Open to_end counts; parts = leg_parts live.dataflow; alone = alone }) live
+home-with e live to_end counts flow alone same leg =
+    subst (λ (f : List Operator). IsHome (record e { flow = f; phase = phase.Open to_end counts; parts = leg_parts live.dataflow; alone = alone }) live) (sym same)
     (record {
       few = leg.few;
       legal = leg.legal;
-      stands = (within-as to_end e live.dataflow live.arms (phase.Open to_end counts) (leg_parts live.dataflow) leg.leg, leg.stand);
+      stands = (within-as to_end e live.dataflow live.arms (phase.Open to_end counts) (leg_parts live.dataflow) alone leg.leg, leg.stand);
     })
+
+pub home-of : (e : HomeState) (live : LiveState) (to_end : Bool) (counts : Counts) (flow : List Operator) → flow ≡ e.flow → IsLeg e live to_end counts
+    → IsHome (record e { flow = flow; phase = phase.Open to_end counts; parts = leg_parts live.dataflow }) live
+home-of e live to_end counts flow same leg = home-with e live to_end counts flow e.alone same leg
 
 -- the workers go on, and counts stand so
 pub leg-on : (e : HomeState) (live : LiveState) (to_end : Bool) (counts later : Counts) → IsLeg e live to_end counts → (after : DataflowState) (boards : List (Option CounterState))
-    → GoOn live.arms live.dataflow after → step_count after ≤ e.most → CountsStand later (record live { dataflow = after; boards = boards })
+    → GoOn live.arms live.dataflow after → step_count after ≤ e.most → CountsStand later live.arms boards after
     → IsLeg e (record live { dataflow = after; boards = boards }) to_end later
 leg-on e live to_end counts later leg after boards on few stand = record {
   few = leg.few;
@@ -149,7 +166,7 @@ leg-on e live to_end counts later leg after boards on few stand = record {
 }
 
 -- once boards are closed, or before they are made
-pub disarmed : (live : LiveState) (counts : Counts) → (counts ≡ Armed → ⊥) → CountsStand counts live → AreWithin (counts_asked live.arms) live.dataflow × HaveNoUnits live
+pub disarmed : (live : LiveState) (counts : Counts) → (counts ≡ Armed → ⊥) → CountsStand counts live.arms live.boards live.dataflow → AreWithin (counts_asked live.arms) live.dataflow × HaveNoUnits live.boards live.dataflow
 disarmed live Unarmed not stand = ((λ op. by (target_at (counts_asked live.arms) op) (rows_emitted live.dataflow op) (stand.0 op)), stand.1)
   where
     by : (count : Option Target) (rows : ℕ) → IsBelow count rows → IsWithin count rows

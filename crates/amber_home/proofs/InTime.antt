@@ -1,6 +1,5 @@
 -- A leg stops in time: of the workers, and of the home that runs it.
-use Rattle.std.proofs.Common.{◌≡◌, refl, sym, ap, subst, ◌∙◌, ℕ, zero, suc, ◌+◌, ◌-◌, ◌<◌, ◌≤◌, List, [], ◌∷◌, ◌++◌, length, map, Bool, true, false, Some, arith}
-use Rattle.std.proofs.lemmas.Bool.{false≢true}
+use Rattle.std.proofs.Common.{◌≡◌, refl, sym, ap, subst, ◌∙◌, ℕ, zero, suc, ◌-◌, ◌<◌, List, [], ◌∷◌, ◌++◌, length, map, Bool, true, false, Some, arith}
 use Rattle.std.proofs.lemmas.List.{length-map, map-append}
 use Rattle.amber_rows.specs.Topology.{crew_of, first_worker_of, op_of}
 use Rattle.amber_rows.specs.Lists.{numbers_below}
@@ -16,17 +15,13 @@ use Rattle.amber_meaning.proofs.OneState.{legal_logs_have_one_state}
 use Rattle.amber_meaning.proofs.Rest.{legal_logs_rest}
 use Rattle.amber_meaning.proofs.Senders.{flows_send_forward}
 use Rattle.amber_dataflow.specs.AtWork.{state_reached}
-use Rattle.amber_dataflow.specs.Dataflow.{DataflowState, leg_parts, rows_emitted, step_count}
+use Rattle.amber_dataflow.specs.Dataflow.{DataflowState, leg_parts, rows_emitted}
 use Rattle.amber_dataflow.proofs.Standing.{listed-whole, stand-emitted, stand-flow}
 use Rattle.amber_home.specs.Asked.{Asked}
-use Rattle.amber_home.specs.Going.{GoOn}
-use Rattle.amber_home.specs.HomeState.{HomeState, is_open, item_of_leg, query_of, rest_state, runs_to_end}
-use Rattle.amber_home.specs.Kept.{IsHome, IsWithinLeg, LiveState}
+use Rattle.amber_home.specs.HomeState.{HomeState, item_of_leg, query_of, rest_state}
+use Rattle.amber_home.specs.Kept.{IsWithinLeg}
 use Rattle.amber_home.specs.Leg.{GoesOn, IsLegInTime, NoneIsLate, held_of, other_stops, pause_at}
-use Rattle.amber_home.specs.Parts.{open_parts}
-use Rattle.amber_home.specs.declared.phase.Phase.{Phase}
-use Rattle.amber_home.specs.declared.phase.Phase.TheVariants as phase
-use Rattle.amber_home.proofs.Legs.{start, state-here, within-on}
+use Rattle.amber_home.proofs.Legs.{start, state-here}
 use Rattle.amber_home.proofs.Opened.{position-start}
 use Rattle.amber_home.proofs.Reached.{leads-at, no-stops-among}
 use Rattle.amber_home.proofs.Stopped.{held-are, others-none, stops-are}

@@ -7,13 +7,13 @@ use Rattle.amber_home.specs.Parts.{open_parts}
 use Rattle.amber_home.specs.declared.home.Home.TheInside.{Inside}
 use Rattle.amber_home.proofs.Homes.{home-there, long-open, open-there}
 
--- what it shows
-abbrev pub seen : Inside → HomeState
-seen i = record { flow = i.dataflow.flow; files = i.files; most = i.most; log = i.log; phase = i.phase; parts = open_parts i.phase i.dataflow }
-
 -- what it keeps beside its log
 abbrev pub kept : Inside → LiveState
-kept i = record { dataflow = i.dataflow; arms = i.arms; boards = i.boards; stops = i.stops }
+kept i = record { dataflow = i.dataflow; arms = i.arms; boards = i.boards; stops = i.stops; back = i.back.items }
+
+-- what it shows
+abbrev pub seen : Inside → HomeState
+seen i = record { flow = i.dataflow.flow; files = i.files; most = i.most; log = i.log; phase = i.phase; parts = open_parts i.phase (kept i); alone = i.alone }
 
 module _ (i : Inside) (home : IsHome (seen i) (kept i)) (old : HomeState) (is : seen i ≡ old) where
   -- where the workers are there

@@ -1,3 +1,4 @@
+pub mod Alike
 pub mod Armings
 pub mod Below
 pub mod Closed
@@ -12,15 +13,18 @@ pub mod Fed
 pub mod Free
 pub mod Fresh
 pub mod Going
+pub mod GoneOn
 pub mod HeldRows
 pub mod Homes
 pub mod InForce
 pub mod InTime
 pub mod Inside
 pub mod Legs
+pub mod LentOut
 pub mod NextStep
 pub mod OneMore
 pub mod Opened
+pub mod PauseOver
 pub mod Paused
 pub mod Places
 pub mod Ran

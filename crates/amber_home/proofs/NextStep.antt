@@ -1,7 +1,6 @@
 -- A home makes a step: its workers may, and it stays one.
 use Rattle.std.proofs.Common.{◌≡◌, ◌⊎◌, refl, sym, ap, subst, ◌∙◌, ℕ, ◌<◌, ◌≤◌, List, [], ◌∷◌, Bool, true, Option, None, Some, is_some, inl, inr, arith}
 use Rattle.amber_rows.specs.Topology.{op_of}
-use Rattle.amber_rows.specs.declared.flow.Operator.{Operator}
 use Rattle.amber_meaning.specs.Legal.{IsLegal}
 use Rattle.amber_meaning.specs.State.{State, arms_at, crew_at, steps_in}
 use Rattle.amber_meaning.proofs.Crews.{op-within}
@@ -10,7 +9,7 @@ use Rattle.amber_dataflow.specs.Dataflow.{DataflowState, leg_parts, rows_emitted
 use Rattle.amber_boards.specs.Boards.{AreBelow, AreUnarmed, CounterState, IsBelow, IsCountedAt, IsWorkerOf, board_at, target_of_count, targets_of}
 use Rattle.amber_home.specs.Asked.{Asked}
 use Rattle.amber_home.specs.Going.{AreReady, GoOn, StepsNext}
-use Rattle.amber_home.specs.HomeState.{AreArmed, HomeState, NoneIsCounted, StepsOn, counts_in, is_open, query_of, runs_to_end, state_of}
+use Rattle.amber_home.specs.HomeState.{AreArmed, HomeState, NoneIsCounted, StepsOn, counts_in, is_open, alone_more, query_of, runs_to_end, state_of}
 use Rattle.amber_home.specs.Kept.{CountsStand, HaveNoUnits, IsHome, IsWithinLeg, LiveState}
 use Rattle.amber_home.specs.Leg.{count_at, counts_asked}
 use Rattle.amber_home.specs.Parts.{open_parts}
@@ -20,7 +19,7 @@ use Rattle.amber_home.specs.declared.phase.Phase.{Phase}
 use Rattle.amber_home.specs.declared.phase.Phase.TheVariants as phase
 use Rattle.amber_home.proofs.Armings.{all-empty}
 use Rattle.amber_home.proofs.Counted.{count-none}
-use Rattle.amber_home.proofs.Homes.{IsLeg, home-of, in-open, leg-on}
+use Rattle.amber_home.proofs.Homes.{IsLeg, home-with, in-open, leg-on}
 use Rattle.amber_home.proofs.Legs.{start, within-on}
 use Rattle.amber_home.proofs.OneMore.{at_work, reached-here, steps-on, steps-within, within-most}
 use Rattle.amber_home.proofs.Ran.{below-within}
@@ -32,7 +31,7 @@ use Rattle.amber_home.proofs.Ready.{ready-none}
 module _ (e : HomeState) (live : LiveState) (now : Phase) (leg : IsLeg e live (runs_to_end now) (counts_in now)) (within : is_open now ≡ true) where
   -- the home as it is seen
   abbrev pub here : HomeState
-  here = record e { phase = now; parts = open_parts now live.dataflow }
+  here = record e { phase = now; parts = open_parts now live }
 
   abbrev there : HomeState
   there = at_work (runs_to_end now) (counts_in now) e live.dataflow live.arms leg.leg leg.legal
@@ -40,7 +39,7 @@ module _ (e : HomeState) (live : LiveState) (now : Phase) (leg : IsLeg e live (r
   pub few-step : steps_in (state_of here) < e.most → step_count live.dataflow < e.most
   few-step less =
       let made = steps-within (runs_to_end now) (counts_in now) e live.dataflow live.arms leg.leg leg.legal in
-      let few = subst (λ (h : HomeState). steps_in (state_of h) < e.most) (in-open e live.dataflow now within) less in
+      let few = subst (λ (h : HomeState). steps_in (state_of h) < e.most) (in-open e live now within) less in
       omega arith
 
   -- where no count is in force none is kept
@@ -54,10 +53,10 @@ module _ (e : HomeState) (live : LiveState) (now : Phase) (leg : IsLeg e live (r
       (ap (λ (s : State). (arms_at s op).count) (sym (reached-here (runs_to_end now) (counts_in now) e live.dataflow live.arms leg.leg leg.legal)) ∙ none op)
 
   armed-none : AreArmed here → (counts_in now ≡ Armed) ⊎ ((op : ℕ) → count_at live.arms op ≡ None)
-  armed-none armed = elim (subst AreArmed (in-open e live.dataflow now within) armed) [ inl is ↦ inl is | inr none ↦ inr (none-kept none) ]
+  armed-none armed = elim (subst AreArmed (in-open e live now within) armed) [ inl is ↦ inl is | inr none ↦ inr (none-kept none) ]
 
 -- the workers are ready
-ready-by : (live : LiveState) (counts : Counts) → CountsStand counts live → (counts ≡ Armed) ⊎ ((op : ℕ) → count_at live.arms op ≡ None) → AreReady live.arms live.boards live.dataflow
+ready-by : (live : LiveState) (counts : Counts) → CountsStand counts live.arms live.boards live.dataflow → (counts ≡ Armed) ⊎ ((op : ℕ) → count_at live.arms op ≡ None) → AreReady live.arms live.boards live.dataflow
 ready-by live Armed stand armed = stand
 ready-by live Unarmed stand (inl is) = absurd (cc is)
 ready-by live Unarmed stand (inr none) =
@@ -67,7 +66,7 @@ ready-by live Disarmed stand (inr none) =
     subst (λ boards. AreReady live.arms boards live.dataflow) (sym stand.1.none) (ready-none live.arms live.dataflow stand.1.unarmed none)
 
 pub ready-step : (e : HomeState) (live : LiveState) (now : Phase) → IsLeg e live (runs_to_end now) (counts_in now) → is_open now ≡ true
-    → AreArmed (record e { phase = now; parts = open_parts now live.dataflow }) → AreReady live.arms live.boards live.dataflow
+    → AreArmed (record e { phase = now; parts = open_parts now live }) → AreReady live.arms live.boards live.dataflow
 ready-step e live now leg within armed = ready-by live (counts_in now) leg.stand (armed-none e live now leg within armed)
 
 -- ---- how counts stand after it
@@ -89,7 +88,7 @@ no-boards old (found ∷ new) same none = absurd (cc (same ∙ ap targets_of non
 
 module _ (e : HomeState) (live : LiveState) (to_end : Bool) (after : DataflowState) (boards : List (Option CounterState)) (legal : IsLegal (query_of e) e.log)
     (later : IsWithinLeg to_end e after live.arms) (ready : AreReady live.arms boards after) (same : targets_of boards ≡ targets_of live.boards) where
-  no-units : ((op : ℕ) → count_at live.arms op ≡ None) → HaveNoUnits live → HaveNoUnits (record live { dataflow = after; boards = boards })
+  no-units : ((op : ℕ) → count_at live.arms op ≡ None) → HaveNoUnits live.boards live.dataflow → HaveNoUnits boards after
   no-units none units = record {
     none = no-boards live.boards boards same units.none;
     unarmed = unarmed-ready live.arms boards after ready none;
@@ -99,7 +98,7 @@ module _ (e : HomeState) (live : LiveState) (to_end : Bool) (after : DataflowSta
   below-none : ((op : ℕ) → count_at live.arms op ≡ None) → AreBelow (counts_asked live.arms) after
   below-none none op = subst (λ count. IsBelow count (rows_emitted after op)) (sym (target-asked live.arms op ∙ none op)) tt
 
-  stand-step : (counts : Counts) → CountsStand counts live → (counts ≡ Armed) ⊎ ((op : ℕ) → count_at live.arms op ≡ None) → CountsStand counts (record live { dataflow = after; boards = boards })
+  stand-step : (counts : Counts) → CountsStand counts live.arms live.boards live.dataflow → (counts ≡ Armed) ⊎ ((op : ℕ) → count_at live.arms op ≡ None) → CountsStand counts live.arms boards after
   stand-step Armed stand armed = ready
   stand-step Unarmed stand (inl is) = absurd (cc is)
   stand-step Unarmed stand (inr none) = (below-none none, no-units none stand.1)
@@ -109,7 +108,7 @@ module _ (e : HomeState) (live : LiveState) (to_end : Bool) (after : DataflowSta
 -- ---- the home after it
 
 module _ (e : HomeState) (live : LiveState) (now : Phase) (leg : IsLeg e live (runs_to_end now) (counts_in now)) (within : is_open now ≡ true)
-    (armed : AreArmed (record e { phase = now; parts = open_parts now live.dataflow })) (few : step_count live.dataflow < e.most)
+    (armed : AreArmed (record e { phase = now; parts = open_parts now live })) (few : step_count live.dataflow < e.most)
     (after : DataflowState) (boards : List (Option CounterState)) (flow : live.dataflow.flow ≡ e.flow) (on : GoOn live.arms live.dataflow after)
     (next : StepsNext live.boards live.dataflow after) (ready : AreReady live.arms boards after) (same : targets_of boards ≡ targets_of live.boards) where
   abbrev was : AreReady live.arms live.boards live.dataflow
@@ -129,15 +128,16 @@ module _ (e : HomeState) (live : LiveState) (now : Phase) (leg : IsLeg e live (r
       leg-on e live (runs_to_end now) (counts_in now) (counts_in now) leg after boards on most
       (stand-step e live (runs_to_end now) after boards leg.legal later ready same (counts_in now) leg.stand (armed-none e live now leg within armed))
 
-  pub home-stepped : IsHome (record e { flow = after.flow; phase = now; parts = open_parts now after }) kept_then
+  pub home-stepped : IsHome (record e { flow = after.flow; phase = now; parts = open_parts now kept_then; alone = alone_more e.alone }) kept_then
   home-stepped =
-      subst (λ (h : HomeState). IsHome h kept_then) (sym (in-open (record e { flow = after.flow }) after now within))
-      (home-of e kept_then (runs_to_end now) (counts_in now) after.flow (on.flow ∙ flow) leg-then)
+      subst (λ (h : HomeState). IsHome h kept_then) (sym (in-open (record e { flow = after.flow; alone = alone_more e.alone }) kept_then now within))
+      (home-with e kept_then (runs_to_end now) (counts_in now) after.flow (alone_more e.alone) (on.flow ∙ flow) leg-then)
 
-  pub steps-stepped : StepsOn (record e { phase = now; parts = open_parts now live.dataflow }) (record e { flow = after.flow; phase = now; parts = open_parts now after })
+  pub steps-stepped : StepsOn (record e { phase = now; parts = open_parts now live })
+      (record e { flow = after.flow; phase = now; parts = open_parts now kept_then; alone = alone_more e.alone })
   steps-stepped =
-      subst (λ (h : HomeState). StepsOn h (record e { flow = after.flow; phase = now; parts = open_parts now after })) (sym (in-open e live.dataflow now within))
-      (subst (StepsOn (at_work (runs_to_end now) (counts_in now) e live.dataflow live.arms leg.leg leg.legal)) (sym (in-open (record e { flow = after.flow }) after now within))
+      subst (λ (h : HomeState). StepsOn h (record e { flow = after.flow; phase = now; parts = open_parts now kept_then; alone = alone_more e.alone })) (sym (in-open e live now within))
+      (subst (StepsOn (at_work (runs_to_end now) (counts_in now) e live.dataflow live.arms leg.leg leg.legal)) (sym (in-open (record e { flow = after.flow; alone = alone_more e.alone }) kept_then now within))
       (subst (λ f. StepsOn (at_work (runs_to_end now) (counts_in now) e live.dataflow live.arms leg.leg leg.legal)
-      (record e { flow = f; phase = phase.Open (runs_to_end now) (counts_in now); parts = leg_parts after })) (sym (on.flow ∙ flow))
+      (record e { flow = f; phase = phase.Open (runs_to_end now) (counts_in now); parts = leg_parts after; alone = alone_more e.alone })) (sym (on.flow ∙ flow))
       (steps-on e live (runs_to_end now) (counts_in now) leg after boards was.targets few on next later)))

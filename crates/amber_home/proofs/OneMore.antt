@@ -1,6 +1,6 @@
 -- A leg goes on by one step or one hold, perhaps after units were handed out, and none but the first that has not finished moves.
 use Rattle.std.proofs.Common.{◌≡◌, ◌≢◌, ◌⊎◌, refl, sym, ap, subst, ◌∙◌, ℕ, ◌+◌, ◌-◌, ◌<◌, ◌≤◌, ◌||◌, List, [], ◌∷◌, ◌++◌, Bool, true, Option, None, Some, unwrap_or, inl, inr, arith}
-use Rattle.std.proofs.lemmas.Bool.{and_parts, false≢true}
+use Rattle.std.proofs.lemmas.Bool.{and_parts}
 use Rattle.amber_rows.specs.Topology.{crew_of, op_of}
 use Rattle.amber_rows.specs.declared.flow.Operator.{Operator}
 use Rattle.amber_link.specs.Links.{has_some}
@@ -22,7 +22,7 @@ use Rattle.amber_boards.specs.Boards.{ChangeUnits, CounterState, board_at, has_b
 use Rattle.amber_boards.specs.declared.target.Target.{Target}
 use Rattle.amber_home.specs.Asked.{Asked, IsCountOf, IsTargetOf}
 use Rattle.amber_home.specs.Going.{FirstSteps, GoOn, StepsNext}
-use Rattle.amber_home.specs.HomeState.{GivesBack, HandsOut, HomeState, IsFed, IsHeldNext, IsLeftAlone, MakesStep, StepsOn, count_in, first_unfinished, hand_at, has_rows, next_worker, query_of, rest_state, state_of}
+use Rattle.amber_home.specs.HomeState.{GivesBack, HandsOut, HomeState, IsFed, IsHeldNext, IsLeftAlone, MakesStep, StepsOn, count_in, first_unfinished, hand_at, has_rows, next_worker, alone_more, query_of, rest_state, state_of}
 use Rattle.amber_home.specs.Kept.{IsWithinLeg, LiveState}
 use Rattle.amber_home.specs.Leg.{count_at}
 use Rattle.amber_home.specs.declared.phase.Counts.{Counts}
@@ -296,13 +296,18 @@ module _ (e : HomeState) (live : LiveState) (to_end : Bool) (counts : Counts) (l
             unfinished = sym (units-finished (has_board live.boards) live.dataflow next.fed changed next.steps.worker) ∙ was.unfinished;
           }
 
-  pub steps-on : (later : IsWithinLeg to_end e after live.arms) → StepsOn (at_work to_end counts e d live.arms leg.leg leg.legal) (at_work to_end counts e after live.arms later leg.legal)
+  pub steps-on : (later : IsWithinLeg to_end e after live.arms) → StepsOn (at_work to_end counts e d live.arms leg.leg leg.legal)
+      (record (at_work to_end counts e after live.arms later leg.legal) { alone = alone_more e.alone })
+  unfolding state_of
   steps-on later =
       let steps = steps-in to_end counts e next.fed after live.arms fed-leg later leg.legal next.steps under in
       record {
         only = refl;
         fed = at_work to_end counts e next.fed live.arms fed-leg leg.legal;
         feeds = feeds-in;
-        does = steps.does;
-        others = steps.others;
+        does = elim steps.does [
+          | inl made ↦ inl (record { one = made.one; writes = made.writes })
+          | inr held ↦ inr (record { none = held.none; held = held.held; writes = held.writes })
+        ];
+        others = λ worker other. let left = steps.others worker other in record { stands = left.stands; writes = left.writes };
       }

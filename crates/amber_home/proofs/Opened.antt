@@ -76,7 +76,7 @@ module _ (e : HomeState) (live : LiveState) (rest : IsAtRest e live) (legal : Is
 -- the workers begin a leg
 pub opened : (e : HomeState) (live : LiveState) → IsAtRest e live → IsLegal (query_of e) e.log → (to_end : Bool) → ends_over false e.log.items ≡ false
     → (now : List Asked) → now ≡ (if to_end then map without_asked live.arms else live.arms) → (parts : List Part)
-    → IsWithinLeg to_end (record e { phase = phase.Open to_end Unarmed; parts = parts }) (leg_begun to_end live.dataflow) now
+    → IsWithinLeg to_end (record e { phase = phase.Open to_end Unarmed; parts = parts; alone = 0 }) (leg_begun to_end live.dataflow) now
 opened e live rest legal to_end more now now-is parts =
     let query = query_of e in
     let state = rest_state e in
@@ -100,8 +100,8 @@ opened-below live false below now now-is =
     subst (λ arms. AreBelow (counts_asked arms) (leg_begun false live.dataflow)) (sym now-is)
     (below-kept live.dataflow (leg_begun false live.dataflow) (keep-begun false live.dataflow) (counts_asked live.arms) below)
 
-pub opened-units : (live : LiveState) (to_end : Bool) → HaveNoUnits live → (now : List Asked) → HaveNoUnits (record live { dataflow = leg_begun to_end live.dataflow; arms = now })
-opened-units live to_end units now =
+pub opened-units : (live : LiveState) (to_end : Bool) → HaveNoUnits live.boards live.dataflow → HaveNoUnits live.boards (leg_begun to_end live.dataflow)
+opened-units live to_end units =
     let keep = keep-begun to_end live.dataflow in
     record {
       none = units.none;

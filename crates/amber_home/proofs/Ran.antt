@@ -1,5 +1,5 @@
 -- A leg that was run: what is so of its workers still is once their boards are closed.
-use Rattle.std.proofs.Common.{◌≡◌, ◌≢◌, refl, sym, ap, subst, ◌∙◌, ℕ, zero, suc, ◌<◌, ◌≤◌, List, [], ◌∷◌, length, Bool, true, Option, None, Some, inl, inr, arith}
+use Rattle.std.proofs.Common.{◌≡◌, refl, sym, ap, subst, ◌∙◌, ℕ, suc, ◌<◌, List, [], ◌∷◌, length, Bool, Option, None, Some, inl, inr, arith}
 use Rattle.std.specs.List.{list_all}
 use Rattle.amber_rows.specs.Topology.{crew_of}
 use Rattle.amber_rows.specs.declared.flow.Operator.{Operator}
@@ -7,11 +7,11 @@ use Rattle.amber_log.specs.declared.leg.Close.{Close}
 use Rattle.amber_log.specs.declared.leg.Close.TheVariants as close
 use Rattle.amber_worker.specs.WorkerState.{WorkerState}
 use Rattle.amber_dataflow.specs.AtWork.{worker_state_at}
-use Rattle.amber_dataflow.specs.Dataflow.{DataflowState, have_all_finished, is_held, rows_emitted, step_count}
+use Rattle.amber_dataflow.specs.Dataflow.{DataflowState, have_all_finished, rows_emitted}
 use Rattle.amber_boards.specs.Boards.{AreBelow, AreWithin, ChangeUnits, IsBelow, IsWithin, target_at}
 use Rattle.amber_boards.specs.declared.target.Target.{Target}
 use Rattle.amber_home.specs.Asked.{Asked}
-use Rattle.amber_home.specs.Leg.{GoesOn, IsCut, IsLegDone, NoneIsLate, is_stopped, pause_at}
+use Rattle.amber_home.specs.Leg.{GoesOn, IsCut, IsLegDone, NoneIsLate}
 use Rattle.amber_home.proofs.Fed.{units-held, units-rows, units-steps}
 
 -- what is below its targets is within them

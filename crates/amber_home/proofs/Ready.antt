@@ -1,11 +1,10 @@
 -- Workers that may make turns, on the boards of the counts that are in force, and that may still after a turn.
-use Rattle.std.proofs.Common.{◌≡◌, ◌≢◌, ◌⊎◌, refl, sym, ap, subst, ◌∙◌, ℕ, zero, suc, ◌+◌, ◌<◌, ◌≤◌, List, [], ◌∷◌, length, map, nat_eq, Bool, true, false, Option, None, Some, is_some, option_map, unwrap_or, if◌then◌else◌, inl, inr, arith}
+use Rattle.std.proofs.Common.{◌≡◌, refl, sym, ap, subst, ◌∙◌, ℕ, zero, suc, ◌+◌, ◌<◌, ◌≤◌, List, [], length, true, Option, None, Some, is_some, option_map, unwrap_or, inl, inr, arith}
 use Rattle.std.proofs.lemmas.Bool.Decides.{eqb_tells}
 use Rattle.amber_rows.specs.Topology.{crew_of, op_of, worker_count}
 use Rattle.amber_rows.specs.declared.flow.Operator.{Operator}
 use Rattle.amber_board.specs.declared.types.Board.{Board}
 use Rattle.amber_board.specs.declared.types.WorkSeat.{WorkSeat}
-use Rattle.amber_board.specs.Seats.{IsSeatOf}
 use Rattle.amber_meaning.specs.Legal.{Query}
 use Rattle.amber_meaning.specs.Position.{Position}
 use Rattle.amber_meaning.specs.State.{State, arms_at}
@@ -105,12 +104,12 @@ all-armed arms boards d ready stand = (
 
 -- ---- after turns of a worker
 
-no-seat : (seat now : Option WorkSeat) → seat ≡ None → IsSameSeat seat now → now ≡ None
+pub no-seat : (seat now : Option WorkSeat) → seat ≡ None → IsSameSeat seat now → now ≡ None
 no-seat None now none same = same
 no-seat (Some seat) now none same = cc
 
 -- a board of which the worker has a seat
-has-seat : (board : Board) (d : DataflowState) (worker : ℕ) (found : Option WorkSeat) → found ≡ seat_of d worker → IsBoardOf (Some board) found → has_room d worker ≡ true → HasSeat board d worker
+pub has-seat : (board : Board) (d : DataflowState) (worker : ℕ) (found : Option WorkSeat) → found ≡ seat_of d worker → IsBoardOf (Some board) found → has_room d worker ≡ true → HasSeat board d worker
 has-seat board d worker None is own room = absurd own
 has-seat board d worker (Some seat) is own room = record { seat = seat; is = sym is; own = own; room = room }
 

@@ -25,8 +25,8 @@ use Rattle.amber_home.proofs.Reached.{in-force-reached}
 use Rattle.amber_home.proofs.Stopped.{stops-are}
 
 -- the home in a phase, with the parts of its workers
-abbrev pub in_phase : HomeState → DataflowState → Phase → HomeState
-in_phase e d now = record e { phase = now; parts = open_parts now d }
+abbrev pub in_phase : HomeState → LiveState → Phase → HomeState
+in_phase e live now = record e { phase = now; parts = open_parts now live }
 
 -- the workers stand somewhere, and reach the state in which the home is
 pub record StandsSomewhere (query : Query) (state : State) (d : DataflowState) (arms : List Asked) : Type 0 where
@@ -37,9 +37,11 @@ pub record StandsSomewhere (query : Query) (state : State) (d : DataflowState) (
   pub reached : state ≡ state_reached query start positions
 
 pub stands-somewhere : (e : HomeState) (live : LiveState) (now : Phase) → IsHome (record e { phase = now }) live → has_crew now ≡ true
-    → StandsSomewhere (query_of e) (state_of (in_phase e live.dataflow now)) live.dataflow live.arms
+    → StandsSomewhere (query_of e) (state_of (in_phase e live now)) live.dataflow live.arms
 unfolding state_of
 stands-somewhere e live phase.Over home there = absurd (false≢true there)
+stands-somewhere e live (phase.Lent to_end) home there = absurd (false≢true there)
+stands-somewhere e live (phase.Unsettled to_end) home there = absurd (false≢true there)
 stands-somewhere e live phase.Spent home there = absurd (false≢true there)
 stands-somewhere e live phase.Resting home there =
     let rest = home.stands in
@@ -98,10 +100,12 @@ module _ (query : Query) (state : State) (d : DataflowState) (arms : List Asked)
 module _ (e : HomeState) (live : LiveState) where
   -- within a leg those that stand
   pub stops-open : (now : Phase) → IsHome (record e { phase = now }) live → is_open now ≡ true → (shown : List Stop)
-      → shown ≡ stops_by live.arms live.dataflow → shown ≡ stops_of_home (in_phase e live.dataflow now)
+      → shown ≡ stops_by live.arms live.dataflow → shown ≡ stops_of_home (in_phase e live now)
   unfolding stops_of_home
   stops-open phase.Resting home within shown is = absurd (false≢true within)
   stops-open phase.Over home within shown is = absurd (false≢true within)
+  stops-open (phase.Lent to_end) home within shown is = absurd (false≢true within)
+  stops-open (phase.Unsettled to_end) home within shown is = absurd (false≢true within)
   stops-open phase.Spent home within shown is = absurd (false≢true within)
   stops-open (phase.Open to_end counts) home within shown is =
       let here : HomeState = record e { phase = phase.Open to_end counts } in
@@ -112,9 +116,11 @@ module _ (e : HomeState) (live : LiveState) where
       ∙ ap (stops_in (query_of e)) (sym (state-here to_end here d live.arms leg home.legal))
 
   -- outside of one those that are kept
-  pub stops-rest : (now : Phase) → IsHome (record e { phase = now }) live → has_crew now ≡ true → is_open now ≡ false → live.stops ≡ stops_of_home (in_phase e live.dataflow now)
+  pub stops-rest : (now : Phase) → IsHome (record e { phase = now }) live → has_crew now ≡ true → is_open now ≡ false → live.stops ≡ stops_of_home (in_phase e live now)
   unfolding stops_of_home
   stops-rest phase.Resting home there rests = home.stands.stops_are
   stops-rest phase.Over home there rests = absurd (false≢true there)
+  stops-rest (phase.Lent to_end) home there rests = absurd (false≢true there)
+  stops-rest (phase.Unsettled to_end) home there rests = absurd (false≢true there)
   stops-rest phase.Spent home there rests = absurd (false≢true there)
   stops-rest (phase.Open to_end counts) home there rests = absurd (false≢true (sym rests))

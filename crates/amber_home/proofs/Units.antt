@@ -1,17 +1,16 @@
 -- What changes no unit: seats, hands and rows that were emitted stay, and with them what is said of counts.
-use Rattle.std.proofs.Common.{◌≡◌, ◌≢◌, refl, sym, ap, subst, ◌∙◌, ℕ, zero, suc, ◌+◌, ◌<◌, ◌≤◌, List, [], ◌∷◌, length, map, set, Bool, true, false, Option, None, Some, if◌then◌else◌, arith}
+use Rattle.std.proofs.Common.{◌≡◌, refl, sym, ap, subst, ◌∙◌, ℕ, zero, suc, ◌<◌, ◌≤◌, List, [], ◌∷◌, length, map, set, Bool, true, false, Option, None, Some, if◌then◌else◌}
 use Rattle.amber_rows.specs.Topology.{crew_of, op_of, worker_count, workers_of}
 use Rattle.amber_rows.specs.declared.flow.Operator.{Operator}
-use Rattle.amber_meaning.proofs.Numbers.{among}
 use Rattle.amber_worker.specs.Counting.{mine_in}
 use Rattle.amber_worker.specs.WorkerState.{WorkerState}
 use Rattle.amber_dataflow.specs.AtWork.{worker_state_at}
-use Rattle.amber_dataflow.specs.Dataflow.{DataflowState, all_resumed, hand_of, handed_out, has_room, leg_begun, row_dropped, rows_emitted, seat_of, units_counted, worker_begun, worker_resumed}
+use Rattle.amber_dataflow.specs.Dataflow.{DataflowState, all_resumed, hand_of, handed_out, has_room, leg_begun, rows_emitted, seat_of, units_counted, worker_begun, worker_resumed}
 use Rattle.amber_dataflow.specs.Parts.{without_journal}
 use Rattle.amber_dataflow.proofs.Crews.{at-each, here-now, there-still}
 use Rattle.amber_dataflow.proofs.Emitted.{emitted-same}
 use Rattle.amber_dataflow.proofs.Units.{units-same}
-use Rattle.amber_boards.specs.Boards.{AreBelow, AreCounted, AreEmptyHanded, AreUnarmed, AreWithin, CounterState, HasSeat, IsBelow, IsCountedAt, IsCountedOn, IsSince, IsWithin, board_at, target_at}
+use Rattle.amber_boards.specs.Boards.{AreBelow, AreCounted, AreEmptyHanded, AreUnarmed, AreWithin, CounterState, IsCountedAt, board_at}
 use Rattle.amber_boards.specs.declared.target.Target.{Target}
 
 -- a worker keeps its seat, its hand and the rows that it has emitted

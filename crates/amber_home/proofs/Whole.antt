@@ -1,5 +1,5 @@
 -- A whole leg, and what a home says of its steps.
-use Rattle.std.proofs.Common.{◌≡◌, sym, ap, subst, ◌∙◌, suc, ◌-◌, ◌<◌, List, [], ◌∷◌, length, get_or, Bool, true, arith}
+use Rattle.std.proofs.Common.{◌≡◌, sym, ap, subst, ◌∙◌, suc, ◌-◌, ◌<◌, ◌≤◌, List, [], ◌∷◌, length, get_or, Bool, true, arith}
 use Rattle.std.proofs.lemmas.Bool.{false≢true}
 use Rattle.amber_log.specs.Grammar.{ends_over, is_last}
 use Rattle.amber_log.specs.declared.leg.Close.{Close}
@@ -15,17 +15,17 @@ use Rattle.amber_home.specs.declared.phase.Counts.TheVariants.{Disarmed, Unarmed
 use Rattle.amber_home.specs.declared.phase.Phase.{Phase}
 use Rattle.amber_home.specs.declared.phase.Phase.TheVariants as phase
 use Rattle.amber_home.proofs.Legs.{start, state-here}
-use Rattle.amber_home.proofs.Opened.{steps-rest}
+use Rattle.amber_home.proofs.Opened.{rest-few, steps-rest}
 
 -- opened, gone through and closed
-pub leg-closes : (to_end : Bool) (old begun ran now : HomeState) (closed : Close) → begun ≡ record old { phase = phase.Open to_end Unarmed; parts = [] }
+pub leg-closes : (to_end : Bool) (old begun ran now : HomeState) (closed : Close) → begun ≡ record old { phase = phase.Open to_end Unarmed; parts = []; alone = 0 }
     → ran ≡ record begun { phase = phase.Open (runs_to_end begun.phase) Disarmed; parts = ran.parts }
     → ClosesIn (runs_to_end begun.phase) (query_of begun) (state_of ran) closed
     → (begun.parts ≡ [] → IsInTime (query_of begun) 0 (rest_state begun) (item_of_leg (runs_to_end begun.phase) ran.parts closed))
     → now ≡ with_closed_leg ran closed → ClosesLeg to_end old now closed
 unfolding state_of
 leg-closes to_end old begun ran now closed begun-is ran-is closes in_time now-is =
-    let whole : ran ≡ record old { phase = phase.Open to_end Disarmed; parts = ran.parts } =
+    let whole : ran ≡ record old { phase = phase.Open to_end Disarmed; parts = ran.parts; alone = 0 } =
     ran-is ∙ ap (λ (h : HomeState). record h { phase = phase.Open (runs_to_end h.phase) Disarmed; parts = ran.parts }) begun-is in
     record {
       parts = ran.parts;
@@ -40,9 +40,11 @@ leg-closes to_end old begun ran now closed begun-is ran-is closes in_time now-is
 
 module _ (e : HomeState) (live : LiveState) where
   pub steps-are : (now : Phase) → IsHome (record e { phase = now }) live → has_crew now ≡ true
-      → step_count live.dataflow ≡ steps_in (state_of (record e { phase = now; parts = open_parts now live.dataflow }))
+      → step_count live.dataflow ≡ steps_in (state_of (record e { phase = now; parts = open_parts now live }))
   unfolding state_of
   steps-are phase.Over home there = absurd (false≢true there)
+  steps-are (phase.Lent to_end) home there = absurd (false≢true there)
+  steps-are (phase.Unsettled to_end) home there = absurd (false≢true there)
   steps-are phase.Spent home there = absurd (false≢true there)
   steps-are phase.Resting home there = sym (steps-rest (record e { phase = phase.Resting }) live home.stands home.legal)
   steps-are (phase.Open to_end counts) home there =
@@ -50,6 +52,15 @@ module _ (e : HomeState) (live : LiveState) where
       let leg = home.stands.0 in
       sym (ap steps_in (state-here to_end here live.dataflow live.arms leg home.legal)
       ∙ stand-steps (query_of e) (start to_end here live.dataflow live.arms leg home.legal) live.dataflow leg.positions leg.at)
+
+  -- they are no more than may be
+  pub steps-few : (now : Phase) → IsHome (record e { phase = now }) live → has_crew now ≡ true → step_count live.dataflow ≤ e.most
+  steps-few phase.Over home there = absurd (false≢true there)
+  steps-few (phase.Lent to_end) home there = absurd (false≢true there)
+  steps-few (phase.Unsettled to_end) home there = absurd (false≢true there)
+  steps-few phase.Spent home there = absurd (false≢true there)
+  steps-few phase.Resting home there = rest-few (record e { phase = phase.Resting }) live home.stands home.legal
+  steps-few (phase.Open to_end counts) home there = home.stands.0.few
 
 -- ---- the last item
 

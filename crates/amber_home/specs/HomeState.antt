@@ -1,5 +1,5 @@
 -- What a home keeps, and what its calls change.
-use Rattle.std.specs.Prelude.{◌≡◌, ◌≢◌, ◌⊎◌, ℕ, suc, ◌+◌, ◌-◌, ◌<◌, ◌||◌, List, [], ◌∷◌, ◌++◌, Option, None, Some, Result, Ok, Err, Bool, true, false, if◌then◌else◌}
+use Rattle.std.specs.Prelude.{◌≡◌, ◌≢◌, ◌⊎◌, ℕ, suc, ◌+◌, ◌-◌, ◌^◌, ◌<◌, ◌||◌, min, List, [], ◌∷◌, ◌++◌, Option, None, Some, Result, Ok, Err, Bool, true, false, if◌then◌else◌}
 use Rattle.amber_rows.specs.Topology.{crew_of, op_of}
 use Rattle.amber_rows.specs.declared.flow.Operator.{Operator}
 use Rattle.amber_rows.specs.declared.value.Value.{Value}
@@ -8,6 +8,7 @@ use Rattle.amber_log.specs.declared.command.Command.{Command}
 use Rattle.amber_log.specs.Commands.{action_of}
 use Rattle.amber_log.specs.declared.effect.Action.{Action}
 use Rattle.amber_log.specs.declared.effect.Action.TheVariants.{Leg, AtRest}
+use Rattle.amber_log.specs.declared.entry.Entry.{Entry}
 use Rattle.amber_log.specs.declared.entry.Entry.TheVariants as entry
 use Rattle.amber_log.specs.declared.leg.Close.{Close}
 use Rattle.amber_log.specs.declared.leg.Close.TheVariants as close
@@ -17,7 +18,7 @@ use Rattle.amber_log.specs.declared.log.Item.TheVariants as item
 use Rattle.amber_log.specs.declared.log.Log.{Log}
 use Rattle.amber_meaning.specs.declared.view.Stop.{Stop}
 use Rattle.amber_meaning.specs.InTime.{IsInTime}
-use Rattle.amber_meaning.specs.Legal.{ClosesEnd, ClosesRun, IsSettled, Query, entries_of, leg_start, query_over, role_in, stops_in}
+use Rattle.amber_meaning.specs.Legal.{ClosesEnd, ClosesRun, IsSettled, IsWorked, Query, entries_of, leg_start, query_over, role_in, stops_in}
 use Rattle.amber_meaning.specs.Position.{Position, pending_rows, rest_of}
 use Rattle.amber_meaning.specs.Replay.{after_leg, state_after}
 use Rattle.amber_meaning.specs.State.{Counting, State, arms_at, counted_at, have_finished, position_at, steps_in, worker_at}
@@ -42,6 +43,8 @@ pub record HomeState : Type 0 where
   pub phase : Phase
   -- what the workers have done in the leg that is open
   pub parts : List Part
+  -- for how many steps `home_step` was called since a leg was last opened
+  pub alone : ℕ
 
 -- what is run
 abbrev pub query_of : HomeState → Query
@@ -52,34 +55,62 @@ query_of e = query_over e.flow e.files e.log.batch e.most
 abbrev pub is_spent : Phase → Bool
 is_spent phase.Resting = false
 is_spent (phase.Open to_end counts) = false
+is_spent (phase.Lent to_end) = false
+is_spent (phase.Unsettled to_end) = false
 is_spent phase.Over = false
 is_spent phase.Spent = true
 
--- the workers are there
+-- the workers are there, and all that they made is in the inboxes
 abbrev pub has_crew : Phase → Bool
 has_crew phase.Resting = true
 has_crew (phase.Open to_end counts) = true
+has_crew (phase.Lent to_end) = false
+has_crew (phase.Unsettled to_end) = false
 has_crew phase.Over = false
 has_crew phase.Spent = false
 
--- a leg is open
+-- a leg is open, and the workers are there
 abbrev pub is_open : Phase → Bool
 is_open phase.Resting = false
 is_open (phase.Open to_end counts) = true
+is_open (phase.Lent to_end) = false
+is_open (phase.Unsettled to_end) = false
 is_open phase.Over = false
 is_open phase.Spent = false
 
--- the leg that is open is one to the end
+-- the workers are away from a leg
+abbrev pub is_lent : Phase → Bool
+is_lent phase.Resting = false
+is_lent (phase.Open to_end counts) = false
+is_lent (phase.Lent to_end) = true
+is_lent (phase.Unsettled to_end) = false
+is_lent phase.Over = false
+is_lent phase.Spent = false
+
+-- the workers of a leg are there, whether all that they made is in the inboxes or not
+abbrev pub has_leg_crew : Phase → Bool
+has_leg_crew phase.Resting = false
+has_leg_crew (phase.Open to_end counts) = true
+has_leg_crew (phase.Lent to_end) = false
+has_leg_crew (phase.Unsettled to_end) = true
+has_leg_crew phase.Over = false
+has_leg_crew phase.Spent = false
+
+-- it is within a leg that is one to the end
 abbrev pub runs_to_end : Phase → Bool
 runs_to_end phase.Resting = false
 runs_to_end (phase.Open to_end counts) = to_end
+runs_to_end (phase.Lent to_end) = to_end
+runs_to_end (phase.Unsettled to_end) = to_end
 runs_to_end phase.Over = false
 runs_to_end phase.Spent = false
 
--- how the counts of the leg that is open stand
+-- how the counts of the leg stand
 abbrev pub counts_in : Phase → Counts
 counts_in phase.Resting = Unarmed
 counts_in (phase.Open to_end counts) = counts
+counts_in (phase.Lent to_end) = Armed
+counts_in (phase.Unsettled to_end) = Armed
 counts_in phase.Over = Unarmed
 counts_in phase.Spent = Unarmed
 
@@ -97,16 +128,24 @@ leg_state e to_end parts = after_leg (query_of e) (leg_start to_end (rest_state 
 abbrev pub state_at : Phase → HomeState → State
 state_at phase.Resting e = rest_state e
 state_at (phase.Open to_end counts) e = leg_state e to_end e.parts
+state_at (phase.Lent to_end) e = rest_state e
+state_at (phase.Unsettled to_end) e = leg_state e to_end e.parts
 state_at phase.Over e = rest_state e
 state_at phase.Spent e = rest_state e
 
 unfoldable pub state_of : HomeState → State
 state_of e = state_at e.phase e
 
+-- the parts of the leg lead to the state by the rules
+abbrev pub IsWorkedLeg : HomeState → Type 0
+IsWorkedLeg e = IsWorked (query_of e) (leg_start (runs_to_end e.phase) (rest_state e)) e.parts (state_of e)
+
 -- the stops that stand within a leg; outside of one those of the last leg, before its end took any away
 abbrev pub stops_at : Phase → HomeState → List Stop
 stops_at phase.Resting e = kept_stops (query_of e) e.log.items
 stops_at (phase.Open to_end counts) e = stops_in (query_of e) (leg_state e to_end e.parts)
+stops_at (phase.Lent to_end) e = kept_stops (query_of e) e.log.items
+stops_at (phase.Unsettled to_end) e = kept_stops (query_of e) e.log.items
 stops_at phase.Over e = kept_stops (query_of e) e.log.items
 stops_at phase.Spent e = kept_stops (query_of e) e.log.items
 
@@ -167,14 +206,14 @@ pub record ClosesLeg (to_end : Bool) (old new : HomeState) (closed : Close) : Ty
   pub parts : List Part
   pub so : ClosesIn to_end (query_of old) (leg_state old to_end parts) closed
   pub in_time : IsInTime (query_of old) 0 (rest_state old) (item_of_leg to_end parts closed)
-  pub is : new ≡ record old { log = with_item old.log (item_of_leg to_end parts closed); phase = phase.Resting; parts = [] }
+  pub is : new ≡ record old { log = with_item old.log (item_of_leg to_end parts closed); phase = phase.Resting; parts = []; alone = 0 }
 
 -- what a leg leaves: a stop stands, to the end all have finished; or the steps are as many as may be, and that is not so; or memory
 -- ran out
 abbrev pub Ends : Result (Unit {0}) LegErr → Bool → HomeState → HomeState → Type 0
 Ends (Ok done) to_end old new = ClosesLeg to_end old new close.Cut
 Ends (Err leg_err.Long) to_end old new = ClosesLeg to_end old new close.Long
-Ends (Err leg_err.NoMemory) to_end old new = new ≡ record old { phase = phase.Spent; parts = [] }
+Ends (Err leg_err.NoMemory) to_end old new = new ≡ record old { phase = phase.Spent; parts = []; alone = 0 }
 
 -- the number of the first worker that has not finished, of workers at these positions
 unfoldable pub first_unfinished : List Position → ℕ
@@ -193,6 +232,23 @@ pub record IsLeftAlone (old new : HomeState) (worker : ℕ) : Type 0 where
 -- nobody is paused
 abbrev pub NoneIsPaused : HomeState → Type 0
 NoneIsPaused e = (worker : ℕ) → (position_at (state_of e).positions worker).restraint.paused ≡ false
+
+-- nobody is held
+abbrev pub NoneIsHeld : HomeState → Type 0
+NoneIsHeld e = (worker : ℕ) → (position_at (state_of e).positions worker).restraint.held ≡ false
+
+-- a worker has written that it goes on, if it was paused
+abbrev pub with_resume : Bool → List Entry → List Entry
+with_resume paused entries = if paused then entries ++ entry.Resume ∷ [] else entries
+
+-- each worker goes on that was paused, and has written so; no step was made, and the stops are those that stood
+pub record ResumesLeg (old new : HomeState) : Type 0 where
+  pub only : new ≡ record old { parts = new.parts }
+  pub writes : (worker : ℕ) → worker < crew_of old.flow
+      → entries_of new.parts worker ≡ with_resume (position_at (state_of old).positions worker).restraint.paused (entries_of old.parts worker)
+  pub running : NoneIsPaused new
+  pub steps : steps_in (state_of new) ≡ steps_in (state_of old)
+  pub stops : stops_of_home new ≡ stops_of_home old
 
 -- one step was made, which the next worker has written
 pub record MakesStep (old new : HomeState) : Type 0 where
@@ -248,10 +304,14 @@ pub record HandsOut (old new : HomeState) : Type 0 where
 abbrev pub IsFed : HomeState → HomeState → Type 0
 IsFed old new = (new ≡ old) ⊎ HandsOut old new
 
+-- one step more for which `home_step` was called; at its end the number stands still
+abbrev pub alone_more : ℕ → ℕ
+alone_more n = min (n + 1) (2 ^ 64 - 1)
+
 -- a leg has gone on by one step, or by one hold, perhaps after units were handed out, and nothing else has changed: the other workers
 -- are left alone
 pub record StepsOn (old new : HomeState) : Type 0 where
-  pub only : new ≡ record old { parts = new.parts }
+  pub only : new ≡ record old { parts = new.parts; alone = alone_more old.alone }
   pub fed : HomeState
   pub feeds : IsFed old fed
   pub does : MakesStep fed new ⊎ IsHeldNext fed new

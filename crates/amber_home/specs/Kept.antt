@@ -1,5 +1,6 @@
 -- What a home keeps.
 use Rattle.std.specs.Prelude.{◌≡◌, ℕ, ◌^◌, ◌≤◌, List, [], Option, Bool, false}
+use Rattle.amber_dataflow.specs.AtWork.{AreJoinedAt, steps_by}
 use Rattle.amber_dataflow.specs.Dataflow.{DataflowState, HaveDoneNothing, StandAt, step_count}
 use Rattle.amber_lines.specs.KeptStops.{kept_stops}
 use Rattle.amber_log.specs.Grammar.{ends_over}
@@ -7,6 +8,7 @@ use Rattle.amber_meaning.specs.declared.view.Stop.{Stop}
 use Rattle.amber_meaning.specs.Legal.{IsLegal, leg_start}
 use Rattle.amber_meaning.specs.Position.{Position}
 use Rattle.amber_meaning.specs.State.{position_at}
+use Rattle.amber_worker.specs.WorkerState.{WorkerState}
 use Rattle.amber_home.specs.Asked.{Asked, IsInForce}
 use Rattle.amber_boards.specs.Boards.{AreBelow, AreEmptyHanded, AreUnarmed, AreWithin, CounterState}
 use Rattle.amber_home.specs.HomeState.{HomeState, query_of, rest_state}
@@ -17,19 +19,20 @@ use Rattle.amber_home.specs.declared.phase.Counts.TheVariants.{Armed, Disarmed, 
 use Rattle.amber_home.specs.declared.phase.Phase.{Phase}
 use Rattle.amber_home.specs.declared.phase.Phase.TheVariants as phase
 
--- what a home keeps beside its log: its workers, what is in force at each operator, the boards of a leg whose counts are armed, and the
--- stops of the last leg
+-- what a home keeps beside its log: its workers, what is in force at each operator, the boards of a leg whose counts are armed, the
+-- stops of the last leg, and workers that have come back and are not settled yet
 pub record LiveState : Type 0 where
   pub dataflow : DataflowState
   pub arms : List Asked
   pub boards : List (Option CounterState)
   pub stops : List Stop
+  pub back : List WorkerState
 
 -- there are no boards, and nobody has a seat or a unit
-pub record HaveNoUnits (live : LiveState) : Type 0 where
-  pub none : live.boards ≡ []
-  pub unarmed : AreUnarmed live.dataflow
-  pub empty : AreEmptyHanded live.dataflow
+pub record HaveNoUnits (boards : List (Option CounterState)) (d : DataflowState) : Type 0 where
+  pub none : boards ≡ []
+  pub unarmed : AreUnarmed d
+  pub empty : AreEmptyHanded d
 
 -- at rest the workers stand where the log says, with nothing done since; what it says is in force, no count of it has been reached, and
 -- the stops of the last leg are kept
@@ -38,7 +41,7 @@ pub record IsAtRest (e : HomeState) (live : LiveState) : Type 0 where
   pub none : HaveDoneNothing live.dataflow
   pub in_force : IsInForce e.flow (rest_state e) live.arms
   pub below : AreBelow (counts_asked live.arms) live.dataflow
-  pub units : HaveNoUnits live
+  pub units : HaveNoUnits live.boards live.dataflow
   pub stops_are : live.stops ≡ kept_stops (query_of e) e.log.items
 
 -- within a leg the workers stand somewhere after where it began, and what was in force then still is
@@ -49,16 +52,35 @@ pub record IsWithinLeg (to_end : Bool) (e : HomeState) (d : DataflowState) (arms
   pub in_force : IsInForce e.flow (leg_start to_end (rest_state e)) arms
   pub few : step_count d ≤ e.most
 
+-- the same of workers that are away from it, or back and not settled yet: they are joined by their links
+pub record AreWithinLeg (to_end : Bool) (e : HomeState) (workers : List WorkerState) : Type 0 where
+  pub positions : ℕ → Position
+  pub at : AreJoinedAt (query_of e) (leg_start to_end (rest_state e)) workers positions
+  pub few : steps_by workers ≤ e.most
+
+-- while they are away the home keeps what was in force where the leg began
+pub record IsAway (to_end : Bool) (e : HomeState) (arms : List Asked) : Type 0 where
+  pub more : ends_over false e.log.items ≡ false
+  pub in_force : IsInForce e.flow (leg_start to_end (rest_state e)) arms
+
 -- before counts are armed none has been reached, once the boards are closed none has counted more than it asks for
-abbrev pub CountsStand : Counts → LiveState → Type 0
-CountsStand Unarmed live = AreBelow (counts_asked live.arms) live.dataflow × HaveNoUnits live
-CountsStand Armed live = AreReady live.arms live.boards live.dataflow
-CountsStand Disarmed live = AreWithin (counts_asked live.arms) live.dataflow × HaveNoUnits live
+abbrev pub CountsStand : Counts → List Asked → List (Option CounterState) → DataflowState → Type 0
+CountsStand Unarmed arms boards d = AreBelow (counts_asked arms) d × HaveNoUnits boards d
+CountsStand Armed arms boards d = AreReady arms boards d
+CountsStand Disarmed arms boards d = AreWithin (counts_asked arms) d × HaveNoUnits boards d
+
+-- workers that came back are those of the leg, counted on its boards
+pub record AreUnsettled (to_end : Bool) (e : HomeState) (live : LiveState) : Type 0 where
+  pub away : IsAway to_end e live.arms
+  pub workers : AreWithinLeg to_end e live.back
+  pub ready : AreReady live.arms live.boards (record { flow = e.flow; workers = live.back })
 
 -- at rest and within a leg it stands as the log says; in the other phases nothing is said of it
 abbrev pub StandsIn : Phase → HomeState → LiveState → Type 0
 StandsIn phase.Resting e live = IsAtRest e live
-StandsIn (phase.Open to_end counts) e live = IsWithinLeg to_end e live.dataflow live.arms × CountsStand counts live
+StandsIn (phase.Open to_end counts) e live = IsWithinLeg to_end e live.dataflow live.arms × CountsStand counts live.arms live.boards live.dataflow
+StandsIn (phase.Lent to_end) e live = IsAway to_end e live.arms
+StandsIn (phase.Unsettled to_end) e live = AreUnsettled to_end e live
 StandsIn phase.Over e live = Unit {0}
 StandsIn phase.Spent e live = Unit {0}
 
@@ -67,3 +89,7 @@ pub record IsHome (e : HomeState) (live : LiveState) : Type 0 where
   pub few : e.most ≤ 2 ^ 40
   pub legal : IsLegal (query_of e) e.log
   pub stands : StandsIn e.phase e live
+
+-- the same of a home that is seen so
+abbrev pub IsHomeOf : (LiveState → HomeState) → LiveState → Type 0
+IsHomeOf seen live = IsHome (seen live) live

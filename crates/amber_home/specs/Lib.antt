@@ -5,4 +5,5 @@ pub mod Going
 pub mod HomeState
 pub mod Kept
 pub mod Leg
+pub mod Lent
 pub mod Parts

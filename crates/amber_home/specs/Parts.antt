@@ -1,13 +1,17 @@
 -- The parts of the leg that is open.
 use Rattle.std.specs.Prelude.{List, []}
-use Rattle.amber_dataflow.specs.Dataflow.{DataflowState, leg_parts}
+use Rattle.amber_dataflow.specs.Dataflow.{leg_parts}
+use Rattle.amber_dataflow.specs.Parts.{parts_from}
 use Rattle.amber_log.specs.declared.leg.Part.{Part}
+use Rattle.amber_home.specs.Kept.{LiveState}
 use Rattle.amber_home.specs.declared.phase.Phase.{Phase}
 use Rattle.amber_home.specs.declared.phase.Phase.TheVariants as phase
 
--- what the workers have done in it; none where none is open
-abbrev pub open_parts : Phase → DataflowState → List Part
-open_parts phase.Resting d = []
-open_parts (phase.Open to_end counts) d = leg_parts d
-open_parts phase.Over d = []
-open_parts phase.Spent d = []
+-- what the workers have done in it; none where none is open, and none while they are away
+abbrev pub open_parts : Phase → LiveState → List Part
+open_parts phase.Resting live = []
+open_parts (phase.Open to_end counts) live = leg_parts live.dataflow
+open_parts (phase.Lent to_end) live = []
+open_parts (phase.Unsettled to_end) live = parts_from 0 live.back
+open_parts phase.Over live = []
+open_parts phase.Spent live = []

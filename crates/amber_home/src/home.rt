@@ -14,6 +14,7 @@ ghost use Rattle.amber_home.specs.HomeState.{AreArmed, ClosesIn, DisarmsLeg, End
 ghost use Rattle.amber_home.specs.HomeState.{dropped_by, is_done_at_rest, is_open, item_of_leg, query_of, rest_state, runs_to_end, state_of};
 ghost use Rattle.amber_home.specs.HomeState.{stops_of_home, with_item, with_closed_leg};
 
+mod lending;
 mod reading;
 
 use crate::applying::{condition_for, conditions_for, copies_for, push_command, put_in_force};
@@ -30,6 +31,7 @@ use amber_dataflow::Dataflow;
 use amber_log::{Action, Close, Command, Items, Leg, Log, commands_have_text};
 use amber_meaning::{Answer, Stops, wrong_header};
 use amber_rows::{Files, Flow, Row};
+use amber_worker::Worker;
 use std::alloc::{AllocError, Global};
 use std::marker::Model;
 
@@ -47,6 +49,10 @@ pub struct Home {
     boards: Boards,
     // The stops of the last leg, as they stood before its end took any away.
     stops: Stops,
+    // The workers of a leg that have come back, until they are settled.
+    back: Vec<Worker>,
+    // For how many steps `home_step` was called since a leg was last opened.
+    alone: u64,
 }
 
 impl Model for Home {
@@ -61,19 +67,35 @@ impl Model for Home {
       most = a.most;
       log = a.log;
       phase = a.phase;
-      parts = open_parts a.phase a.dataflow;
+      parts = open_parts a.phase (record {
+        dataflow = a.dataflow;
+        arms = a.arms;
+        boards = a.boards;
+        stops = a.stops;
+        back = a.back.items;
+      });
+      alone = a.alone;
     } };
 
-    ghost use Rattle.amber_home.specs.Kept.{IsHome};
+    ghost use Rattle.amber_home.specs.Kept.{IsHomeOf};
 
-    ghost invariant = { λ a. IsHome (record {
-      flow = a.dataflow.flow;
-      files = a.files;
-      most = a.most;
-      log = a.log;
-      phase = a.phase;
-      parts = open_parts a.phase a.dataflow;
-    }) (record { dataflow = a.dataflow; arms = a.arms; boards = a.boards; stops = a.stops }) };
+    ghost invariant = { λ a. IsHomeOf
+        (λ live. record {
+          flow = a.dataflow.flow;
+          files = a.files;
+          most = a.most;
+          log = a.log;
+          phase = a.phase;
+          parts = open_parts a.phase live;
+          alone = a.alone;
+        })
+        (record {
+          dataflow = a.dataflow;
+          arms = a.arms;
+          boards = a.boards;
+          stops = a.stops;
+          back = a.back.items;
+        }) };
 }
 
 impl Home {
@@ -101,6 +123,7 @@ impl Home {
           log = record { batch = batch_size; items = [] };
           phase = Phase.Resting;
           parts = [];
+          alone = 0;
         }) }
         ensures header { BeginsOrNames result flow files }
     {
@@ -130,6 +153,7 @@ impl Home {
           log = record { batch = batch_size; items = [] };
           phase = Phase.Resting;
           parts = [];
+          alone = 0;
         }) }
     {
         let dataflow = Dataflow::new(alloc, flow, &files, batch_size)?;
@@ -146,6 +170,8 @@ impl Home {
             arms,
             boards: Boards::new(alloc),
             stops: Stops::new(Vec::new(alloc)),
+            back: Vec::new(alloc),
+            alone: 0,
         })
     }
 
@@ -189,6 +215,7 @@ impl Home {
         ensures { self.new ≡ record self.old {
           phase = Phase.Open to_end Counts.Unarmed;
           parts = [];
+          alone = 0;
         } }
     {
         self.dataflow.begin(to_end);
@@ -197,6 +224,7 @@ impl Home {
             to_end,
             counts: Counts::Unarmed,
         };
+        self.alone = 0;
     }
 
     /// Makes a board for each count that is in force, with a unit for each row that is left to its target, and arms the
@@ -252,6 +280,7 @@ impl Home {
         let phase = self.phase;
         self.phase = Phase::Spent;
         step_next(&self.arms, &mut self.boards, &mut self.dataflow)?;
+        self.alone = self.alone.saturating_add(1);
         self.phase = phase;
         Ok(())
     }
@@ -299,6 +328,8 @@ impl Home {
         requires disarmed { counts_in self.old.phase ≢ Counts.Armed }
         requires closes { MayClose (runs_to_end self.old.phase) self.old close }
         ensures ok { OnOk result (self.new ≡ with_closed_leg self.old close) }
+        ensures so { OnOk result (ClosesIn (runs_to_end self.old.phase) (query_of self.old)
+            (state_of self.old) close) }
         ensures err { OnErr result
             (self.new ≡ record self.old { phase = Phase.Spent; parts = [] }) }
     {

@@ -1,4 +1,4 @@
-//! Where a run is: at rest, within a leg, over, or spent.
+//! Where a run is: at rest, within a leg, with its workers here or away, over, or spent.
 
 ghost use Rattle.std.specs.Prelude.{◌≡◌};
 ghost use Rattle.amber_home.specs.HomeState.{is_open, runs_to_end};
@@ -21,6 +21,10 @@ pub enum Phase {
     Resting,
     /// Within a leg, up to a stop or to the end.
     Open { to_end: bool, counts: Counts },
+    /// Within a leg whose workers are away; its counts are armed.
+    Lent { to_end: bool },
+    /// Within a leg whose workers have come back, with batches that are still on their way from one to another.
+    Unsettled { to_end: bool },
     /// The workers were asked to give their answer away, and are no longer there.
     Over,
     /// Memory ran out inside a leg, and nothing can follow.
@@ -35,10 +39,14 @@ impl Phase {
         matches!(self, Phase::Open { .. })
     }
 
-    // Whether a leg is open that is one to the end.
+    // Whether it is within a leg that is one to the end.
     pub(crate) fn runs_to_end(self) -> bool
         ensures { result ≡ runs_to_end self }
     {
-        matches!(self, Phase::Open { to_end: true, .. })
+        match self {
+            Phase::Open { to_end, .. } | Phase::Lent { to_end } => to_end,
+            Phase::Unsettled { to_end } => to_end,
+            Phase::Resting | Phase::Over | Phase::Spent => false,
+        }
     }
 }

@@ -55,8 +55,8 @@ fn any_stopped(arms: &InForce, dataflow: &Dataflow) -> bool
     false
 }
 
-// Whether any worker is held.
-fn any_held(dataflow: &Dataflow) -> bool
+/// Whether any worker is held.
+pub(crate) fn any_held(dataflow: &Dataflow) -> bool
     requires workers { AreAllThere dataflow.now }
     ensures some { result ≡ true → (worker : ℕ)
         × (worker < crew_of dataflow.now.flow) × (is_held dataflow.now worker ≡ true) }

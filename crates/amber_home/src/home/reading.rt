@@ -1,19 +1,19 @@
 //! What is read of a home: its stops, what operators show, its answer, its log, and how far its workers are.
 
-ghost use Rattle.std.specs.Prelude.{◌≡◌, ◌<◌, ◌≤◌, ℕ, IfOk, false, length, option_map, true};
+ghost use Rattle.std.specs.Prelude.{◌≡◌, ◌^◌, ◌<◌, ◌≤◌, ℕ, IfOk, false, length, option_map, true};
 ghost use Rattle.amber_log.specs.Fits.{fits_of};
 ghost use Rattle.amber_log.specs.Grammar.{ends_over};
 ghost use Rattle.amber_meaning.specs.Legal.{IsLegal};
 ghost use Rattle.amber_meaning.specs.State.{have_finished, position_at, steps_in};
 ghost use Rattle.amber_meaning.specs.Views.{answer_in, inspected_of};
-ghost use Rattle.amber_home.specs.HomeState.{NoneIsPaused, dropped_by, has_crew, query_of, state_of, stops_of_home};
+ghost use Rattle.amber_home.specs.HomeState.{NoneIsHeld, NoneIsPaused, dropped_by, has_crew, query_of, state_of, stops_of_home};
 
 use super::Home;
 use crate::applying::row_to_drop;
 use crate::inspection::inspect;
 use crate::leg_item::is_last;
 use crate::phase::Phase;
-use crate::stopping::any_paused;
+use crate::stopping::{any_held, any_paused};
 use crate::stops::stops_of;
 use amber_log::{Action, Command, Log};
 use amber_meaning::{Answer, Inspected, Stops};
@@ -71,7 +71,8 @@ impl Home {
     /// How many steps the workers have made.
     pub fn steps(&self) -> u64
         requires there { has_crew self.now.phase ≡ true }
-        ensures { result ≡ steps_in (state_of self.now) }
+        ensures steps { result ≡ steps_in (state_of self.now) }
+        ensures few { result ≤ self.now.most }
     {
         self.dataflow.steps()
     }
@@ -92,6 +93,16 @@ impl Home {
             × ((position_at (state_of self.now).positions worker).restraint.paused ≡ true) }
     {
         !any_paused(&self.dataflow)
+    }
+
+    /// Whether no worker is held.
+    pub fn are_loose(&self) -> bool
+        requires there { has_crew self.now.phase ≡ true }
+        ensures loose { result ≡ true → NoneIsHeld self.now }
+        ensures held { result ≡ false → (worker : ℕ)
+            × ((position_at (state_of self.now).positions worker).restraint.held ≡ true) }
+    {
+        !any_held(&self.dataflow)
     }
 
     /// The log of the run so far.
@@ -128,9 +139,17 @@ impl Home {
 
     /// The most steps that the run may make.
     pub fn most(&self) -> u64
-        ensures { result ≡ self.now.most }
+        ensures most { result ≡ self.now.most }
+        ensures few { result ≤ 2 ^ 40 }
     {
         self.most
+    }
+
+    /// For how many steps `home_step` was called since a leg was last opened.
+    pub fn alone(&self) -> u64
+        ensures { result ≡ self.now.alone }
+    {
+        self.alone
     }
 
     /// Where the run is.

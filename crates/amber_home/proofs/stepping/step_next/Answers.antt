@@ -4,7 +4,7 @@ use Rattle.std.proofs.lemmas.Result.{on_ok_weaker}
 use Rattle.amber_rows.specs.Topology.{crew_of, op_of}
 use Rattle.amber_rows.specs.declared.flow.Operator.{Operator}
 use Rattle.amber_worker.specs.Counting.{IsBoardOf}
-use Rattle.amber_dataflow.specs.Dataflow.{DataflowState, IsFirst, is_armed_at, seat_of, step_count}
+use Rattle.amber_dataflow.specs.Dataflow.{IsFirst, is_armed_at, seat_of}
 use Rattle.amber_boards.specs.Boards.{CounterState, board_at, has_board}
 use Rattle.amber_home.proofs.Fed.{fed-first, fed-free, fed-on, fed-steps, ok-and}
 use Rattle.amber_home.proofs.Going.{on-then, one-on, stand-on}

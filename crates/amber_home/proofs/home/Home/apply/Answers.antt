@@ -2,9 +2,8 @@
 use Rattle.std.proofs.Common.{refl, ap, sym, ◌∙◌, false}
 use Rattle.amber_log.specs.Fits.{fits_of}
 use Rattle.amber_log.specs.Grammar.{ends_over}
-use Rattle.amber_log.specs.Effect.{is_put}
-use Rattle.amber_home.specs.HomeState.{HomeState, dropped_by, dropped_by_action, is_at_rest}
-use Rattle.amber_home.proofs.Commanded.{drops-resting, few-resting, flow-has, home-commanded, names-resting, not-true, nothing-done, rows-resting, there-resting}
+use Rattle.amber_home.specs.HomeState.{HomeState, dropped_by, dropped_by_action}
+use Rattle.amber_home.proofs.Commanded.{drops-resting, few-resting, flow-has, home-commanded, names-resting, nothing-done, rows-resting, there-resting}
 use Rattle.amber_home.proofs.RowsHeld.{dropped-resting}
 use Rattle.amber_home.proofs.Inside.{kept, seen}
 use Rattle.amber_home.proofs.home.Home.apply.Goals as goal
@@ -75,5 +74,5 @@ invariant_of-self-2 c =
     (ap (λ (h : HomeState). ends_over false h.log.items) c.self.view_is ∙ c.requires.open) (ap (λ (h : HomeState). fits_of h.flow c.args.command.now) c.self.view_is ∙ c.requires.fits)
     c.commands_have_text.ensures
     (record { batch = i.log.batch; items = c.push_command.new.items })
-    (record { dataflow = c.put_in_force.new.dataflow; arms = c.put_in_force.new.arms; boards = i.boards; stops = i.stops })
+    (record { dataflow = c.put_in_force.new.dataflow; arms = c.put_in_force.new.arms; boards = i.boards; stops = i.stops; back = i.back.items })
     refl (ap (λ items. record i.log { items = items }) c.in_ok-push_command.ensures.ok) c.put_in_force.ensures.arms c.put_in_force.ensures.dataflow refl refl

@@ -1,5 +1,5 @@
 -- The counts are armed, and the home stays one.
-use Rattle.std.proofs.Common.{◌≡◌, refl, sym, ap, subst, ◌∙◌, length}
+use Rattle.std.proofs.Common.{sym, ap, subst, ◌∙◌, length}
 use Rattle.std.proofs.lemmas.List.{length-map}
 use Rattle.amber_boards.specs.Boards.{AreBelow, StandInForce, has_target}
 use Rattle.amber_dataflow.specs.Dataflow.{leg_parts}
@@ -7,7 +7,7 @@ use Rattle.amber_home.specs.Asked.{Asked}
 use Rattle.amber_home.specs.HomeState.{HomeState, counts_in, runs_to_end}
 use Rattle.amber_home.specs.Kept.{IsHome}
 use Rattle.amber_home.specs.Leg.{counts_asked, is_counted}
-use Rattle.amber_home.specs.declared.phase.Counts.TheVariants.{Armed, Unarmed}
+use Rattle.amber_home.specs.declared.phase.Counts.TheVariants.{Armed}
 use Rattle.amber_home.specs.declared.phase.Phase.TheVariants as phase
 use Rattle.amber_home.proofs.Armings.{asked-counted, leg-boarded, parts-armed, stands-as, stands-leg}
 use Rattle.amber_home.proofs.Homes.{home-of, in-open, leg-unarmed}
@@ -67,5 +67,5 @@ returns-clause-ok c =
       parts = parts-armed (seen i) (kept i) (runs_to_end i.phase) c.as_slice.result.now c.arm.new.dataflow armed.arms k;
     })
     ∙ ap (λ parts. record (seen i) { phase = phase.Open (runs_to_end i.phase) Armed; parts = parts })
-    (ap (λ (h : HomeState). h.parts) (sym (in-open (seen i) i.dataflow i.phase (opens i c.self.invariant c.args.self.now c.self.view_is c.requires.within))))
+    (ap (λ (h : HomeState). h.parts) (sym (in-open (seen i) (kept i) i.phase (opens i c.self.invariant c.args.self.now c.self.view_is c.requires.within))))
     ∙ ap (λ (h : HomeState). record h { phase = phase.Open (runs_to_end h.phase) Armed }) c.self.view_is

@@ -1,15 +1,14 @@
 -- The boards are closed, and the home stays one.
 use Rattle.std.proofs.Common.{◌≡◌, refl, sym, ap, subst, ◌∙◌}
-use Rattle.amber_boards.specs.Boards.{StandInForce, has_board}
+use Rattle.amber_boards.specs.Boards.{has_board}
 use Rattle.amber_dataflow.specs.Dataflow.{leg_parts}
 use Rattle.amber_home.specs.HomeState.{DisarmsLeg, HomeState, counts_in, runs_to_end}
 use Rattle.amber_home.specs.Kept.{IsHome}
 use Rattle.amber_home.specs.Leg.{is_counted}
-use Rattle.amber_home.specs.Parts.{open_parts}
 use Rattle.amber_home.specs.declared.phase.Counts.TheVariants.{Armed, Disarmed}
 use Rattle.amber_home.specs.declared.phase.Phase.TheVariants as phase
 use Rattle.amber_home.proofs.Armings.{disarmed-leg, disarms-home, stands-as, stands-leg}
-use Rattle.amber_home.proofs.Homes.{home-of, in-open, leg-armed}
+use Rattle.amber_home.proofs.Homes.{home-of, leg-armed}
 use Rattle.amber_home.proofs.Inside.{kept, opens, seen, there-within}
 use Rattle.amber_home.proofs.Ready.{boards-counted}
 use Rattle.amber_home.proofs.home.Home.disarm_leg.Goals as goal

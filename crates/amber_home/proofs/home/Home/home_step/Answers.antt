@@ -1,7 +1,8 @@
 -- One step more, and the home stays one.
 use Rattle.std.proofs.Common.{◌<◌, refl, ap, sym, subst, ◌∙◌, arith}
 use Rattle.amber_meaning.specs.State.{steps_in}
-use Rattle.amber_home.specs.HomeState.{AreArmed, HomeState, NoneIsPaused, StepsOn, runs_to_end, state_of, stops_of_home}
+use Rattle.amber_home.specs.HomeState.{AreArmed, HomeState, NoneIsPaused, StepsOn, alone_more, runs_to_end, state_of, stops_of_home}
+use Rattle.amber_home.specs.Kept.{IsHome}
 use Rattle.amber_home.specs.Parts.{open_parts}
 use Rattle.amber_home.proofs.Armings.{stands-leg}
 use Rattle.amber_home.proofs.Free.{goes-home, running-home}
@@ -62,9 +63,11 @@ invariant_of-self-2 c =
     let within = opens i c.self.invariant c.args.self.now c.self.view_is c.requires.within in
     let leg = leg-of (seen i) (kept i) i.phase c.self.invariant within in
     let next = c.in_ok-step_next.ensures in
-    home-stepped (seen i) (kept i) i.phase leg within (subst AreArmed (sym c.self.view_is) c.requires.armed)
+    let later = record (kept i) { dataflow = c.step_next.new.dataflow; boards = c.step_next.new.boards } in
+    subst (λ alone. IsHome (record (seen i) { flow = c.step_next.new.dataflow.flow; parts = open_parts i.phase later; alone = alone }) later) (sym c.saturating_add-self-inside.ensures)
+    (home-stepped (seen i) (kept i) i.phase leg within (subst AreArmed (sym c.self.view_is) c.requires.armed)
     (few-step (seen i) (kept i) i.phase leg within (subst (λ (h : HomeState). steps_in (state_of h) < h.most) (sym c.self.view_is) c.requires.few))
-    c.step_next.new.dataflow c.step_next.new.boards refl next.on next.steps next.counted next.targets
+    c.step_next.new.dataflow c.step_next.new.boards refl next.on next.steps next.counted next.targets)
 
 pub returns-clause-ok : goal.returns-clause-ok
 returns-clause-ok c =
@@ -72,7 +75,9 @@ returns-clause-ok c =
     let within = opens i c.self.invariant c.args.self.now c.self.view_is c.requires.within in
     let leg = leg-of (seen i) (kept i) i.phase c.self.invariant within in
     let next = c.in_ok-step_next.ensures in
-    subst (λ (h : HomeState). StepsOn h (record (seen i) { flow = c.step_next.new.dataflow.flow; parts = open_parts i.phase c.step_next.new.dataflow })) c.self.view_is
+    let later = record (kept i) { dataflow = c.step_next.new.dataflow; boards = c.step_next.new.boards } in
+    subst (λ alone. StepsOn c.args.self.now (record (seen i) { flow = c.step_next.new.dataflow.flow; parts = open_parts i.phase later; alone = alone })) (sym c.saturating_add-self-inside.ensures)
+    (subst (λ (h : HomeState). StepsOn h (record (seen i) { flow = c.step_next.new.dataflow.flow; parts = open_parts i.phase later; alone = alone_more i.alone })) c.self.view_is
     (steps-stepped (seen i) (kept i) i.phase leg within (subst AreArmed (sym c.self.view_is) c.requires.armed)
     (few-step (seen i) (kept i) i.phase leg within (subst (λ (h : HomeState). steps_in (state_of h) < h.most) (sym c.self.view_is) c.requires.few))
-    c.step_next.new.dataflow c.step_next.new.boards refl next.on next.steps next.counted next.targets)
+    c.step_next.new.dataflow c.step_next.new.boards refl next.on next.steps next.counted next.targets))

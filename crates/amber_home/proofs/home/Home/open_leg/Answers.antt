@@ -23,4 +23,4 @@ returns c =
     let live = kept i in
     state-opened e live c.args.to_end c.self.invariant (ap (λ (h : HomeState). h.phase) c.self.view_is ∙ c.requires.resting)
     (ap (λ (h : HomeState). ends_over false h.log.items) c.self.view_is ∙ c.requires.open) c.begin.new.self c.begin.ensures c.begin_leg.new.self c.begin_leg.ensures refl
-    ∙ ap (λ (h : HomeState). record h { phase = phase.Open c.args.to_end Unarmed; parts = [] }) c.self.view_is
+    ∙ ap (λ (h : HomeState). record h { phase = phase.Open c.args.to_end Unarmed; parts = []; alone = 0 }) c.self.view_is

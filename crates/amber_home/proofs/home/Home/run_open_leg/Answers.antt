@@ -132,7 +132,7 @@ returns-clause-in_time c none =
     let few : step_count after ≤ i.most = (let made = c.steps.ensures in let most = leg.leg.few in let less = ran.few in omega arith) in
     subst (λ (h : HomeState). IsInTime (query_of h) 0 (rest_state h) (item_of_leg (runs_to_end h.phase) (leg_parts after) c.in_ok-close.close)) c.self.view_is
     (in-time-of e live (runs_to_end i.phase) leg after ran.on few ran.within ran.empty ran.in_time c.in_ok-close.close
-    (sym (ap (λ (h : HomeState). h.parts) (in-open e i.dataflow i.phase (opens i c.self.invariant c.args.self.now c.self.view_is c.requires.within)))
+    (sym (ap (λ (h : HomeState). h.parts) (in-open e live i.phase (opens i c.self.invariant c.args.self.now c.self.view_is c.requires.within)))
     ∙ ap (λ (h : HomeState). h.parts) c.self.view_is ∙ none))
 
 pub returns-clause-ok : goal.returns-clause-ok

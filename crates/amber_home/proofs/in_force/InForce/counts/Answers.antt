@@ -1,5 +1,5 @@
 -- All operators' counts are there.
-use Rattle.std.proofs.Common.{◌≡◌, ap, ◌∙◌, map}
+use Rattle.std.proofs.Common.{ap, ◌∙◌, map}
 use Rattle.std.proofs.lemmas.List.{take_all}
 use Rattle.amber_home.specs.Asked.{Asked}
 use Rattle.amber_home.proofs.in_force.InForce.counts.Goals as goal
