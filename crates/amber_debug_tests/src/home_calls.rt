@@ -1,6 +1,6 @@
 //! Calls of a home that are made where they may be, and what they give as texts. Over `Home` of `amber_home`.
 
-ghost use Rattle.std.specs.Prelude.{◌≡◌, false, true};
+ghost use Rattle.std.specs.Prelude.{◌≡◌, ◌<◌, ◌≤◌, false, true};
 ghost use Rattle.amber_log.specs.Grammar.{ends_over};
 ghost use Rattle.amber_home.specs.HomeState.{counts_in, has_crew, is_done_at_rest, is_open};
 
@@ -16,9 +16,17 @@ use std::test::Fail;
 
 /// The home of the query over this file, with 400 rows in a batch and at most 30 steps.
 pub fn home_over(alloc: Global, file: &str) -> Result<Home, Fail> {
+    home_of(alloc, file, 400, 30)
+}
+
+/// The same with so many rows in a batch, 1 to 400, and at most so many steps.
+pub fn home_of(alloc: Global, file: &str, batch: u32, most: u32) -> Result<Home, Fail>
+    requires some { 0 < batch }
+    requires few { batch ≤ 400 }
+{
     let flow = query(alloc)?;
     let files = files_of(alloc, file)?;
-    let home = Home::new(alloc, flow, files, 400, 30)?;
+    let home = Home::new(alloc, flow, files, batch, u64::from(most))?;
     Ok(home)
 }
 
@@ -31,8 +39,8 @@ fn are_there(home: &Home) -> bool
     matches!(home.phase(), Phase::Resting | Phase::Open { .. })
 }
 
-// Whether a leg is open whose counts are armed.
-fn is_armed(home: &Home) -> bool
+/// Whether a leg is open whose counts are armed.
+pub fn is_armed(home: &Home) -> bool
     ensures open { result ≡ true → is_open home.now.phase ≡ true }
     ensures armed { result ≡ true → counts_in home.now.phase ≡ Counts.Armed }
     ensures there { result ≡ true → has_crew home.now.phase ≡ true }
@@ -87,6 +95,15 @@ pub fn step(alloc: Global, home: &mut Home) -> Result<bool, NoMemory> {
         return Ok(false);
     }
     home.home_step()?;
+    Ok(true)
+}
+
+/// Lets whoever was paused go on in the leg that is open, whose counts are armed, where nobody is held.
+pub fn resume(home: &mut Home) -> Result<bool, NoMemory> {
+    if !is_armed(home) || !home.are_loose() {
+        return Ok(false);
+    }
+    home.resume()?;
     Ok(true)
 }
 

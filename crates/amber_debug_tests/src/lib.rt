@@ -4,6 +4,8 @@
 #![tactic(auto)]
 
 #[cfg(test)]
+mod away;
+#[cfg(test)]
 mod debug;
 #[cfg(test)]
 mod expected;
@@ -13,5 +15,7 @@ mod home;
 mod home_calls;
 #[cfg(test)]
 mod journals;
+#[cfg(test)]
+mod lent;
 #[cfg(test)]
 mod query;
