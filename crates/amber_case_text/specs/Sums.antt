@@ -2,9 +2,9 @@
 use Rattle.std.specs.Prelude.{◌≤◌, ◌<◌, ◌⊎◌, ℕ, List, sum}
 
 -- their sum is in the range
-abbrev pub IsSumWithin : ℕ → ℕ → List ℕ → Type 0
-IsSumWithin least most numbers = (least ≤ sum numbers) × (sum numbers ≤ most)
+abbrev pub HasSumWithin : ℕ → ℕ → List ℕ → Type 0
+HasSumWithin least most numbers = (least ≤ sum numbers) × (sum numbers ≤ most)
 
 -- their sum is below or above the range
-abbrev pub IsSumBeyond : ℕ → ℕ → List ℕ → Type 0
-IsSumBeyond least most numbers = (sum numbers < least) ⊎ (most < sum numbers)
+abbrev pub HasSumBeyond : ℕ → ℕ → List ℕ → Type 0
+HasSumBeyond least most numbers = (sum numbers < least) ⊎ (most < sum numbers)

@@ -1,7 +1,7 @@
 //! Numbers that add up to a number in a range.
 
 ghost use Rattle.std.specs.Prelude.{◌≡◌, ◌<◌, ◌≤◌, ◌^◌, length, sum, IfNone, IfSome, OnOk};
-ghost use Rattle.amber_case_text.specs.Sums.{IsSumWithin, IsSumBeyond};
+ghost use Rattle.amber_case_text.specs.Sums.{HasSumWithin, HasSumBeyond};
 
 use std::alloc::{AllocError, Global};
 
@@ -25,9 +25,9 @@ pub(crate) fn add_sum(
     least: u64,
     most: u64,
 ) -> Result<(), AllocError>
-    ensures within { OnOk result (IsSumWithin least most numbers.now
+    ensures within { OnOk result (HasSumWithin least most numbers.now
         → all.new.items ≡ all.old.items) }
-    ensures beyond { OnOk result (IsSumBeyond least most numbers.now
+    ensures beyond { OnOk result (HasSumBeyond least most numbers.now
         → length all.old.items < length all.new.items) }
 {
     match sum_of(numbers) {
