@@ -79,6 +79,7 @@ pub fn waiting_at(outs: &[Downstream], place: usize) -> Option<u32>
 }
 
 /// Makes room for one row and the end, for the receiver at this place.
+#[inline(always)]
 pub fn reserve_at(outs: &mut [Downstream], place: usize) -> Result<(), AllocError>
     requires there { place < length outs.old }
     requires open { (d : OneDownstream) → (slice_index_or outs.old place d).link.kept.ended ≡ false }
@@ -94,6 +95,7 @@ pub fn reserve_at(outs: &mut [Downstream], place: usize) -> Result<(), AllocErro
 }
 
 /// Pushes a row for the receiver at this place, where there is room.
+#[inline(always)]
 pub fn push_at(outs: &mut [Downstream], place: usize, row: Row)
     requires there { place < length outs.old }
     requires room { (d : OneDownstream) → 1 < (slice_index_or outs.old place d).link.kept.room }

@@ -99,6 +99,7 @@ fn ahead_of(rows: u64) -> u64
 impl Out {
     /// Makes room, so that `rows` pushes and an end after them are not refused. Where it makes room for a push it does so for
     /// 64, so that a caller may ask before each.
+    #[inline(always)]
     pub fn reserve(&mut self, rows: u64) -> Result<(), AllocError>
         requires open { self.old.kept.ended ≡ false }
         ensures ring { self.new.ring ≡ self.old.ring }
@@ -114,6 +115,7 @@ impl Out {
     }
 
     /// Pushes a row for which there is room.
+    #[inline(always)]
     pub fn push_reserved(&mut self, row: Row)
         requires room { 1 < self.old.kept.room }
         requires few { self.old.kept.made < 2 ^ 40 }

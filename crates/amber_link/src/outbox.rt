@@ -176,6 +176,7 @@ impl Outbox {
     }
 
     /// For how many rows and the end there is room.
+    #[inline(always)]
     pub(crate) fn room(&self) -> u64
         ensures { result ≡ self.now.room }
     {
@@ -225,6 +226,7 @@ impl Outbox {
     }
 
     /// Appends a row, for which there is room; a full batch waits to be sent.
+    #[inline(always)]
     pub(crate) fn push_reserved(&mut self, row: Row)
         requires room { 1 < self.old.room }
         requires few { self.old.made < 2 ^ 40 }

@@ -53,6 +53,7 @@ fn count(records: &Records) -> usize
 
 // The record after the header before which so many others stand, typed by these columns in the room of cells that are
 // done with, with its number; none where there is none.
+#[inline(always)]
 fn scan_record(
     alloc: Global,
     records: &Records,

@@ -132,6 +132,7 @@ pub(crate) fn put(fate: Fate, row: Row, pending: &mut Pending, done: &mut UsedRo
 }
 
 // Puts a scan's record where it goes: a row is passed on, a fault is kept for the answer.
+#[inline(always)]
 pub(crate) fn put_record(one: Scanned, op: u32, pending: &mut Pending, refused: &mut Vec<Refusal>)
     requires none { pending.old ≡ [] }
     requires room { vec_len refused.old < vec_capacity refused.old }
@@ -150,6 +151,7 @@ pub(crate) fn put_record(one: Scanned, op: u32, pending: &mut Pending, refused: 
 }
 
 // Takes the next record of a share.
+#[inline(always)]
 fn take_record(share: &mut Share, op: u32, gains: &mut Gains) -> Result<(), AllocError>
     requires some { has_some share.old.left ≡ true }
     requires none { gains.old.pending ≡ [] }
