@@ -2,8 +2,6 @@
 use Rattle.std.proofs.Common.{◌≡◌, refl, sym, ap, subst, ◌∙◌, ℕ, suc, ◌+◌, ◌<◌, ◌≤◌, List, [], ◌∷◌, length, Bool, true, false, Option, is_some, arith}
 use Rattle.amber_rows.specs.Topology.{crew_of, op_of}
 use Rattle.amber_rows.specs.declared.flow.Operator.{Operator}
-use Rattle.amber_log.specs.declared.leg.Close.{Close}
-use Rattle.amber_meaning.specs.InTime.{IsInTime}
 use Rattle.amber_meaning.specs.Legal.{IsLegal, IsSettled, leg_start}
 use Rattle.amber_worker.specs.Counting.{with_back}
 use Rattle.amber_worker.specs.WorkerState.{WorkerState}
@@ -15,19 +13,19 @@ use Rattle.amber_boards.specs.declared.target.Target.{Target}
 use Rattle.amber_boards.specs.Boards.{AreCounted, AreEmptyHanded, AreUnarmed, AreWithin, ArmsAll, CounterState, DisarmsAll, IsWithin, StandInForce, has_board, has_target, targets_of}
 use Rattle.amber_home.specs.Asked.{Asked}
 use Rattle.amber_home.specs.Going.{AreReady, GoOn}
-use Rattle.amber_home.specs.HomeState.{ClosesIn, DisarmsLeg, GivesBack, HomeState, counts_in, hand_at, is_open, item_of_leg, query_of, rest_state, runs_to_end, state_of}
+use Rattle.amber_home.specs.HomeState.{DisarmsLeg, GivesBack, HomeState, counts_in, hand_at, is_open, query_of, rest_state, runs_to_end, state_of}
 use Rattle.amber_home.specs.Parts.{open_parts}
 use Rattle.amber_home.specs.Kept.{IsWithinLeg, LiveState}
-use Rattle.amber_home.specs.Leg.{AreEmptyOf, IsLegDone, IsLegInTime, counts_asked, is_counted}
+use Rattle.amber_home.specs.Leg.{AreEmptyOf, counts_asked, is_counted}
 use Rattle.amber_home.specs.declared.phase.Counts.{Counts}
 use Rattle.amber_home.specs.declared.phase.Counts.TheVariants.{Armed, Disarmed, Unarmed}
 use Rattle.amber_home.specs.declared.phase.Phase.{Phase}
 use Rattle.amber_home.specs.declared.phase.Phase.TheVariants as phase
+use Rattle.amber_home.proofs.AsFar.{far-home, far-units}
 use Rattle.amber_home.proofs.Fed.{units-steps}
 use Rattle.amber_home.proofs.Going.{units-on}
-use Rattle.amber_home.proofs.Homes.{IsLeg, in-open, leg-on}
-use Rattle.amber_home.proofs.InTime.{in-time-ran}
-use Rattle.amber_home.proofs.Legs.{closes-here, empty-here, in-force-counted, settled-here, within-on}
+use Rattle.amber_home.proofs.Homes.{IsLeg, home-of, in-open, leg-on}
+use Rattle.amber_home.proofs.Legs.{empty-here, in-force-counted, settled-here, within-on}
 use Rattle.amber_home.proofs.OneMore.{at_work, hand-within}
 use Rattle.amber_home.proofs.Ready.{boards-counted, target-board, targets-board}
 use Rattle.amber_home.proofs.Reached.{target-asked}
@@ -152,23 +150,6 @@ settled-now : (e : HomeState) (to_end : Bool) (d : DataflowState) (arms : List A
 unfolding state_of
 settled-now e to_end d arms leg legal empty within = settled-here to_end e d arms leg legal empty within
 
--- once a leg was run it may be closed so, and stopped in time
-module _ (e : HomeState) (live : LiveState) (to_end : Bool) (leg : IsLeg e live to_end Unarmed) (after : DataflowState) (on : GoOn live.arms live.dataflow after) (few : step_count after ≤ e.most)
-    (within : AreWithin (counts_asked live.arms) after) (empty : AreEmptyOf (is_counted live.arms) after) where
-  ran : IsWithinLeg to_end e after live.arms
-  ran = within-on to_end e live.dataflow after live.arms leg.leg on few
-
-  pub closes-ran : live.dataflow.flow ≡ e.flow → (closed : Close) → IsLegDone closed live.arms e.most after
-      → ClosesIn to_end (query_of e) (state_of (record e { flow = after.flow; phase = phase.Open to_end Disarmed; parts = leg_parts after })) closed
-  unfolding state_of
-  closes-ran same closed done =
-      subst (λ (f : List Operator). ClosesIn to_end (query_of e) (state_of (record e { flow = f; phase = phase.Open to_end Disarmed; parts = leg_parts after })) closed) (sym (on.flow ∙ same))
-      (closes-here to_end e after live.arms ran leg.legal (all-empty to_end e after live.arms ran leg.legal empty) within closed done)
-
-  pub in-time-of : IsLegInTime live.arms live.dataflow after → (closed : Close) → leg_parts live.dataflow ≡ []
-      → IsInTime (query_of e) 0 (rest_state e) (item_of_leg to_end (leg_parts after) closed)
-  in-time-of in_time closed none = in-time-ran to_end e live.dataflow after live.arms leg.leg leg.legal ran in_time closed none
-
 -- what the home is seen to do
 pub disarms-home : (e : HomeState) (live : LiveState) (now : Phase) (within : is_open now ≡ true) → counts_in now ≡ Armed → (leg : IsLeg e live (runs_to_end now) Armed)
     → (after : DataflowState) (disarms : DisarmsAll live.boards live.dataflow after) → live.dataflow.flow ≡ e.flow → (boards : List (Option CounterState)) → boards ≡ []
@@ -178,7 +159,9 @@ disarms-home e live now within is leg after disarms same boards none =
     let arms = live.arms in
     let to_end = runs_to_end now in
     let later = within-on to_end e d after arms leg.leg (disarmed-on e live to_end leg after disarms) (disarmed-few e live to_end leg after disarms) in
-    let stand = (disarmed-leg e live to_end leg after disarms boards none).stand in
+    let closed_live : LiveState = record live { dataflow = after; boards = boards } in
+    let closed = disarmed-leg e live to_end leg after disarms boards none in
+    let stand = closed.stand in
     subst (λ (h : HomeState). DisarmsLeg h (record e { flow = after.flow; phase = phase.Open to_end Disarmed; parts = leg_parts after }))
     (sym (in-open e live now within ∙ ap (λ counts. record e { phase = phase.Open to_end counts; parts = leg_parts d }) is))
     (subst (λ flow. DisarmsLeg (at_work to_end Armed e d arms leg.leg leg.legal) (record e { flow = flow; phase = phase.Open to_end Disarmed; parts = leg_parts after }))
@@ -187,4 +170,7 @@ disarms-home e live now within is leg after disarms same boards none =
       only = refl;
       writes = λ worker inside. gives-back e live to_end leg after disarms later worker inside;
       settled = settled-now e to_end after arms later leg.legal stand.1.empty stand.0;
+      far = far-home (record e { parts = leg_parts d }) (record e { parts = leg_parts after }) live closed_live (phase.Open to_end Armed) (phase.Open to_end Disarmed)
+          (home-of e live to_end Armed e.flow refl leg) (home-of e closed_live to_end Disarmed e.flow refl closed) refl refl refl
+          (far-units arms (has_board live.boards) d after disarms.units);
     }))

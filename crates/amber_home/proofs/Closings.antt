@@ -1,6 +1,6 @@
 -- A leg of a home may be closed, and the home after that.
 use Rattle.std.proofs.Common.{◌≡◌, ◌≢◌, refl, sym, ap, subst, ◌∙◌, ℕ, zero, suc, ◌+◌, ◌<◌, ◌≤◌, List, [], length, Bool, true, false, Option, None, Some, unwrap_or, if◌then◌else◌, inl, inr, arith}
-use Rattle.std.proofs.lemmas.Bool.{cases_lt, eq-eqb, false≢true}
+use Rattle.std.proofs.lemmas.Bool.{cases_lt, eq-eqb, false≢true, or_parts}
 use Rattle.std.proofs.lemmas.Bool.Decides.{eqb_tells}
 use Rattle.std.proofs.lemmas.List.{length-map}
 use Rattle.amber_log.specs.declared.leg.Close.{Close}
@@ -15,13 +15,12 @@ use Rattle.amber_boards.specs.declared.target.Target.{Target}
 use Rattle.amber_dataflow.specs.Dataflow.{DataflowState, handed_out, leg_parts, rows_emitted}
 use Rattle.amber_dataflow.proofs.Numbered.{length-ops, nth-numbers}
 use Rattle.amber_dataflow.proofs.Standing.{stand-there}
-use Rattle.amber_home.specs.Asked.{Asked, is_reached, no_asked}
-use Rattle.amber_home.specs.HomeState.{ClosesIn, HomeState, MayClose, is_open, item_of_leg, leg_state, query_of, rest_state, runs_to_end, state_of, stops_of_home, with_item}
+use Rattle.amber_home.specs.Asked.{Asked, is_reached, no_asked, stands_after}
+use Rattle.amber_home.specs.HomeState.{ClosesIn, HomeState, MayClose, item_of_leg, leg_state, query_of, rest_state, state_of, stops_of_home, with_item}
 use Rattle.amber_home.specs.Kept.{IsHome, LiveState}
-use Rattle.amber_home.specs.Leg.{closed_arms, count_at, counts_asked, cut_arms, cut_at, stops_by}
+use Rattle.amber_home.specs.Leg.{closed_arms, count_at, counts_asked, cut_arms, cut_at, is_stopped, pause_at, stops_by}
 use Rattle.amber_home.specs.declared.phase.Counts.{Counts}
 use Rattle.amber_home.specs.declared.phase.Counts.TheVariants.{Armed}
-use Rattle.amber_home.specs.declared.phase.Phase.{Phase}
 use Rattle.amber_home.specs.declared.phase.Phase.TheVariants as phase
 use Rattle.amber_home.proofs.Closed.{legal-closed, rest-closed}
 use Rattle.amber_home.proofs.Cut.{in-force-closed}
@@ -29,10 +28,13 @@ use Rattle.amber_home.proofs.Free.{goes-none}
 use Rattle.amber_home.proofs.HeldRows.{rows-within}
 use Rattle.amber_home.proofs.Homes.{IsLeg, disarmed}
 use Rattle.amber_home.proofs.Legs.{few-here, settled-here, start, state-here, unarmed-start}
-use Rattle.amber_home.proofs.Paused.{none-counted}
 use Rattle.amber_home.proofs.Places.{nth-past}
 use Rattle.amber_home.proofs.Reached.{target-asked}
 use Rattle.amber_home.proofs.Stopped.{stops-are}
+
+-- where no stop stands at an operator its count does not
+none-counted : (arms : List Asked) (d : DataflowState) (op : ℕ) → is_stopped arms d op ≡ false → is_reached (count_at arms op) (rows_emitted d op) ≡ false
+none-counted arms d op none = (or_parts (stands_after (pause_at arms op) (rows_emitted d op)) (is_reached (count_at arms op) (rows_emitted d op)) none).1
 
 -- what is below its target where it is within, and has not reached it
 below-left : (count : Option Target) (rows : ℕ) → is_reached count rows ≡ false → IsWithin count rows → IsBelow count rows
@@ -131,17 +133,3 @@ closes-told e live to_end counts leg not closed told =
     by true close.Long settled few told = (settled, told.0, told.1)
     by false close.Cut settled few told = (settled, few, told)
     by false close.Long settled few told = (settled, told.0, told.1)
-
--- and it holds where the leg may be closed
-pub told-of : (e : HomeState) (now : Phase) → is_open now ≡ true → (closed : Close)
-    → ClosesIn (runs_to_end now) (query_of e) (state_of (record e { phase = now })) closed → MayClose (runs_to_end now) (record e { phase = now }) closed
-unfolding state_of stops_of_home
-told-of e phase.Resting within closed closes = absurd (false≢true within)
-told-of e phase.Over within closed closes = absurd (false≢true within)
-told-of e (phase.Lent to_end) within closed closes = absurd (false≢true within)
-told-of e (phase.Unsettled to_end) within closed closes = absurd (false≢true within)
-told-of e phase.Spent within closed closes = absurd (false≢true within)
-told-of e (phase.Open true counts) within close.Cut closes = closes.2
-told-of e (phase.Open true counts) within close.Long closes = (closes.1, closes.2)
-told-of e (phase.Open false counts) within close.Cut closes = closes.2
-told-of e (phase.Open false counts) within close.Long closes = (closes.1, closes.2)

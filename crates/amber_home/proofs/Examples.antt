@@ -1,12 +1,8 @@
--- Homes on literals: a step of a home, a leg, and what a home keeps; each also with data that are wrong.
+-- Homes on literals: a step of a home, and what a home keeps; each also with data that are wrong.
 use Rattle.std.specs.Prelude.{⊤}
-use Rattle.std.proofs.Common.{◌≡◌, ◌≢◌, ◌⊎◌, ℕ, zero, suc, ◌+◌, ◌*◌, ◌^◌, ◌<◌, ◌≤◌, length, max, pos, List, [], ◌∷◌, ◌++◌, codes, None, Some, unwrap_or, false, inl, inr, refl, sym, ap, subst, ◌∙◌, add-one, arith}
-use Rattle.std.specs.List.{slice_get}
+use Rattle.std.proofs.Common.{◌≡◌, ◌≢◌, ◌⊎◌, ℕ, zero, suc, ◌+◌, ◌^◌, pos, List, [], ◌∷◌, ◌++◌, codes, None, Some, unwrap_or, false, inl, inr, refl, sym, ap, subst, ◌∙◌, arith}
 use Rattle.std.proofs.lemmas.Bool.{ne_eqb}
-use Rattle.std.proofs.lemmas.List.{append_cancel_left}
 use Rattle.std.specs.Str.{chars, is_utf8}
-use Rattle.amber_rows.specs.Topology.{workers_of}
-use Rattle.amber_rows.specs.Lists.{nth}
 use Rattle.amber_rows.specs.Number.{read_int_of}
 use Rattle.amber_rows.specs.Record.{cells_of, file_records, row_of, typed_records}
 use Rattle.amber_rows.specs.declared.value.Value.TheVariants as value
@@ -15,25 +11,23 @@ use Rattle.amber_log.specs.Grammar.{AreItems}
 use Rattle.amber_log.specs.declared.command.Command.TheVariants as command
 use Rattle.amber_log.specs.declared.entry.Entry.{Entry}
 use Rattle.amber_log.specs.declared.entry.Entry.TheVariants as entry
-use Rattle.amber_log.specs.declared.leg.Close.TheVariants as close
 use Rattle.amber_log.specs.declared.leg.Part.{Part}
 use Rattle.amber_log.specs.declared.log.Item.{Item}
 use Rattle.amber_log.specs.declared.log.Item.TheVariants as item
 use Rattle.amber_lines.specs.KeptStops.{kept_stops, stops_along}
 use Rattle.amber_meaning.specs.declared.view.Stop.TheVariants as stop
-use Rattle.amber_meaning.specs.InTime.{StopsInTime}
-use Rattle.amber_meaning.specs.Legal.{IsLegal, IsSettled, Reaches, entries_of, leg_start, stops_in}
+use Rattle.amber_meaning.specs.Legal.{IsLegal, Reaches, entries_of}
 use Rattle.amber_meaning.specs.Plain.{records_of}
 use Rattle.amber_meaning.specs.Position.{origin}
 use Rattle.amber_meaning.specs.Replay.{after_items, state_after}
-use Rattle.amber_meaning.specs.State.{Arms, emitted_by, no_arms, position_at, start_of}
+use Rattle.amber_meaning.specs.State.{start_of}
 use Rattle.amber_meaning.proofs.ExampleCases.{texts_on_literals}
 use Rattle.amber_meaning.proofs.Lists.{nth-next}
 use Rattle.amber_worker.specs.Steps.{with_go}
 use Rattle.amber_worker.specs.Turning.{WritesStep}
 use Rattle.amber_worker.proofs.ExampleFlow.{from_two}
 use Rattle.amber_home.specs.Asked.{Asked, no_asked}
-use Rattle.amber_home.specs.HomeState.{ClosesLeg, HandsOut, HomeState, IsHeldNext, IsLeftAlone, MakesStep, StepsOn, first_unfinished, leg_state, next_worker, query_of, rest_state, state_of}
+use Rattle.amber_home.specs.HomeState.{HandsOut, HomeState, IsAsFar, IsHeldNext, IsLeftAlone, MakesStep, StepsOn, first_unfinished, next_worker, query_of, state_of}
 use Rattle.amber_dataflow.specs.Dataflow.{DataflowState}
 use Rattle.amber_dataflow.proofs.Standing.{stand-there}
 use Rattle.amber_home.specs.Kept.{IsHome, LiveState}
@@ -132,126 +126,11 @@ a_pause_of_another steps = let wrong = ((one_alone _ steps).1 1 (λ same. absurd
 a_command_with_the_step : StepsOn before (record after { log = record { batch = 400; items = item.Do (command.Pause 2 1) ∷ [] } }) → ⊥
 a_command_with_the_step steps = let wrong = ap (λ (h : HomeState). h.log.items) steps.only in cc
 
--- ---- a leg
+-- ---- as far as it was
 
--- a command that asks the filter to pause after so many rows, and a leg in which this was done
-abbrev pause : ℕ → Item
-pause n = item.Do (command.Pause 2 n)
-
-abbrev leg : List Part → Item
-leg parts = item.Run (record { parts = parts; close = close.Cut })
-
--- at rest after these
-abbrev resting : List Item → HomeState
-resting items = home items phase.Resting []
-
--- asked to pause after so many rows, with nothing done yet
-abbrev asked : ℕ → HomeState
-asked n = resting (pause n ∷ [])
-
--- the scan has given its batch, of which the filter emits the first row, or the two rows that pass
-abbrev scanned : Part
-scanned = part 0 (entry.Go 3 3 ∷ entry.Finish ∷ [])
-
-abbrev one_row : List Part
-one_row = scanned ∷ part 1 (entry.Take 0 0 ∷ entry.Go 1 1 ∷ []) ∷ []
-
-abbrev two_rows : List Part
-two_rows = scanned ∷ part 1 (entry.Take 0 0 ∷ entry.Go 3 2 ∷ []) ∷ []
-
--- what is in force then
-abbrev armed : ℕ → List Arms
-armed n = no_arms ∷ record no_arms { pause = Some n; constants = value.Int (pos 2) ∷ [] } ∷ no_arms ∷ []
-
-armed-at : (n i : ℕ) → unwrap_or (nth (armed n) (suc i)) no_arms ≡ unwrap_or (slice_get (armed n) i) no_arms
-armed-at n i = ap (λ found. unwrap_or found no_arms) (ap (nth (armed n)) (sym (add-one i)) ∙ nth-next (armed n) i)
-
-nothing_counted : (n op : ℕ) → (unwrap_or (nth (armed n) op) no_arms).count ≡ None
-nothing_counted n zero = refl
-nothing_counted n (suc i) = ap (λ (a : Arms). a.count) (armed-at n i) ∙ by i
-  where
-    by : (i : ℕ) → (unwrap_or (slice_get (armed n) i) no_arms).count ≡ None
-    by zero = refl
-    by (suc zero) = refl
-    by (suc (suc zero)) = refl
-    by (suc (suc (suc i))) = refl
-
-only_the_filter : (n op m : ℕ) → (unwrap_or (nth (armed n) op) no_arms).pause ≡ Some m → (op ≡ 2) × (n ≡ m)
-only_the_filter n zero m is = absurd (none_some m is)
-only_the_filter n (suc i) m is = by i (sym (ap (λ (a : Arms). a.pause) (armed-at n i)) ∙ is)
-  where
-    by : (i : ℕ) → (unwrap_or (slice_get (armed n) i) no_arms).pause ≡ Some m → (suc i ≡ 2) × (n ≡ m)
-    by zero e = cc
-    by (suc zero) e = (refl, cc)
-    by (suc (suc zero)) e = cc
-    by (suc (suc (suc i))) e = cc
-
-nobody_has_units : IsSettled (query_of (asked 1)) (leg_state (asked 1) false one_row)
+a_step_goes_further : IsAsFar before after → ⊥
 unfolding homes_on_literals
-nobody_has_units = record {
-  hands = λ worker inside. by worker inside;
-  counts = λ op counting is. absurd (none_some counting (sym (nothing_counted 1 op) ∙ is));
-}
-  where
-    by : (worker : ℕ) → worker < 3 → (position_at (leg_state (asked 1) false one_row).positions worker).restraint.hand ≡ 0
-    by zero inside = refl
-    by (suc zero) inside = refl
-    by (suc (suc zero)) inside = refl
-    by (suc (suc (suc worker))) inside = absurd (omega arith)
-
-stops_at_the_first_row : StopsInTime (query_of (asked 1)) 0 (leg_start false (rest_state (asked 1))) one_row
-unfolding homes_on_literals
-stops_at_the_first_row = record { at_once = λ some. absurd (some refl); pauses = λ op n is. by op n (only_the_filter 1 op n is) }
-  where
-    by : (op n : ℕ) → (op ≡ 2) × (1 ≡ n)
-        → emitted_by from_two (leg_state (asked 1) false one_row) op ≤ max n (emitted_by from_two (leg_start false (rest_state (asked 1))) op) + 0 * length (workers_of from_two op)
-    by op n is = rw (is.0, ← is.1) (omega arith)
-
-one_row_and_no_more : ClosesLeg false (asked 1) (resting (pause 1 ∷ leg one_row ∷ [])) close.Cut
-unfolding homes_on_literals
-one_row_and_no_more = record {
-  parts = one_row;
-  so = (nobody_has_units, omega arith, λ none. cc);
-  in_time = stops_at_the_first_row;
-  is = refl;
-}
-
--- the parts of a leg that stands alone
-abbrev parts_of_leg : List Item → List Part
-parts_of_leg (item.Run leg ∷ []) = leg.parts
-parts_of_leg items = []
-
--- a leg that was closed after these is the last item
-module _ (items : List Item) (parts : List Part) (closes : ClosesLeg false (resting items) (resting (items ++ leg parts ∷ [])) close.Cut) where
-  these : closes.parts ≡ parts
-  these = sym (ap parts_of_leg (append_cancel_left items _ _ (ap (λ (h : HomeState). h.log.items) closes.is)))
-
-  in_time : StopsInTime (query_of (resting items)) 0 (leg_start false (rest_state (resting items))) parts
-  in_time = subst (λ parts. StopsInTime (query_of (resting items)) 0 (leg_start false (rest_state (resting items))) parts) these closes.in_time
-
-  stands : stops_in (query_of (resting items)) (leg_state (resting items) false parts) ≢ []
-  stands = subst (λ parts. stops_in (query_of (resting items)) (leg_state (resting items) false parts) ≢ []) these closes.so.2
-
-a_row_past_the_pause : ClosesLeg false (asked 1) (resting (pause 1 ∷ leg two_rows ∷ [])) close.Cut → ⊥
-unfolding homes_on_literals
-a_row_past_the_pause closes =
-    let late = (in_time (pause 1 ∷ []) two_rows closes).pauses 2 1 refl in
-    absurd (omega arith)
-
--- with one row emitted, a pause at one stands at once
-abbrev again : List Item
-again = pause 1 ∷ leg one_row ∷ pause 1 ∷ []
-
-steps_where_a_pause_stood : ClosesLeg false (resting again) (resting (again ++ leg (part 1 (entry.Go 1 0 ∷ []) ∷ []) ∷ [])) close.Cut → ⊥
-unfolding homes_on_literals
-steps_where_a_pause_stood closes = let wrong = (in_time again (part 1 (entry.Go 1 0 ∷ []) ∷ []) closes).at_once (λ none. cc) in cc
-
-no_stop_stands : ClosesLeg false (asked 2) (resting (pause 2 ∷ leg one_row ∷ [])) close.Cut → ⊥
-unfolding homes_on_literals
-no_stop_stands closes = stands (pause 2 ∷ []) one_row closes refl
-
-a_leg_that_is_forgotten : ClosesLeg false (asked 1) (asked 1) close.Cut → ⊥
-a_leg_that_is_forgotten closes = let wrong = ap (λ (h : HomeState). h.log.items) closes.is in cc
+a_step_goes_further far = let wrong = far.steps in absurd (omega arith)
 
 -- ---- what a home keeps
 

@@ -1,19 +1,21 @@
 -- Units that change hands leave all else of the workers as it was.
-use Rattle.std.proofs.Common.{◌≡◌, refl, sym, ap, subst, ◌∙◌, ℕ, suc, ◌+◌, ◌<◌, List, [], ◌∷◌, length, Bool, false, Option, None, Some, Result, Ok, Err, inl, inr, arith}
+use Rattle.std.proofs.Common.{◌≡◌, refl, sym, ap, subst, ◌∙◌, ℕ, suc, ◌+◌, ◌<◌, ◌≤◌, List, [], ◌∷◌, length, Bool, false, Option, None, Some, Result, Ok, Err, inl, inr, arith}
+use Rattle.std.specs.List.{list_all}
 use Rattle.std.specs.Result.{OnOk}
 use Rattle.std.proofs.lemmas.Bool.{eq-eqb, false≢true}
-use Rattle.amber_rows.specs.Topology.{crew_of, workers_of}
+use Rattle.std.proofs.lemmas.Bool.Decides.{eqb_tells}
+use Rattle.amber_rows.specs.Topology.{crew_of, op_of, workers_of}
 use Rattle.amber_rows.specs.declared.flow.Operator.{Operator}
 use Rattle.amber_worker.specs.WorkerState.{WorkerState, steps_made}
 use Rattle.amber_dataflow.specs.AtWork.{emitted_at, steps_by, worker_state_at}
-use Rattle.amber_dataflow.specs.Dataflow.{AreFree, DataflowState, IsFirst, has_finished, is_held, is_paused, rows_emitted, step_count}
+use Rattle.amber_dataflow.specs.Dataflow.{AreFree, DataflowState, IsFirst, has_finished, have_all_finished, is_held, is_paused, rows_emitted, step_count}
 use Rattle.amber_dataflow.proofs.Emitted.{emitted-same}
 use Rattle.amber_dataflow.proofs.Steps.{steps-cons}
 use Rattle.amber_boards.specs.Boards.{ChangeUnits, CounterState, HasLeft, board_at, has_board, target_of_count}
 use Rattle.amber_boards.specs.declared.target.Target.{Target}
 use Rattle.amber_home.specs.Asked.{Asked, is_reached}
-use Rattle.amber_home.specs.Going.{GoOn, IsFedAt}
-use Rattle.amber_home.specs.Leg.{NoneStands, count_at}
+use Rattle.amber_home.specs.Going.{GoOn, IsFedAt, StepsNext}
+use Rattle.amber_home.specs.Leg.{count_at}
 use Rattle.amber_home.proofs.Going.{on-refl, units-on}
 use Rattle.amber_home.proofs.Ready.{boards-counted}
 
@@ -26,6 +28,14 @@ steps-each [] (w ∷ new) long same = absurd (omega arith)
 steps-each (w ∷ old) [] long same = absurd (omega arith)
 steps-each (w ∷ old) (v ∷ new) long same =
     rw (steps-cons w old, steps-cons v new, same 0, steps-each old new (omega (arith, long)) (λ k. same (suc k))) refl
+
+-- of workers of whom each has finished as before all have
+all-each : (old new : List WorkerState) → length new ≡ length old → ((worker : ℕ) → (worker_state_at new worker).finished ≡ (worker_state_at old worker).finished)
+    → list_all (λ (w : WorkerState). w.finished) new ≡ list_all (λ (w : WorkerState). w.finished) old
+all-each [] [] long same = refl
+all-each [] (w ∷ new) long same = absurd (omega arith)
+all-each (w ∷ old) [] long same = absurd (omega arith)
+all-each (w ∷ old) (v ∷ new) long same = rw (same 0, all-each old new (omega (arith, long)) (λ k. same (suc k))) refl
 
 module _ (counted : ℕ → Bool) (old new : DataflowState) (units : ChangeUnits counted old new) where
   pub units-rows : (op : ℕ) → rows_emitted new op ≡ rows_emitted old op
@@ -41,6 +51,10 @@ module _ (counted : ℕ → Bool) (old new : DataflowState) (units : ChangeUnits
   pub units-finished : (worker : ℕ) → has_finished new worker ≡ has_finished old worker
   unfolding has_finished
   units-finished worker = ap (λ (w : WorkerState). w.finished) (units.same worker)
+
+  pub units-all : have_all_finished new ≡ have_all_finished old
+  unfolding have_all_finished
+  units-all = all-each old.workers new.workers units.long (λ worker. ap (λ (w : WorkerState). w.finished) (units.same worker))
 
   pub units-held : (worker : ℕ) → is_held new worker ≡ is_held old worker
   unfolding is_held
@@ -59,10 +73,6 @@ module _ (counted : ℕ → Bool) (old new : DataflowState) (units : ChangeUnits
 
   units-free : AreFree old → AreFree new
   units-free free = record { loose = λ worker. units-held worker ∙ free.loose worker; running = λ worker. units-paused worker ∙ free.running worker }
-
--- where no stop stands at its operator
-pub none-rows : (arms : List Asked) (old new : DataflowState) → ((op : ℕ) → rows_emitted new op ≡ rows_emitted old op) → NoneStands arms old → NoneStands arms new
-none-rows arms old new same none op = rw (same op) (none op)
 
 -- ---- where a worker was fed
 
@@ -84,6 +94,22 @@ module _ (arms : List Asked) (boards : List (Option CounterState)) (old new : Da
     | inl same ↦ subst (GoOn arms old) (sym same) (on-refl arms old)
     | inr handed ↦ units-on arms (has_board boards) old new (boards-counted arms boards targets) handed.1.units
   ]
+
+-- a step makes an operator emit one row more at most
+pub next-rows : (arms : List Asked) (boards : List (Option CounterState)) (old new : DataflowState) → StepsNext boards old new → (op : ℕ) → rows_emitted new op ≤ rows_emitted old op + 1
+next-rows arms boards old new next op =
+    let fed = next.fed in
+    let turns = next.steps.steps.turns in
+    let worker = next.steps.worker in
+    let same = fed-rows arms boards old fed worker next.feeds op in
+    elim (eqb_tells op (op_of fed.flow worker)) [
+      | inl is ↦
+          let rows = turns.rows in
+          let now = ap (rows_emitted new) is.1 in
+          let before = ap (rows_emitted fed) is.1 in
+          omega arith
+      | inr other ↦ let still = turns.emitted op other.1 in omega arith
+    ]
 
 -- ---- a worker that needs a unit
 

@@ -1,5 +1,5 @@
 -- A home where no stop stands and nobody is paused: its workers are free to go on.
-use Rattle.std.proofs.Common.{◌≡◌, refl, sym, ap, subst, ◌∙◌, ℕ, ◌<◌, ◌≤◌, List, [], length, true, false, inl, inr, arith}
+use Rattle.std.proofs.Common.{◌≡◌, ◌≢◌, refl, sym, ap, subst, ◌∙◌, ℕ, ◌<◌, ◌≤◌, List, [], length, true, false, inl, inr, arith}
 use Rattle.std.proofs.Math.ListN.{get_or-eq_default}
 use Rattle.std.proofs.lemmas.Bool.{cases_lt, false_from_ne_true, false≢true}
 use Rattle.amber_rows.specs.Topology.{crew_of}
@@ -34,12 +34,6 @@ past-running d all worker past = ap (λ (w : WorkerState). w.restraint.paused) (
 
 -- ---- no stop
 
--- nothing stands at which a leg is cut and that goes on
-pub goes-not-cut : (arms : List Asked) (d : DataflowState) → GoesOn arms d → IsCut arms d → ⊥
-goes-not-cut arms d goes (inl held) = false≢true (sym (goes.loose held.0) ∙ held.2)
-goes-not-cut arms d goes (inr (inl stopped)) = false≢true (sym (goes.none stopped.0) ∙ stopped.1)
-goes-not-cut arms d goes (inr (inr finished)) = false≢true (sym goes.unfinished ∙ finished)
-
 -- where no stop stands
 pub goes-none : (arms : List Asked) (d : DataflowState) → length arms ≡ length d.flow → AreAllThere d → AreHeldByRows d → stops_by arms d ≡ [] → GoesOn arms d
 goes-none arms d long all rows none = record {
@@ -68,6 +62,13 @@ module _ (e : HomeState) (live : LiveState) where
   goes-home now home within same none =
       goes-none live.arms live.dataflow (long-open e live now home within ∙ ap length (sym same)) (home-there e live now home (open-there now within))
       (rows-open now home within) (stops-open e live now home within (stops_by live.arms live.dataflow) refl ∙ none)
+
+  -- where something stands at which a leg is cut there is a stop
+  pub cut-home : (now : Phase) → IsHome (record e { phase = now }) live → is_open now ≡ true → live.dataflow.flow ≡ e.flow
+      → IsCut live.arms live.dataflow → stops_of_home (in_phase e live now) ≢ []
+  cut-home now home within same cut none =
+      stops-some live.arms live.dataflow (long-open e live now home within ∙ ap length (sym same)) (rows-open now home within) cut
+      (stops-open e live now home within (stops_by live.arms live.dataflow) refl ∙ none)
 
   -- a worker that is there is paused as its position is
   pub paused-at : (now : Phase) → IsHome (record e { phase = now }) live → has_crew now ≡ true → live.dataflow.flow ≡ e.flow → (worker : ℕ) → worker < crew_of live.dataflow.flow

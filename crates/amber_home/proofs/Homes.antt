@@ -4,7 +4,7 @@ use Rattle.std.proofs.lemmas.Bool.{false≢true}
 use Rattle.amber_rows.specs.declared.flow.Operator.{Operator}
 use Rattle.amber_log.specs.Grammar.{ends_over}
 use Rattle.amber_log.specs.declared.leg.Part.{Part}
-use Rattle.amber_meaning.specs.Legal.{IsLegal}
+use Rattle.amber_meaning.specs.Legal.{IsLegal, leg_start}
 use Rattle.amber_dataflow.specs.Dataflow.{AreAllThere, DataflowState, leg_begun, leg_parts, rows_emitted, step_count}
 use Rattle.amber_dataflow.proofs.Standing.{begun-parts, stand-there}
 use Rattle.amber_boards.specs.Boards.{AreWithin, CounterState, IsBelow, IsWithin, target_at}
@@ -12,13 +12,14 @@ use Rattle.amber_boards.specs.declared.target.Target.{Target}
 use Rattle.amber_home.specs.Asked.{Asked, without_asked}
 use Rattle.amber_home.specs.Going.{GoOn}
 use Rattle.amber_home.specs.Leg.{counts_asked}
-use Rattle.amber_home.specs.HomeState.{HomeState, counts_in, has_crew, is_open, query_of, runs_to_end}
+use Rattle.amber_home.specs.HomeState.{HomeState, counts_in, has_crew, is_open, query_of, rest_state, runs_to_end, state_of}
 use Rattle.amber_home.specs.Kept.{CountsStand, HaveNoUnits, IsAtRest, IsHome, IsWithinLeg, LiveState, StandsIn}
 use Rattle.amber_home.specs.Parts.{open_parts}
 use Rattle.amber_home.specs.declared.phase.Counts.{Counts}
 use Rattle.amber_home.specs.declared.phase.Counts.TheVariants.{Armed, Disarmed, Unarmed}
 use Rattle.amber_home.specs.declared.phase.Phase.{Phase}
 use Rattle.amber_home.specs.declared.phase.Phase.TheVariants as phase
+use Rattle.amber_home.proofs.Begun.{state-begun}
 use Rattle.amber_home.proofs.Legs.{within-on}
 use Rattle.amber_home.proofs.Opened.{opened, opened-below, opened-units}
 
@@ -82,6 +83,15 @@ module _ (e : HomeState) (live : LiveState) (to_end : Bool) (home : IsHome e liv
   state-opened =
       ap (λ (d : DataflowState). record e { flow = d.flow; phase = phase.Open to_end Unarmed; parts = leg_parts d; alone = 0 }) after-is
       ∙ (λ i. record e { flow = same i; phase = phase.Open to_end Unarmed; parts = begun-parts to_end live.dataflow i; alone = 0 })
+
+  -- nobody has moved
+  pub begins-opened : state_of (record e { flow = after.flow; phase = phase.Open to_end Unarmed; parts = open_parts (phase.Open to_end Unarmed) (begun after); alone = 0 })
+      ≡ leg_start to_end (rest_state e)
+  unfolding state_of
+  begins-opened =
+      ap state_of state-opened
+      ∙ state-begun to_end (record e { phase = phase.Open to_end Unarmed; parts = []; alone = 0 }) (leg_begun to_end live.dataflow) now
+      (opened e live (at-rest e live home resting) home.legal to_end more now now-is []) home.legal (begun-parts to_end live.dataflow)
 
 -- ---- where the workers are there
 

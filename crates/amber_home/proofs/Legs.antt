@@ -1,8 +1,7 @@
--- A home within a leg: what its workers need to go on, and how they may be closed.
+-- A home within a leg: the state in which it stands, and what its workers need to go on.
 use Rattle.std.proofs.Common.{◌≡◌, refl, sym, ap, subst, ◌∙◌, ℕ, ◌<◌, ◌≤◌, List, Bool, Option, None, Some, is_some, true, false}
 use Rattle.amber_rows.specs.Topology.{crew_of, op_of}
 use Rattle.amber_rows.specs.declared.flow.Operator.{Operator}
-use Rattle.amber_log.specs.declared.leg.Close.{Close}
 use Rattle.amber_meaning.specs.Legal.{IsLegal, IsSettled, Query, leg_start}
 use Rattle.amber_meaning.specs.Position.{Position}
 use Rattle.amber_meaning.specs.State.{Arms, Counting, State, arms_at, begin_last_leg, crew_at, no_arms, position_at, steps_in, without_arms}
@@ -10,21 +9,19 @@ use Rattle.amber_meaning.proofs.OneState.{legal_logs_have_one_state}
 use Rattle.amber_meaning.proofs.Rest.{legal_logs_rest}
 use Rattle.amber_meaning.proofs.Senders.{flows_send_forward}
 use Rattle.amber_dataflow.specs.AtWork.{state_reached}
-use Rattle.amber_dataflow.specs.Dataflow.{DataflowState, hand_of, is_held, leg_parts, step_count}
+use Rattle.amber_dataflow.specs.Dataflow.{DataflowState, hand_of, leg_parts, step_count}
 use Rattle.amber_dataflow.proofs.Standing.{stand-after, stand-flow, stand-steps}
 use Rattle.amber_boards.specs.Boards.{AreEmptyHanded, AreInForce, AreWithin}
 use Rattle.amber_boards.specs.declared.target.Target.{Target}
 use Rattle.amber_home.specs.Asked.{Asked, IsCountOf, IsInForce}
 use Rattle.amber_home.specs.Going.{GoOn}
-use Rattle.amber_home.specs.HomeState.{ClosesIn, HomeState, leg_state, query_of, rest_state}
+use Rattle.amber_home.specs.HomeState.{HomeState, leg_state, query_of, rest_state}
 use Rattle.amber_home.specs.Kept.{IsWithinLeg}
-use Rattle.amber_home.specs.Leg.{IsLegDone, count_at, counts_asked, is_counted}
+use Rattle.amber_home.specs.Leg.{count_at, counts_asked, is_counted, pause_at}
 use Rattle.amber_home.proofs.Counted.{count-none}
-use Rattle.amber_home.proofs.HeldRows.{rows-within}
-use Rattle.amber_home.proofs.Opened.{position-start, unwatched-start}
-use Rattle.amber_home.proofs.Stopped.{IsUnarmed, may-close}
+use Rattle.amber_home.proofs.Opened.{position-start}
 use Rattle.amber_home.proofs.Places.{at-map}
-use Rattle.amber_home.proofs.Reached.{empty-reached, loose-reached, settled-reached}
+use Rattle.amber_home.proofs.Reached.{empty-reached, settled-reached}
 
 -- a count is in force just where one is kept
 pub in-force-counted : (flow : List Operator) (state : State) (arms : List Asked) → IsInForce flow state arms → AreInForce (is_counted arms) state
@@ -35,6 +32,10 @@ in-force-counted flow state arms is op = by (crew_at flow state op) (count_at ar
     by crew None (Some counting) is = absurd is
     by crew (Some kept) None is = absurd is
     by crew (Some kept) (Some counting) is = refl
+
+-- nothing is armed at an operator
+abbrev pub IsUnarmed : List Asked → ℕ → Type 0
+IsUnarmed arms op = (pause_at arms op ≡ None) × (count_at arms op ≡ None)
 
 -- to the end nothing is armed any more
 pub unarmed-start : (query : Query) (state : State) (arms : List Asked) → IsInForce query.flow (leg_start true state) arms → (op : ℕ) → IsUnarmed arms op
@@ -75,26 +76,6 @@ module _ (to_end : Bool) (e : HomeState) (d : DataflowState) (arms : List Asked)
 
   pub few-here : steps_in (leg_state e to_end (leg_parts d)) ≤ e.most
   few-here = rw (ap steps_in state-here ∙ stand-steps (query_of e) start d leg.positions leg.at) leg.few
-
-  -- nobody is held in a leg to the end
-  loose-here : to_end ≡ true → (worker : ℕ) → worker < crew_of d.flow → is_held d worker ≡ false
-  loose-here is worker inside =
-      loose-reached (query_of e) start d leg.positions leg.at
-      (subst (λ b. (op : ℕ) → (arms_at (leg_start b (rest_state e)) op).when ≡ None) (sym is) (unwatched-start (query_of e) (rest_state e)))
-      (λ k within. ap (λ (p : Position). p.restraint.held) (position-start to_end (rest_state e) k))
-      worker (subst (λ (f : List Operator). worker < crew_of f) leg.at.flow inside)
-
-  -- as the workers are done, so may it be closed
-  pub closes-here : AreEmptyHanded d → AreWithin (counts_asked arms) d → (closed : Close) → IsLegDone closed arms e.most d
-      → ClosesIn to_end (query_of e) (leg_state e to_end (leg_parts d)) closed
-  closes-here empty within closed done =
-      subst (λ (s : State). ClosesIn to_end (query_of e) s closed) (sym state-here)
-      (may-close (query_of e) start d leg.positions leg.at arms leg.in_force empty within (rows-within to_end e d arms leg legal) to_end closed
-      (λ is. record {
-        unarmed = unarmed-start (query_of e) (rest_state e) arms (subst (λ b. IsInForce e.flow (leg_start b (rest_state e)) arms) is leg.in_force);
-        loose = loose-here is;
-      })
-      leg.few done)
 
 -- the workers go on
 pub within-on : (to_end : Bool) (e : HomeState) (d after : DataflowState) (arms : List Asked) → IsWithinLeg to_end e d arms → GoOn arms d after → step_count after ≤ e.most

@@ -29,7 +29,7 @@ use Rattle.amber_home.proofs.Homes.{IsLeg, leg-armed, leg-of, open-there}
 use Rattle.amber_home.proofs.Legs.{state-here}
 use Rattle.amber_home.proofs.Places.{nth-same, nth-some}
 use Rattle.amber_home.proofs.Units.{KeepUnits, counted-kept}
-use Rattle.amber_home.proofs.Whole.{steps-are}
+use Rattle.amber_home.proofs.Steps.{steps-are}
 
 -- ---- what is in force is kept in one way
 

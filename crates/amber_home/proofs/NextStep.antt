@@ -6,7 +6,8 @@ use Rattle.amber_meaning.specs.State.{State, arms_at, crew_at, steps_in}
 use Rattle.amber_meaning.proofs.Crews.{op-within}
 use Rattle.amber_dataflow.specs.AtWork.{state_reached}
 use Rattle.amber_dataflow.specs.Dataflow.{DataflowState, leg_parts, rows_emitted, seat_of, step_count}
-use Rattle.amber_boards.specs.Boards.{AreBelow, AreUnarmed, CounterState, IsBelow, IsCountedAt, IsWorkerOf, board_at, target_of_count, targets_of}
+use Rattle.amber_boards.specs.Boards.{AreBelow, AreUnarmed, AreWithin, CounterState, IsBelow, IsCountedAt, IsWithin, IsWorkerOf, board_at, target_at, target_of_count, targets_of}
+use Rattle.amber_boards.specs.declared.target.Target.{Target}
 use Rattle.amber_home.specs.Asked.{Asked}
 use Rattle.amber_home.specs.Going.{AreReady, GoOn, StepsNext}
 use Rattle.amber_home.specs.HomeState.{AreArmed, HomeState, NoneIsCounted, StepsOn, counts_in, is_open, alone_more, query_of, runs_to_end, state_of}
@@ -22,7 +23,6 @@ use Rattle.amber_home.proofs.Counted.{count-none}
 use Rattle.amber_home.proofs.Homes.{IsLeg, home-with, in-open, leg-on}
 use Rattle.amber_home.proofs.Legs.{start, within-on}
 use Rattle.amber_home.proofs.OneMore.{at_work, reached-here, steps-on, steps-within, within-most}
-use Rattle.amber_home.proofs.Ran.{below-within}
 use Rattle.amber_home.proofs.Reached.{in-force-reached, target-asked}
 use Rattle.amber_home.proofs.Ready.{ready-none}
 
@@ -70,6 +70,14 @@ pub ready-step : (e : HomeState) (live : LiveState) (now : Phase) → IsLeg e li
 ready-step e live now leg within armed = ready-by live (counts_in now) leg.stand (armed-none e live now leg within armed)
 
 -- ---- how counts stand after it
+
+-- what is below its targets is within them
+below-within : (counts : List (Option Target)) (d : DataflowState) → AreBelow counts d → AreWithin counts d
+below-within counts d below op = by (target_at counts op) (rows_emitted d op) (below op)
+  where
+    by : (count : Option Target) (rows : ℕ) → IsBelow count rows → IsWithin count rows
+    by None rows below = tt
+    by (Some count) rows below = (below.0, let less = below.1 in omega arith)
 
 -- nobody has a seat where no count is kept
 unarmed-by : (found : Option CounterState) (op : ℕ) (d : DataflowState) (worker : ℕ) → IsCountedAt found op d → target_of_count found ≡ None → IsWorkerOf d op worker → seat_of d worker ≡ None

@@ -1,12 +1,12 @@
 -- A leg is opened: the workers stand where it begins.
-use Rattle.std.proofs.Common.{◌≡◌, refl, sym, ap, subst, ◌∙◌, ℕ, ◌≤◌, List, length, map, Bool, true, false, None, if◌then◌else◌, arith}
+use Rattle.std.proofs.Common.{◌≡◌, refl, sym, ap, subst, ◌∙◌, ℕ, ◌≤◌, List, length, map, Bool, true, false, if◌then◌else◌, arith}
 use Rattle.std.proofs.Math.ListN.{get_or-map}
 use Rattle.amber_rows.specs.Topology.{op_of}
 use Rattle.amber_log.specs.Grammar.{ends_over}
 use Rattle.amber_lines.specs.Moving.{orders_in}
 use Rattle.amber_meaning.specs.Legal.{IsLegal, Query, leg_start}
 use Rattle.amber_meaning.specs.Position.{origin}
-use Rattle.amber_meaning.specs.State.{Arms, State, arms_at, begin_last_leg, begin_leg, emitted_by, let_go, no_arms, orders_of, position_at, steps_in, without_arms}
+use Rattle.amber_meaning.specs.State.{State, begin_last_leg, begin_leg, emitted_by, let_go, no_arms, orders_of, position_at, steps_in, without_arms}
 use Rattle.amber_meaning.proofs.OneState.{legal_logs_have_one_state, position-get_or}
 use Rattle.amber_meaning.proofs.Rest.{legal_logs_rest}
 use Rattle.amber_meaning.proofs.Senders.{flows_send_forward}
@@ -33,11 +33,6 @@ module _ (query : Query) (rest : State) where
   unfolding begin_leg begin_last_leg
   orders-start true worker = ap orders_of (at-map without_arms rest.arms (op_of query.flow worker) no_arms no_arms refl)
   orders-start false worker = refl
-
-  -- to the end no condition is in force
-  pub unwatched-start : (op : ℕ) → (arms_at (leg_start true rest) op).when ≡ None
-  unfolding begin_last_leg
-  unwatched-start op = ap (λ (a : Arms). a.when) (at-map without_arms rest.arms op no_arms no_arms refl)
 
 pub position-start : (to_end : Bool) (rest : State) (worker : ℕ) → position_at (leg_start to_end rest).positions worker ≡ let_go (position_at rest.positions worker)
 unfolding begin_leg begin_last_leg

@@ -1,42 +1,40 @@
 -- Within a leg whoever was paused goes on.
-use Rattle.std.proofs.Common.{◌≡◌, refl, sym, ap, subst, ◌∙◌, ℕ, ◌-◌, ◌<◌, ◌≤◌, List, [], ◌∷◌, Bool, true, false, Option, inl, inr, if◌then◌else◌, arith}
-use Rattle.std.specs.List.{flat_map}
+use Rattle.std.proofs.Common.{◌≡◌, refl, sym, ap, subst, ◌∙◌, ℕ, ◌-◌, ◌<◌, ◌≤◌, List, Bool, true, false, Option, inl, inr, if◌then◌else◌, arith}
 use Rattle.std.proofs.lemmas.Bool.{cases_lt}
-use Rattle.amber_rows.specs.Lists.{numbers_below}
 use Rattle.amber_rows.specs.Topology.{crew_of, first_worker_of, op_of}
 use Rattle.amber_rows.specs.declared.flow.Operator.{Operator}
-use Rattle.amber_meaning.specs.declared.view.Stop.{Stop}
 use Rattle.amber_meaning.specs.Legal.{entries_of}
 use Rattle.amber_meaning.specs.Position.{Position, Restraint}
 use Rattle.amber_meaning.specs.State.{State, position_at}
-use Rattle.amber_meaning.specs.Stops.{held_stop, op_numbers}
+use Rattle.amber_meaning.specs.Stops.{held_stop}
 use Rattle.amber_worker.specs.WorkerState.{WorkerState}
 use Rattle.amber_worker.specs.Changes.{resumed_at}
 use Rattle.amber_dataflow.specs.AtWork.{worker_state_at}
-use Rattle.amber_dataflow.specs.Dataflow.{AreArmed, DataflowState, StandAgain, all_resumed, is_held, is_paused, journal_of, rows_emitted, step_count}
+use Rattle.amber_dataflow.specs.Dataflow.{AreArmed, DataflowState, StandAgain, all_resumed, is_held, is_paused, journal_of, step_count}
 use Rattle.amber_dataflow.proofs.Reached.{listed-past}
 use Rattle.amber_dataflow.proofs.Resumed.{resumed-all, resumed-at, resumed-rows, resumed-running, resumed-steps}
 use Rattle.amber_dataflow.proofs.Standing.{journal-entries, stand-position}
 use Rattle.amber_boards.specs.Boards.{CounterState}
 use Rattle.amber_home.specs.Asked.{Asked}
+use Rattle.amber_home.specs.Going.{AreAsFar}
 use Rattle.amber_home.specs.HomeState as home_state
 use Rattle.amber_home.specs.HomeState.{HomeState, NoneIsHeld, ResumesLeg, counts_in, has_crew, is_open, query_of, runs_to_end, state_of, stops_of_home, with_resume}
 use Rattle.amber_home.specs.Kept.{CountsStand, IsHome, LiveState}
-use Rattle.amber_home.specs.Leg.{counts_asked, held_of, stop_of_count, stop_of_pause, stop_of_worker, stops_by, count_at, pause_at}
+use Rattle.amber_home.specs.Leg.{counts_asked, stop_of_worker}
 use Rattle.amber_home.specs.Parts.{open_parts}
 use Rattle.amber_home.specs.declared.phase.Counts.{Counts}
 use Rattle.amber_home.specs.declared.phase.Counts.TheVariants.{Armed, Disarmed, Unarmed}
 use Rattle.amber_home.specs.declared.phase.Phase.{Phase}
 use Rattle.amber_home.proofs.Armings.{stands-leg}
+use Rattle.amber_home.proofs.AsFar.{far-by, far-home}
 use Rattle.amber_home.proofs.Free.{none-paused-home, past-loose, paused-at}
 use Rattle.amber_home.proofs.Going.{resumed-on}
 use Rattle.amber_home.proofs.Homes.{IsLeg, home-of, home-there, in-open, leg-of, leg-on, open-there}
 use Rattle.amber_home.proofs.NextStep.{ready-step}
 use Rattle.amber_home.proofs.Ready.{all-armed, ready-resumed}
 use Rattle.amber_home.proofs.Reached.{restraint-at}
-use Rattle.amber_home.proofs.Saying.{in_phase, stands-somewhere, stops-open}
+use Rattle.amber_home.proofs.Saying.{in_phase, stands-somewhere}
 use Rattle.amber_home.proofs.Units.{below-kept, empty-kept, keep-resumed, unarmed-kept, within-kept}
-use Rattle.amber_home.proofs.Whole.{steps-are}
 
 -- ---- counts stand as they did
 
@@ -51,11 +49,7 @@ counts-resumed Disarmed arms boards d stand = (
   record { none = stand.1.none; unarmed = unarmed-kept d (all_resumed d) (keep-resumed d) stand.1.unarmed; empty = empty-kept d (all_resumed d) (keep-resumed d) stand.1.empty },
 )
 
--- ---- the stops are those that stood
-
-same-each : (f g : ℕ → List Stop) (xs : List ℕ) → ((x : ℕ) → f x ≡ g x) → flat_map f xs ≡ flat_map g xs
-same-each f g [] same = refl
-same-each f g (x ∷ xs) same = rw (same x, same-each f g xs same) refl
+-- ---- each worker has the stop that it had
 
 module _ (d : DataflowState) where
   stop-resumed : (worker : ℕ) → stop_of_worker (all_resumed d) worker ≡ stop_of_worker d worker
@@ -69,21 +63,9 @@ module _ (d : DataflowState) where
       by w true = refl
       by w false = refl
 
-  held-resumed : held_of (all_resumed d) ≡ held_of d
-  unfolding held_of
-  held-resumed = same-each (stop_of_worker (all_resumed d)) (stop_of_worker d) (numbers_below (crew_of d.flow)) stop-resumed
-
-  pub stops-resumed : (arms : List Asked) → stops_by arms (all_resumed d) ≡ stops_by arms d
-  stops-resumed arms =
-      rw (
-        held-resumed,
-        resumed-all d,
-        same-each (λ op. stop_of_count op (count_at arms op) (rows_emitted (all_resumed d) op)) (λ op. stop_of_count op (count_at arms op) (rows_emitted d op)) (op_numbers d.flow)
-            (λ op. ap (stop_of_count op (count_at arms op)) (resumed-rows d op)),
-        same-each (λ op. stop_of_pause op (pause_at arms op) (rows_emitted (all_resumed d) op)) (λ op. stop_of_pause op (pause_at arms op) (rows_emitted d op)) (op_numbers d.flow)
-            (λ op. ap (stop_of_pause op (pause_at arms op)) (resumed-rows d op)),
-      )
-      refl
+  -- so all are as far as they were
+  pub far-resumed : (arms : List Asked) → AreAsFar arms d (all_resumed d)
+  far-resumed arms = far-by arms d (all_resumed d) refl (resumed-rows d) (resumed-all d) stop-resumed (resumed-steps d)
 
 -- ---- the home
 
@@ -180,7 +162,5 @@ module _ (e : HomeState) (live : LiveState) where
           writes = writes;
           running = none-paused-home e_then later now here (open-there now within) flow-is
               (λ worker. ap (λ (d : DataflowState). is_paused d worker) is ∙ resumed-running live.dataflow worker);
-          steps = sym (steps-are e_then later now here (open-there now within)) ∙ ap step_count is ∙ resumed-steps live.dataflow ∙ steps-are e live now home (open-there now within);
-          stops = sym (stops-open e_then later now here within (stops_by live.arms after) refl) ∙ ap (stops_by live.arms) is ∙ stops-resumed live.dataflow live.arms
-              ∙ stops-open e live now home within (stops_by live.arms live.dataflow) refl;
+          far = far-home e e_then live later now now home here within within refl (subst (AreAsFar live.arms live.dataflow) (sym is) (far-resumed live.dataflow live.arms));
         })

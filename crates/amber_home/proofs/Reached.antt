@@ -1,23 +1,19 @@
--- What is in force where workers stand, the first that has not finished, and what nobody holds where no count or no condition is armed.
+-- What is in force where workers stand, the first that has not finished, and that nobody holds a unit where no count is armed.
 use Rattle.std.proofs.Common.{◌≡◌, refl, sym, ap, ◌∙◌, ℕ, zero, suc, ◌<◌, ◌≤◌, List, [], ◌∷◌, get_or, map, Option, if◌then◌else◌, true, false, None, Some, is_some, subst, arith}
 use Rattle.std.proofs.lemmas.Bool.{false≢true}
-use Rattle.std.specs.List.{flat_map}
 use Rattle.amber_rows.specs.Topology.{crew_of, op_of}
 use Rattle.amber_rows.specs.Lists.{numbers_below}
-use Rattle.amber_rows.specs.declared.value.Value.{Value}
 use Rattle.amber_log.specs.declared.entry.Entry.{Entry}
 use Rattle.amber_log.specs.declared.entry.Entry.TheVariants as entry
-use Rattle.amber_meaning.specs.declared.view.Stop.{Stop}
-use Rattle.amber_meaning.specs.Position.{Position, Restraint, origin, pending_rows}
-use Rattle.amber_meaning.specs.Rules.{Leads, Moves, Orders, assigned, first_is_watched}
+use Rattle.amber_meaning.specs.Position.{Position, Restraint, origin}
+use Rattle.amber_meaning.specs.Rules.{Leads, Moves, Orders, assigned}
 use Rattle.amber_meaning.specs.State.{Counting, State, arms_at, counted_by, crew_at, emitted_by, position_at}
 use Rattle.amber_meaning.specs.Task.{Role}
-use Rattle.amber_meaning.proofs.Numbers.{among, among-first, among-more}
 use Rattle.amber_meaning.proofs.OneState.{position-get_or}
 use Rattle.amber_lines.specs.Moving.{orders_in}
 use Rattle.amber_meaning.specs.Legal.{IsSettled, Query, assignment_in, entries_of, role_in}
 use Rattle.amber_dataflow.specs.AtWork.{state_reached, worker_state_at}
-use Rattle.amber_dataflow.specs.Dataflow.{DataflowState, StandAt, hand_of, is_held, leg_parts, rows_emitted}
+use Rattle.amber_dataflow.specs.Dataflow.{DataflowState, StandAt, hand_of, leg_parts, rows_emitted}
 use Rattle.amber_dataflow.proofs.Reached.{listed-at}
 use Rattle.amber_dataflow.proofs.Standing.{stand-emitted, stand-position, stand-worked}
 use Rattle.amber_boards.specs.Boards.{AreEmptyHanded, AreWithin, IsWithin, target_at}
@@ -28,11 +24,6 @@ use Rattle.amber_home.specs.HomeState.{first_unfinished}
 use Rattle.amber_home.specs.Leg.{count_at, counts_asked}
 use Rattle.amber_home.proofs.InForce.{in-force-worked}
 use Rattle.amber_home.proofs.Places.{at-map}
-
--- no row is watched where no condition is in force
-watched-never : (rows : List (List Value)) → first_is_watched None rows ≡ false
-watched-never [] = refl
-watched-never (row ∷ rows) = refl
 
 -- ---- no units
 
@@ -51,33 +42,6 @@ unfolding Leads
 hand-stays role orders p q [] uncounted none leads = ap (λ m. m.restraint.hand) (sym leads) ∙ none
 hand-stays role orders p q (one ∷ more) uncounted none leads =
     hand-stays role orders leads.0 q more uncounted (hand-moves role orders p leads.0 one uncounted none leads.1) leads.2
-
--- ---- nobody held
-
-loose-moves : (role : Role) (orders : Orders) (p q : Position) (one : Entry) → orders.when ≡ None → p.restraint.held ≡ false → Moves (assigned role orders) p one q → q.restraint.held ≡ false
-loose-moves role orders p q (entry.Take from number) unwatched none moves = ap (λ m. m.restraint.held) moves.2 ∙ none
-loose-moves role orders p q (entry.Go rows outs) unwatched none moves = ap (λ m. m.restraint.held) moves.2 ∙ none
-loose-moves role orders p q (entry.Grant n) unwatched none moves = ap (λ m. m.restraint.held) moves.2 ∙ none
-loose-moves role orders p q (entry.Back n) unwatched none moves = ap (λ m. m.restraint.held) moves.2 ∙ none
-loose-moves role orders p q entry.Pause unwatched none moves = ap (λ m. m.restraint.held) moves.2 ∙ none
-loose-moves role orders p q entry.Resume unwatched none moves = ap (λ m. m.restraint.held) moves.2 ∙ none
-loose-moves role orders p q entry.Hold unwatched none moves =
-    absurd (false≢true (sym (ap (λ when. first_is_watched when (pending_rows role p)) unwatched ∙ watched-never (pending_rows role p)) ∙ moves.1.watched))
-loose-moves role orders p q entry.Finish unwatched none moves = ap (λ m. m.restraint.held) moves.2 ∙ none
-
--- where no condition is in force, who was not held is not
-pub loose-stays : (role : Role) (orders : Orders) (p q : Position) (entries : List Entry) → orders.when ≡ None → p.restraint.held ≡ false → Leads (assigned role orders) p entries q → q.restraint.held ≡ false
-unfolding Leads
-loose-stays role orders p q [] unwatched none leads = ap (λ m. m.restraint.held) (sym leads) ∙ none
-loose-stays role orders p q (one ∷ more) unwatched none leads =
-    loose-stays role orders leads.0 q more unwatched (loose-moves role orders p leads.0 one unwatched none leads.1) leads.2
-
--- ---- lists of stops
-
--- where none of these has a stop
-pub no-stops-among : (f : ℕ → List Stop) (xs : List ℕ) → ((x : ℕ) → among x xs ≡ true → f x ≡ []) → flat_map f xs ≡ []
-no-stops-among f [] none = refl
-no-stops-among f (x ∷ xs) none = rw (none x (among-first x xs), no-stops-among f xs (λ y known. none y (among-more y x xs known))) refl
 
 -- ---- the first that has not
 
@@ -130,15 +94,6 @@ module _ (query : Query) (start : State) (d : DataflowState) (positions : ℕ �
   -- a worker is held or paused as its position is
   pub restraint-at : (worker : ℕ) → worker < crew_of query.flow → (worker_state_at d.workers worker).restraint ≡ (positions worker).restraint
   restraint-at worker inside = (stand.work.at.at_positions.each worker inside).shows.restraint
-
-  -- nobody is held, where nobody was when the leg began and no condition is in force
-  pub loose-reached : ((op : ℕ) → (arms_at start op).when ≡ None) → ((worker : ℕ) → worker < crew_of query.flow → (position_at start.positions worker).restraint.held ≡ false)
-      → (worker : ℕ) → worker < crew_of query.flow → is_held d worker ≡ false
-  unfolding is_held
-  loose-reached unwatched none worker inside =
-      ap (λ (r : Restraint). r.held) (restraint-at worker inside)
-      ∙ loose-stays (role_in query worker) (orders_in query start worker) (position_at start.positions worker) (positions worker) (entries_of (leg_parts d) worker)
-      (unwatched (op_of query.flow worker)) (none worker inside) (leads-at worker inside)
 
   -- ---- units
 

@@ -6,27 +6,22 @@ use Rattle.amber_rows.specs.Topology.{crew_of, first_worker_of, op_of}
 use Rattle.amber_rows.specs.Lists.{first_of, numbers_below}
 use Rattle.amber_rows.specs.declared.flow.Operator.{Operator}
 use Rattle.amber_rows.specs.declared.value.Value.{Value}
-use Rattle.amber_log.specs.declared.leg.Close.{Close}
-use Rattle.amber_log.specs.declared.leg.Close.TheVariants as close
 use Rattle.amber_meaning.specs.declared.view.Stop.{Stop}
 use Rattle.amber_meaning.specs.declared.view.Stop.TheVariants as stop
-use Rattle.amber_meaning.specs.Legal.{IsSettled, Query, role_in, stops_in}
+use Rattle.amber_meaning.specs.Legal.{Query, role_in, stops_in}
 use Rattle.amber_meaning.specs.Position.{Position, Restraint, pending_rows}
-use Rattle.amber_meaning.specs.State.{Counting, State, arms_at, crew_at, emitted_by, have_finished, position_at, steps_in}
+use Rattle.amber_meaning.specs.State.{Counting, State, arms_at, crew_at, emitted_by, position_at}
 use Rattle.amber_meaning.specs.Stops.{count_stop, count_stops, end_stop, held_stop, held_stops, op_numbers, pause_stop, pause_stops, stops_of}
 use Rattle.amber_meaning.proofs.Numbers.{among, among-first, among-more, among_step, below-in, in-below, in-row}
 use Rattle.amber_dataflow.specs.AtWork.{state_reached, worker_state_at}
-use Rattle.amber_dataflow.specs.Dataflow.{AreHeldByRows, DataflowState, StandAt, have_all_finished, held_row, is_held, rows_emitted, step_count}
-use Rattle.amber_dataflow.proofs.Standing.{stand-emitted, stand-finished, stand-position, stand-steps}
+use Rattle.amber_dataflow.specs.Dataflow.{AreHeldByRows, DataflowState, StandAt, held_row, is_held, rows_emitted}
+use Rattle.amber_dataflow.proofs.Standing.{stand-emitted, stand-finished, stand-position}
 use Rattle.amber_home.specs.Asked.{Asked, IsCountOf, IsInForce, asked_at, is_reached, is_stopped_after, no_asked, stands_after}
-use Rattle.amber_home.specs.HomeState.{ClosesIn}
-use Rattle.amber_home.specs.Leg.{IsCut, IsLegDone, NoneStands, count_at, counts_asked, counts_of, held_of, is_stopped, other_stops, pause_at, pauses_of, stop_at_end, stop_of_count, stop_of_pause, stop_of_worker, stops_by}
-use Rattle.amber_boards.specs.Boards.{AreEmptyHanded, AreWithin}
+use Rattle.amber_home.specs.Leg.{IsCut, count_at, counts_of, held_of, other_stops, pause_at, pauses_of, stop_at_end, stop_of_count, stop_of_pause, stop_of_worker, stops_by}
 use Rattle.amber_boards.specs.declared.target.Target.{Target}
 use Rattle.amber_home.proofs.Counted.{reached-test}
-use Rattle.amber_home.proofs.Paused.{none-counted, none-paused}
 use Rattle.amber_home.proofs.Places.{nth-past}
-use Rattle.amber_home.proofs.Reached.{in-force-reached, no-stops-among, settled-reached}
+use Rattle.amber_home.proofs.Reached.{in-force-reached}
 
 -- ---- lists of stops
 
@@ -114,27 +109,7 @@ module _ (query : Query) (start : State) (d : DataflowState) (positions : ℕ �
       let now = in-force-reached query start d positions stand arms is in
       rw (held-are, counts-are arms now, pauses-are arms now, ends-are) refl
 
--- ---- how the leg may be closed
-
--- where none stands there is no stop of a pause
-pauses-none : (arms : List Asked) (d : DataflowState) → NoneStands arms d → pauses_of arms d ≡ []
-pauses-none arms d none =
-    no-stops-among (λ op. stop_of_pause op (pause_at arms op) (rows_emitted d op)) (op_numbers d.flow)
-    (λ op known. one op (pause_at arms op) (rows_emitted d op) (none-paused arms d op (none op)))
-  where
-    one : (op : ℕ) (pause : Option ℕ) (rows : ℕ) → stands_after pause rows ≡ false → stop_of_pause op pause rows ≡ []
-    one op None rows e = refl
-    one op (Some n) rows e = ap (λ b. if b then stop.Pause op n rows ∷ [] else []) e
-
--- nor of a count
-counts-none : (arms : List Asked) (d : DataflowState) → NoneStands arms d → counts_of arms d ≡ []
-counts-none arms d none =
-    no-stops-among (λ op. stop_of_count op (count_at arms op) (rows_emitted d op)) (op_numbers d.flow)
-    (λ op known. one op (count_at arms op) (rows_emitted d op) (none-counted arms d op (none op)))
-  where
-    one : (op : ℕ) (count : Option Target) (rows : ℕ) → is_reached count rows ≡ false → stop_of_count op count rows ≡ []
-    one op None rows e = refl
-    one op (Some count) rows e = ap (λ b. if b then stop.Count op count.target ∷ [] else []) e
+-- ---- where there is a stop
 
 -- two lists that are empty together
 both-none : {A : Type 0} (xs ys : List A) → xs ++ ys ≡ [] → (xs ≡ []) × (ys ≡ [])
@@ -178,14 +153,6 @@ count-stands op (Some count) rows e none = cons-nil (sym (ap (λ b. if b then st
     cons-nil : stop.Count op count.target ∷ [] ≡ [] → ⊥
     cons-nil e = cc
 
--- where no pause and no count stands, and somebody has not finished, no stop stands but those of held workers
-pub others-none : (arms : List Asked) (d : DataflowState) → NoneStands arms d → have_all_finished d ≡ false → other_stops arms d ≡ []
-others-none arms d none unfinished = rw (counts-none arms d none, pauses-none arms d none, unfinished) refl
-
--- and none at all where nobody is held
-pub stops-none : (arms : List Asked) (d : DataflowState) → held_of d ≡ [] → NoneStands arms d → have_all_finished d ≡ false → stops_by arms d ≡ []
-stops-none arms d loose none unfinished = rw (loose, others-none arms d none unfinished) refl
-
 -- the stop of a worker by the row before which it is held
 by-row : (op place : ℕ) (held : Bool) (pending : List (List Value)) (row : Option (List Value)) → (if held then first_of pending else None) ≡ row
     → held_stop op place held pending ≡ flat_map (λ row. stop.Held op place row ∷ []) (option_to_list row)
@@ -201,15 +168,6 @@ pub stop-of-row : (d : DataflowState) (worker : ℕ) (row : List Value) → held
     → stop_of_worker d worker ≡ stop.Held (op_of d.flow worker) (worker - first_worker_of d.flow (op_of d.flow worker)) row ∷ []
 unfolding held_row
 stop-of-row d worker row is = by-row _ _ _ _ (Some row) is
-
--- nobody is held
-pub held-none : (d : DataflowState) → ((worker : ℕ) → worker < crew_of d.flow → is_held d worker ≡ false) → held_of d ≡ []
-unfolding held_of is_held
-held-none d loose =
-    no-stops-among (stop_of_worker d) (numbers_below (crew_of d.flow))
-    (λ worker known.
-    ap (λ b. held_stop (op_of d.flow worker) (worker - first_worker_of d.flow (op_of d.flow worker)) b (worker_state_at d.workers worker).pending)
-    (loose worker (below-in (crew_of d.flow) worker known)))
 
 -- who is held has a stop
 held-stands : (op place : ℕ) (held : Bool) (pending : List (List Value)) → held ≡ true → is_some (if held then first_of pending else None) ≡ true → held_stop op place held pending ≢ []
@@ -259,53 +217,3 @@ stops-some arms d long rows stands none = by stands
               (count-stands op (count_at arms op) (rows_emitted d op) counted) (both-none (counts_of arms d) (pauses_of arms d ++ stop_at_end d) later).0
         ]
     by (inr (inr finished)) = end-nil (sym (ap (λ b. if b then stop.End ∷ [] else []) finished) ∙ (both-none (pauses_of arms d) (stop_at_end d) last).1)
-
--- nothing is armed at an operator
-abbrev pub IsUnarmed : List Asked → ℕ → Type 0
-IsUnarmed arms op = (pause_at arms op ≡ None) × (count_at arms op ≡ None)
-
--- nothing is armed anywhere, and nobody is held
-pub record IsLetAlone (arms : List Asked) (d : DataflowState) : Type 0 where
-  pub unarmed : (op : ℕ) → IsUnarmed arms op
-  pub loose : (worker : ℕ) → worker < crew_of d.flow → is_held d worker ≡ false
-
--- no stop stands where nothing is armed
-unarmed : (arms : List Asked) (d : DataflowState) (op : ℕ) → IsUnarmed arms op → is_stopped arms d op ≡ true → ⊥
-unarmed arms d op none stopped =
-    elim (or_cases (stands_after (pause_at arms op) (rows_emitted d op)) (is_reached (count_at arms op) (rows_emitted d op)) stopped) [
-      | inl paused ↦ false≢true (sym (ap (λ pause. stands_after pause (rows_emitted d op)) none.0) ∙ paused)
-      | inr counted ↦ false≢true (sym (ap (λ count. is_reached count (rows_emitted d op)) none.1) ∙ counted)
-    ]
-
-module _ (query : Query) (start : State) (d : DataflowState) (positions : ℕ → Position) (stand : StandAt query start d positions) (arms : List Asked)
-    (is : IsInForce query.flow start arms)
-    (empty : AreEmptyHanded d) (within : AreWithin (counts_asked arms) d) (rows : AreHeldByRows d) where
-  abbrev now : State
-  now = state_reached query start positions
-
-  stops-now : stops_in query now ≡ stops_by arms d
-  stops-now = stops-are query start d positions stand arms is
-
-  settled-now : IsSettled query now
-  settled-now = settled-reached query start d positions stand arms is empty within
-
-  steps-now : steps_in now ≡ step_count d
-  steps-now = stand-steps query start d positions stand
-
-  finished-now : have_finished now ≡ have_all_finished d
-  finished-now = stand-finished query start d positions stand
-
-  -- so may it be closed
-  pub may-close : (to_end : Bool) (closed : Close) → (to_end ≡ true → IsLetAlone arms d) → step_count d ≤ query.most → IsLegDone closed arms query.most d
-      → ClosesIn to_end query now closed
-  may-close false close.Cut none few done =
-      (settled-now, rw steps-now few, λ e. stops-some arms d (is.all ∙ ap length (sym stand.flow)) rows done (sym stops-now ∙ e))
-  may-close false close.Long none few done =
-      (settled-now, steps-now ∙ done.1, stops-now ∙ stops-none arms d (held-none d (λ worker inside. done.0.loose worker)) done.0.none done.0.unfinished)
-  may-close true close.Cut none few done = (settled-now, rw steps-now few, by done)
-    where
-      by : IsCut arms d → have_finished now ≡ true
-      by (inl held) = absurd (false≢true (sym ((none refl).loose held.0 held.1) ∙ held.2))
-      by (inr (inl stopped)) = absurd (unarmed arms d stopped.0 ((none refl).unarmed stopped.0) stopped.1)
-      by (inr (inr finished)) = finished-now ∙ finished
-  may-close true close.Long none few done = (settled-now, steps-now ∙ done.1, finished-now ∙ done.0.unfinished)

@@ -2,12 +2,12 @@
 use Rattle.std.specs.Prelude.{◌≡◌, ◌⊎◌, ℕ, List, Option, true}
 use Rattle.amber_rows.specs.Topology.{op_of}
 use Rattle.amber_boards.specs.Boards.{AreCounted, AreInForce, CounterState, HandsOut, board_at, has_board, target_of_count}
-use Rattle.amber_dataflow.specs.Dataflow.{AreAllThere, DataflowState, IsFirst, StandAt, StepsAt, has_finished, is_armed_at, is_short}
+use Rattle.amber_dataflow.specs.Dataflow.{AreAllThere, DataflowState, IsFirst, StandAt, StepsAt, has_finished, have_all_finished, is_armed_at, is_short, rows_emitted, step_count}
 use Rattle.amber_meaning.specs.Legal.{Query}
 use Rattle.amber_meaning.specs.Position.{Position}
 use Rattle.amber_meaning.specs.State.{State}
 use Rattle.amber_home.specs.Asked.{Asked}
-use Rattle.amber_home.specs.Leg.{count_at, is_counted, is_stopped}
+use Rattle.amber_home.specs.Leg.{count_at, is_counted, is_stopped, stops_by}
 
 -- of whatever query they are the workers, in a leg with these counts, they have moved on
 pub record GoOn (arms : List Asked) (old new : DataflowState) : Type 0 where
@@ -15,6 +15,13 @@ pub record GoOn (arms : List Asked) (old new : DataflowState) : Type 0 where
   pub there : AreAllThere old → AreAllThere new
   pub on : (query : Query) (start : State) (positions : ℕ → Position) → StandAt query start old positions → AreInForce (is_counted arms) start
       → (later : ℕ → Position) × StandAt query start new later
+
+-- they are as far as they were: as many steps were made and rows emitted, all have finished just where they had, and the same stops stand
+pub record AreAsFar (arms : List Asked) (old new : DataflowState) : Type 0 where
+  pub steps : step_count new ≡ step_count old
+  pub rows : (op : ℕ) → rows_emitted new op ≡ rows_emitted old op
+  pub finished : have_all_finished new ≡ have_all_finished old
+  pub stops : stops_by arms new ≡ stops_by arms old
 
 -- the workers may make turns: each count that is in force is counted on its board, and nobody else has a seat
 pub record AreReady (arms : List Asked) (boards : List (Option CounterState)) (d : DataflowState) : Type 0 where

@@ -1,5 +1,5 @@
 -- What a home keeps, and what its calls change.
-use Rattle.std.specs.Prelude.{◌≡◌, ◌≢◌, ◌⊎◌, ℕ, suc, ◌+◌, ◌-◌, ◌^◌, ◌<◌, ◌||◌, min, List, [], ◌∷◌, ◌++◌, Option, None, Some, Result, Ok, Err, Bool, true, false, if◌then◌else◌}
+use Rattle.std.specs.Prelude.{◌≡◌, ◌≢◌, ◌⊎◌, ℕ, suc, ◌+◌, ◌-◌, ◌^◌, ◌<◌, ◌||◌, min, List, [], ◌∷◌, ◌++◌, Option, None, Some, Bool, true, false, if◌then◌else◌}
 use Rattle.amber_rows.specs.Topology.{crew_of, op_of}
 use Rattle.amber_rows.specs.declared.flow.Operator.{Operator}
 use Rattle.amber_rows.specs.declared.value.Value.{Value}
@@ -17,17 +17,14 @@ use Rattle.amber_log.specs.declared.log.Item.{Item}
 use Rattle.amber_log.specs.declared.log.Item.TheVariants as item
 use Rattle.amber_log.specs.declared.log.Log.{Log}
 use Rattle.amber_meaning.specs.declared.view.Stop.{Stop}
-use Rattle.amber_meaning.specs.InTime.{IsInTime}
 use Rattle.amber_meaning.specs.Legal.{ClosesEnd, ClosesRun, IsSettled, IsWorked, Query, entries_of, leg_start, query_over, role_in, stops_in}
 use Rattle.amber_meaning.specs.Position.{Position, pending_rows, rest_of}
 use Rattle.amber_meaning.specs.Replay.{after_leg, state_after}
-use Rattle.amber_meaning.specs.State.{Counting, State, arms_at, counted_at, have_finished, position_at, steps_in, worker_at}
+use Rattle.amber_meaning.specs.State.{Counting, State, arms_at, counted_at, emitted_by, have_finished, position_at, steps_in, worker_at}
 use Rattle.amber_meaning.specs.Transcript.{held_row}
 use Rattle.amber_worker.specs.Turning.{WritesStep}
 use Rattle.amber_link.specs.Links.{has_some}
 use Rattle.amber_worker.specs.Counting.{with_back}
-use Rattle.amber_home.specs.declared.error.LegErr.{LegErr}
-use Rattle.amber_home.specs.declared.error.LegErr.TheVariants as leg_err
 use Rattle.amber_home.specs.declared.phase.Counts.{Counts}
 use Rattle.amber_home.specs.declared.phase.Counts.TheVariants.{Armed, Disarmed, Unarmed}
 use Rattle.amber_home.specs.declared.phase.Phase.{Phase}
@@ -201,20 +198,6 @@ MayClose false e close.Long = (steps_in (state_of e) ≡ e.most) × (stops_of_ho
 abbrev pub with_closed_leg : HomeState → Close → HomeState
 with_closed_leg e closed = record e { log = with_item e.log (item_of_leg (runs_to_end e.phase) e.parts closed); phase = phase.Resting; parts = [] }
 
--- the leg stands in the log, closed so and in time, and nothing else has changed
-pub record ClosesLeg (to_end : Bool) (old new : HomeState) (closed : Close) : Type 0 where
-  pub parts : List Part
-  pub so : ClosesIn to_end (query_of old) (leg_state old to_end parts) closed
-  pub in_time : IsInTime (query_of old) 0 (rest_state old) (item_of_leg to_end parts closed)
-  pub is : new ≡ record old { log = with_item old.log (item_of_leg to_end parts closed); phase = phase.Resting; parts = []; alone = 0 }
-
--- what a leg leaves: a stop stands, to the end all have finished; or the steps are as many as may be, and that is not so; or memory
--- ran out
-abbrev pub Ends : Result (Unit {0}) LegErr → Bool → HomeState → HomeState → Type 0
-Ends (Ok done) to_end old new = ClosesLeg to_end old new close.Cut
-Ends (Err leg_err.Long) to_end old new = ClosesLeg to_end old new close.Long
-Ends (Err leg_err.NoMemory) to_end old new = new ≡ record old { phase = phase.Spent; parts = []; alone = 0 }
-
 -- the number of the first worker that has not finished, of workers at these positions
 unfoldable pub first_unfinished : List Position → ℕ
 first_unfinished [] = 0
@@ -233,6 +216,10 @@ pub record IsLeftAlone (old new : HomeState) (worker : ℕ) : Type 0 where
 abbrev pub NoneIsPaused : HomeState → Type 0
 NoneIsPaused e = (worker : ℕ) → (position_at (state_of e).positions worker).restraint.paused ≡ false
 
+-- no operator has emitted as many rows as its pause asks for
+abbrev pub IsEarly : HomeState → Type 0
+IsEarly e = (op n : ℕ) → (arms_at (state_of e) op).pause ≡ Some n → emitted_by e.flow (state_of e) op < n
+
 -- nobody is held
 abbrev pub NoneIsHeld : HomeState → Type 0
 NoneIsHeld e = (worker : ℕ) → (position_at (state_of e).positions worker).restraint.held ≡ false
@@ -241,14 +228,20 @@ NoneIsHeld e = (worker : ℕ) → (position_at (state_of e).positions worker).re
 abbrev pub with_resume : Bool → List Entry → List Entry
 with_resume paused entries = if paused then entries ++ entry.Resume ∷ [] else entries
 
--- each worker goes on that was paused, and has written so; no step was made, and the stops are those that stood
+-- it is as far as it was: as many steps were made and rows emitted, as many have finished, and the same stops stand
+pub record IsAsFar (old new : HomeState) : Type 0 where
+  pub steps : steps_in (state_of new) ≡ steps_in (state_of old)
+  pub rows : (op : ℕ) → emitted_by new.flow (state_of new) op ≡ emitted_by old.flow (state_of old) op
+  pub finished : have_finished (state_of new) ≡ have_finished (state_of old)
+  pub stops : stops_of_home new ≡ stops_of_home old
+
+-- each worker goes on that was paused, and has written so; it is as far as it was
 pub record ResumesLeg (old new : HomeState) : Type 0 where
   pub only : new ≡ record old { parts = new.parts }
   pub writes : (worker : ℕ) → worker < crew_of old.flow
       → entries_of new.parts worker ≡ with_resume (position_at (state_of old).positions worker).restraint.paused (entries_of old.parts worker)
   pub running : NoneIsPaused new
-  pub steps : steps_in (state_of new) ≡ steps_in (state_of old)
-  pub stops : stops_of_home new ≡ stops_of_home old
+  pub far : IsAsFar old new
 
 -- one step was made, which the next worker has written
 pub record MakesStep (old new : HomeState) : Type 0 where
@@ -260,6 +253,12 @@ pub record IsHeldNext (old new : HomeState) : Type 0 where
   pub none : steps_in (state_of new) ≡ steps_in (state_of old)
   pub held : (position_at (state_of new).positions (next_worker old)).restraint.held ≡ true
   pub writes : entries_of new.parts (next_worker old) ≡ entries_of old.parts (next_worker old) ++ entry.Hold ∷ []
+
+-- one step was made, or none was and a worker is held
+abbrev pub MovesOrHolds : HomeState → HomeState → Type 0
+MovesOrHolds old new =
+    (steps_in (state_of new) ≡ steps_in (state_of old) + 1)
+    ⊎ ((steps_in (state_of new) ≡ steps_in (state_of old)) × ((worker : ℕ) × ((position_at (state_of new).positions worker).restraint.held ≡ true)))
 
 -- ---- units
 
@@ -304,6 +303,11 @@ pub record HandsOut (old new : HomeState) : Type 0 where
 abbrev pub IsFed : HomeState → HomeState → Type 0
 IsFed old new = (new ≡ old) ⊎ HandsOut old new
 
+-- workers have perhaps got units; it is as far as it was
+pub record FeedsLeg (old new : HomeState) : Type 0 where
+  pub only : new ≡ record old { parts = new.parts }
+  pub far : IsAsFar old new
+
 -- one step more for which `home_step` was called; at its end the number stands still
 abbrev pub alone_more : ℕ → ℕ
 alone_more n = min (n + 1) (2 ^ 64 - 1)
@@ -317,8 +321,9 @@ pub record StepsOn (old new : HomeState) : Type 0 where
   pub does : MakesStep fed new ⊎ IsHeldNext fed new
   pub others : (worker : ℕ) → worker ≢ next_worker fed → IsLeftAlone fed new worker
 
--- the boards are closed: each worker's hand was given back
+-- the boards are closed: each worker's hand was given back, and it is as far as it was
 pub record DisarmsLeg (old new : HomeState) : Type 0 where
   pub only : new ≡ record old { parts = new.parts; phase = phase.Open (runs_to_end old.phase) Disarmed }
   pub writes : (worker : ℕ) → worker < crew_of old.flow → GivesBack old new worker
   pub settled : IsSettled (query_of new) (state_of new)
+  pub far : IsAsFar old new

@@ -1,8 +1,8 @@
--- What a leg comes to.
-use Rattle.std.specs.Prelude.{◌≡◌, ◌≢◌, ℕ, ◌+◌, ◌-◌, ◌==◌, ◌<◌, ◌≤◌, ◌⊎◌, List, [], ◌∷◌, ◌++◌, map, max, nat_le, is_some, Option, None, Some, Bool, true, false, if◌then◌else◌}
+-- The stops of a leg, what its close leaves in force, and what an operator shows.
+use Rattle.std.specs.Prelude.{◌≡◌, ℕ, ◌+◌, ◌-◌, ◌==◌, ◌<◌, ◌⊎◌, List, [], ◌∷◌, ◌++◌, map, nat_le, is_some, Option, None, Some, Bool, true, false, if◌then◌else◌}
 use Rattle.std.specs.List.{flat_map}
 use Rattle.amber_dataflow.specs.AtWork.{state_reached, worker_state_at}
-use Rattle.amber_dataflow.specs.Dataflow.{DataflowState, StandAt, hand_of, have_all_finished, is_held, leg_parts, rows_emitted, step_count}
+use Rattle.amber_dataflow.specs.Dataflow.{DataflowState, StandAt, hand_of, have_all_finished, is_held, rows_emitted}
 use Rattle.amber_log.specs.declared.leg.Close.{Close}
 use Rattle.amber_log.specs.declared.leg.Close.TheVariants as close
 use Rattle.amber_meaning.specs.declared.view.Counted.{Counted}
@@ -16,7 +16,7 @@ use Rattle.amber_meaning.specs.Stops.{held_stop, op_numbers}
 use Rattle.amber_meaning.specs.Views.{inspected_of}
 use Rattle.amber_rows.specs.Lists.{numbers_below}
 use Rattle.amber_rows.specs.Topology.{crew_of, first_worker_of, op_of}
-use Rattle.amber_home.specs.Asked.{Asked, IsInForce, asked_at, asked_left, is_stopped_after, stands_after}
+use Rattle.amber_home.specs.Asked.{Asked, IsInForce, asked_at, asked_left, is_stopped_after}
 use Rattle.amber_boards.specs.declared.target.Target.{Target}
 
 -- ---- what stands
@@ -41,10 +41,6 @@ is_counted arms op = is_some (count_at arms op)
 abbrev pub AreEmptyOf : (ℕ → Bool) → DataflowState → Type 0
 AreEmptyOf counted d = (worker : ℕ) → worker < crew_of d.flow → counted (op_of d.flow worker) ≡ true → hand_of d worker ≡ 0
 
--- a pause of this operator stands
-abbrev pub pause_stands : List Asked → DataflowState → ℕ → Bool
-pause_stands arms d op = stands_after (pause_at arms op) (rows_emitted d op)
-
 -- a pause or a count of this operator stands
 abbrev pub is_stopped : List Asked → DataflowState → ℕ → Bool
 is_stopped arms d op = is_stopped_after (asked_at arms op) (rows_emitted d op)
@@ -52,10 +48,6 @@ is_stopped arms d op = is_stopped_after (asked_at arms op) (rows_emitted d op)
 -- no pause and no count stands
 abbrev pub NoneStands : List Asked → DataflowState → Type 0
 NoneStands arms d = (op : ℕ) → is_stopped arms d op ≡ false
-
--- no operator has emitted more rows than its pause asks for
-abbrev pub NoneIsLate : List Asked → DataflowState → Type 0
-NoneIsLate arms d = (op n : ℕ) → pause_at arms op ≡ Some n → rows_emitted d op ≤ n
 
 -- a held worker, a pause or a count stands, or all have finished
 abbrev pub IsCut : List Asked → DataflowState → Type 0
@@ -106,13 +98,7 @@ other_stops arms d = counts_of arms d ++ (pauses_of arms d ++ stop_at_end d)
 abbrev pub stops_by : List Asked → DataflowState → List Stop
 stops_by arms d = held_of d ++ other_stops arms d
 
--- ---- what a leg comes to
-
--- workers stop in time: where a stop stands already nobody writes anything, and else an operator with a pause has emitted in the end no
--- more rows than it asks for, or than before; nobody is held where a leg begins
-pub record IsLegInTime (arms : List Asked) (old new : DataflowState) : Type 0 where
-  pub at_once : other_stops arms old ≢ [] → leg_parts new ≡ leg_parts old
-  pub pauses : (op n : ℕ) → pause_at arms op ≡ Some n → rows_emitted new op ≤ max n (rows_emitted old op)
+-- ---- what a close leaves in force
 
 -- what is in force at an operator once its pause and its count were taken away where they stand
 abbrev pub cut_at : List Asked → DataflowState → ℕ → Asked
@@ -127,11 +113,6 @@ abbrev pub closed_arms : Bool → Close → List Asked → DataflowState → Lis
 closed_arms true closed arms d = arms
 closed_arms false close.Cut arms d = cut_arms arms d
 closed_arms false close.Long arms d = arms
-
--- a stop stands; or the steps are as many as may be, and none does
-abbrev pub IsLegDone : Close → List Asked → ℕ → DataflowState → Type 0
-IsLegDone close.Cut arms most d = IsCut arms d
-IsLegDone close.Long arms most d = GoesOn arms d × (step_count d ≡ most)
 
 -- ---- what an operator shows
 

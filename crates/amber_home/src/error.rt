@@ -1,8 +1,7 @@
-//! Why a home cannot begin, and why a leg does not come to its stop. Over `AllocError` alone.
+//! Why a home cannot begin. Over `AllocError` alone.
 
 ghost use Rattle.std.specs.Prelude.{◌≡◌};
 ghost use Rattle.amber_home.specs.declared.error.HomeErr.TheVariants as home_err;
-ghost use Rattle.amber_home.specs.declared.error.LegErr.TheVariants as leg_err;
 
 use std::alloc::AllocError;
 
@@ -21,23 +20,5 @@ impl From<AllocError> for HomeErr {
 
     fn from(_error: AllocError) -> HomeErr {
         HomeErr::NoMemory
-    }
-}
-
-/// Why a leg did not come to its stop.
-#[derive(Clone, Copy, Debug)]
-pub enum LegErr {
-    /// The run has made as many steps as it may, and somebody has not finished. The leg stands in the log,
-    /// closed so.
-    Long,
-    /// Memory ran out inside the leg. The log is as before the leg, and the run cannot go on.
-    NoMemory,
-}
-
-impl From<AllocError> for LegErr {
-    ghost from_gives = { λ _ e. e ≡ leg_err.NoMemory };
-
-    fn from(_error: AllocError) -> LegErr {
-        LegErr::NoMemory
     }
 }

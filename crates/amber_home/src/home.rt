@@ -1,25 +1,24 @@
 //! The home of a run: what it keeps, and its calls. Over `Dataflow`, `Boards`, `InForce` and the functions of the other
 //! files.
 
-ghost use Rattle.std.specs.Prelude.{◌≡◌, ◌+◌, ◌^◌, ◌<◌, ◌≤◌, ◌≢◌, [], IfOk, None, OnErr, OnOk, false, true, length};
+ghost use Rattle.std.specs.Prelude.{◌≡◌, ◌+◌, ◌^◌, ◌<◌, ◌≤◌, ◌≢◌, ℕ, [], IfOk, None, OnErr, OnOk, false, true, length};
 ghost use Rattle.amber_log.specs.Fits.{fits_of};
 ghost use Rattle.amber_log.specs.Grammar.{ends_over};
 ghost use Rattle.amber_log.specs.declared.log.Item.TheVariants as item;
-ghost use Rattle.amber_meaning.specs.InTime.{IsInTime};
+ghost use Rattle.amber_meaning.specs.Legal.{leg_start};
 ghost use Rattle.amber_meaning.specs.Plain.{scan_count, wrong_header};
-ghost use Rattle.amber_meaning.specs.State.{have_finished, steps_in};
+ghost use Rattle.amber_meaning.specs.State.{emitted_by, have_finished, steps_in};
 ghost use Rattle.amber_meaning.specs.Views.{answer_in};
 ghost use Rattle.amber_home.specs.Beginning.{BeginsOrNames};
-ghost use Rattle.amber_home.specs.HomeState.{AreArmed, ClosesIn, DisarmsLeg, Ends, MayClose, NoneIsPaused, StepsOn, counts_in};
-ghost use Rattle.amber_home.specs.HomeState.{dropped_by, is_done_at_rest, is_open, item_of_leg, query_of, rest_state, runs_to_end, state_of};
+ghost use Rattle.amber_home.specs.HomeState.{AreArmed, ClosesIn, DisarmsLeg, MayClose, MovesOrHolds, NoneIsPaused, StepsOn};
+ghost use Rattle.amber_home.specs.HomeState.{counts_in, dropped_by, is_done_at_rest, is_open, query_of, rest_state, runs_to_end, state_of};
 ghost use Rattle.amber_home.specs.HomeState.{stops_of_home, with_item, with_closed_leg};
 
 mod lending;
 mod reading;
 
 use crate::applying::{condition_for, conditions_for, copies_for, push_command, put_in_force};
-use crate::driving::run_leg;
-use crate::error::{HomeErr, LegErr};
+use crate::error::HomeErr;
 use crate::in_force::InForce;
 use crate::leg_item::push_leg;
 use crate::phase::{Counts, Phase};
@@ -212,11 +211,12 @@ impl Home {
     pub fn open_leg(&mut self, to_end: bool)
         requires resting { self.old.phase ≡ Phase.Resting }
         requires open { ends_over false self.old.log.items ≡ false }
-        ensures { self.new ≡ record self.old {
+        ensures opens { self.new ≡ record self.old {
           phase = Phase.Open to_end Counts.Unarmed;
           parts = [];
           alone = 0;
         } }
+        ensures begins { state_of self.new ≡ leg_start to_end (rest_state self.old) }
     {
         self.dataflow.begin(to_end);
         self.arms.begin_leg(to_end);
@@ -274,6 +274,9 @@ impl Home {
         requires armed { AreArmed self.old }
         requires few { steps_in (state_of self.old) < self.old.most }
         ensures ok { OnOk result (StepsOn self.old self.new) }
+        ensures rows { OnOk result ((op : ℕ) → emitted_by self.new.flow (state_of self.new) op
+            ≤ emitted_by self.old.flow (state_of self.old) op + 1) }
+        ensures moves { OnOk result (MovesOrHolds self.old self.new) }
         ensures err { OnErr result
             (self.new ≡ record self.old { phase = Phase.Spent; parts = [] }) }
     {
@@ -283,40 +286,6 @@ impl Home {
         self.alone = self.alone.saturating_add(1);
         self.phase = phase;
         Ok(())
-    }
-
-    // Runs the leg that is open, whose counts are not armed yet, and says how it may be closed. One in which nothing was
-    // done yet stops in time.
-    fn run_open_leg(&mut self, alloc: Global) -> Result<Close, AllocError>
-        requires within { is_open self.old.phase ≡ true }
-        requires unarmed { counts_in self.old.phase ≡ Counts.Unarmed }
-        ensures ok { OnOk result (self.new ≡ record self.old {
-          phase = Phase.Open (runs_to_end self.old.phase) Counts.Disarmed;
-          parts = self.new.parts;
-        }) }
-        ensures closes { IfOk result (λ close. ClosesIn (runs_to_end self.old.phase)
-            (query_of self.old) (state_of self.new) close) }
-        ensures in_time { IfOk result (λ close. self.old.parts ≡ []
-            → IsInTime (query_of self.old) 0 (rest_state self.old)
-            (item_of_leg (runs_to_end self.old.phase) self.new.parts close)) }
-        ensures err { OnErr result
-            (self.new ≡ record self.old { phase = Phase.Spent; parts = [] }) }
-    {
-        let to_end = self.phase.runs_to_end();
-        self.phase = Phase::Spent;
-        let budget = self.most - self.dataflow.steps();
-        let close = run_leg(
-            alloc,
-            &self.arms,
-            &mut self.boards,
-            &mut self.dataflow,
-            budget,
-        )?;
-        self.phase = Phase::Open {
-            to_end,
-            counts: Counts::Disarmed,
-        };
-        Ok(close)
     }
 
     /// Closes the leg that is open: as cut where a stop stands, or to the end all have finished; as long
@@ -348,31 +317,7 @@ impl Home {
         Ok(())
     }
 
-    /// Runs a leg, up to a stop or to the end: the workers make their steps until a stop stands, or until all
-    /// have finished. Up to a stop nobody does anything where one stands already, and no operator emits more
-    /// rows than its pause or its count asks for. The pauses and the counts that stand at the end of such a leg are taken
-    /// away; who is held stays so until the next one.
-    ///
-    /// # Errors
-    ///
-    /// `Long` exactly where the run has made as many steps as it may and no stop stands, or to the end
-    /// somebody has not finished; the leg stands in the log. After `NoMemory` the log is as before, and the
-    /// run cannot go on.
-    pub fn leg_home(&mut self, alloc: Global, to_end: bool) -> Result<(), LegErr>
-        requires resting { self.old.phase ≡ Phase.Resting }
-        requires open { ends_over false self.old.log.items ≡ false }
-        ensures ends { Ends result to_end self.old self.new }
-    {
-        self.open_leg(to_end);
-        let close = self.run_open_leg(alloc)?;
-        self.close_leg(alloc, close)?;
-        match close {
-            Close::Cut => Ok(()),
-            Close::Long => Err(LegErr::Long),
-        }
-    }
-
-    /// The same answer, which the workers give away: they are no longer there then.
+    /// The answer, once all have finished, which the workers give away: they are no longer there then.
     ///
     /// # Errors
     ///

@@ -1,7 +1,7 @@
 //! What commands have put in force at each operator. A command changes what it names and nothing else. Over
 //! `Armed` of `armed`, one for each operator.
 
-ghost use Rattle.std.specs.Prelude.{◌≡◌, ◌<◌, ◌≤◌, IfOk, None, if◌then◌else◌, length, map, option_map};
+ghost use Rattle.std.specs.Prelude.{◌≡◌, ◌<◌, ◌≤◌, ℕ, IfOk, None, Some, false, if◌then◌else◌, length, map, option_map, true};
 ghost use Rattle.amber_rows.specs.Lists.{changed_at, nth};
 ghost use Rattle.amber_meaning.specs.State.{put};
 ghost use Rattle.amber_home.specs.Leg.{counts_asked};
@@ -60,6 +60,20 @@ impl InForce {
             Some(arms) => arms.pause(),
             None => None,
         }
+    }
+
+    /// Whether a pause is armed at any operator.
+    pub fn has_pause(&self) -> bool
+        ensures none { result ≡ false → (op : ℕ) → (asked_at self.now op).pause ≡ None }
+        ensures some { result ≡ true → (op n : ℕ) × ((asked_at self.now op).pause ≡ Some n) }
+    {
+        let arms = self.arms.as_slice();
+        for armed in arms {
+            if armed.pause().is_some() {
+                return true;
+            }
+        }
+        false
     }
 
     /// An operator's count, if one is armed there.

@@ -1,22 +1,40 @@
-//! The workers of an open leg that are lent out, come back and are settled, and what ends a pause within it. Over `Crew`,
-//! `Dataflow` and `Boards`.
+//! The workers of an open leg that get units, are lent out, come back and are settled, and what ends a pause within it.
+//! Over `Crew`, `Dataflow`, `Boards`, and what `feeding` does.
 
 ghost use Rattle.std.specs.Prelude.{◌≡◌, OnErr, OnOk, [], true};
 ghost use Rattle.amber_dataflow.specs.AtWork.{steps_by};
 ghost use Rattle.amber_dataflow.specs.Parts.{parts_from};
 ghost use Rattle.amber_meaning.specs.State.{steps_in};
-ghost use Rattle.amber_home.specs.HomeState.{AreArmed, IsWorkedLeg, NoneIsHeld, ResumesLeg};
+ghost use Rattle.amber_home.specs.HomeState.{AreArmed, FeedsLeg, IsWorkedLeg, NoneIsHeld, ResumesLeg};
 ghost use Rattle.amber_home.specs.HomeState.{counts_in, is_lent, is_open, has_leg_crew, runs_to_end, state_of};
 ghost use Rattle.amber_home.specs.Lent.{IsLent};
 
 use super::Home;
 use crate::crew::Crew;
+use crate::feeding::feed_each;
 use crate::phase::{Counts, Phase};
 use amber_boards::Boards;
 use std::alloc::{AllocError, Global};
 use std::mem;
 
 impl Home {
+    /// Hands units to one worker of each operator whose count is armed, where it needs one and has none: all that are left
+    /// there. It is the worker whose place among those of its operator is what is left of `round` divided by their number, so
+    /// that over as many rounds each has its turn. After running out of memory the log is as before, and the run cannot go on.
+    pub fn feed(&mut self, round: u64) -> Result<(), AllocError>
+        requires within { is_open self.old.phase ≡ true }
+        requires armed { counts_in self.old.phase ≡ Counts.Armed }
+        ensures ok { OnOk result (FeedsLeg self.old self.new) }
+        ensures err { OnErr result
+            (self.new ≡ record self.old { phase = Phase.Spent; parts = [] }) }
+    {
+        let phase = self.phase;
+        self.phase = Phase::Spent;
+        feed_each(&self.arms, &mut self.boards, &mut self.dataflow, round)?;
+        self.phase = phase;
+        Ok(())
+    }
+
     /// Hands out all workers of the leg that is open, whose counts are armed, with the boards of these. Until they come
     /// back the home can do nothing else. It takes no memory.
     pub fn lend(&mut self, alloc: Global) -> Crew
@@ -29,6 +47,7 @@ impl Home {
         ensures lent { IsLent self.new result }
         ensures parts { self.old.parts ≡ parts_from 0 result.workers.items }
         ensures steps { steps_by result.workers.items ≡ steps_in (state_of self.old) }
+        ensures worked { IsWorkedLeg self.old }
     {
         self.phase = Phase::Lent {
             to_end: self.phase.runs_to_end(),
@@ -98,9 +117,9 @@ impl Home {
         Ok(())
     }
 
-    /// Ends the run where memory ran out while the workers were away. They do not come back.
+    /// Ends the run in whatever phase it is, where memory ran out outside of the home. It cannot go on after that, and
+    /// workers that are away do not come back.
     pub fn give_up(&mut self)
-        requires away { is_lent self.old.phase ≡ true }
         ensures { self.new ≡ record self.old { phase = Phase.Spent; parts = [] } }
     {
         self.phase = Phase::Spent;

@@ -1,12 +1,13 @@
 //! What is read of a home: its stops, what operators show, its answer, its log, and how far its workers are.
 
-ghost use Rattle.std.specs.Prelude.{◌≡◌, ◌^◌, ◌<◌, ◌≤◌, ℕ, IfOk, false, length, option_map, true};
+ghost use Rattle.std.specs.Prelude.{◌≡◌, ◌^◌, ◌<◌, ◌≤◌, ◌≢◌, ℕ, [], IfOk, None, Some, false, length, option_map, true};
 ghost use Rattle.amber_log.specs.Fits.{fits_of};
 ghost use Rattle.amber_log.specs.Grammar.{ends_over};
 ghost use Rattle.amber_meaning.specs.Legal.{IsLegal};
-ghost use Rattle.amber_meaning.specs.State.{have_finished, position_at, steps_in};
+ghost use Rattle.amber_meaning.specs.State.{arms_at, have_finished, position_at, steps_in};
 ghost use Rattle.amber_meaning.specs.Views.{answer_in, inspected_of};
-ghost use Rattle.amber_home.specs.HomeState.{NoneIsHeld, NoneIsPaused, dropped_by, has_crew, query_of, state_of, stops_of_home};
+ghost use Rattle.amber_home.specs.HomeState.{IsEarly, NoneIsHeld, NoneIsPaused, dropped_by, has_crew, is_open, query_of, runs_to_end};
+ghost use Rattle.amber_home.specs.HomeState.{state_of, stops_of_home};
 
 use super::Home;
 use crate::applying::row_to_drop;
@@ -22,10 +23,19 @@ use std::alloc::{AllocError, Global};
 
 impl Home {
     /// The stops that stand within a leg. Outside of one those of the last leg, as they stood before its end
-    /// took any away, whatever commands followed; none before the first leg.
+    /// took any away, whatever commands followed; none before the first leg. Where none stands within a leg no operator
+    /// has emitted as many rows as its pause asks for, and not all workers have finished. In a leg to the end one stands
+    /// only once all have.
     pub fn stops(&self, alloc: Global) -> Result<Stops, AllocError>
         requires there { has_crew self.now.phase ≡ true }
-        ensures { IfOk result (λ stops. stops ≡ stops_of_home self.now) }
+        ensures stops { IfOk result (λ stops. stops ≡ stops_of_home self.now) }
+        ensures early { IfOk result (λ stops. is_open self.now.phase ≡ true → stops ≡ []
+            → IsEarly self.now) }
+        ensures ends { IfOk result (λ stops. is_open self.now.phase ≡ true
+            → runs_to_end self.now.phase ≡ true → stops ≢ []
+            → have_finished (state_of self.now) ≡ true) }
+        ensures unfinished { IfOk result (λ stops. is_open self.now.phase ≡ true → stops ≡ []
+            → have_finished (state_of self.now) ≡ false) }
     {
         if self.phase.is_open() {
             stops_of(alloc, &self.arms, &self.dataflow)
@@ -101,8 +111,21 @@ impl Home {
         ensures loose { result ≡ true → NoneIsHeld self.now }
         ensures held { result ≡ false → (worker : ℕ)
             × ((position_at (state_of self.now).positions worker).restraint.held ≡ true) }
+        ensures stands { result ≡ false → is_open self.now.phase ≡ true
+            → stops_of_home self.now ≢ [] }
     {
         !any_held(&self.dataflow)
+    }
+
+    /// Whether an operator's pause is in force.
+    pub fn has_pause(&self) -> bool
+        requires there { has_crew self.now.phase ≡ true }
+        ensures none { result ≡ false → (op : ℕ)
+            → (arms_at (state_of self.now) op).pause ≡ None }
+        ensures some { result ≡ true → (op n : ℕ)
+            × ((arms_at (state_of self.now) op).pause ≡ Some n) }
+    {
+        self.arms.has_pause()
     }
 
     /// The log of the run so far.

@@ -2,7 +2,7 @@
 use Rattle.std.proofs.Common.{false, sym, ap, ◌∙◌}
 use Rattle.amber_log.specs.Grammar.{ends_over}
 use Rattle.amber_home.specs.HomeState.{HomeState}
-use Rattle.amber_home.proofs.Whole.{over-last}
+use Rattle.amber_home.proofs.Steps.{over-last}
 use Rattle.amber_home.proofs.home.Home.closed.Goals as goal
 
 pub returns-in-Some : goal.returns-in-Some

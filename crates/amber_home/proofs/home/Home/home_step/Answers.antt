@@ -1,13 +1,16 @@
 -- One step more, and the home stays one.
-use Rattle.std.proofs.Common.{◌<◌, refl, ap, sym, subst, ◌∙◌, arith}
-use Rattle.amber_meaning.specs.State.{steps_in}
-use Rattle.amber_home.specs.HomeState.{AreArmed, HomeState, NoneIsPaused, StepsOn, alone_more, runs_to_end, state_of, stops_of_home}
+use Rattle.std.proofs.Common.{◌+◌, ◌<◌, ◌≤◌, refl, ap, sym, subst, ◌∙◌, arith}
+use Rattle.amber_meaning.specs.State.{emitted_by, steps_in}
+use Rattle.amber_home.specs.HomeState.{AreArmed, HomeState, MovesOrHolds, NoneIsPaused, StepsOn, alone_more, runs_to_end, state_of, stops_of_home}
 use Rattle.amber_home.specs.Kept.{IsHome}
 use Rattle.amber_home.specs.Parts.{open_parts}
 use Rattle.amber_home.proofs.Armings.{stands-leg}
+use Rattle.amber_home.proofs.AsFar.{rows-are}
+use Rattle.amber_home.proofs.Fed.{next-rows}
 use Rattle.amber_home.proofs.Free.{goes-home, running-home}
 use Rattle.amber_home.proofs.Homes.{leg-of, open-there}
 use Rattle.amber_home.proofs.Inside.{kept, opens, seen, there-within}
+use Rattle.amber_home.proofs.Moved.{moves-home}
 use Rattle.amber_home.proofs.NextStep.{few-step, home-stepped, ready-step, steps-stepped}
 use Rattle.amber_home.proofs.home.Home.home_step.Goals as goal
 
@@ -81,3 +84,37 @@ returns-clause-ok c =
     (steps-stepped (seen i) (kept i) i.phase leg within (subst AreArmed (sym c.self.view_is) c.requires.armed)
     (few-step (seen i) (kept i) i.phase leg within (subst (λ (h : HomeState). steps_in (state_of h) < h.most) (sym c.self.view_is) c.requires.few))
     c.step_next.new.dataflow c.step_next.new.boards refl next.on next.steps next.counted next.targets))
+
+pub returns-clause-rows : goal.returns-clause-rows
+returns-clause-rows c op =
+    let i = c.self.inside in
+    let within = opens i c.self.invariant c.args.self.now c.self.view_is c.requires.within in
+    let leg = leg-of (seen i) (kept i) i.phase c.self.invariant within in
+    let next = c.in_ok-step_next.ensures in
+    let later = record (kept i) { dataflow = c.step_next.new.dataflow; boards = c.step_next.new.boards } in
+    let after : HomeState = record (seen i) { flow = c.step_next.new.dataflow.flow; parts = open_parts i.phase later; alone = alone_more i.alone } in
+    let stepped = home-stepped (seen i) (kept i) i.phase leg within (subst AreArmed (sym c.self.view_is) c.requires.armed)
+    (few-step (seen i) (kept i) i.phase leg within (subst (λ (h : HomeState). steps_in (state_of h) < h.most) (sym c.self.view_is) c.requires.few))
+    c.step_next.new.dataflow c.step_next.new.boards refl next.on next.steps next.counted next.targets in
+    let was = rows-are (seen i) (kept i) i.phase c.self.invariant (open-there i.phase within) op in
+    let is = rows-are after later i.phase stepped (open-there i.phase within) op in
+    let more = next-rows i.arms i.boards i.dataflow c.step_next.new.dataflow next.steps op in
+    subst (λ alone. emitted_by after.flow (state_of (record after { alone = alone })) op ≤ emitted_by c.args.self.now.flow (state_of c.args.self.now) op + 1)
+    (sym c.saturating_add-self-inside.ensures)
+    (subst (λ (h : HomeState). emitted_by after.flow (state_of after) op ≤ emitted_by h.flow (state_of h) op + 1) c.self.view_is (omega arith))
+
+pub returns-clause-moves : goal.returns-clause-moves
+returns-clause-moves c =
+    let i = c.self.inside in
+    let within = opens i c.self.invariant c.args.self.now c.self.view_is c.requires.within in
+    let leg = leg-of (seen i) (kept i) i.phase c.self.invariant within in
+    let next = c.in_ok-step_next.ensures in
+    let later = record (kept i) { dataflow = c.step_next.new.dataflow; boards = c.step_next.new.boards } in
+    let after : HomeState = record (seen i) { flow = c.step_next.new.dataflow.flow; parts = open_parts i.phase later; alone = alone_more i.alone } in
+    let stepped = home-stepped (seen i) (kept i) i.phase leg within (subst AreArmed (sym c.self.view_is) c.requires.armed)
+    (few-step (seen i) (kept i) i.phase leg within (subst (λ (h : HomeState). steps_in (state_of h) < h.most) (sym c.self.view_is) c.requires.few))
+    c.step_next.new.dataflow c.step_next.new.boards refl next.on next.steps next.counted next.targets in
+    let there = open-there i.phase within in
+    subst (λ alone. MovesOrHolds c.args.self.now (record after { alone = alone })) (sym c.saturating_add-self-inside.ensures)
+    (subst (λ (h : HomeState). MovesOrHolds h after) c.self.view_is
+    (moves-home (seen i) after (kept i) later i.phase i.phase c.self.invariant stepped there there refl next.steps))

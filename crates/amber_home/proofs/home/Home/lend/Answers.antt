@@ -5,13 +5,14 @@ use Rattle.amber_rows.specs.declared.flow.Operator.{Operator}
 use Rattle.amber_dataflow.specs.AtWork.{steps_by}
 use Rattle.amber_dataflow.specs.Dataflow.{DataflowState}
 use Rattle.amber_dataflow.specs.Parts.{parts_from}
-use Rattle.amber_home.specs.HomeState.{HomeState, counts_in, runs_to_end, state_of}
+use Rattle.amber_home.specs.HomeState.{HomeState, IsWorkedLeg, counts_in, runs_to_end, state_of}
 use Rattle.amber_home.specs.Kept.{IsHome}
 use Rattle.amber_home.specs.Lent.{IsLent}
 use Rattle.amber_home.specs.declared.crew.Crew.{Crew}
 use Rattle.amber_home.specs.declared.phase.Phase.TheVariants as phase
+use Rattle.amber_home.proofs.Homes.{in-open, leg-of}
 use Rattle.amber_home.proofs.Inside.{kept, opens, seen}
-use Rattle.amber_home.proofs.LentOut.{crew-lent, home-away, lent-steps, parts-lent}
+use Rattle.amber_home.proofs.LentOut.{crew-lent, home-away, lent-steps, parts-lent, worked-leg}
 use Rattle.amber_home.proofs.home.Home.lend.Goals as goal
 
 pub invariant_of-self : goal.invariant_of-self
@@ -55,3 +56,11 @@ returns-clause-steps c =
     let i = c.self.inside in
     let within = opens i c.self.invariant c.args.self.now c.self.view_is c.requires.within in
     ap steps_by c.lend.ensures.workers ∙ lent-steps (seen i) (kept i) i.phase c.self.invariant within ∙ ap (λ (h : HomeState). steps_in (state_of h)) c.self.view_is
+
+pub returns-clause-worked : goal.returns-clause-worked
+returns-clause-worked c =
+    let i = c.self.inside in
+    let within = opens i c.self.invariant c.args.self.now c.self.view_is c.requires.within in
+    subst IsWorkedLeg c.self.view_is
+    (subst IsWorkedLeg (sym (in-open (seen i) (kept i) i.phase within))
+    (worked-leg (seen i) (kept i) (runs_to_end i.phase) (counts_in i.phase) (leg-of (seen i) (kept i) i.phase c.self.invariant within)))

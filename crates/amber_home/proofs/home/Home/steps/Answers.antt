@@ -2,7 +2,7 @@
 use Rattle.std.proofs.Common.{◌≤◌, ap, subst, ◌∙◌, arith}
 use Rattle.amber_meaning.specs.State.{steps_in}
 use Rattle.amber_home.specs.HomeState.{HomeState, has_crew, state_of}
-use Rattle.amber_home.proofs.Whole.{steps-are, steps-few}
+use Rattle.amber_home.proofs.Steps.{steps-are, steps-few}
 use Rattle.amber_home.proofs.Inside.{kept, seen}
 use Rattle.amber_home.proofs.home.Home.steps.Goals as goal
 
