@@ -1,0 +1,10 @@
+pub mod Closing
+pub mod CrewTurned
+pub mod Dealt
+pub mod Driven
+pub mod Emitting
+pub mod Further
+pub mod Gathered
+pub mod Rounded
+pub mod Sliced
+pub mod Turned

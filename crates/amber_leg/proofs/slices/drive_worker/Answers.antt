@@ -1,0 +1,42 @@
+-- Slice after slice, until the worker does not move.
+use Rattle.std.proofs.Common.{◌-◌, arith}
+use Rattle.amber_worker.proofs.ManyTurns.{makes-more, makes-same}
+use Rattle.amber_leg.proofs.Sliced.{drives-most, makes-both}
+use Rattle.amber_leg.proofs.slices.drive_worker.Goals as goal
+
+pub slices-init : goal.slices-init
+slices-init g c = record {
+  within = omega arith;
+  made = makes-more 0 (c.args.most - c.args.most) c.args.worker.now c.args.worker.now (omega arith) (makes-same c.args.worker.now);
+  own = c.requires.own;
+}
+
+-- it did not move
+pub returns-in_default : goal.returns-in_default
+returns-in_default g c =
+    let drove = c.in_ok-drove.ensures in
+    let driven = drove.drives.driven in
+    let slice = c.min-turns.ensures in
+    let within = c.slices.invariant.within in
+    record {
+      made = makes-both (c.args.most - c.slices.left) c.min-turns.result c.args.most c.args.worker.now c.slices.worker c.drive.new.self (omega arith) c.slices.invariant.made
+          (drives-most drove.drives.turns c.min-turns.result _ _ _ _ c.slices.worker c.drive.new.self driven.looks driven.pauses
+          (omega (arith, drove.within, drove.drives.tells.turns_made)) drove.makes);
+      own = drove.own;
+    }
+
+-- it moved
+pub slices-preserved : goal.slices-preserved
+slices-preserved g c =
+    let drove = c.in_ok-drove.ensures in
+    let driven = drove.drives.driven in
+    let slice = c.min-turns.ensures in
+    let within = c.slices.invariant.within in
+    record {
+      within = omega arith;
+      made = makes-both (c.args.most - c.slices.left) c.min-turns.result (c.args.most - (c.slices.left - c.min-turns.result)) c.args.worker.now c.slices.worker c.drive.new.self
+          (omega arith) c.slices.invariant.made
+          (drives-most drove.drives.turns c.min-turns.result _ _ _ _ c.slices.worker c.drive.new.self driven.looks driven.pauses
+          (omega (arith, drove.within, drove.drives.tells.turns_made)) drove.makes);
+      own = drove.own;
+    }

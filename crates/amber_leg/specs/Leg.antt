@@ -1,0 +1,69 @@
+-- What a leg leaves of a home.
+use Rattle.std.specs.Prelude.{◌≡◌, ◌≢◌, ◌⊎◌, ℕ, ◌+◌, ◌*◌, ◌≤◌, List, [], Some, length, Result, Ok, Err, Bool, true}
+use Rattle.amber_log.specs.declared.leg.Close.{Close}
+use Rattle.amber_log.specs.declared.leg.Close.TheVariants as close
+use Rattle.amber_log.specs.declared.leg.Part.{Part}
+use Rattle.amber_rows.specs.Topology.{workers_of}
+use Rattle.amber_meaning.specs.InTime.{IsInTime}
+use Rattle.amber_meaning.specs.State.{arms_at, emitted_by, position_at, steps_in}
+use Rattle.amber_home.specs.HomeState.{ClosesIn, HomeState, NoneIsHeld, item_of_leg, leg_state, query_of, rest_state, runs_to_end, state_of, stops_of_home, with_item}
+use Rattle.amber_home.specs.declared.phase.Counts.{Counts}
+use Rattle.amber_home.specs.declared.phase.Counts.TheVariants.{Armed}
+use Rattle.amber_home.specs.declared.phase.Phase.TheVariants as phase
+use Rattle.amber_leg.specs.declared.error.LegErr.{LegErr}
+use Rattle.amber_leg.specs.declared.error.LegErr.TheVariants as leg_err
+
+-- the most rows that a worker emits past its operator's pause: those of a round
+abbrev pub most_late : ℕ
+most_late = 1024
+
+-- the leg stands in the log, closed so and in time, and nothing else has changed but for how many steps were made at home
+pub record ClosesLeg (to_end : Bool) (old new : HomeState) (closed : Close) : Type 0 where
+  pub parts : List Part
+  pub so : ClosesIn to_end (query_of old) (leg_state old to_end parts) closed
+  pub in_time : IsInTime (query_of old) most_late (rest_state old) (item_of_leg to_end parts closed)
+  pub is : new ≡ record old { log = with_item old.log (item_of_leg to_end parts closed); phase = phase.Resting; parts = []; alone = new.alone }
+
+-- what a leg leaves: a stop stands, to the end all have finished; or the steps are as many as may be, and that is not so; or memory
+-- ran out
+abbrev pub Ends : Result (Unit {0}) LegErr → Bool → HomeState → HomeState → Type 0
+Ends (Ok done) to_end old new = ClosesLeg to_end old new close.Cut
+Ends (Err leg_err.Long) to_end old new = ClosesLeg to_end old new close.Long
+Ends (Err leg_err.NoMemory) to_end old new = new ≡ record old { phase = phase.Spent; parts = []; alone = new.alone }
+
+-- ---- within a leg
+
+-- no operator has emitted more rows than its pause asks for, and those of a round more
+abbrev pub AreOnTime : HomeState → Type 0
+AreOnTime e = (op n : ℕ) → (arms_at (state_of e) op).pause ≡ Some n
+    → emitted_by e.flow (state_of e) op ≤ n + most_late * length (workers_of e.flow op)
+
+-- the workers have made turns, so many at most, and have come back: the home may have made more steps, not more than may be, and an operator
+-- has emitted at most so many rows more a worker
+pub record MakesRound (turns : ℕ) (old new : HomeState) : Type 0 where
+  pub only : new ≡ record old { parts = new.parts }
+  pub more : steps_in (state_of old) ≤ steps_in (state_of new)
+  pub few : steps_in (state_of new) ≤ old.most
+  pub rows : (op : ℕ) → emitted_by old.flow (state_of new) op ≤ emitted_by old.flow (state_of old) op + turns * length (workers_of old.flow op)
+
+-- a worker is held
+abbrev pub IsOneHeld : HomeState → Type 0
+IsOneHeld e = (worker : ℕ) × ((position_at (state_of e).positions worker).restraint.held ≡ true)
+
+-- the leg has gone on, in time, and nothing else has changed
+pub record GoesFurther (old new : HomeState) : Type 0 where
+  pub only : new ≡ record old { parts = new.parts; alone = new.alone }
+  pub on_time : AreOnTime old → AreOnTime new
+
+-- nobody was held, and a step more was made at least, but where one is held now
+pub record MovesOn (old new : HomeState) : Type 0 where
+  pub loose : NoneIsHeld old
+  pub few : steps_in (state_of new) ≤ old.most
+  pub steps : (steps_in (state_of old) + 1 ≤ steps_in (state_of new)) ⊎ (IsOneHeld new × (steps_in (state_of old) ≤ steps_in (state_of new)))
+
+-- a leg in which nothing was done yet was driven: counts are not armed any more, nothing else has changed, and it is in time
+pub record DrivesLeg (old new : HomeState) : Type 0 where
+  pub counts : Counts
+  pub unarmed : counts ≢ Armed
+  pub only : new ≡ record old { phase = phase.Open (runs_to_end old.phase) counts; parts = new.parts; alone = new.alone }
+  pub in_time : (new.parts ≡ old.parts) ⊎ ((stops_of_home old ≡ []) × AreOnTime new)

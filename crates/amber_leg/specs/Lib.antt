@@ -1,0 +1,4 @@
+pub mod Dealing
+pub mod Driving
+pub mod Leg
+pub mod Slices

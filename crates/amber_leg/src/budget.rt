@@ -1,0 +1,49 @@
+//! How many turns each worker may make in a round. Over what `Home` tells of its steps and pauses.
+
+ghost use Rattle.std.specs.Prelude.{◌≡◌, ◌+◌, ◌*◌, ◌≤◌, ℕ, Some, true};
+ghost use Rattle.amber_rows.specs.Topology.{crew_of};
+ghost use Rattle.amber_meaning.specs.State.{arms_at, steps_in};
+ghost use Rattle.amber_home.specs.HomeState.{is_open, state_of};
+ghost use Rattle.amber_leg.specs.Driving.{turns_of};
+ghost use Rattle.amber_leg.specs.Leg.{most_late};
+
+use amber_home::Home;
+
+// The turns of a slice. Where a pause is in force a round has no more, since none is seen before its end.
+const SLICE: u64 = 1024;
+
+// The slices of a round on several threads where no pause is in force.
+const PASSES: u64 = 64;
+
+/// The turns of a round: so many slices of each worker, one of each after the other, with so many turns in a slice.
+#[derive(Clone, Copy)]
+pub(crate) struct Budget {
+    pub passes: u32,
+    pub slice: u32,
+}
+
+/// As many turns as each worker may make, so that all together make no more steps than are left; at least one where as
+/// many steps are left as there are workers.
+pub(crate) fn budget_of(home: &Home, threads: u32) -> Budget
+    requires within { is_open home.now.phase ≡ true }
+    ensures few { steps_in (state_of home.now) + crew_of home.now.flow * turns_of result
+        ≤ home.now.most }
+    ensures some { steps_in (state_of home.now) + crew_of home.now.flow ≤ home.now.most
+        → 1 ≤ turns_of result }
+    ensures late { (op n : ℕ) → (arms_at (state_of home.now) op).pause ≡ Some n
+        → turns_of result ≤ most_late }
+{
+    let left = home.most() - home.steps();
+    let flow = home.flow();
+    let _operators = flow.get();
+    let share = left / u64::from(flow.workers());
+    let most = if threads == 1 || home.has_pause() {
+        1
+    } else {
+        PASSES
+    };
+    Budget {
+        passes: (share / SLICE).max(1).min(most) as u32,
+        slice: share.min(SLICE) as u32,
+    }
+}

@@ -1,0 +1,50 @@
+//! A round of a leg: all workers leave the home, make turns on threads, and come back. Over `Home` and `drive_crew` of
+//! `drivers`.
+
+ghost use Rattle.std.specs.Prelude.{◌≡◌, ◌+◌, ◌*◌, ◌<◌, ◌≤◌, OnErr, OnOk, [], true};
+ghost use Rattle.amber_rows.specs.Topology.{crew_of};
+ghost use Rattle.amber_meaning.specs.State.{steps_in};
+ghost use Rattle.amber_home.specs.HomeState.{counts_in, is_open, state_of};
+ghost use Rattle.amber_home.specs.declared.phase.Counts.TheVariants as counts;
+ghost use Rattle.amber_home.specs.declared.phase.Phase.TheVariants as phase;
+ghost use Rattle.amber_leg.specs.Driving.{turns_of};
+ghost use Rattle.amber_leg.specs.Leg.{MakesRound};
+
+use crate::budget::Budget;
+use crate::drivers::drive_crew;
+use amber_home::Home;
+use amber_mail::Gate;
+use std::alloc::{AllocError, Global};
+use std::thread::Threads;
+
+/// The workers of the leg that is open make the turns of a round, on so many threads. After running out of memory the log is
+/// as before, and the run cannot go on.
+pub(crate) fn round<R: Threads + Sync, G: Gate + Sync>(
+    rt: &R,
+    alloc: Global,
+    home: &mut Home,
+    threads: u32,
+    gate: &G,
+    budget: Budget,
+) -> Result<(), AllocError>
+    requires some { 0 < threads }
+    requires within { is_open home.old.phase ≡ true }
+    requires armed { counts_in home.old.phase ≡ counts.Armed }
+    requires few { steps_in (state_of home.old) + crew_of home.old.flow * turns_of budget
+        ≤ home.old.most }
+    ensures ok { OnOk result (MakesRound (turns_of budget) home.old home.new) }
+    ensures err { OnErr result (home.new ≡ record home.old { phase = phase.Spent; parts = [] }) }
+{
+    let _most = home.most();
+    let mut crew = home.lend(alloc);
+    match drive_crew(rt, alloc, &mut crew, threads, gate, budget) {
+        Ok(()) => {
+            home.take_back(crew);
+            home.settle(alloc)
+        }
+        Err(error) => {
+            home.give_up();
+            Err(error)
+        }
+    }
+}

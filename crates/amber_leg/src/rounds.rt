@@ -1,0 +1,130 @@
+//! Rounds of a leg, one after the other, until it may be closed. Over `round`, `looking` and what `Home` does between rounds.
+
+ghost use Rattle.std.specs.Prelude.{◌≡◌, ◌<◌, ◌≤◌, IfNone, IfOk, IfSome, OnErr, OnOk, [], true};
+ghost use Rattle.amber_meaning.specs.State.{steps_in};
+ghost use Rattle.amber_home.specs.HomeState.{IsEarly, MayClose, counts_in, is_open, runs_to_end, state_of, stops_of_home};
+ghost use Rattle.amber_home.specs.declared.phase.Counts.TheVariants as counts;
+ghost use Rattle.amber_home.specs.declared.phase.Phase.TheVariants as phase;
+ghost use Rattle.amber_leg.specs.Leg.{GoesFurther, MovesOn};
+
+use crate::budget::budget_of;
+use crate::looking::look;
+use crate::round::round;
+use amber_home::Home;
+use amber_log::Close;
+use amber_mail::Gate;
+use std::alloc::{AllocError, Global};
+use std::thread::Threads;
+
+// Units are handed to those whose turn it is, and then the workers make the turns of a round.
+fn feed_and_drive<R: Threads + Sync, G: Gate + Sync>(
+    rt: &R,
+    alloc: Global,
+    home: &mut Home,
+    threads: u32,
+    gate: &G,
+    number: u64,
+) -> Result<(), AllocError>
+    requires some { 0 < threads }
+    requires within { is_open home.old.phase ≡ true }
+    requires armed { counts_in home.old.phase ≡ counts.Armed }
+    requires early { IsEarly home.old }
+    ensures ok { OnOk result (GoesFurther home.old home.new) }
+    ensures more { OnOk result (steps_in (state_of home.old) ≤ steps_in (state_of home.new)) }
+    ensures few { OnOk result (steps_in (state_of home.new) ≤ home.old.most) }
+    ensures err { OnErr result (home.new ≡ record home.old {
+      phase = phase.Spent;
+      parts = [];
+    }) }
+{
+    home.feed(number)?;
+    let budget = budget_of(home, threads);
+    round(rt, alloc, home, threads, gate, budget)
+}
+
+// Where nobody is held and no stop stands, whoever was paused goes on, and the first worker that has not finished makes a step.
+fn step_on(home: &mut Home) -> Result<(), AllocError>
+    requires within { is_open home.old.phase ≡ true }
+    requires armed { counts_in home.old.phase ≡ counts.Armed }
+    requires none { stops_of_home home.old ≡ [] }
+    requires early { IsEarly home.old }
+    requires few { steps_in (state_of home.old) < home.old.most }
+    ensures ok { OnOk result (GoesFurther home.old home.new) }
+    ensures moves { OnOk result (MovesOn home.old home.new) }
+    ensures err { OnErr result (home.new ≡ record home.old {
+      phase = phase.Spent;
+      parts = [];
+      alone = home.new.alone;
+    }) }
+{
+    if !home.are_loose() {
+        unreachable!()
+    }
+    home.resume()?;
+    home.home_step()
+}
+
+// How the leg may be closed, if it may; else there is a round, and a step behind it where the leg may not be closed then.
+fn go_on<R: Threads + Sync, G: Gate + Sync>(
+    rt: &R,
+    alloc: Global,
+    home: &mut Home,
+    threads: u32,
+    gate: &G,
+    number: u64,
+) -> Result<Option<Close>, AllocError>
+    requires some { 0 < threads }
+    requires within { is_open home.old.phase ≡ true }
+    requires armed { counts_in home.old.phase ≡ counts.Armed }
+    ensures ok { OnOk result (GoesFurther home.old home.new) }
+    ensures may { IfOk result
+        (λ found. IfSome found (MayClose (runs_to_end home.new.phase) home.new)) }
+    ensures moves { IfOk result (λ found. IfNone found (MovesOn home.old home.new)) }
+    ensures err { OnErr result (home.new ≡ record home.old {
+      phase = phase.Spent;
+      parts = [];
+      alone = home.new.alone;
+    }) }
+{
+    if let Some(close) = look(alloc, home)? {
+        return Ok(Some(close));
+    }
+    if !home.are_loose() {
+        unreachable!()
+    }
+    feed_and_drive(rt, alloc, home, threads, gate, number)?;
+    if let Some(close) = look(alloc, home)? {
+        return Ok(Some(close));
+    }
+    step_on(home)?;
+    Ok(None)
+}
+
+/// Rounds until the leg that is open, whose counts are armed, may be closed. The answer says how. After running out of memory
+/// the log is as before, and the run cannot go on.
+pub(crate) fn go_rounds<R: Threads + Sync, G: Gate + Sync>(
+    rt: &R,
+    alloc: Global,
+    home: &mut Home,
+    threads: u32,
+    gate: &G,
+) -> Result<Close, AllocError>
+    requires some { 0 < threads }
+    requires within { is_open home.old.phase ≡ true }
+    requires armed { counts_in home.old.phase ≡ counts.Armed }
+    ensures ok { OnOk result (GoesFurther home.old home.new) }
+    ensures may { IfOk result (MayClose (runs_to_end home.new.phase) home.new) }
+    ensures err { OnErr result (home.new ≡ record home.old {
+      phase = phase.Spent;
+      parts = [];
+      alone = home.new.alone;
+    }) }
+{
+    let left = home.most() - home.steps();
+    'rounds: for number in 0..left + 2 {
+        if let Some(close) = go_on(rt, alloc, home, threads, gate, number)? {
+            return Ok(close);
+        }
+    }
+    unreachable!()
+}

@@ -1,0 +1,57 @@
+//! Slices of turns of one worker. Over `Worker::drive` of `amber_worker`.
+
+ghost use Rattle.std.specs.Prelude.{◌+◌, ◌^◌, ◌≤◌, OnOk};
+ghost use Rattle.std.specs.Option.{option_copied};
+ghost use Rattle.amber_worker.specs.Counting.{IsBoardOf};
+ghost use Rattle.amber_worker.specs.Turning.{MakesTurns};
+ghost use Rattle.amber_worker.specs.WorkerState.{steps_made};
+ghost use Rattle.amber_leg.specs.Slices.{HasTurnedSo, MayTurn};
+
+use amber_board::Board;
+use amber_mail::{Gate, SilentMail};
+use amber_worker::{Turn, Worker};
+use std::alloc::AllocError;
+
+// After so many turns of a worker it is looked whether it still moves.
+const LOOK: u32 = 64;
+
+// Turns of a worker, so many at most, and fewer where it does not move. The answer says whether it moved at the end.
+fn drive_worker<G: Gate>(
+    worker: &mut Worker,
+    board: Option<&Board>,
+    gate: &G,
+    most: u32,
+) -> Result<bool, AllocError>
+    requires few { steps_made worker.old + most ≤ 2 ^ 40 }
+    requires own { IsBoardOf (option_copied board) worker.old.seat }
+    ensures made { OnOk result (MakesTurns most worker.old worker.new) }
+    ensures own { OnOk result (IsBoardOf (option_copied board.entry) worker.new.seat) }
+{
+    let mut left = most;
+    'slices: while 0 < left {
+        let turns = left.min(LOOK);
+        let drove = worker.drive(board, &mut SilentMail::new(), gate, turns)?;
+        let Some(Turn::Moved) = drove.last else {
+            return Ok(false);
+        };
+        left -= turns;
+    }
+    Ok(true)
+}
+
+/// The same at a place where a worker may be.
+pub(crate) fn drive_place<G: Gate>(
+    place: &mut Option<Worker>,
+    board: Option<&Board>,
+    gate: &G,
+    most: u32,
+) -> Result<bool, AllocError>
+    requires may { MayTurn most (option_copied board) place.old }
+    ensures turned { OnOk result
+        (HasTurnedSo most (option_copied board.entry) place.old place.new) }
+{
+    match place {
+        Some(worker) => drive_worker(worker, board, gate, most),
+        None => Ok(false),
+    }
+}
