@@ -21,8 +21,9 @@ use Rattle.amber_meaning.specs.Transcript.{reply_of}
 use Rattle.amber_meaning.specs.Views.{answer_in}
 use Rattle.amber_meaning.proofs.Fronts.{legal_logs_grow, transcripts_grow}
 use Rattle.amber_lines.proofs.Kept.{kept_stops_were_replied}
-use Rattle.amber_home.specs.HomeState.{ClosesLeg, HomeState, item_of_leg, query_of, rest_state, state_of, stops_of_home, with_item}
+use Rattle.amber_home.specs.HomeState.{HomeState, item_of_leg, query_of, rest_state, state_of, stops_of_home, with_item}
 use Rattle.amber_home.specs.declared.phase.Phase.TheVariants as phase
+use Rattle.amber_leg.specs.Leg.{ClosesLeg}
 use Rattle.amber_debug.specs.declared.done.Done.{Done}
 use Rattle.amber_debug.specs.declared.done.EndErr.{EndErr}
 use Rattle.amber_debug.specs.declared.done.EndErr.TheVariants as end_err

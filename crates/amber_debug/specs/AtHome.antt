@@ -10,8 +10,8 @@ use Rattle.amber_log.specs.declared.log.Item.TheVariants as item
 use Rattle.amber_log.specs.declared.log.Log.{Log}
 use Rattle.amber_meaning.specs.InTime.{IsInTime}
 use Rattle.amber_meaning.specs.Transcript.{reply_of}
-use Rattle.amber_home.specs.HomeState.{ClosesLeg, HomeState, item_of_leg, query_of, rest_state, with_item}
-use Rattle.amber_debug.specs.Session.{most_late}
+use Rattle.amber_home.specs.HomeState.{HomeState, item_of_leg, query_of, rest_state, with_item}
+use Rattle.amber_leg.specs.Leg.{ClosesLeg, most_late}
 use Rattle.amber_debug.specs.declared.done.DebugErr.{DebugErr}
 use Rattle.amber_debug.specs.declared.done.DebugErr.TheVariants as debug_err
 use Rattle.amber_debug.specs.declared.done.EndErr.{EndErr}

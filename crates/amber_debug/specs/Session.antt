@@ -17,6 +17,7 @@ use Rattle.amber_meaning.specs.Replay.{state_after}
 use Rattle.amber_meaning.specs.Transcript.{reply_of}
 use Rattle.amber_home.specs.HomeState.{HomeState, query_of}
 use Rattle.amber_home.specs.declared.phase.Phase.TheVariants as phase
+use Rattle.amber_leg.specs.Leg.{most_late}
 use Rattle.amber_debug.specs.declared.done.DebugErr.{DebugErr}
 use Rattle.amber_debug.specs.declared.done.DebugErr.TheVariants as debug_err
 use Rattle.amber_debug.specs.declared.done.Done.{Done}
@@ -62,10 +63,6 @@ is_leg_action (action.AtRest effect) = false
 -- a command to run
 abbrev pub is_leg : Command → Bool
 is_leg command = is_leg_action (action_of command)
-
--- the most rows that a worker emits past its operator's pause
-abbrev pub most_late : ℕ
-most_late = 0
 
 -- an item that the session has next stops in time
 abbrev pub IsNextInTime : Session → Item → Type 0

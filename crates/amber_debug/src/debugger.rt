@@ -1,4 +1,4 @@
-//! The debugger of a run: its commands, one after another, each with its item and its reply. Over `Home`, and
+//! The debugger of a run: its commands, one after another, each with its item and its reply. Over `Home`, `leg`, and
 //! the texts of `amber_journal` and `amber_report`.
 
 ghost use Rattle.std.specs.Prelude.{◌≡◌, ◌≢◌, ◌<◌, ◌≤◌, ◌⊎◌, ◌^◌, ◌↔◌, [], Err, IfOk, None, OnErr, false, true, length};
@@ -18,14 +18,17 @@ ghost use Rattle.amber_debug.specs.AtHome.{DoesAtRest, IsLastText, RunsAs, Tells
 ghost use Rattle.amber_debug.specs.Session.{Does, query_in};
 
 use crate::done::{DebugErr, Done, EndErr};
-use amber_home::{Home, HomeErr, LegErr};
+use amber_home::{Home, HomeErr};
 use amber_journal::{write_command, write_item};
+use amber_leg::{LegErr, leg};
 use amber_log::{Action, Command, Effect, Log, Reply, commands_have_text};
+use amber_mail::Gate;
 use amber_meaning::wrong_header;
 use amber_report::{answer_lines, inspect_lines, ok_line, stop_lines};
 use amber_rows::{Bytes, Files, Flow};
 use std::alloc::{AllocError, Global};
 use std::marker::Model;
+use std::thread::Threads;
 
 /// A run to which commands are given, seen as a `Session`.
 pub struct Debugger {
@@ -58,10 +61,11 @@ impl Model for Debugger {
       spent = a.spent;
     } };
 
+    ghost use Rattle.std.specs.Prelude.{◌<◌, ◌≤◌};
     ghost use Rattle.amber_debug.specs.Session.{IsKept};
 
-    // The log is legal, and where more may follow the home is at rest.
-    ghost invariant = { λ a. IsKept a.home a.spent };
+    // The log is legal, and where more may follow the home is at rest; and there are 1 to 64 threads.
+    ghost invariant = { λ a. IsKept a.home a.spent × (0 < a.threads) × (a.threads ≤ 64) };
 }
 
 // The text of the last item of a log.
@@ -75,14 +79,23 @@ fn last_text(alloc: Global, log: &Log) -> Result<Bytes, AllocError>
 }
 
 // Runs a leg, up to a stop or to the end, and writes it.
-fn leg_text(alloc: Global, home: &mut Home, to_end: bool) -> Result<Bytes, EndErr>
+fn leg_text<R: Threads + Sync, G: Gate + Sync>(
+    rt: &R,
+    alloc: Global,
+    home: &mut Home,
+    to_end: bool,
+    threads: u32,
+    gate: &G,
+) -> Result<Bytes, EndErr>
     requires resting { home.old.phase ≡ phase.Resting }
     requires open { ends_over false home.old.log.items ≡ false }
     requires legal { IsLegal (query_of home.old) home.old.log }
+    requires some_threads { 0 < threads }
+    requires few_threads { threads ≤ 64 }
     ensures told { TellsLeg result to_end home.old home.new }
     ensures legal { IsLegal (query_of home.new) home.new.log }
 {
-    match home.leg_home(alloc, to_end) {
+    match leg(rt, alloc, home, to_end, threads, gate) {
         Ok(()) => Ok(last_text(alloc, home.log())?),
         Err(LegErr::Long) => Err(EndErr::Long {
             item: last_text(alloc, home.log())?,
@@ -92,15 +105,23 @@ fn leg_text(alloc: Global, home: &mut Home, to_end: bool) -> Result<Bytes, EndEr
 }
 
 // Runs up to a stop, and writes the leg and the stops.
-fn run_to_stop(alloc: Global, home: &mut Home) -> Result<Done, EndErr>
+fn run_to_stop<R: Threads + Sync, G: Gate + Sync>(
+    rt: &R,
+    alloc: Global,
+    home: &mut Home,
+    threads: u32,
+    gate: &G,
+) -> Result<Done, EndErr>
     requires resting { home.old.phase ≡ phase.Resting }
     requires open { ends_over false home.old.log.items ≡ false }
     requires legal { IsLegal (query_of home.old) home.old.log }
+    requires some_threads { 0 < threads }
+    requires few_threads { threads ≤ 64 }
     ensures runs { RunsAs result false home.old home.new }
     ensures rests { IfOk result (λ done. home.new.phase ≡ phase.Resting) }
     ensures legal { IsLegal (query_of home.new) home.new.log }
 {
-    let item = leg_text(alloc, home, false)?;
+    let item = leg_text(rt, alloc, home, false, threads, gate)?;
     let stops = home.stops(alloc)?;
     let reply = stop_lines(alloc, home.flow(), &stops)?;
     Ok(Done {
@@ -111,14 +132,22 @@ fn run_to_stop(alloc: Global, home: &mut Home) -> Result<Done, EndErr>
 }
 
 // Runs to the end, and writes the leg and the answer.
-fn run_to_end(alloc: Global, home: &mut Home) -> Result<Done, EndErr>
+fn run_to_end<R: Threads + Sync, G: Gate + Sync>(
+    rt: &R,
+    alloc: Global,
+    home: &mut Home,
+    threads: u32,
+    gate: &G,
+) -> Result<Done, EndErr>
     requires resting { home.old.phase ≡ phase.Resting }
     requires open { ends_over false home.old.log.items ≡ false }
     requires legal { IsLegal (query_of home.old) home.old.log }
+    requires some_threads { 0 < threads }
+    requires few_threads { threads ≤ 64 }
     ensures runs { RunsAs result true home.old home.new }
     ensures legal { IsLegal (query_of home.new) home.new.log }
 {
-    let item = leg_text(alloc, home, true)?;
+    let item = leg_text(rt, alloc, home, true, threads, gate)?;
     let answer = home.take_answer(alloc)?;
     let reply = answer_lines(alloc, home.flow(), &answer)?;
     Ok(Done {
@@ -198,8 +227,7 @@ fn answer_to_run(told: Result<Done, EndErr>, spent: &mut bool) -> Result<Done, D
 
 impl Debugger {
     /// A run that has not begun: of a workflow over the files of its scans, with this many rows in a batch, 1
-    /// to 65,536, on this many threads, 1 to 64, and with at most `most` steps, 2^40 or fewer. For now a run
-    /// takes no thread of its own.
+    /// to 65,536, on this many threads, 1 to 64, and with at most `most` steps, 2^40 or fewer.
     ///
     /// # Errors
     ///
@@ -267,7 +295,8 @@ impl Debugger {
         })
     }
 
-    /// Does a command: the log grows by one item, and there is one reply.
+    /// Does a command: the log grows by one item, and there is one reply. In a leg the workers go side by side on the
+    /// threads of the run, and pass the gate before each turn.
     ///
     /// # Errors
     ///
@@ -275,7 +304,13 @@ impl Debugger {
     /// leg, and nothing may follow. After `NoMemory` at a command to run, which `End` is, the log is as
     /// before or has that command's leg as well, and each later command answers `Spent`, which comes exactly
     /// then. After `NoMemory` at another command all is as before.
-    pub fn command(&mut self, alloc: Global, command: &Command) -> Result<Done, DebugErr>
+    pub fn command<R: Threads + Sync, G: Gate + Sync>(
+        &mut self,
+        rt: &R,
+        alloc: Global,
+        command: &Command,
+        gate: &G,
+    ) -> Result<Done, DebugErr>
         requires fits { fits_of self.old.flow command.now ≡ true }
 
         // Losses of workers are not built yet, and no script has them.
@@ -291,10 +326,12 @@ impl Debugger {
         }
         match command.action() {
             Action::Leg { to_end: false } => {
-                answer_to_run(run_to_stop(alloc, &mut self.home), &mut self.spent)
+                let told = run_to_stop(rt, alloc, &mut self.home, self.threads, gate);
+                answer_to_run(told, &mut self.spent)
             }
             Action::Leg { to_end: true } => {
-                answer_to_run(run_to_end(alloc, &mut self.home), &mut self.spent)
+                let told = run_to_end(rt, alloc, &mut self.home, self.threads, gate);
+                answer_to_run(told, &mut self.spent)
             }
             Action::AtRest(effect) => Ok(do_at_rest(alloc, &mut self.home, command, &effect)?),
         }

@@ -5,14 +5,14 @@ use Rattle.amber_debug.proofs.Replies.{no-leg-rests}
 use Rattle.amber_debug.proofs.debugger.Debugger.command.Goals as goal
 
 pub invariant_of-self : goal.invariant_of-self
-invariant_of-self c =
-    let ran = c.run_to_end in
-    rw c.answer_to_run.ensures.spent (kept-ran true c.self.inside.home ran.new.home ran.result ran.ensures.runs ran.ensures.legal (inl refl))
+invariant_of-self g c =
+    let ran = c.run_to_end-told in
+    (rw c.answer_to_run.ensures.spent (kept-ran true c.self.inside.home ran.new.home ran.result ran.ensures.runs ran.ensures.legal (inl refl)), c.self.invariant.1, c.self.invariant.2)
 
 pub invariant_of-self-in-Leg-false : goal.invariant_of-self-in-Leg-false
-invariant_of-self-in-Leg-false c =
-    let ran = c.run_to_stop in
-    rw c.answer_to_run-in-Leg-false.ensures.spent (kept-ran false c.self.inside.home ran.new.home ran.result ran.ensures.runs ran.ensures.legal (inr ran.ensures.rests))
+invariant_of-self-in-Leg-false g c =
+    let ran = c.run_to_stop-told in
+    (rw c.answer_to_run-in-Leg-false.ensures.spent (kept-ran false c.self.inside.home ran.new.home ran.result ran.ensures.runs ran.ensures.legal (inr ran.ensures.rests)), c.self.invariant.1, c.self.invariant.2)
 
 pub do_at_rest-requires-clause-at_rest : goal.do_at_rest-requires-clause-at_rest
-do_at_rest-requires-clause-at_rest c = no-leg-rests c.args.command.now c.in-AtRest.effect (sym c.action.ensures ∙ c.in-AtRest.is)
+do_at_rest-requires-clause-at_rest g c = no-leg-rests c.args.command.now c.in-AtRest.effect (sym c.action.ensures ∙ c.in-AtRest.is)
