@@ -21,7 +21,8 @@ use Rattle.amber_meaning.specs.State.{start_of}
 use Rattle.amber_meaning.specs.Transcript.{replies, reply_of, transcript_of}
 use Rattle.amber_meaning.proofs.Fronts.{transcripts_grow}
 use Rattle.amber_meaning.proofs.InTime.{AreInTime-push}
-use Rattle.amber_debug.specs.Session.{Does, Grew, Session, command_of, is_long_item, most_late, one_more, query_in}
+use Rattle.amber_debug.specs.Session.{Does, Grew, Session, command_of, is_long_item, one_more, query_in}
+use Rattle.amber_leg.specs.Leg.{most_late}
 use Rattle.amber_debug.specs.declared.done.DebugErr.TheVariants as debug_err
 use Rattle.amber_debug.specs.declared.done.Done.{Done}
 use Rattle.amber_run.specs.UnderWay.{ClosesAs, Halts, HasText, HasTornHead, HasTornItem, IsBare, IsItemFor, IsLeft, IsUnderWay, Opens, log_of_items}

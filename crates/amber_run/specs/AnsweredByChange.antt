@@ -32,7 +32,8 @@ use Rattle.amber_course.specs.declared.status.Status.{Status}
 use Rattle.amber_course.specs.declared.status.Status.TheVariants as status
 use Rattle.amber_course.specs.declared.failure.Failure.{Failure}
 use Rattle.amber_course.specs.declared.failure.Failure.TheVariants as failure
-use Rattle.amber_debug.specs.Session.{command_of, most_late, one_more}
+use Rattle.amber_debug.specs.Session.{command_of, one_more}
+use Rattle.amber_leg.specs.Leg.{most_late}
 use Rattle.amber_run.specs.CountStops.{StopForCounts}
 use Rattle.amber_run.specs.RunTask.{AlterNothing, end_alone, ends_long, most_steps}
 use Rattle.amber_run.specs.UnderWay.{ClosesAs, IsTorn, log_of_items}

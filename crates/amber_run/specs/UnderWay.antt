@@ -18,7 +18,8 @@ use Rattle.amber_meaning.specs.State.{start_of}
 use Rattle.amber_meaning.specs.Texts.{answer_text}
 use Rattle.amber_meaning.specs.Total.{step_total}
 use Rattle.amber_meaning.specs.Transcript.{replies, reply_of, transcript_of}
-use Rattle.amber_debug.specs.Session.{Session, command_of, most_late, one_more}
+use Rattle.amber_debug.specs.Session.{Session, command_of, one_more}
+use Rattle.amber_leg.specs.Leg.{most_late}
 use Rattle.amber_run.specs.CountStops.{StopForCounts}
 use Rattle.amber_run.specs.RunTask.{AlterNothing, IsSession, RunTask, ends_long, most_steps, query_at}
 use Rattle.amber_course.specs.declared.failure.Failure.{Failure}

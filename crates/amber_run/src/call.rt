@@ -13,15 +13,19 @@ use crate::job::do_job;
 use crate::printed::Printed;
 use amber_course::{Failure, Status, prepare, read_words, refuse};
 use amber_io::{Folder, FolderAndSink, Outside, Sink};
+use amber_mail::Gate;
 use amber_rows::Rows;
 use std::alloc::Global;
+use std::thread::Threads;
 
 // Does what the words say, up to the line that reports a failure, and gives back the rows that were
 // printed last, if any.
-fn do_call<W: Outside>(
+fn do_call<R: Threads + Sync, G: Gate + Sync, W: Outside>(
+    rt: &R,
     alloc: Global,
     words: &[String],
     outside: &mut W,
+    gate: &G,
 ) -> Result<Option<Rows>, Failure>
     ensures ran { Runs result (map string_bytes words.now) (W.world outside.old)
         (W.world outside.new) }
@@ -37,7 +41,7 @@ fn do_call<W: Outside>(
 {
     let words = read_words(alloc, words)?;
     let job = prepare(alloc, words, outside)?;
-    do_job(alloc, job, outside)
+    do_job(rt, alloc, job, outside, gate)
 }
 
 /// Does what the words after the program's name say.
@@ -55,6 +59,10 @@ fn do_call<W: Outside>(
 /// head in one call; then, for each command, the item is appended in one call, and the reply is put in one call. A
 /// leg that comes to 2^40 steps is appended before the call ends with `Long`.
 ///
+/// The workers of a run go side by side, on as many threads as THREADS says, and pass `gate` before each turn. How far
+/// each of them is at a stop may depend on how the threads go; the log tells it, and the output is what follows from the
+/// log. `plain` takes no thread.
+///
 /// The rows of an answer that was printed stay in `printed`, for the caller to drop.
 ///
 /// The first refusal ends the call. After one other than `OutFault` a line is put that reports it, in pieces and
@@ -63,12 +71,14 @@ fn do_call<W: Outside>(
 /// # Errors
 ///
 /// `NoMemory` may come at any point, and may then stand in for any other refusal but `OutFault`.
-pub fn amber<F: Folder, O: Sink>(
+pub fn amber<R: Threads + Sync, F: Folder, O: Sink, G: Gate + Sync>(
+    rt: &R,
     alloc: Global,
     words: &[String],
     folder: &mut F,
     out: &mut O,
     printed: &mut Printed,
+    gate: &G,
 ) -> Status
     ensures { Answered (map string_bytes words.now) result
         (record {
@@ -87,7 +97,7 @@ pub fn amber<F: Folder, O: Sink>(
         }) }
 {
     let mut outside = FolderAndSink::new(folder, out);
-    match do_call(alloc, words, &mut outside) {
+    match do_call(rt, alloc, words, &mut outside, gate) {
         Ok(rows) => {
             printed.keep(rows);
             Status::Ok

@@ -11,14 +11,18 @@ use crate::plain_job::do_plain;
 use crate::runner::Runner;
 use amber_course::{Failure, Job, RunJob};
 use amber_io::Outside;
+use amber_mail::Gate;
 use amber_rows::Rows;
 use std::alloc::Global;
+use std::thread::Threads;
 
 /// Does a job, and gives back the rows that were printed last, if any.
-pub(crate) fn do_job<W: Outside>(
+pub(crate) fn do_job<R: Threads + Sync, G: Gate + Sync, W: Outside>(
+    rt: &R,
     alloc: Global,
     job: Job,
     outside: &mut W,
+    gate: &G,
 ) -> Result<Option<Rows>, Failure>
     requires { IsReady job }
     ensures works { Works result job (W.world outside.old) (W.world outside.new) }
@@ -37,7 +41,7 @@ pub(crate) fn do_job<W: Outside>(
                 threads,
                 batch_size,
             } = run;
-            let mut runner = Runner::new(alloc, log.get(), outside);
+            let mut runner = Runner::new(rt, alloc, log.get(), outside, gate);
             runner.do_run(inputs, commands.get(), threads, batch_size)
         }
     }

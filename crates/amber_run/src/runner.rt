@@ -21,20 +21,24 @@ use amber_debug::{DebugErr, Debugger, Done};
 use amber_io::{IoErr, Outside};
 use amber_journal::write_head;
 use amber_log::Command;
+use amber_mail::Gate;
 use amber_rows::Rows;
 use std::alloc::Global;
+use std::thread::Threads;
 
 // How many steps a run may make.
 const MOST_STEPS: u64 = 1 << 40;
 
-/// A run that writes the log of this name.
-pub(crate) struct Runner<'a, W: Outside> {
+/// A run that writes the log of this name. Its workers go on threads of `rt`, and pass the gate before each turn.
+pub(crate) struct Runner<'a, R: Threads + Sync, G: Gate + Sync, W: Outside> {
     alloc: Global,
     log_name: &'a str,
     outside: &'a mut W,
+    rt: &'a R,
+    gate: &'a G,
 }
 
-impl<'a, W: Outside> Drop for Runner<'a, W> {
+impl<'a, R: Threads + Sync, G: Gate + Sync, W: Outside> Drop for Runner<'a, R, G, W> {
     fn drop(self)
         ensures outside { self.exit.1.1.0.now ≡ self.entry.outside.now }
     {
@@ -42,13 +46,21 @@ impl<'a, W: Outside> Drop for Runner<'a, W> {
             alloc: _,
             log_name: _,
             outside: _,
+            rt: _,
+            gate: _,
         } = self;
     }
 }
 
-impl<'a, W: Outside> Runner<'a, W> {
+impl<'a, R: Threads + Sync, G: Gate + Sync, W: Outside> Runner<'a, R, G, W> {
     /// A run that is to write the log of this name.
-    pub(crate) fn new(alloc: Global, log_name: &'a str, outside: &'a mut W) -> Runner<'a, W>
+    pub(crate) fn new(
+        rt: &'a R,
+        alloc: Global,
+        log_name: &'a str,
+        outside: &'a mut W,
+        gate: &'a G,
+    ) -> Runner<'a, R, G, W>
         ensures same_outside { result.outside.ghost_name ≡ outside.entry.ghost_name }
         ensures outside { result.outside.now ≡ outside.old }
         ensures log_name { result.log_name.now ≡ log_name.now }
@@ -57,6 +69,8 @@ impl<'a, W: Outside> Runner<'a, W> {
             alloc,
             log_name,
             outside,
+            rt,
+            gate,
         }
     }
 
@@ -80,7 +94,7 @@ impl<'a, W: Outside> Runner<'a, W> {
 
     // Writes a piece at the end of the log, in one call.
     fn append(&mut self, piece: &[u8]) -> Result<(), Failure>
-        requires { IsThere (W.world self.old.outside.now).files self.old.log_name.now }
+        requires there { IsThere (W.world self.old.outside.now).files self.old.log_name.now }
         ensures wrote { Wrote result (record { name = self.old.log_name.now; bytes = piece.now })
             (W.world self.old.outside.now) (W.world self.new.outside.now) }
         ensures only { WritesOnly (W.world self.old.outside.now) (W.world self.new.outside.now) }
@@ -118,7 +132,7 @@ impl<'a, W: Outside> Runner<'a, W> {
 
     // Writes the item of a command that was done into the log, and then puts its reply.
     fn report(&mut self, done: &Done) -> Result<(), Failure>
-        requires { IsThere (W.world self.old.outside.now).files self.old.log_name.now }
+        requires there { IsThere (W.world self.old.outside.now).files self.old.log_name.now }
         ensures told { (t : RunTask) (left : List Command) (old new : Session) (command : Command)
             → t.name ≡ self.old.log_name.now
             → IsAt t (command ∷ left) old (W.world self.old.outside.now)
@@ -164,7 +178,7 @@ impl<'a, W: Outside> Runner<'a, W> {
         ensures same_outside { self.new.outside.ghost_name ≡ self.old.outside.ghost_name }
         ensures same_log { self.new.log_name.now ≡ self.old.log_name.now }
     {
-        match debugger.command(self.alloc, command) {
+        match debugger.command(self.rt, self.alloc, command, self.gate) {
             Ok(done) => {
                 self.report(&done)?;
                 Ok(done.rows)

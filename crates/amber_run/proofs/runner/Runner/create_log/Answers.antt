@@ -5,8 +5,9 @@ use Rattle.amber_io.proofs.Told.{made_there}
 use Rattle.amber_run.proofs.Working.{opens-head, there-written}
 use Rattle.amber_run.proofs.runner.Runner.create_log.Goals as goal
 
-pub append-requires : goal.append-requires
-append-requires g c =
+pub append-requires-clause-there : goal.append-requires-clause-there
+append-requires-clause-there g c =
+    λ lifetimes within.
     rw (c.in_ok-create.ensures.made, c.create.ensures.same_log) (made_there (g.W.Outside.world c.args.self.now.outside.now).files c.args.self.now.log_name.now [])
 
 pub returns-clause-opens : goal.returns-clause-opens

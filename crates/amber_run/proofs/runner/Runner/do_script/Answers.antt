@@ -37,7 +37,7 @@ loop-command-preserved g c =
 
 pub do_command-requires-2-clause-fits : goal.do_command-requires-2-clause-fits
 unfolding fits_of
-do_command-requires-2-clause-fits g c = refl
+do_command-requires-2-clause-fits g c = λ lifetimes within. refl
 
 pub returns-clause-did : goal.returns-clause-did
 returns-clause-did g c =

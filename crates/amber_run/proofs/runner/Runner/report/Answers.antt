@@ -26,7 +26,7 @@ pub returns-clause-there : goal.returns-clause-there
 returns-clause-there g c =
     let before = g.W.Outside.world c.args.self.now.outside.now in
     let files = ap (λ (w : World). w.files) c.put_output.ensures.only ∙ c.in_ok-append.ensures.wrote in
-    by-result c.put_output.result (subst (λ now. IsThere now c.args.self.now.log_name.now) (sym files) (more_there before.files c.args.self.now.log_name.now c.get.result.now c.requires))
+    by-result c.put_output.result (subst (λ now. IsThere now c.args.self.now.log_name.now) (sym files) (more_there before.files c.args.self.now.log_name.now c.get.result.now c.requires.there))
   where
     by-result : {X Y : Type 0} {P : Type 0} (r : Result X Y) → P → IfOk r (λ done. P)
     by-result (Ok x) h = h
