@@ -3,10 +3,12 @@
 #![tactic(auto)]
 
 use amber_io::{RealFolder, RealSink};
+use amber_mail::OpenGate;
 use amber_run::{Printed, Status, amber};
 use std::io::ErrorKind;
 use std::process::ExitCode;
 use std::rt::{Env, Files};
+use std::thread::Threads;
 use std::{env, io, mem};
 
 const VERSION: &str = "amber 0.1.0\n";
@@ -20,8 +22,10 @@ const HELP: &str = "amber answers queries over CSV files.
   amber run WORKFLOW SCRIPT LOG THREADS BATCH
                          does the commands of the script, one after the other, then runs to the end,
                          and prints the replies, of which the last is the answer; what was done is
-                         written into the file LOG. THREADS is 1 to 64, and changes nothing yet; BATCH,
-                         the rows of a batch, is 1 to 65536
+                         written into the file LOG. THREADS, 1 to 64, is on how many threads the workers
+                         of the run work side by side: how far each is at a stop may depend on it, but
+                         not the answer where the script has no set and no drop. BATCH, the rows of a
+                         batch, is 1 to 65536
   amber --help           prints this text
   amber --version        prints the version
 
@@ -80,7 +84,10 @@ fn words<R: Env + AllocGlobal>(rt: &R) -> io::Result<Vec<String>> {
 }
 
 // The words could not be read: memory ran out, or one of them is no text, which no form has.
-fn no_words<R: Files + Print + Eprint + AllocGlobal>(rt: &R, kind: ErrorKind) -> Status {
+fn no_words<R: Files + Print + Eprint + Threads + Sync + AllocGlobal>(
+    rt: &R,
+    kind: ErrorKind,
+) -> Status {
     if kind == ErrorKind::OutOfMemory {
         let _ = rt.print("error 10 memory\n");
         return Status::NoMemory;
@@ -88,7 +95,10 @@ fn no_words<R: Files + Print + Eprint + AllocGlobal>(rt: &R, kind: ErrorKind) ->
     call(rt, &[])
 }
 
-fn answer<R: Files + Print + Eprint + AllocGlobal>(rt: &R, words: &[String]) -> Status {
+fn answer<R: Files + Print + Eprint + Threads + Sync + AllocGlobal>(
+    rt: &R,
+    words: &[String],
+) -> Status {
     if let [word] = words {
         match word.as_str() {
             "--help" => return show(rt, HELP),
@@ -106,11 +116,22 @@ fn show<R: Print>(rt: &R, text: &str) -> Status {
     }
 }
 
-fn call<R: Files + Print + Eprint + AllocGlobal>(rt: &R, words: &[String]) -> Status {
+fn call<R: Files + Print + Eprint + Threads + Sync + AllocGlobal>(
+    rt: &R,
+    words: &[String],
+) -> Status {
     let mut folder = RealFolder::new(rt.alloc(), rt);
     let mut out = RealSink::new(rt);
     let mut printed = Printed::new();
-    let status = amber(rt.alloc(), words, &mut folder, &mut out, &mut printed);
+    let status = amber(
+        rt,
+        rt.alloc(),
+        words,
+        &mut folder,
+        &mut out,
+        &mut printed,
+        &OpenGate,
+    );
     // The program ends, and the system takes the rows back faster than they could be freed one by one.
     mem::forget(printed);
     if status == Status::Usage {

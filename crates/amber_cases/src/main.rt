@@ -12,6 +12,7 @@ use amber_case_text::Reader;
 use report::{Counts, tell_broken, tell_case};
 use std::process::ExitCode;
 use std::rt::{Env, Files};
+use std::thread::Threads;
 use std::{env, fs, io};
 use trial::try_case;
 
@@ -61,7 +62,7 @@ fn case_files<R: Files + AllocGlobal + Clone + Drop>(
 }
 
 // Tries the cases of a folder.
-fn try_folder<R: Files + Print + AllocGlobal + Clone + Drop>(
+fn try_folder<R: Files + Print + Threads + Sync + AllocGlobal + Clone + Drop>(
     rt: &R,
     folder: &str,
     counts: &mut Counts,
@@ -74,7 +75,7 @@ fn try_folder<R: Files + Print + AllocGlobal + Clone + Drop>(
 }
 
 // Tries the cases of a file of a folder.
-fn try_file<R: Files + Print + AllocGlobal + Clone + Drop>(
+fn try_file<R: Files + Print + Threads + Sync + AllocGlobal + Clone + Drop>(
     rt: &R,
     reader: &mut Reader,
     folder: &str,
@@ -90,7 +91,7 @@ fn try_file<R: Files + Print + AllocGlobal + Clone + Drop>(
 }
 
 // Tries the cases of a text.
-fn try_cases<R: Print + AllocGlobal>(
+fn try_cases<R: Print + Threads + Sync + AllocGlobal>(
     rt: &R,
     reader: &mut Reader,
     name: &str,
@@ -102,7 +103,7 @@ fn try_cases<R: Print + AllocGlobal>(
         Err(broken) => return tell_broken(rt, counts, name, broken),
     };
     for case in &cases {
-        let difference = try_case(rt.alloc(), case)?;
+        let difference = try_case(rt, rt.alloc(), case)?;
         tell_case(rt, counts, &case.name, difference)?;
     }
     Ok(())

@@ -2,8 +2,10 @@
 
 use amber_case_text::{Case, CaseText, Left, compare_answer, compare_bytes};
 use amber_io::{Fails, MemFolder, MemSink, NamedFiles, Numbers};
+use amber_mail::OpenGate;
 use amber_run::{Printed, amber};
 use std::alloc::{AllocError, Global};
+use std::thread::Threads;
 
 // What a run has given.
 #[derive(Drop)]
@@ -14,11 +16,25 @@ struct Given {
 }
 
 // Runs the top call: this is the one place that calls it.
-fn call(alloc: Global, words: &[String], mut folder: MemFolder, mut out: MemSink) -> Given {
+fn call<R: Threads + Sync>(
+    rt: &R,
+    alloc: Global,
+    words: &[String],
+    mut folder: MemFolder,
+    mut out: MemSink,
+) -> Given {
     let mut printed = Printed::new();
-    let status = amber(alloc, words, &mut folder, &mut out, &mut printed).code();
+    let status = amber(
+        rt,
+        alloc,
+        words,
+        &mut folder,
+        &mut out,
+        &mut printed,
+        &OpenGate,
+    );
     Given {
-        status,
+        status: status.code(),
         folder,
         out,
     }
@@ -26,28 +42,38 @@ fn call(alloc: Global, words: &[String], mut folder: MemFolder, mut out: MemSink
 
 /// What differs first in the runs of a case: one for each of its words and of the numbers of bytes that
 /// a failing call keeps.
-pub fn try_case(alloc: Global, case: &Case) -> Result<Option<String>, AllocError> {
+pub fn try_case<R: Threads + Sync>(
+    rt: &R,
+    alloc: Global,
+    case: &Case,
+) -> Result<Option<String>, AllocError> {
     for words in case.words.iter() {
-        if let Some(difference) = try_words(alloc, case, words.as_slice())? {
+        if let Some(difference) = try_words(rt, alloc, case, words.as_slice())? {
             return Ok(Some(difference));
         }
     }
     Ok(None)
 }
 
-fn try_words(alloc: Global, case: &Case, words: &[String]) -> Result<Option<String>, AllocError> {
+fn try_words<R: Threads + Sync>(
+    rt: &R,
+    alloc: Global,
+    case: &Case,
+    words: &[String],
+) -> Result<Option<String>, AllocError> {
     if case.keep.is_empty() {
-        return try_run(alloc, case, words, 0);
+        return try_run(rt, alloc, case, words, 0);
     }
     for keep in case.keep.iter() {
-        if let Some(difference) = try_run(alloc, case, words, *keep)? {
+        if let Some(difference) = try_run(rt, alloc, case, words, *keep)? {
             return Ok(Some(difference));
         }
     }
     Ok(None)
 }
 
-fn try_run(
+fn try_run<R: Threads + Sync>(
+    rt: &R,
     alloc: Global,
     case: &Case,
     words: &[String],
@@ -55,7 +81,7 @@ fn try_run(
 ) -> Result<Option<String>, AllocError> {
     let folder = folder_of(alloc, case, keep)?;
     let sink = MemSink::new(alloc, fails_of(alloc, case, keep)?);
-    let given = call(alloc, words, folder, sink);
+    let given = call(rt, alloc, words, folder, sink);
     let mut found = difference(alloc, case, keep, &given)?;
     if let Some(found) = &mut found {
         append_place(alloc, found, case, words, keep)?;
