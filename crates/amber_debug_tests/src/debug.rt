@@ -7,8 +7,10 @@ use crate::expected::expect_text;
 use crate::query::{files_of, query};
 use amber_debug::{DebugErr, Debugger, Done, HomeErr, NoMemory};
 use amber_log::Command;
+use amber_mail::OpenGate;
 use std::alloc::Global;
 use std::test::Fail;
+use std::thread::Threads;
 
 // A debugger of the query over this file, with 400 rows in a batch and at most `most` steps.
 fn started(alloc: Global, file: &str, most: u64) -> Result<Debugger, HomeErr>
@@ -37,11 +39,14 @@ fn undone_text(alloc: Global, error: &DebugErr) -> Result<String, NoMemory> {
 }
 
 // What a run to the end writes and replies.
-#[tactic(auto, unfolding(amber_log::specs::Fits::fits_of))]
-fn end_text(alloc: Global, debugger: &mut Debugger) -> Result<String, NoMemory>
+fn end_text<R: Threads + Sync>(
+    rt: &R,
+    alloc: Global,
+    debugger: &mut Debugger,
+) -> Result<String, NoMemory>
     requires { debugger.old.log.items ≡ [] }
 {
-    match debugger.command(alloc, &Command::End) {
+    match debugger.command(rt, alloc, &Command::End, &OpenGate) {
         Ok(done) => done_text(alloc, &done),
         Err(error) => undone_text(alloc, &error),
     }
@@ -56,9 +61,14 @@ fn refusal(alloc: Global, error: HomeErr) -> Result<String, NoMemory> {
 }
 
 // What a run to the end over this file writes and replies, or why it cannot begin.
-fn told(alloc: Global, file: &str, most: u32) -> Result<String, NoMemory> {
+fn told<R: Threads + Sync>(
+    rt: &R,
+    alloc: Global,
+    file: &str,
+    most: u32,
+) -> Result<String, NoMemory> {
     match started(alloc, file, u64::from(most)) {
-        Ok(mut debugger) => end_text(alloc, &mut debugger),
+        Ok(mut debugger) => end_text(rt, alloc, &mut debugger),
         Err(error) => refusal(alloc, error),
     }
 }
@@ -85,7 +95,7 @@ const RUNS: [(&str, u32, &str); 5] = [
 #[test]
 fn a_run_is_as_long_as_its_steps(rt: HostRuntime) -> Result<(), Fail> {
     for (file, most, want) in RUNS {
-        expect_text(told(rt.alloc(), file, most)?, want)?;
+        expect_text(told(&rt, rt.alloc(), file, most)?, want)?;
     }
     Ok(())
 }

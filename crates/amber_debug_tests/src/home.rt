@@ -10,6 +10,7 @@ use amber_log::Command;
 use amber_rows::{Cmp, Cond, Value};
 use std::alloc::Global;
 use std::test::Fail;
+use std::thread::Threads;
 
 // ---- a leg step by step
 
@@ -93,49 +94,69 @@ fn a_filter_shows_what_was_asked_of_it(rt: HostRuntime) -> Result<(), Fail> {
 // ---- a leg up to a pause
 
 // Asks the filter to pause after `n` rows, and runs a leg. Whether both was done.
-fn run_to_a_pause(alloc: Global, home: &mut Home, n: u64) -> Result<bool, Fail> {
+fn run_to_a_pause<R: Threads + Sync>(
+    rt: &R,
+    alloc: Global,
+    home: &mut Home,
+    n: u64,
+) -> Result<bool, Fail> {
     let pause = Command::Pause { op: 2, n };
-    Ok(apply(alloc, home, &pause)? && run_leg(alloc, home, false)?)
+    Ok(apply(alloc, home, &pause)? && run_leg(rt, alloc, home, false)?)
 }
 
-// The stops of such a leg, what the filter shows after it, and what each worker has written down.
-fn paused_text(alloc: Global, home: &mut Home, n: u64) -> Result<String, Fail> {
-    let ran = run_to_a_pause(alloc, home, n)?;
+// Asks the filter to stop once it has emitted `n` rows more, and runs a leg. Whether both was done.
+fn run_to_a_count<R: Threads + Sync>(
+    rt: &R,
+    alloc: Global,
+    home: &mut Home,
+    n: u64,
+) -> Result<bool, Fail> {
+    Ok(count(alloc, home, n)? && run_leg(rt, alloc, home, false)?)
+}
+
+// Asks for a pause, runs a leg, and tells the stops, what the filter shows and what each worker has written down.
+fn paused_text<R: Threads + Sync>(
+    rt: &R,
+    alloc: Global,
+    home: &mut Home,
+    n: u64,
+) -> Result<String, Fail> {
+    let ran = run_to_a_pause(rt, alloc, home, n)?;
     let stops = stops(alloc, home)?;
     let shown = shown(alloc, home)?;
     let written = written(alloc, home)?;
     Ok(format!(in alloc; "ran {ran}\n{stops}{shown}{written}")?)
 }
 
-// The filter takes the third row and emits it, which is its second; then nobody does anything more.
+// The filter emits a second row, which its pause asks for, and a third one: in the round each worker has turns enough to finish.
 #[test]
-fn a_leg_stops_with_the_row_that_a_pause_asks_for(rt: HostRuntime) -> Result<(), Fail> {
+fn a_leg_past_a_pause_goes_on_to_the_end_of_its_round(rt: HostRuntime) -> Result<(), Fail> {
     let alloc = rt.alloc();
     let mut home = home_over(alloc, "n\n2\n1\n3\n4\n")?;
     expect_text(
-        paused_text(alloc, &mut home, 2)?,
-        "ran true\nstop pause big 2 2\ninspect big filter\nconstant 2\nworker 0 taken 3 rest 1 out 2 pending 0 ready\nw 0 g 4 4 f 0 0 w 1 t 0 0 g 3 2 ",
+        paused_text(&rt, alloc, &mut home, 2)?,
+        "ran true\nstop pause big 2 3\nstop end\ninspect big filter\nconstant 2\nworker 0 taken 4 rest 0 out 3 pending 0 finished\nw 0 g 4 4 f 0 0 w 1 t 0 0 g 4 3 f 0 0 w 2 t 1 0 g 3 0 f 0 0 ",
     )
 }
 
-// Two rows were emitted, so a pause at one stands where the second leg begins.
+// Two rows were emitted up to a count, so a pause at one stands where the second leg begins.
 #[test]
 fn nobody_does_anything_where_a_pause_stands(rt: HostRuntime) -> Result<(), Fail> {
     let alloc = rt.alloc();
     let mut home = home_over(alloc, "n\n2\n1\n3\n4\n")?;
-    let _ran = run_to_a_pause(alloc, &mut home, 2)?;
+    let _ran = run_to_a_count(&rt, alloc, &mut home, 2)?;
     expect_text(
-        paused_text(alloc, &mut home, 1)?,
+        paused_text(&rt, alloc, &mut home, 1)?,
         "ran true\nstop pause big 1 2\ninspect big filter\nconstant 2\nworker 0 taken 3 rest 1 out 2 pending 0 ready\n",
     )
 }
 
 // Stops after the first row of the filter, sets another constant, and goes on to the end; and the answer.
-fn changed_text(alloc: Global, home: &mut Home) -> Result<String, Fail> {
-    let ran = run_to_a_pause(alloc, home, 1)?;
+fn changed_text<R: Threads + Sync>(rt: &R, alloc: Global, home: &mut Home) -> Result<String, Fail> {
+    let ran = run_to_a_count(rt, alloc, home, 1)?;
     let value = Value::Int(4);
     let set = apply(alloc, home, &Command::Set { op: 2, value })?;
-    let ended = run_leg(alloc, home, true)?;
+    let ended = run_leg(rt, alloc, home, true)?;
     let told = answer(alloc, home)?;
     Ok(format!(in alloc; "ran {ran} set {set} ended {ended}\n{told}")?)
 }
@@ -146,7 +167,7 @@ fn a_constant_holds_from_the_next_row_on(rt: HostRuntime) -> Result<(), Fail> {
     let alloc = rt.alloc();
     let mut home = home_over(alloc, "n\n2\n1\n3\n4\n")?;
     expect_text(
-        changed_text(alloc, &mut home)?,
+        changed_text(&rt, alloc, &mut home)?,
         "ran true set true ended true\nrows 2\nn\n2\n4\n",
     )
 }
@@ -164,8 +185,8 @@ fn watch(alloc: Global, home: &mut Home) -> Result<bool, NoMemory> {
 }
 
 // Runs a leg, and tells the stops, what the filter shows and what each worker has written down.
-fn held_text(alloc: Global, home: &mut Home) -> Result<String, Fail> {
-    let ran = run_leg(alloc, home, false)?;
+fn held_text<R: Threads + Sync>(rt: &R, alloc: Global, home: &mut Home) -> Result<String, Fail> {
+    let ran = run_leg(rt, alloc, home, false)?;
     let stops = stops(alloc, home)?;
     let shown = shown(alloc, home)?;
     let written = written(alloc, home)?;
@@ -173,13 +194,13 @@ fn held_text(alloc: Global, home: &mut Home) -> Result<String, Fail> {
 }
 
 // Stops before the 3, drops it, stops before the 4, takes the condition back, and goes on to the end.
-fn watched_text(alloc: Global, home: &mut Home) -> Result<String, Fail> {
+fn watched_text<R: Threads + Sync>(rt: &R, alloc: Global, home: &mut Home) -> Result<String, Fail> {
     let watched = watch(alloc, home)?;
-    let first = held_text(alloc, home)?;
+    let first = held_text(rt, alloc, home)?;
     let dropped = apply(alloc, home, &Command::Drop { op: 2, worker: 0 })?;
-    let second = held_text(alloc, home)?;
+    let second = held_text(rt, alloc, home)?;
     let cleared = apply(alloc, home, &Command::Clear { op: 2 })?;
-    let ended = run_leg(alloc, home, true)?;
+    let ended = run_leg(rt, alloc, home, true)?;
     let told = answer(alloc, home)?;
     let calls = format!(in alloc; "{watched} {dropped} {cleared} {ended}")?;
     Ok(format!(in alloc; "{first}{second}{calls}\n{told}")?)
@@ -190,7 +211,7 @@ fn a_held_row_is_dropped_or_let_go(rt: HostRuntime) -> Result<(), Fail> {
     let alloc = rt.alloc();
     let mut home = home_over(alloc, "n\n2\n1\n3\n4\n")?;
     expect_text(
-        watched_text(alloc, &mut home)?,
+        watched_text(&rt, alloc, &mut home)?,
         "ran true\nstop held big 0 3\ninspect big filter\nconstant 2\nwhen n >= 3\nworker 0 taken 3 rest 1 out 1 pending 1 held\nnext 3\nw 0 g 4 4 f 0 0 w 1 t 0 0 g 3 1 h 0 0 \nran true\nstop held big 0 4\ninspect big filter\nconstant 2\nwhen n >= 3\nworker 0 taken 4 rest 0 out 1 pending 1 held\nnext 4\nw 1 g 1 0 h 0 0 \ntrue true true true\nrows 2\nn\n2\n4\n",
     )
 }
@@ -203,9 +224,14 @@ fn count(alloc: Global, home: &mut Home, n: u64) -> Result<bool, NoMemory> {
 }
 
 // Asks for a count, runs a leg, and tells the stops, what the filter shows and what each worker has written down.
-fn counted_text(alloc: Global, home: &mut Home, n: u64) -> Result<String, Fail> {
+fn counted_text<R: Threads + Sync>(
+    rt: &R,
+    alloc: Global,
+    home: &mut Home,
+    n: u64,
+) -> Result<String, Fail> {
     let asked = count(alloc, home, n)?;
-    let told = held_text(alloc, home)?;
+    let told = held_text(rt, alloc, home)?;
     Ok(format!(in alloc; "asked {asked} {told}")?)
 }
 
@@ -215,7 +241,7 @@ fn a_leg_stops_with_the_row_that_a_count_asks_for(rt: HostRuntime) -> Result<(),
     let alloc = rt.alloc();
     let mut home = home_over(alloc, "n\n2\n1\n3\n4\n")?;
     expect_text(
-        counted_text(alloc, &mut home, 2)?,
+        counted_text(&rt, alloc, &mut home, 2)?,
         "asked true ran true\nstop count big 2\ninspect big filter\nconstant 2\nworker 0 taken 3 rest 1 out 2 pending 0 ready\nw 0 g 4 4 f 0 0 w 1 t 0 0 a 2 0 g 3 2 \n",
     )
 }
@@ -226,16 +252,20 @@ fn units_that_are_left_are_given_back(rt: HostRuntime) -> Result<(), Fail> {
     let alloc = rt.alloc();
     let mut home = home_over(alloc, "n\n2\n1\n3\n4\n")?;
     expect_text(
-        counted_text(alloc, &mut home, 5)?,
+        counted_text(&rt, alloc, &mut home, 5)?,
         "asked true ran true\nstop end\ninspect big filter\nconstant 2\ncount 3 of 5\nworker 0 taken 4 rest 0 out 3 pending 0 finished\nw 0 g 4 4 f 0 0 w 1 t 0 0 a 5 0 g 4 3 f 0 0 b 2 0 w 2 t 1 0 g 3 0 f 0 0 \n",
     )
 }
 
 // A count of two and a condition: the 3 holds the filter, which has one unit left; it uses one in the next leg.
-fn count_and_watch_text(alloc: Global, home: &mut Home) -> Result<String, Fail> {
+fn count_and_watch_text<R: Threads + Sync>(
+    rt: &R,
+    alloc: Global,
+    home: &mut Home,
+) -> Result<String, Fail> {
     let watched = watch(alloc, home)?;
-    let first = counted_text(alloc, home, 2)?;
-    let second = held_text(alloc, home)?;
+    let first = counted_text(rt, alloc, home, 2)?;
+    let second = held_text(rt, alloc, home)?;
     Ok(format!(in alloc; "watched {watched} {first}{second}")?)
 }
 
@@ -244,7 +274,7 @@ fn a_held_row_uses_a_unit_once_it_is_emitted(rt: HostRuntime) -> Result<(), Fail
     let alloc = rt.alloc();
     let mut home = home_over(alloc, "n\n2\n1\n3\n4\n")?;
     expect_text(
-        count_and_watch_text(alloc, &mut home)?,
+        count_and_watch_text(&rt, alloc, &mut home)?,
         "watched true asked true ran true\nstop held big 0 3\ninspect big filter\nconstant 2\ncount 1 of 2\nwhen n >= 3\nworker 0 taken 3 rest 1 out 1 pending 1 held\nnext 3\nw 0 g 4 4 f 0 0 w 1 t 0 0 a 2 0 g 3 1 h 0 0 b 1 0 \nran true\nstop count big 2\ninspect big filter\nconstant 2\nwhen n >= 3\nworker 0 taken 3 rest 1 out 2 pending 0 ready\nw 1 a 1 0 g 0 1 \n",
     )
 }
@@ -273,9 +303,13 @@ fn units_are_handed_out_step_by_step(rt: HostRuntime) -> Result<(), Fail> {
 // ---- a leg to the end
 
 // Brings a home to its end, after a look at the filter. Whether each call was made.
-fn come_to_the_end(alloc: Global, home: &mut Home) -> Result<bool, Fail> {
+fn come_to_the_end<R: Threads + Sync>(
+    rt: &R,
+    alloc: Global,
+    home: &mut Home,
+) -> Result<bool, Fail> {
     let look = Command::Inspect { op: 2 };
-    Ok(ask(alloc, home)? && apply(alloc, home, &look)? && run_leg(alloc, home, true)?)
+    Ok(ask(alloc, home)? && apply(alloc, home, &look)? && run_leg(rt, alloc, home, true)?)
 }
 
 // The answer, as it is shown and as it is taken out, and whether the home is over then.
@@ -287,8 +321,8 @@ fn answers_text(alloc: Global, home: &mut Home) -> Result<String, NoMemory> {
 }
 
 // Whether a home comes to its end, with all finished and the log closed; and its answers.
-fn end_text(alloc: Global, home: &mut Home) -> Result<String, Fail> {
-    let ended = come_to_the_end(alloc, home)?;
+fn end_text<R: Threads + Sync>(rt: &R, alloc: Global, home: &mut Home) -> Result<String, Fail> {
+    let ended = come_to_the_end(rt, alloc, home)?;
     let finished = finished(home);
     let closed = home.closed();
     let answers = answers_text(alloc, home)?;
@@ -300,7 +334,7 @@ fn the_answer_is_told_and_taken_out(rt: HostRuntime) -> Result<(), Fail> {
     let alloc = rt.alloc();
     let mut home = home_over(alloc, "n\n2\n1\n3\n4\n")?;
     expect_text(
-        end_text(alloc, &mut home)?,
+        end_text(&rt, alloc, &mut home)?,
         "ended true finished true closed true\nrows 2\nn\n3\n4\nrows 2\nn\n3\n4\nover true",
     )
 }

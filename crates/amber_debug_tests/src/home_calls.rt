@@ -7,12 +7,15 @@ ghost use Rattle.amber_home.specs.HomeState.{counts_in, has_crew, is_done_at_res
 use crate::journals::entries_text;
 use crate::query::{files_of, query};
 use amber_home::{Counts, Home, NoMemory, Phase};
+use amber_leg::leg;
 use amber_log::{Close, Command, Item, Leg, fits};
+use amber_mail::OpenGate;
 use amber_meaning::Answer;
 use amber_report::{answer_lines, inspect_lines, stop_lines};
 use amber_rows::Bytes;
 use std::alloc::Global;
 use std::test::Fail;
+use std::thread::Threads;
 
 /// The home of the query over this file, with 400 rows in a batch and at most 30 steps.
 pub fn home_over(alloc: Global, file: &str) -> Result<Home, Fail> {
@@ -134,12 +137,17 @@ pub fn close_leg(alloc: Global, home: &mut Home) -> Result<bool, NoMemory> {
     }
 }
 
-/// Runs a leg, up to a stop or to the end.
-pub fn run_leg(alloc: Global, home: &mut Home, to_end: bool) -> Result<bool, Fail> {
+/// Runs a leg, up to a stop or to the end, on one thread.
+pub fn run_leg<R: Threads + Sync>(
+    rt: &R,
+    alloc: Global,
+    home: &mut Home,
+    to_end: bool,
+) -> Result<bool, Fail> {
     if !may_go_on(home) {
         return Ok(false);
     }
-    home.leg_home(alloc, to_end)?;
+    leg(rt, alloc, home, to_end, 1, &OpenGate)?;
     Ok(true)
 }
 
