@@ -4,11 +4,15 @@ ghost use Rattle.std.specs.Prelude.{◌≡◌, OnOk, false};
 ghost use Rattle.amber_leg.specs.Driving.{HasDrivenAll, MayDrive, turns_of};
 
 use crate::budget::Budget;
-use crate::slices::drive_place;
+use crate::slices::{Pace, drive_place};
 use amber_board::Board;
 use amber_mail::Gate;
 use amber_worker::Worker;
 use std::alloc::AllocError;
+use std::thread::yield_now;
+
+// How often a thread lets others go on where none of its workers moves.
+const WAITS: u32 = 64;
 
 /// The workers that one thread drives, each at the place of its number; other places are empty.
 #[derive(Drop)]
@@ -18,27 +22,36 @@ pub(crate) struct Driver {
     pub failed: bool,
 }
 
-// A slice of each worker of a driver, one after the other. The answer says whether one of them moved at its end.
+// A slice of each worker of a driver, one after the other. The answer is that of the worker that is furthest from standing.
 fn drive_slices<G: Gate>(
     driver: &mut Driver,
     boards: &[Option<&Board>],
     gate: &G,
     most: u32,
-) -> Result<bool, AllocError>
+) -> Result<Pace, AllocError>
     requires may { MayDrive most boards.now driver.old }
     ensures driven { OnOk result (HasDrivenAll most boards.now
         driver.old driver.new) }
 {
-    let mut moves = false;
+    let mut pace = Pace::Stands;
     'places: for place in 0..boards.len() {
-        if drive_place(&mut driver.workers[place], boards[place], gate, most)? {
-            moves = true;
+        match drive_place(&mut driver.workers[place], boards[place], gate, most)? {
+            Pace::Moves => pace = Pace::Moves,
+            Pace::Waits if pace == Pace::Stands => pace = Pace::Waits,
+            Pace::Waits | Pace::Stands => {}
         }
     }
-    Ok(moves)
+    Ok(pace)
 }
 
-// Slices of a driver's workers, until all have made their turns or none moves.
+// Lets other threads go on for about as long as a slice takes.
+fn wait() {
+    for _ in 0..WAITS {
+        yield_now();
+    }
+}
+
+// Slices of a driver's workers, until all have made their turns or all stand.
 fn drive_passes<G: Gate>(
     driver: &mut Driver,
     boards: &[Option<&Board>],
@@ -49,9 +62,12 @@ fn drive_passes<G: Gate>(
     ensures driven { OnOk result (HasDrivenAll (turns_of budget)
         boards.now driver.old driver.new) }
 {
-    'passes: for _made in 0..budget.passes {
-        if !drive_slices(driver, boards, gate, budget.slice)? {
-            return Ok(());
+    'passes: for made in 0..budget.passes {
+        match drive_slices(driver, boards, gate, budget.slice)? {
+            Pace::Moves => {}
+            Pace::Waits if made + 1 == budget.passes => {}
+            Pace::Waits => wait(),
+            Pace::Stands => return Ok(()),
         }
     }
     Ok(())

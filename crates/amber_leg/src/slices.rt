@@ -15,13 +15,24 @@ use std::alloc::AllocError;
 // After so many turns of a worker it is looked whether it still moves.
 const LOOK: u32 = 64;
 
-// Turns of a worker, so many at most, and fewer where it does not move. The answer says whether it moved at the end.
+/// How a worker stands after turns.
+#[derive(Clone, Copy, PartialEq, Eq)]
+pub(crate) enum Pace {
+    /// It moved at the last one.
+    Moves,
+    /// It can do nothing until a batch comes.
+    Waits,
+    /// It makes no step more in this round: it has finished, is held or paused, or has no unit.
+    Stands,
+}
+
+// Turns of a worker, so many at most, and fewer where it does not move. The answer says how it stands then.
 fn drive_worker<G: Gate>(
     worker: &mut Worker,
     board: Option<&Board>,
     gate: &G,
     most: u32,
-) -> Result<bool, AllocError>
+) -> Result<Pace, AllocError>
     requires few { steps_made worker.old + most ≤ 2 ^ 40 }
     requires own { IsBoardOf (option_copied board) worker.old.seat }
     ensures made { OnOk result (MakesTurns most worker.old worker.new) }
@@ -31,12 +42,15 @@ fn drive_worker<G: Gate>(
     'slices: while 0 < left {
         let turns = left.min(LOOK);
         let drove = worker.drive(board, &mut SilentMail::new(), gate, turns)?;
-        let Some(Turn::Moved) = drove.last else {
-            return Ok(false);
-        };
-        left -= turns;
+        match drove.last {
+            Some(Turn::Moved) => left -= turns,
+            Some(Turn::Idle) | None => return Ok(Pace::Waits),
+            Some(Turn::Held | Turn::Starved | Turn::Paused | Turn::Ended) => {
+                return Ok(Pace::Stands);
+            }
+        }
     }
-    Ok(true)
+    Ok(Pace::Moves)
 }
 
 /// The same at a place where a worker may be.
@@ -45,13 +59,13 @@ pub(crate) fn drive_place<G: Gate>(
     board: Option<&Board>,
     gate: &G,
     most: u32,
-) -> Result<bool, AllocError>
+) -> Result<Pace, AllocError>
     requires may { MayTurn most (option_copied board) place.old }
     ensures turned { OnOk result
         (HasTurnedSo most (option_copied board.entry) place.old place.new) }
 {
     match place {
         Some(worker) => drive_worker(worker, board, gate, most),
-        None => Ok(false),
+        None => Ok(Pace::Stands),
     }
 }

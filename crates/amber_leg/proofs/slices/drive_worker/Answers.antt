@@ -11,9 +11,9 @@ slices-init g c = record {
   own = c.requires.own;
 }
 
--- it did not move
-pub returns-in_default : goal.returns-in_default
-returns-in_default g c =
+-- it stands
+pub returns-in-Some-Held : goal.returns-in-Some-Held
+returns-in-Some-Held g c =
     let drove = c.in_ok-drove.ensures in
     let driven = drove.drives.driven in
     let slice = c.min-turns.ensures in
@@ -24,6 +24,17 @@ returns-in_default g c =
           (omega (arith, drove.within, drove.drives.tells.turns_made)) drove.makes);
       own = drove.own;
     }
+
+-- it waits
+pub returns-in-Some-Idle-clause-made : goal.returns-in-Some-Idle-clause-made
+returns-in-Some-Idle-clause-made g c =
+    let drove = c.in_ok-drove.ensures in
+    let driven = drove.drives.driven in
+    let slice = c.min-turns.ensures in
+    let within = c.slices.invariant.within in
+    makes-both (c.args.most - c.slices.left) c.min-turns.result c.args.most c.args.worker.now c.slices.worker c.drive.new.self (omega arith) c.slices.invariant.made
+    (drives-most drove.drives.turns c.min-turns.result _ _ _ _ c.slices.worker c.drive.new.self driven.looks driven.pauses
+    (omega (arith, drove.within, drove.drives.tells.turns_made)) drove.makes)
 
 -- it moved
 pub slices-preserved : goal.slices-preserved
