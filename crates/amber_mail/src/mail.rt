@@ -54,6 +54,9 @@ pub trait Mail {
         ensures planned { IfSome (plan self.old)
             (λ answers. result ≡ answer_at answers (looks self.old)) };
 
+    /// Whether somebody may hear its notes. Where nobody does none needs to be made.
+    fn is_heard(&self) -> bool;
+
     /// Hands a note on, or drops it where there is no room.
     fn note(&mut self, note: Note)
         ensures looks { looks self.new ≡ looks self.old }

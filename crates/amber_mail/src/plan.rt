@@ -82,6 +82,10 @@ impl Mail for PlannedMail {
         answer
     }
 
+    fn is_heard(&self) -> bool {
+        false
+    }
+
     fn note(&mut self, _note: Note) {}
 }
 
@@ -114,6 +118,11 @@ impl Mail for SilentMail {
     fn look(&mut self) -> Option<Control> {
         self.looked += 1;
         None
+    }
+
+    #[inline(always)]
+    fn is_heard(&self) -> bool {
+        false
     }
 
     #[inline(always)]

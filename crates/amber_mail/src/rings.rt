@@ -126,6 +126,10 @@ impl Mail for RingMail {
         }
     }
 
+    fn is_heard(&self) -> bool {
+        true
+    }
+
     /// Hands a note on, or drops it where no free slot is known.
     fn note(&mut self, note: Note)
         ensures looks { ⟦<RingMail as Mail>⟧.looks self.new ≡ ⟦<RingMail as Mail>⟧.looks self.old }
