@@ -1,8 +1,9 @@
 -- Turns that are driven one after the other.
-use Rattle.std.proofs.Common.{◌≡◌, ℕ, ◌+◌, ◌-◌, ◌≤◌, not, List, [], ◌∷◌, length, count_by, Option, Some, None, Bool, true, false, if◌then◌else◌, refl, sym, ap, ◌∙◌, subst, arith}
+use Rattle.std.proofs.Common.{◌≡◌, ℕ, ◌+◌, ◌-◌, ◌^◌, ◌<◌, ◌≤◌, not, List, [], ◌∷◌, length, count_by, Option, Some, None, Bool, true, false, if◌then◌else◌, refl, sym, ap, ◌∙◌, subst, arith}
 use Rattle.std.specs.List.{list_all}
 use Rattle.std.specs.Option.{IfSome, option_map}
 use Rattle.std.proofs.lemmas.Bool.{and_from}
+use Rattle.std.proofs.Math.Nat.{min-eq_left}
 use Rattle.std.proofs.lemmas.List.Sums.{sum_by-cons}
 use Rattle.amber_rows.specs.Lists.{first_of}
 use Rattle.amber_link.proofs.SentOn.{sent_on-same, sent_on-then}
@@ -11,13 +12,14 @@ use Rattle.amber_mail.specs.declared.mail.Control.{Control}
 use Rattle.amber_worker.specs.Acting.{Acts}
 use Rattle.amber_worker.specs.Steps.{held_at}
 use Rattle.amber_worker.specs.declared.driving.Drove.{Drove}
-use Rattle.amber_worker.specs.Driving.{AreAnswers, BreaksOff, Driven, Drives, DrivesOnce, Driving, HasDriven, HasSent, OnlyLooks, RanBy, StandsAfter, stops, turned_once}
+use Rattle.amber_worker.specs.Driving.{AreAnswers, BreaksOff, CountsTurns, Driven, Drives, DrivesOnce, Driving, HasDriven, HasSent, OnlyLooks, RanBy, StandsAfter, stops, turned_once}
 use Rattle.amber_worker.specs.Turning.{IsCalm, MakesTurn, MakesTurns, StaysCalm}
 use Rattle.amber_worker.specs.WorkerState.{WorkerState, is_starved, next_turn, steps_made}
 use Rattle.amber_worker.specs.declared.turn.Turn.{Turn}
 use Rattle.amber_worker.specs.declared.turn.Turn.TheVariants as turn
 use Rattle.amber_worker.proofs.TurnCases.{ends-by, pauses-by, starves-by}
 use Rattle.amber_worker.proofs.CalmTurns.{calm-broken, calm-then, calm-turn}
+use Rattle.amber_worker.proofs.Selves.{turns-uncounted}
 use Rattle.amber_worker.proofs.ManyTurns.{makes-armed, makes-looked, makes-more, makes-same, makes-sent, makes-then}
 
 -- ---- batches that are sent
@@ -59,6 +61,7 @@ pub record Reached (made : ℕ) (old new : Driving) (last : Option Turn) : Type 
   pub last_is : last ≡ option_map (λ one. one.done) (first_of turns)
   pub makes : (n : ℕ) → n + old.looks + new.pauses ≡ new.looks + old.pauses → MakesTurns n old.worker new.worker
   pub few : new.pauses + old.looks ≤ new.looks + old.pauses
+  pub turned : old.worker.turned + made < 2 ^ 64 → new.worker.turned ≡ old.worker.turned + made
   pub calm : IsCalm old.worker → old.plan ≡ Some [] → StaysCalm old.worker new.worker
   pub stands : IfSome last (StandsAfter new.worker)
 
@@ -85,6 +88,7 @@ begins old = record {
     last_is = refl;
     makes = λ n same. makes-more 0 n old.worker old.worker (omega arith) (makes-same old.worker);
     few = omega arith;
+    turned = λ fits. omega arith;
     calm = λ calm plan. record { calm = calm; writes = refl };
     stands = tt;
   };
@@ -149,6 +153,7 @@ drives-more made old mid new last done way once =
       last_is = refl;
       makes = λ n same. adds (is_pause once.told) refl n same;
       few = more (is_pause once.told) refl;
+      turned = λ fits. counted fits;
       calm = λ calm plan. stays calm plan;
       stands = subst (λ w. StandsAfter w done) (sym whole) (stands-once once.after done (stands-turned once.turns.between once.after done once.turns.makes));
     }
@@ -174,6 +179,14 @@ drives-more made old mid new last done way once =
     more : (b : Bool) → is_pause once.told ≡ b → new.pauses + old.looks ≤ new.looks + old.pauses
     more true e = let now = rw e at once.pauses in let few = way.reached.few in omega (arith, now, once.looks, few)
     more false e = let now = rw e at once.pauses in let few = way.reached.few in omega (arith, now, once.looks, few)
+
+    counted : old.worker.turned + (made + 1) < 2 ^ 64 → new.worker.turned ≡ old.worker.turned + (made + 1)
+    counted fits =
+        let before = way.reached.turned (omega (arith, fits)) in
+        let same = turns-uncounted once.told mid.worker once.after done once.turns in
+        let fit : once.after.turned + 1 ≤ 2 ^ 64 - 1 = omega (arith, same, before, fits) in
+        let one : new.worker.turned ≡ once.after.turned + 1 = ap (λ (w : WorkerState). w.turned) once.counted ∙ min-eq_left fit in
+        omega (arith, one, same, before)
 
     stays : IsCalm old.worker → old.plan ≡ Some [] → StaysCalm old.worker new.worker
     stays calm plan =
@@ -212,6 +225,7 @@ reached-sent made old mid new last reached sent looks pauses plan = record {
       subst (λ k. MakesTurns k old.worker new.worker) (omega arith)
       (makes-then n 0 old.worker mid.worker new.worker (makes-armed n old.worker mid.worker first) first (makes-sent mid.worker new.worker mid.worker.turned sent));
   few = rw (looks, pauses) reached.few;
+  turned = λ fits. ap (λ (w : WorkerState). w.turned) sent.only ∙ reached.turned fits;
   calm = λ calm is.
       let first = reached.calm calm is in
       calm-then old.worker mid.worker new.worker first
@@ -262,3 +276,7 @@ steps-within made old new last reached =
     let n : ℕ = (new.looks + old.pauses) - (old.looks + new.pauses) in
     let makes = reached.makes n (omega (arith, reached.few)) in
     omega (arith, makes.steps, reached.driven.looks, reached.driven.pauses, reached.long)
+
+-- as many turns were counted as were driven
+pub counts-turns : (made : ℕ) (old new : Driving) (last : Option Turn) → Reached made old new last → CountsTurns made old.worker new.worker
+counts-turns made old new last reached = record { turned = reached.turned; steps = steps-within made old new last reached }

@@ -12,7 +12,7 @@ use Rattle.amber_worker.specs.Acting.{Acts, DealsAt, dealing_under, paused_at}
 use Rattle.amber_worker.specs.AtPosition.{IsLookedAt}
 use Rattle.amber_worker.specs.Counting.{Claims, CountsOne, GivesBack, IsSameSeat, mine_in}
 use Rattle.amber_worker.specs.Steps.{Becomes, held_at, turned_to}
-use Rattle.amber_worker.specs.Turning.{HasTurned, MakesStep, constants_in}
+use Rattle.amber_worker.specs.Turning.{HasTurned, MakesStep, TurnsUnder, constants_in}
 use Rattle.amber_worker.specs.WorkerState.{WorkerState, is_armed, steps_made}
 use Rattle.amber_worker.specs.declared.counting.Dealing.{Dealing}
 use Rattle.amber_worker.specs.declared.counting.Dealing.TheVariants as dealing
@@ -196,6 +196,11 @@ acts-self None old new same = subst (ActsSelf old) (sym same) (acts-same old)
 acts-self (Some control.Pause) old new same = subst (ActsSelf old) (sym same) (paused-self old)
 acts-self (Some control.Claim) old new acts = dealt-self (dealing_under (Some control.Claim) old) old new acts
 acts-self (Some control.Return) old new acts = dealt-self (dealing_under (Some control.Return) old) old new acts
+
+-- a turn is not counted, whatever it was told
+pub turns-uncounted : (told : Option Control) (old new : WorkerState) (done : Turn) → TurnsUnder told old new done → new.turned ≡ old.turned
+turns-uncounted told old new done turns =
+    (turned-self done turns.between new turns.makes.turned).turned ∙ (acts-self told old turns.between turns.acts).self.turned
 
 -- one that is told to pause has finished or is paused then
 pub pauses-stand : (w : WorkerState) → ((paused_at w).finished || (paused_at w).restraint.paused) ≡ true

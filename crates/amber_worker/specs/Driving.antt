@@ -1,5 +1,5 @@
 -- What a drive does: one turn after the other, each under what the mail says, and what waits is sent between them.
-use Rattle.std.specs.Prelude.{◌≡◌, ℕ, ◌+◌, ◌-◌, ◌^◌, ◌≤◌, not, min, List, [], ◌∷◌, length, count_by, option_map, Option, Some, None, Bool, true, false, IfSome, if◌then◌else◌}
+use Rattle.std.specs.Prelude.{◌≡◌, ℕ, ◌+◌, ◌-◌, ◌^◌, ◌<◌, ◌≤◌, not, min, List, [], ◌∷◌, length, count_by, option_map, Option, Some, None, Bool, true, false, IfSome, if◌then◌else◌}
 use Rattle.std.specs.List.{list_all}
 use Rattle.amber_rows.specs.Lists.{first_of, later_of}
 use Rattle.amber_mail.specs.Controls.{answer_at, is_pause}
@@ -7,7 +7,7 @@ use Rattle.amber_mail.specs.declared.mail.Control.{Control}
 use Rattle.amber_link.specs.Sides.{HaveSentOn}
 use Rattle.amber_worker.specs.AtPosition.{IsLookedAt}
 use Rattle.amber_worker.specs.Turning.{MakesTurns, TurnsUnder}
-use Rattle.amber_worker.specs.WorkerState.{WorkerState, is_starved, next_turn}
+use Rattle.amber_worker.specs.WorkerState.{WorkerState, is_starved, next_turn, steps_made}
 use Rattle.amber_worker.specs.declared.driving.Drove.{Drove}
 use Rattle.amber_worker.specs.declared.turn.Turn.{Turn}
 use Rattle.amber_worker.specs.declared.turn.Turn.TheVariants as turn
@@ -25,6 +25,11 @@ pub record Driven : Type 0 where
 -- a turn more was driven; at its end the number stands still
 abbrev pub turned_once : WorkerState → WorkerState
 turned_once w = record w { turned = min (w.turned + 1) (2 ^ 64 - 1) }
+
+-- as many turns were counted as were driven, and no more steps were made
+pub record CountsTurns (turns : ℕ) (old new : WorkerState) : Type 0 where
+  pub turned : old.turned + turns < 2 ^ 64 → new.turned ≡ old.turned + turns
+  pub steps : steps_made new ≤ steps_made old + turns
 
 -- these turns were made one after the other, the last one first; batches may have been sent between them
 unfoldable pub RanBy : List Driven → WorkerState → WorkerState → Type 0

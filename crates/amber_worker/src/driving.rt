@@ -62,6 +62,9 @@ impl Noted {
         ensures pauses { M.pauses mail.new ≡ M.pauses mail.old }
         ensures plan { M.plan mail.new ≡ M.plan mail.old }
     {
+        if !mail.is_heard() {
+            return;
+        }
         let starved = turn == Turn::Starved;
         if starved != self.starved {
             mail.note(if starved { Note::Starved } else { Note::Able });

@@ -111,6 +111,10 @@ impl Mail for KeepingMail {
         }
     }
 
+    fn is_heard(&self) -> bool {
+        true
+    }
+
     fn note(&mut self, note: Note) {
         // A text that lacks a note is not the one that is expected.
         let _ = self.keep(note);
@@ -151,6 +155,10 @@ impl Mail for SendingMail {
             self.out.send();
         }
         None
+    }
+
+    fn is_heard(&self) -> bool {
+        false
     }
 
     fn note(&mut self, _note: Note) {}

@@ -5,7 +5,7 @@ ghost use Rattle.std.specs.Prelude.{All, IfOk, IfSome, OnErr, OnOk, Some, [], �
 ghost use Rattle.std.specs.Option.{option_copied};
 ghost use Rattle.amber_link.specs.Sides.{CanSendNoMore};
 ghost use Rattle.amber_worker.specs.Counting.{IsBoardOf};
-ghost use Rattle.amber_worker.specs.Driving.{BreaksOff, Drives, DrivesOnce, HasSent, OnlyLooks, StandsAfter, turned_once, was_stopped};
+ghost use Rattle.amber_worker.specs.Driving.{BreaksOff, CountsTurns, Drives, DrivesOnce, HasSent, OnlyLooks, StandsAfter, turned_once, was_stopped};
 ghost use Rattle.amber_worker.specs.Turning.{IsCalm, MakesTurns, StaysCalm};
 ghost use Rattle.amber_worker.specs.WorkerState.{steps_made};
 
@@ -122,6 +122,8 @@ impl Worker {
               pauses = M.pauses mail.new;
               plan = M.plan mail.new;
             })) }
+        ensures counts { IfOk result (λ drove. CountsTurns drove.turns self.old self.new) }
+        ensures some { IfOk result (λ drove. 0 < budget → 0 < drove.turns) }
         ensures within { IfOk result (λ drove. drove.turns ≤ budget) }
         ensures early { IfOk result
             (λ drove. drove.turns < budget → was_stopped drove.last ≡ true) }

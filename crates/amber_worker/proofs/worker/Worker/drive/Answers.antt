@@ -2,8 +2,9 @@
 use Rattle.std.proofs.Common.{◌+◌, ◌∙◌, Some, refl, sym, subst, arith}
 use Rattle.std.specs.Option.{option_copied}
 use Rattle.amber_worker.specs.Counting.{IsBoardOf}
+use Rattle.amber_worker.specs.Driving.{CountsTurns}
 use Rattle.amber_worker.specs.WorkerState.{WorkerState}
-use Rattle.amber_worker.proofs.Drives.{begins, breaks-makes, drives-more, goes-on, reached-sent, steps-within, tells-all, way-sent}
+use Rattle.amber_worker.proofs.Drives.{begins, breaks-makes, counts-turns, drives-more, goes-on, reached-sent, steps-within, tells-all, way-sent}
 use Rattle.amber_worker.proofs.worker.Worker.drive.Goals as goal
 
 pub turns-init : goal.turns-init
@@ -38,6 +39,12 @@ returns-then-stops-clause-makes g c =
     let more = drives-more c.turns.made _ _ _ c.turns.last c.in_ok-turn.turn c.turns.invariant.0 c.in_ok-turn.ensures.drives in
     (reached-sent (c.turns.made + 1) _ _ _ (Some c.in_ok-turn.turn) more c.send.ensures.sends c.note.ensures.looks c.note.ensures.pauses c.note.ensures.plan).makes
 
+pub returns-then-stops-clause-counts : goal.returns-then-stops-clause-counts
+returns-then-stops-clause-counts g c =
+    let more = drives-more c.turns.made _ _ _ c.turns.last c.in_ok-turn.turn c.turns.invariant.0 c.in_ok-turn.ensures.drives in
+    counts-turns (c.turns.made + 1) _ _ (Some c.in_ok-turn.turn)
+    (reached-sent (c.turns.made + 1) _ _ _ (Some c.in_ok-turn.turn) more c.send.ensures.sends c.note.ensures.looks c.note.ensures.pauses c.note.ensures.plan)
+
 -- ---- all were driven
 
 pub returns-clause-drives : goal.returns-clause-drives
@@ -46,3 +53,8 @@ returns-clause-drives g c =
 
 pub returns-clause-makes : goal.returns-clause-makes
 returns-clause-makes g c = (reached-sent c.turns.made _ _ _ c.turns.last c.turns.invariant.0.reached c.send-2.ensures.sends refl refl refl).makes
+
+pub returns-clause-counts : goal.returns-clause-counts
+returns-clause-counts g c =
+    subst (λ made. CountsTurns made c.args.self.now c.send-2.new.self) (omega arith)
+    (counts-turns c.turns.made _ _ c.turns.last (reached-sent c.turns.made _ _ _ c.turns.last c.turns.invariant.0.reached c.send-2.ensures.sends refl refl refl))
