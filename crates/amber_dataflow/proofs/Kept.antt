@@ -27,10 +27,10 @@ use Rattle.amber_worker.specs.Counting.{IsBoardOf}
 use Rattle.amber_worker.specs.WorkerState.{IsFree, WorkerState, is_armed, needs_unit, steps_made}
 use Rattle.amber_dataflow.specs.Answers.{IsGathered, ShowAll, ShowWorkers}
 use Rattle.amber_dataflow.specs.AtWork.{AreAtWork, GoesOn, HaveFinished, IsCrewUnder, IsHeldAt, KeepsPosition, MakesStepAt, MakesTurnsAt, state_reached, steps_by, worker_state_at}
-use Rattle.amber_dataflow.specs.Dataflow.{AreAllThere, AreFree, DataflowState, HasStopped, HaveDoneNothing, IsAnswerOf, IsDataflow, IsFirst, IsHeldNow, IsIdle, MadeStep, MovesUnder, ShowAt, StandAgain, StandsUnder, TurnsAt, all_resumed, leg_begun, handed_out, has_finished, has_room, is_armed_at, is_held, is_paused, is_short, have_all_finished, journal_of, rows_emitted, seat_of, step_count, units_counted, constant_put, when_put, worker_begun, worker_resumed, worker_set, worker_watching}
+use Rattle.amber_dataflow.specs.Dataflow.{AreAllThere, AreFree, DataflowState, HaveDoneNothing, IsAnswerOf, IsDataflow, IsFirst, IsHeldNow, MadeStep, MovesUnder, ShowAt, StandAgain, StandsUnder, TurnsAt, all_resumed, leg_begun, handed_out, has_finished, has_room, is_armed_at, is_held, is_paused, is_short, have_all_finished, journal_of, rows_emitted, seat_of, step_count, turned_of, units_counted, constant_put, when_put, worker_begun, worker_resumed, worker_set, worker_watching}
 use Rattle.amber_dataflow.specs.Parts.{without_journal}
-use Rattle.amber_dataflow.specs.Stopping.{WorkerHasStopped}
 use Rattle.amber_dataflow.proofs.Answered.{at-work-show, some-crew}
+use Rattle.amber_dataflow.proofs.Crews.{at-each}
 use Rattle.amber_dataflow.proofs.Emitted.{crew-few, others-emitted, own-emitted}
 use Rattle.amber_dataflow.proofs.Numbered.{nth-numbers}
 use Rattle.amber_dataflow.proofs.Reached.{listed-at}
@@ -114,7 +114,7 @@ module _ (d : DataflowState) (keeps : IsDataflow d) where
 
   -- one of them has made turns
   turned : (now : List WorkerState) (worker most : ℕ) → length now ≡ crew_of d.flow → MakesTurnsAt most d.workers now worker → TurnsAt most d (record d { workers = now }) worker
-  unfolding GoesOn MovesUnder journal_of has_finished has_room rows_emitted seat_of units_counted
+  unfolding GoesOn MovesUnder journal_of has_finished has_room rows_emitted seat_of turned_of units_counted
   turned now worker most there turns = record {
     flow = refl;
     there = there;
@@ -135,6 +135,8 @@ module _ (d : DataflowState) (keeps : IsDataflow d) where
     room = turns.reserved;
     units = λ armed. own-units d.flow d.workers now worker turns.only (turns.mine armed);
     counted = λ op apart. others-units d.flow d.workers now worker op turns.only apart;
+    undriven = λ other. at-each (λ k. (worker_state_at now k).turned ≡ (worker_state_at d.workers k).turned) worker turns.undriven
+        (λ k apart. ap (λ (w : WorkerState). w.turned) (turns.only k apart)) other;
   }
 
   -- as they were lent and come back
@@ -182,32 +184,10 @@ module _ (d : DataflowState) (keeps : IsDataflow d) where
           stand = λ has. (stand.0, stand.1, next.0, next.1);
         }
 
-    module _ (count : steps_by now ≡ steps_by lent + made) where
-      -- so many turns
-      pub count-back : step_count back ≡ step_count d + made
-      unfolding step_count
-      count-back = ap step_count (sym back-is) ∙ count ∙ ap (λ crew. steps_by crew + made) is
-
-      -- what is known of all workers still is
-      pub kept-back : StandsUnder (is_armed_at d worker) d worker → step_count d + made ≤ 2 ^ 40 → IsDataflow back
-      unfolding MovesUnder
-      kept-back stand few =
-          let next = turned-back.on stand.0 stand.1 stand.2 stand.3 stand.4 in
-          record {
-            flow = keeps.flow;
-            few = rw count-back few;
-            stand = λ has. (stand.0, stand.1, next.0, next.1);
-          }
-
     -- the board is still that of its seat
     pub own-back : (board : Option Board) → IsBoardOf board (worker_state_at now worker).seat → IsBoardOf board (seat_of back worker)
     unfolding seat_of
     own-back board own = subst (λ (e : DataflowState). IsBoardOf board (worker_state_at e.workers worker).seat) back-is own
-
-    -- it has stopped
-    pub stopped-back : WorkerHasStopped (worker_state_at now worker) → HasStopped back worker
-    unfolding has_finished is_held is_paused is_short IsIdle
-    stopped-back stopped = subst (λ (e : DataflowState). WorkerHasStopped (worker_state_at e.workers worker)) back-is stopped
 
   -- ---- a leg begins, and journals are handed out
 

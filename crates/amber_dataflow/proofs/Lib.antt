@@ -32,7 +32,6 @@ pub mod Sending
 pub mod SortedRefusals
 pub mod Split
 pub mod Standing
-pub mod Starved
 pub mod Stepped
 pub mod Steps
 pub mod Units

@@ -1,4 +1,4 @@
--- Turns of one worker, one or many, and then its links settled again: all are at work.
+-- Turns of one worker, and then its links settled again: all are at work.
 use Rattle.std.proofs.Common.{◌≡◌, ◌≢◌, ◌⊎◌, refl, sym, ap, subst, ◌∙◌, ℕ, suc, ◌+◌, ◌<◌, List, [], ◌∷◌, length, get_or, set, nat_eq, Bool, Option, None, true, if◌then◌else◌, inl, inr, arith, length-set}
 use Rattle.std.specs.List.{list_any}
 use Rattle.std.proofs.lemmas.Bool.{ne_eqb}
@@ -17,13 +17,11 @@ use Rattle.amber_worker.specs.WorkerState.{WorkerState, is_armed, needs_unit, st
 use Rattle.amber_worker.proofs.StepFacts.{step-steps, step-writes}
 use Rattle.amber_dataflow.specs.AtWork.{AreAtWork, AreJoinedAt, GoesOn, IsCrewUnder, IsJoinedCrew, IsHeldAt, MakesStepAt, MakesTurnsAt, MovesOnly, SendsTo, StayPut, WritesHolds, is_counted, steps_by, worker_state_at}
 use Rattle.amber_dataflow.specs.Passing.{AreSameBesides, Come, IsSettledAt, Settled}
-use Rattle.amber_dataflow.specs.Stopping.{WorkerHasStopped}
 use Rattle.amber_dataflow.proofs.Crews.{at-each, here-now, joined-turned, placed, there-still}
 use Rattle.amber_dataflow.proofs.Linked.{come-turned}
 use Rattle.amber_dataflow.proofs.Numbers.{length-put}
 use Rattle.amber_dataflow.proofs.Sending.{sending, sending-out}
 use Rattle.amber_dataflow.proofs.Split.{read-at}
-use Rattle.amber_dataflow.proofs.Starved.{StaysEmpty, idle-still, stay-empty}
 use Rattle.amber_dataflow.proofs.Steps.{steps-cons, sum-more}
 
 -- the steps of workers that are the same but for their links
@@ -39,6 +37,7 @@ pub record TurnsUnsent (most : ℕ) (old new : WorkerState) : Type 0 where
   pub makes : MakesTurns most old new
   pub unsent : HaveSentNothing old.outs new.outs
   pub writes : WritesHolds old.journal new.journal
+  pub uncounted : new.turned ≡ old.turned
 
 -- those of a worker, as it was read
 pub at-place : (crew : List WorkerState) (number most : ℕ) (now d : WorkerState) → number < length crew → TurnsUnsent most (get_or crew number d) now
@@ -121,20 +120,6 @@ module _ (crew : List WorkerState) (number : ℕ) (now : WorkerState) (inside : 
             (λ to not-to does. settled-out from to not-to does) to does;
       }
 
-      -- where it found nothing to do it finds nothing now
-      idle-then : WorkerHasStopped now → WorkerHasStopped (worker_state_at after number)
-      idle-then (inl finished) = inl (ap (λ (w : WorkerState). w.finished) here-after ∙ finished)
-      idle-then (inr (inl held)) = inr (inl (ap (λ (w : WorkerState). w.restraint.held) here-after ∙ held))
-      idle-then (inr (inr (inl paused))) = inr (inr (inl (ap (λ (w : WorkerState). w.restraint.paused) here-after ∙ paused)))
-      idle-then (inr (inr (inr (inl short)))) = inr (inr (inr (inl (ap needs_unit here-after ∙ short))))
-      idle-then (inr (inr (inr (inr idle)))) =
-          let same = here-now crew number now inside in
-          inr (inr (inr (inr (idle-still now (worker_state_at after number) here-after
-          (subst (λ (w : WorkerState). Pairwise StaysEmpty w.ins (worker_state_at after number).ins) same
-          (stay-empty query start crew turned after positions later number inside work turned-at work-then elsewhere
-          (subst (λ w. HasSameEnds (worker_state_at crew number) w) (sym same) makes.ends)
-          (subst (λ (w : WorkerState). Pairwise HaveMoreCome (worker_state_at crew number).ins w.ins) (sym same) makes.come) settled.put)) idle))))
-
     -- one has moved on
     goes-on : GoesOn crew after number
     unfolding GoesOn
@@ -173,6 +158,7 @@ module _ (crew : List WorkerState) (number : ℕ) (now : WorkerState) (inside : 
           let rows = ap (λ (w : WorkerState). w.emitted) here-after in
           omega arith;
       reserved = ap (λ (w : WorkerState). w.reserved) here-after ∙ makes.reserved;
+      undriven = ap (λ (w : WorkerState). w.turned) here-after ∙ turns.uncounted;
     }
 
     -- what it has done stands in its journal
@@ -184,10 +170,6 @@ module _ (crew : List WorkerState) (number : ℕ) (now : WorkerState) (inside : 
     steps-then work made more =
         steps-besides turned after (length-put turned after (joined-then work) settled.put) settled.aside
         ∙ sum-more crew number made now inside more
-
-    -- where it has stopped, it still has
-    pub stopped-then : IsCrewUnder armed number crew → WorkerHasStopped now → WorkerHasStopped (worker_state_at after number)
-    stopped-then work stopped = idle-then work.0 work.1 work.2 work.3 work.4 stopped
 
     -- a step of it, or that its next row holds it
     pub does-then : IsCrewUnder armed number crew → MakesStep (worker_state_at crew number) now ⊎ (now ≡ held_at (worker_state_at crew number))

@@ -18,10 +18,10 @@ use Rattle.amber_worker.specs.WorkerState.{WorkerState, has_ready, is_armed, is_
 use Rattle.amber_worker.specs.declared.turn.Turn.{Turn}
 use Rattle.amber_worker.specs.declared.turn.Turn.TheVariants as turn
 use Rattle.amber_worker.proofs.ManyTurns.{makes-armed, makes-same, makes-then, makes-turn, same-step, steps_in, turned-rows, turned-steps}
+use Rattle.amber_worker.proofs.Selves.{turns-uncounted}
 use Rattle.amber_worker.proofs.StepFacts.{step-writes}
 use Rattle.amber_worker.proofs.TurnCases.{ends-by, pauses-by, turn_by}
 use Rattle.amber_dataflow.specs.AtWork.{WritesHolds}
-use Rattle.amber_dataflow.specs.Stopping.{WorkerHasStopped}
 
 -- ---- one turn
 
@@ -33,6 +33,11 @@ pub alone-makes : {E : Type 0} (r : Result Turn E) (old new : WorkerState) → K
     → IfOk r (TurnsUnder None old new) → OnOk r (MakesTurns 1 old new)
 alone-makes (Ok done) old new keeps ends turns = makes-turn None old new done keeps ends turns
 alone-makes (Err e) old new keeps ends turns = tt
+
+-- it was not driven
+pub alone-uncounted : {E : Type 0} (r : Result Turn E) (old new : WorkerState) → IfOk r (TurnsUnder None old new) → OnOk r (new.turned ≡ old.turned)
+alone-uncounted (Ok done) old new turns = turns-uncounted None old new done turns
+alone-uncounted (Err e) old new turns = tt
 
 -- ---- what is written
 
@@ -69,15 +74,7 @@ pub alone-writes : {E : Type 0} (r : Result Turn E) (old new : WorkerState) → 
 alone-writes (Ok done) old new turns = turn-writes old new done (turns-alone old new done turns).turned
 alone-writes (Err e) old new turns = tt
 
--- ---- where a turn is no step
-
--- a turn but `Moved` makes no step
-pub no-step : (done : Turn) → (done ≡ turn.Idle) ⊎ ((done ≡ turn.Held) ⊎ ((done ≡ turn.Starved) ⊎ ((done ≡ turn.Paused) ⊎ (done ≡ turn.Ended)))) → steps_in done ≡ 0
-no-step done (inl is) = ap steps_in is
-no-step done (inr (inl is)) = ap steps_in is
-no-step done (inr (inr (inl is))) = ap steps_in is
-no-step done (inr (inr (inr (inl is)))) = ap steps_in is
-no-step done (inr (inr (inr (inr is)))) = ap steps_in is
+-- ---- where it needs a unit
 
 -- one that starves needs a unit
 starves-test : (a b c d e f g h i : Bool) → turn.Starved ≡ turn_by a b c d e f g h i → (e && (d || g)) ≡ true
@@ -99,67 +96,3 @@ starves-test false false false false false f false false false is = cc
 pub starving : (w : WorkerState) → IsNextTurn w turn.Starved → needs_unit w ≡ true
 starving w next =
     starves-test w.finished w.restraint.paused w.restraint.held (has_some w.pending) (is_starved w) (must_hold w) (has_some w.rest) (has_ready next.found) (have_all_ended next.found) next.is
-
--- a worker that makes no step has stopped
-pub has-stopped : (done : Turn) (old new : WorkerState) → MakesTurn old new done → steps_in done ≡ 0 → WorkerHasStopped new
-has-stopped turn.Moved old new makes none = absurd (omega (arith, none))
-has-stopped turn.Idle old new makes none = inr (inr (inr (inr makes.turned.idle)))
-has-stopped turn.Held old new makes none = inr (inl (ap (λ (w : WorkerState). w.restraint.held) makes.turned ∙ by old.restraint.held refl))
-  where
-    by : (b : Bool) → old.restraint.held ≡ b → (if b then old else held_at old).restraint.held ≡ true
-    by true is = is
-    by false is = refl
-has-stopped turn.Starved old new makes none = inr (inr (inr (inl (ap needs_unit makes.turned ∙ starving old makes.next))))
-has-stopped turn.Paused old new makes none = inr (inr (inl (ap (λ (w : WorkerState). w.restraint.paused) makes.turned ∙ pauses-by old makes.next)))
-has-stopped turn.Ended old new makes none = inl (ap (λ (w : WorkerState). w.finished) makes.turned ∙ ends-by old makes.next)
-
--- a turn makes as many steps as it is said to
-exactly : (done : Turn) (old new : WorkerState) → MakesTurns 1 old new → HasTurned done old new → MakesTurns (steps_in done) old new
-exactly done old new makes turned =
-    let steps = turned-steps done old new turned in
-    record {
-      keeps = makes.keeps;
-      ends = makes.ends;
-      constants = makes.constants;
-      seat = makes.seat;
-      mine = makes.mine;
-      reserved = makes.reserved;
-      come = makes.come;
-      taken = makes.taken;
-      emitted = makes.emitted;
-      batches = makes.batches;
-      rows = turned-rows done old new turned;
-      steps = omega (arith, steps);
-      more = makes.more;
-    }
-
--- ---- many turns
-
--- a worker made so many turns, each of them a step
-pub record HasMade (made : ℕ) (old new : WorkerState) : Type 0 where
-  pub makes : MakesTurns made old new
-  pub unsent : HaveSentNothing old.outs new.outs
-  pub writes : WritesHolds old.journal new.journal
-  pub steps : steps_made new ≡ steps_made old + made
-
-pub made-none : (w : WorkerState) → HasMade 0 w w
-made-none w = record { makes = makes-same w; unsent = refl; writes = holds-none w.journal; steps = omega arith }
-
--- and then one that is a step, or none
-pub made-then : (n m : ℕ) (done : Turn) (a b c : WorkerState) → steps_in done ≡ m → HasMade n a b → MakesTurns 1 b c → HaveSentNothing b.outs c.outs
-    → MakesTurn b c done → HasMade (n + m) a c
-made-then n m done a b c so before makes unsent turn =
-    let steps = turned-steps done b c turn.turned in
-    let one = subst (λ k. MakesTurns k b c) so (exactly done b c makes turn.turned) in
-    record {
-      makes = makes-then n m a b c (makes-armed n a b before.makes) before.makes one;
-      unsent = unsent ∙ before.unsent;
-      writes = holds-then a.journal b.journal c.journal before.writes (turn-writes b c done turn.turned);
-      steps = omega (arith, steps, so, before.steps);
-    }
-
-pub made-still : (n : ℕ) (done : Turn) (a b c : WorkerState) → steps_in done ≡ 0 → HasMade n a b → MakesTurns 1 b c → HaveSentNothing b.outs c.outs
-    → MakesTurn b c done → HasMade n a c
-made-still n done a b c none before makes unsent turn =
-    let same : n + 0 ≡ n = omega arith in
-    subst (λ k. HasMade k a c) same (made-then n 0 done a b c none before makes unsent turn)

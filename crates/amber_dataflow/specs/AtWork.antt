@@ -132,6 +132,12 @@ pub record MakesTurnsAt (most : ℕ) (old new : List WorkerState) (worker : ℕ)
   pub mine : is_armed (worker_state_at old worker) ≡ true
       → mine_in (worker_state_at new worker).seat + (worker_state_at old worker).emitted ≡ mine_in (worker_state_at old worker).seat + (worker_state_at new worker).emitted
   pub reserved : (worker_state_at new worker).reserved ≡ (worker_state_at old worker).reserved
+  -- it was not driven
+  pub undriven : (worker_state_at new worker).turned ≡ (worker_state_at old worker).turned
+
+-- for how many turns each of them was driven since its leg began
+abbrev pub turned_by : List WorkerState → List ℕ
+turned_by crew = map (λ w. w.turned) crew
 
 -- the rows that these of them have emitted
 abbrev pub emitted_at : List WorkerState → List ℕ → ℕ

@@ -73,6 +73,10 @@ hand_of d worker = (worker_state_at d.workers worker).restraint.hand
 unfoldable pub is_short : DataflowState → ℕ → Bool
 is_short d worker = needs_unit (worker_state_at d.workers worker)
 
+-- for how many turns it was driven since its leg began
+unfoldable pub turned_of : DataflowState → ℕ → ℕ
+turned_of d worker = (worker_state_at d.workers worker).turned
+
 -- room for an entry is kept in its journal
 unfoldable pub has_room : DataflowState → ℕ → Bool
 has_room d worker = (worker_state_at d.workers worker).reserved
@@ -237,15 +241,8 @@ pub record TurnsAt (most : ℕ) (old new : DataflowState) (worker : ℕ) : Type 
       → units_counted new (op_of old.flow worker) + rows_emitted old (op_of old.flow worker)
       ≡ units_counted old (op_of old.flow worker) + rows_emitted new (op_of old.flow worker)
   pub counted : (op : ℕ) → op ≢ op_of old.flow worker → units_counted new op ≡ units_counted old op
-
--- a worker can do nothing until a batch comes
-unfoldable pub IsIdle : DataflowState → ℕ → Type 0
-IsIdle d worker = next_turn (worker_state_at d.workers worker) ≡ turn.Idle
-
--- it makes no more turns: it has finished, is held or paused, needs a unit and has none, or can do nothing until a batch comes
-abbrev pub HasStopped : DataflowState → ℕ → Type 0
-HasStopped d worker =
-    (has_finished d worker ≡ true) ⊎ ((is_held d worker ≡ true) ⊎ ((is_paused d worker ≡ true) ⊎ ((is_short d worker ≡ true) ⊎ IsIdle d worker)))
+  -- nobody was driven
+  pub undriven : (other : ℕ) → turned_of new other ≡ turned_of old other
 
 -- ---- a step
 

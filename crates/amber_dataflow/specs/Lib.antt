@@ -4,4 +4,3 @@ pub mod Dataflow
 pub mod Parts
 pub mod Passing
 pub mod Start
-pub mod Stopping

@@ -11,7 +11,7 @@ ghost use Rattle.amber_meaning.specs.Position.{origin};
 ghost use Rattle.amber_meaning.specs.State.{start_of};
 ghost use Rattle.amber_dataflow.specs.Dataflow as dataflow;
 ghost use Rattle.amber_dataflow.specs.AtWork.{steps_by};
-ghost use Rattle.amber_dataflow.specs.Dataflow.{AreAllThere, AreArmed, AreBack, AreCrewOf, AreFree, AreHeldByRows, HasStopped, HaveDoneNothing, IsAnswerOf, IsFirst, ShowAt, StandAgain, StandAt, StandsUnder, StepsAt, TurnsAt};
+ghost use Rattle.amber_dataflow.specs.Dataflow.{AreAllThere, AreArmed, AreBack, AreCrewOf, AreFree, AreHeldByRows, HaveDoneNothing, IsAnswerOf, IsFirst, ShowAt, StandAgain, StandAt, StandsUnder, StepsAt};
 ghost use Rattle.amber_dataflow.specs.Dataflow.{all_resumed, constant_put, handed_out, is_armed_at, is_short, leg_begun, leg_parts, row_dropped, seat_of, step_count, when_put, without_workers};
 
 mod units;
@@ -24,7 +24,7 @@ use crate::setting::{
     begin_all, conditions_of, copies_of, resume_all, set_workers, unwatch_workers, watch_workers,
 };
 use crate::settling::settle_all;
-use crate::stepping::{first_unfinished, step_worker, turn_worker};
+use crate::stepping::{first_unfinished, step_worker};
 use crate::views::views_of;
 use amber_board::Board;
 use amber_log::Parts;
@@ -93,37 +93,6 @@ impl Dataflow {
         begin_all(to_end, self.workers.as_mut_slice());
     }
 
-    /// Turns of a worker, until so many are made, it has finished, is held or paused, needs a unit and has none, or can do
-    /// nothing until a batch comes. The board is that of its operator's count, and is there exactly where one is armed at
-    /// the worker. What it has made goes on to its receivers. The answer is how many turns were made. After running out of
-    /// memory no worker is left.
-    pub fn turns(
-        &mut self,
-        worker: u32,
-        board: Option<&Board>,
-        most: u64,
-    ) -> Result<u64, AllocError>
-        requires workers { AreAllThere self.old }
-        requires there { worker < crew_of self.old.flow }
-        requires own { IsBoardOf (option_copied board) (seat_of self.old worker) }
-        requires under { StandsUnder (is_armed_at self.old worker) self.old worker }
-        requires few { step_count self.old + most ≤ 2 ^ 40 }
-        ensures turns { IfOk result (λ made. TurnsAt made self.old self.new worker) }
-        ensures made { IfOk result (λ made. step_count self.new ≡ step_count self.old + made) }
-        ensures within { IfOk result (λ made. made ≤ most) }
-        ensures stops { IfOk result (λ made. made < most → HasStopped self.new worker) }
-        ensures own { OnOk result (IsBoardOf (option_copied board.entry) (seat_of self.new worker)) }
-        ensures err { OnErr result (self.new ≡ without_workers self.old) }
-    {
-        match turn_worker(self.workers.as_mut_slice(), worker as usize, board, most) {
-            Ok(made) => Ok(made),
-            Err(error) => {
-                self.workers.clear();
-                Err(error)
-            }
-        }
-    }
-
     /// The number of the first worker that has not finished.
     pub fn first_unfinished(&self) -> u32
         requires workers { AreAllThere self.now }
@@ -134,8 +103,8 @@ impl Dataflow {
     }
 
     /// One step of the first worker that has not finished; where its next row meets the condition there and was not waved
-    /// on, the worker is held before it instead. The board is as for `turns`. What it has made goes on to its receivers.
-    /// After running out of memory no worker is left.
+    /// on, the worker is held before it instead. The board is that of its operator's count, and is there exactly where one is
+    /// armed at the worker. What it has made goes on to its receivers. After running out of memory no worker is left.
     pub fn step(&mut self, worker: u32, board: Option<&Board>) -> Result<(), AllocError>
         requires workers { AreAllThere self.old }
         requires first { IsFirst self.old worker }

@@ -1,16 +1,14 @@
-//! Turns of one worker, one or many, after which its links are settled again. Over `make_turn` and
-//! `make_turns` of `turning`, and `settling`.
+//! A turn of one worker, after which its links are settled again. Over `make_turn` of `turning`, and `settling`.
 
-ghost use Rattle.std.specs.Prelude.{◌≡◌, ◌⊎◌, ◌+◌, ◌^◌, ◌<◌, ◌≤◌, IfOk, OnOk, false, length};
+ghost use Rattle.std.specs.Prelude.{◌≡◌, ◌⊎◌, ◌^◌, ◌<◌, OnOk, false, length};
 ghost use Rattle.std.specs.List.{list_all};
 ghost use Rattle.std.specs.Option.{option_copied};
 ghost use Rattle.amber_worker.specs.Counting.{IsBoardOf};
 ghost use Rattle.amber_worker.specs.WorkerState.{IsFree, is_armed, needs_unit, steps_made};
-ghost use Rattle.amber_dataflow.specs.AtWork.{HaveFinished, IsCrewUnder, IsHeldAt, MakesStepAt, MakesTurnsAt, steps_by, worker_state_at};
-ghost use Rattle.amber_dataflow.specs.Stopping.{WorkerHasStopped};
+ghost use Rattle.amber_dataflow.specs.AtWork.{HaveFinished, IsCrewUnder, IsHeldAt, MakesStepAt, MakesTurnsAt, worker_state_at};
 
 use crate::settling::settle_worker;
-use crate::turning::{make_turn, make_turns};
+use crate::turning::make_turn;
 use amber_board::Board;
 use amber_worker::Worker;
 use std::alloc::AllocError;
@@ -37,31 +35,6 @@ pub(crate) fn step_worker(
 {
     make_turn(&mut crew[number], board)?;
     settle_worker(crew, number)
-}
-
-/// Turns of a worker, until so many are made, it has finished, is held or paused, needs a unit and has none, or can do
-/// nothing until a batch comes. What it has made goes on to its receivers. The answer is how many turns were made.
-pub(crate) fn turn_worker(
-    crew: &mut [Worker],
-    number: usize,
-    board: Option<&Board>,
-    most: u64,
-) -> Result<u64, AllocError>
-    requires there { number < length crew.old }
-    requires crew { IsCrewUnder (is_armed (worker_state_at crew.old number)) number crew.old }
-    requires own { IsBoardOf (option_copied board) (worker_state_at crew.old number).seat }
-    requires few { steps_made (worker_state_at crew.old number) + most ≤ 2 ^ 40 }
-    ensures turns { IfOk result (λ made. MakesTurnsAt made crew.old crew.new number) }
-    ensures made { IfOk result (λ made. steps_by crew.new ≡ steps_by crew.old + made) }
-    ensures within { IfOk result (λ made. made ≤ most) }
-    ensures stops { IfOk result (λ made. made < most
-        → WorkerHasStopped (worker_state_at crew.new number)) }
-    ensures own { OnOk result
-        (IsBoardOf (option_copied board.entry) (worker_state_at crew.new number).seat) }
-{
-    let made = make_turns(&mut crew[number], board, most)?;
-    settle_worker(crew, number)?;
-    Ok(made)
 }
 
 /// The number of the first worker that has not finished.
