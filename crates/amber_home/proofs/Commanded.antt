@@ -33,6 +33,7 @@ use Rattle.amber_meaning.proofs.Fronts.{legal_logs_grow}
 use Rattle.amber_meaning.proofs.OneState.{legal_logs_have_one_state}
 use Rattle.amber_meaning.proofs.Rest.{legal_logs_rest}
 use Rattle.amber_meaning.proofs.Senders.{flows_send_forward}
+use Rattle.amber_dataflow.specs.AtWork.{turned_by}
 use Rattle.amber_dataflow.specs.Dataflow.{AreAllThere, AreHeldByRows, DataflowState, HaveDoneNothing, StandAt, row_dropped, rows_emitted}
 use Rattle.amber_dataflow.proofs.Dropped.{dropped-nothing, dropped_at, stand-dropped}
 use Rattle.amber_dataflow.proofs.Standing.{AgreeButCount, agree-same, set-nothing, stand-at, stand-flow, stand-kept, stand-set, stand-there, stand-watched, watched-nothing}
@@ -42,9 +43,10 @@ use Rattle.amber_home.specs.Asked.{Asked, IsInForce}
 use Rattle.amber_home.specs.Leg.{counts_asked}
 use Rattle.amber_home.specs.HomeState.{HomeState, query_of, rest_state, with_item}
 use Rattle.amber_home.specs.Kept.{IsAtRest, IsHome, LiveState, StandsIn}
-use Rattle.amber_home.specs.Parts.{open_parts}
+use Rattle.amber_home.specs.Parts.{open_parts, open_turned}
 use Rattle.amber_home.specs.declared.phase.Phase.{Phase}
 use Rattle.amber_home.specs.declared.phase.Phase.TheVariants as phase
+use Rattle.amber_home.proofs.Driven.{after-turned}
 use Rattle.amber_home.proofs.HeldRows.{rows-rest}
 use Rattle.amber_home.proofs.Below.{below-after, keep-after}
 use Rattle.amber_home.proofs.Homes.{at-rest}
@@ -343,6 +345,19 @@ module _ (e : HomeState) (live : LiveState) (home : IsHome e live) (resting : e.
 
       pub state-commanded : record e { flow = now.dataflow.flow; log = log; parts = open_parts e.phase now } ≡ record e { log = with_item e.log (item.Do one); parts = [] }
       state-commanded = λ i. record e { flow = flow-same i; log = log-is i; parts = none-open i }
+
+      -- for how many turns the workers were driven is as it was
+      turned-commanded : open_turned e.phase now ≡ open_turned e.phase live
+      turned-commanded =
+          ap (λ (p : Phase). open_turned p now) resting ∙ ap (λ (d : DataflowState). turned_by d.workers) dataflow-is ∙ after-turned effect live.dataflow
+          ∙ sym (ap (λ (p : Phase). open_turned p live) resting)
+
+      -- the home is as it was, but for its log
+      pub log-commanded : record e { flow = now.dataflow.flow; log = log; parts = open_parts e.phase now; turned = open_turned e.phase now }
+          ≡ record e { log = with_item e.log (item.Do one); parts = open_parts e.phase live; turned = open_turned e.phase live }
+      log-commanded =
+          let parts = none-open ∙ sym (ap (λ (p : Phase). open_parts p live) resting) in
+          (λ i. record e { flow = flow-same i; log = log-is i; parts = parts i; turned = turned-commanded i })
 
       -- no unit changes hands
       kept-units : KeepUnits live.dataflow now.dataflow

@@ -50,7 +50,7 @@ file = codes "n" ++ 10 ∷ codes "2" ++ 10 ∷ codes "1" ++ 10 ∷ codes "3" ++ 
 
 -- a home of the workflow that keeps the numbers from 2 up
 abbrev home : List Item → Phase → List Part → HomeState
-home items now parts = record { flow = from_two; files = file ∷ []; most = 100; log = record { batch = 400; items = items }; phase = now; parts = parts; alone = 0 }
+home items now parts = record { flow = from_two; files = file ∷ []; most = 100; log = record { batch = 400; items = items }; phase = now; parts = parts; alone = 0; turned = [] }
 
 abbrev part : ℕ → List Entry → Part
 part worker entries = record { worker = worker; entries = entries }

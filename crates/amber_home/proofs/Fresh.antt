@@ -11,6 +11,7 @@ use Rattle.amber_meaning.specs.Legal.{IsLegal, Query, Reaches, query_over}
 use Rattle.amber_meaning.specs.Position.{origin}
 use Rattle.amber_meaning.specs.Replay.{after_items, state_after}
 use Rattle.amber_meaning.specs.State.{first_constants, position_at, start_of}
+use Rattle.amber_dataflow.specs.AtWork.{turned_by}
 use Rattle.amber_dataflow.specs.Dataflow.{DataflowState, HaveDoneNothing, StandAt, rows_emitted, seat_of}
 use Rattle.amber_dataflow.proofs.Begun.{start-position}
 use Rattle.amber_dataflow.proofs.Standing.{stand-at}
@@ -44,12 +45,12 @@ fresh-legal query some few = record { text = record { batch = (some, few); items
 pub home-new : (flow : List Operator) (files : List (List ℕ)) (most batch : ℕ) (items : List Item) (d : DataflowState) (arms : List Asked) (boards : List (Option CounterState)) (stops : List Stop) (back : List WorkerState)
     → most ≤ 2 ^ 40 → 0 < batch → batch ≤ 65536 → items ≡ [] → arms ≡ first_asked flow → boards ≡ [] → stops ≡ []
     → StandAt (query_over flow files batch most) (start_of flow) d (λ _. origin) → HaveDoneNothing d → ((worker : ℕ) → seat_of d worker ≡ None)
-    → IsHome (record { flow = flow; files = files; most = most; log = record { batch = batch; items = items }; phase = phase.Resting; parts = []; alone = 0 })
+    → IsHome (record { flow = flow; files = files; most = most; log = record { batch = batch; items = items }; phase = phase.Resting; parts = []; alone = 0; turned = turned_by d.workers })
     (record { dataflow = d; arms = arms; boards = boards; stops = stops; back = back })
 unfolding state_after after_items kept_stops stops_along
 home-new flow files most batch items d arms boards stops back few some small fresh arms-are no_boards none stand nothing unarmed =
     let query = query_over flow files batch most in
-    subst (λ xs. IsHome (record { flow = flow; files = files; most = most; log = record { batch = batch; items = xs }; phase = phase.Resting; parts = []; alone = 0 })
+    subst (λ xs. IsHome (record { flow = flow; files = files; most = most; log = record { batch = batch; items = xs }; phase = phase.Resting; parts = []; alone = 0; turned = turned_by d.workers })
     (record { dataflow = d; arms = arms; boards = boards; stops = stops; back = back })) (sym fresh)
     (record {
       few = few;

@@ -3,7 +3,7 @@ use Rattle.std.proofs.Common.{◌≡◌, ap, ◌∙◌, length, true}
 use Rattle.amber_dataflow.specs.Dataflow.{AreAllThere}
 use Rattle.amber_home.specs.HomeState.{HomeState, has_crew, is_open}
 use Rattle.amber_home.specs.Kept.{IsHome, LiveState}
-use Rattle.amber_home.specs.Parts.{open_parts}
+use Rattle.amber_home.specs.Parts.{open_parts, open_turned}
 use Rattle.amber_home.specs.declared.home.Home.TheInside.{Inside}
 use Rattle.amber_home.proofs.Homes.{home-there, long-open, open-there}
 
@@ -13,7 +13,7 @@ kept i = record { dataflow = i.dataflow; arms = i.arms; boards = i.boards; stops
 
 -- what it shows
 abbrev pub seen : Inside → HomeState
-seen i = record { flow = i.dataflow.flow; files = i.files; most = i.most; log = i.log; phase = i.phase; parts = open_parts i.phase (kept i); alone = i.alone }
+seen i = record { flow = i.dataflow.flow; files = i.files; most = i.most; log = i.log; phase = i.phase; parts = open_parts i.phase (kept i); alone = i.alone; turned = open_turned i.phase (kept i) }
 
 module _ (i : Inside) (home : IsHome (seen i) (kept i)) (old : HomeState) (is : seen i ≡ old) where
   -- where the workers are there

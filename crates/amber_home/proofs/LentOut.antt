@@ -6,7 +6,7 @@ use Rattle.amber_meaning.specs.Legal.{IsWorked, leg_start}
 use Rattle.amber_meaning.specs.Position.{Position}
 use Rattle.amber_meaning.specs.State.{Arms, Counting, State, arms_at, crew_at, steps_in}
 use Rattle.amber_worker.specs.WorkerState.{WorkerState}
-use Rattle.amber_dataflow.specs.AtWork.{AreJoinedAt, IsSameBesides, steps_by, worker_state_at}
+use Rattle.amber_dataflow.specs.AtWork.{AreJoinedAt, IsSameBesides, steps_by, turned_by, worker_state_at}
 use Rattle.amber_dataflow.specs.Dataflow.{AreBack, AreCrewOf, DataflowState, has_room, leg_parts, step_count}
 use Rattle.amber_dataflow.specs.Parts.{parts_from}
 use Rattle.amber_dataflow.specs.Passing.{AreSameBesides}
@@ -25,6 +25,7 @@ use Rattle.amber_home.specs.declared.phase.Counts.{Counts}
 use Rattle.amber_home.specs.declared.phase.Counts.TheVariants.{Armed}
 use Rattle.amber_home.specs.declared.phase.Phase.{Phase}
 use Rattle.amber_home.specs.declared.phase.Phase.TheVariants as phase
+use Rattle.amber_home.proofs.Driven.{back-turned}
 use Rattle.amber_home.proofs.Homes.{IsLeg, leg-armed, leg-of, open-there}
 use Rattle.amber_home.proofs.Legs.{state-here}
 use Rattle.amber_home.proofs.Places.{nth-same, nth-some}
@@ -236,6 +237,9 @@ module _ (e : HomeState) (live : LiveState) where
 
       pub parts-settled : leg_parts after ≡ parts_from 0 live.back
       parts-settled = back-parts live.back after crew-after came
+
+      pub turned-settled : turned_by after.workers ≡ turned_by live.back
+      turned-settled = back-turned live.back after crew-after came
 
 -- ---- within a leg the parts lead to the state
 

@@ -8,6 +8,7 @@ pub mod Closings
 pub mod Commanded
 pub mod Counted
 pub mod Cut
+pub mod Driven
 pub mod Early
 pub mod Ended
 pub mod ExampleCounts

@@ -2,7 +2,7 @@
 use Rattle.std.specs.Prelude.{◌≡◌, ◌⊎◌, ℕ, List, Option, true}
 use Rattle.amber_rows.specs.Topology.{op_of}
 use Rattle.amber_boards.specs.Boards.{AreCounted, AreInForce, CounterState, HandsOut, board_at, has_board, target_of_count}
-use Rattle.amber_dataflow.specs.Dataflow.{AreAllThere, DataflowState, IsFirst, StandAt, StepsAt, has_finished, have_all_finished, is_armed_at, is_short, rows_emitted, step_count}
+use Rattle.amber_dataflow.specs.Dataflow.{AreAllThere, DataflowState, IsFirst, StandAt, StepsAt, has_finished, have_all_finished, is_armed_at, is_short, rows_emitted, step_count, turned_of}
 use Rattle.amber_meaning.specs.Legal.{Query}
 use Rattle.amber_meaning.specs.Position.{Position}
 use Rattle.amber_meaning.specs.State.{State}
@@ -15,6 +15,8 @@ pub record GoOn (arms : List Asked) (old new : DataflowState) : Type 0 where
   pub there : AreAllThere old → AreAllThere new
   pub on : (query : Query) (start : State) (positions : ℕ → Position) → StandAt query start old positions → AreInForce (is_counted arms) start
       → (later : ℕ → Position) × StandAt query start new later
+  -- nobody was driven
+  pub undriven : (worker : ℕ) → turned_of new worker ≡ turned_of old worker
 
 -- they are as far as they were: as many steps were made and rows emitted, all have finished just where they had, and the same stops stand
 pub record AreAsFar (arms : List Asked) (old new : DataflowState) : Type 0 where

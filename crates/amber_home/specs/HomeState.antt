@@ -42,6 +42,8 @@ pub record HomeState : Type 0 where
   pub parts : List Part
   -- for how many steps `home_step` was called since a leg was last opened
   pub alone : ℕ
+  -- for how many turns each worker was driven in the leg that was opened last, by their numbers; none while they are away
+  pub turned : List ℕ
 
 -- what is run
 abbrev pub query_of : HomeState → Query
@@ -110,6 +112,10 @@ counts_in (phase.Lent to_end) = Armed
 counts_in (phase.Unsettled to_end) = Armed
 counts_in phase.Over = Unarmed
 counts_in phase.Spent = Unarmed
+
+-- nothing is left of the leg that was open, nor of its workers
+abbrev pub spent_at : HomeState → HomeState
+spent_at e = record e { phase = phase.Spent; parts = []; turned = [] }
 
 -- ---- where it stands
 

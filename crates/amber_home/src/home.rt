@@ -1,7 +1,8 @@
 //! The home of a run: what it keeps, and its calls. Over `Dataflow`, `Boards`, `InForce` and the functions of the other
 //! files.
 
-ghost use Rattle.std.specs.Prelude.{◌≡◌, ◌+◌, ◌^◌, ◌<◌, ◌≤◌, ◌≢◌, ℕ, [], IfOk, None, OnErr, OnOk, false, true, length};
+ghost use Rattle.std.specs.Prelude.{◌≡◌, ◌+◌, ◌^◌, ◌<◌, ◌≤◌, ◌≢◌, ℕ, [], IfOk, None, OnErr, OnOk, false, true, length, replicate};
+ghost use Rattle.amber_rows.specs.Topology.{crew_of};
 ghost use Rattle.amber_log.specs.Fits.{fits_of};
 ghost use Rattle.amber_log.specs.Grammar.{ends_over};
 ghost use Rattle.amber_log.specs.declared.log.Item.TheVariants as item;
@@ -11,7 +12,7 @@ ghost use Rattle.amber_meaning.specs.State.{emitted_by, have_finished, steps_in}
 ghost use Rattle.amber_meaning.specs.Views.{answer_in};
 ghost use Rattle.amber_home.specs.Beginning.{BeginsOrNames};
 ghost use Rattle.amber_home.specs.HomeState.{AreArmed, ClosesIn, DisarmsLeg, MayClose, MovesOrHolds, NoneIsPaused, StepsOn};
-ghost use Rattle.amber_home.specs.HomeState.{counts_in, dropped_by, is_done_at_rest, is_open, query_of, rest_state, runs_to_end, state_of};
+ghost use Rattle.amber_home.specs.HomeState.{counts_in, dropped_by, is_done_at_rest, is_open, query_of, rest_state, runs_to_end, spent_at, state_of};
 ghost use Rattle.amber_home.specs.HomeState.{stops_of_home, with_item, with_closed_leg};
 
 mod lending;
@@ -56,7 +57,7 @@ pub struct Home {
 
 impl Model for Home {
     ghost use Rattle.amber_home.specs.HomeState.{HomeState};
-    ghost use Rattle.amber_home.specs.Parts.{open_parts};
+    ghost use Rattle.amber_home.specs.Parts.{open_parts, open_turned};
 
     ghost Value = { HomeState };
 
@@ -74,6 +75,13 @@ impl Model for Home {
         back = a.back.items;
       });
       alone = a.alone;
+      turned = open_turned a.phase (record {
+        dataflow = a.dataflow;
+        arms = a.arms;
+        boards = a.boards;
+        stops = a.stops;
+        back = a.back.items;
+      });
     } };
 
     ghost use Rattle.amber_home.specs.Kept.{IsHomeOf};
@@ -87,6 +95,7 @@ impl Model for Home {
           phase = a.phase;
           parts = open_parts a.phase live;
           alone = a.alone;
+          turned = open_turned a.phase live;
         })
         (record {
           dataflow = a.dataflow;
@@ -123,6 +132,7 @@ impl Home {
           phase = Phase.Resting;
           parts = [];
           alone = 0;
+          turned = home.turned;
         }) }
         ensures header { BeginsOrNames result flow files }
     {
@@ -153,6 +163,7 @@ impl Home {
           phase = Phase.Resting;
           parts = [];
           alone = 0;
+          turned = home.turned;
         }) }
     {
         let dataflow = Dataflow::new(alloc, flow, &files, batch_size)?;
@@ -215,6 +226,7 @@ impl Home {
           phase = Phase.Open to_end Counts.Unarmed;
           parts = [];
           alone = 0;
+          turned = replicate (crew_of self.old.flow) 0;
         } }
         ensures begins { state_of self.new ≡ leg_start to_end (rest_state self.old) }
     {
@@ -237,7 +249,7 @@ impl Home {
           phase = Phase.Open (runs_to_end self.old.phase) Counts.Armed;
         }) }
         ensures err { OnErr result
-            (self.new ≡ record self.old { phase = Phase.Spent; parts = [] }) }
+            (self.new ≡ spent_at self.old) }
     {
         let to_end = self.phase.runs_to_end();
         self.phase = Phase::Spent;
@@ -278,7 +290,7 @@ impl Home {
             ≤ emitted_by self.old.flow (state_of self.old) op + 1) }
         ensures moves { OnOk result (MovesOrHolds self.old self.new) }
         ensures err { OnErr result
-            (self.new ≡ record self.old { phase = Phase.Spent; parts = [] }) }
+            (self.new ≡ spent_at self.old) }
     {
         let phase = self.phase;
         self.phase = Phase::Spent;
@@ -300,7 +312,7 @@ impl Home {
         ensures so { OnOk result (ClosesIn (runs_to_end self.old.phase) (query_of self.old)
             (state_of self.old) close) }
         ensures err { OnErr result
-            (self.new ≡ record self.old { phase = Phase.Spent; parts = [] }) }
+            (self.new ≡ spent_at self.old) }
     {
         let to_end = self.phase.runs_to_end();
         self.phase = Phase::Spent;
@@ -330,7 +342,7 @@ impl Home {
             (λ answer. answer ≡ answer_in (query_of self.old) (state_of self.old)) }
 
         // Whatever the call answers.
-        ensures over { self.new ≡ record self.old { phase = Phase.Over } }
+        ensures over { self.new ≡ record self.old { phase = Phase.Over; turned = [] } }
     {
         self.phase = Phase::Over;
         self.dataflow.take_answer(alloc)

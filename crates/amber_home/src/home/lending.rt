@@ -2,11 +2,11 @@
 //! Over `Crew`, `Dataflow`, `Boards`, and what `feeding` does.
 
 ghost use Rattle.std.specs.Prelude.{◌≡◌, OnErr, OnOk, [], true};
-ghost use Rattle.amber_dataflow.specs.AtWork.{steps_by};
+ghost use Rattle.amber_dataflow.specs.AtWork.{steps_by, turned_by};
 ghost use Rattle.amber_dataflow.specs.Parts.{parts_from};
 ghost use Rattle.amber_meaning.specs.State.{steps_in};
 ghost use Rattle.amber_home.specs.HomeState.{AreArmed, FeedsLeg, IsWorkedLeg, NoneIsHeld, ResumesLeg};
-ghost use Rattle.amber_home.specs.HomeState.{counts_in, is_lent, is_open, has_leg_crew, runs_to_end, state_of};
+ghost use Rattle.amber_home.specs.HomeState.{counts_in, is_lent, is_open, has_leg_crew, runs_to_end, spent_at, state_of};
 ghost use Rattle.amber_home.specs.Lent.{IsLent};
 
 use super::Home;
@@ -26,7 +26,7 @@ impl Home {
         requires armed { counts_in self.old.phase ≡ Counts.Armed }
         ensures ok { OnOk result (FeedsLeg self.old self.new) }
         ensures err { OnErr result
-            (self.new ≡ record self.old { phase = Phase.Spent; parts = [] }) }
+            (self.new ≡ spent_at self.old) }
     {
         let phase = self.phase;
         self.phase = Phase::Spent;
@@ -43,9 +43,11 @@ impl Home {
         ensures home { self.new ≡ record self.old {
           phase = Phase.Lent (runs_to_end self.old.phase);
           parts = [];
+          turned = [];
         } }
         ensures lent { IsLent self.new result }
         ensures parts { self.old.parts ≡ parts_from 0 result.workers.items }
+        ensures turned { self.old.turned ≡ turned_by result.workers.items }
         ensures steps { steps_by result.workers.items ≡ steps_in (state_of self.old) }
         ensures worked { IsWorkedLeg self.old }
     {
@@ -66,6 +68,7 @@ impl Home {
         ensures { self.new ≡ record self.old {
           phase = Phase.Unsettled (runs_to_end self.old.phase);
           parts = parts_from 0 crew.workers.items;
+          turned = turned_by crew.workers.items;
         } }
     {
         self.back = crew.workers;
@@ -84,7 +87,7 @@ impl Home {
         }) }
         ensures worked { OnOk result (IsWorkedLeg self.new) }
         ensures err { OnErr result
-            (self.new ≡ record self.old { phase = Phase.Spent; parts = [] }) }
+            (self.new ≡ spent_at self.old) }
     {
         if self.phase.is_open() {
             return Ok(());
@@ -108,7 +111,7 @@ impl Home {
         requires armed { AreArmed self.old }
         ensures ok { OnOk result (ResumesLeg self.old self.new) }
         ensures err { OnErr result
-            (self.new ≡ record self.old { phase = Phase.Spent; parts = [] }) }
+            (self.new ≡ spent_at self.old) }
     {
         let phase = self.phase;
         self.phase = Phase::Spent;
@@ -120,7 +123,7 @@ impl Home {
     /// Ends the run in whatever phase it is, where memory ran out outside of the home. It cannot go on after that, and
     /// workers that are away do not come back.
     pub fn give_up(&mut self)
-        ensures { self.new ≡ record self.old { phase = Phase.Spent; parts = [] } }
+        ensures { self.new ≡ spent_at self.old }
     {
         self.phase = Phase::Spent;
     }

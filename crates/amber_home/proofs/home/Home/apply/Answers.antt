@@ -2,8 +2,11 @@
 use Rattle.std.proofs.Common.{refl, ap, sym, ◌∙◌, false}
 use Rattle.amber_log.specs.Fits.{fits_of}
 use Rattle.amber_log.specs.Grammar.{ends_over}
-use Rattle.amber_home.specs.HomeState.{HomeState, dropped_by, dropped_by_action}
-use Rattle.amber_home.proofs.Commanded.{drops-resting, few-resting, flow-has, home-commanded, names-resting, nothing-done, rows-resting, there-resting}
+use Rattle.amber_log.specs.declared.log.Item.TheVariants as item
+use Rattle.amber_home.specs.HomeState.{HomeState, dropped_by, dropped_by_action, with_item}
+use Rattle.amber_home.specs.Parts.{open_turned}
+use Rattle.amber_home.proofs.Commanded.{drops-resting, few-resting, flow-has, home-commanded, log-commanded, names-resting, nothing-done, rows-resting, there-resting}
+use Rattle.amber_home.proofs.Driven.{home-driven}
 use Rattle.amber_home.proofs.RowsHeld.{dropped-resting}
 use Rattle.amber_home.proofs.Inside.{kept, seen}
 use Rattle.amber_home.proofs.home.Home.apply.Goals as goal
@@ -69,10 +72,25 @@ invariant_of-self-2 c =
     let i = c.self.inside in
     let e = seen i in
     let live = kept i in
-    home-commanded e live c.self.invariant (ap (λ (h : HomeState). h.phase) c.self.view_is ∙ c.requires.resting) c.args.command.now c.in-AtRest.effect
+    home-driven (open_turned i.phase (record { dataflow = c.put_in_force.new.dataflow; arms = c.put_in_force.new.arms; boards = i.boards; stops = i.stops; back = i.back.items }))
+    (home-commanded e live c.self.invariant (ap (λ (h : HomeState). h.phase) c.self.view_is ∙ c.requires.resting) c.args.command.now c.in-AtRest.effect
+    (sym c.action.ensures ∙ c.in-AtRest.is)
+    (ap (λ (h : HomeState). ends_over false h.log.items) c.self.view_is ∙ c.requires.open) (ap (λ (h : HomeState). fits_of h.flow c.args.command.now) c.self.view_is ∙ c.requires.fits)
+    c.commands_have_text.ensures
+    (record { batch = i.log.batch; items = c.push_command.new.items })
+    (record { dataflow = c.put_in_force.new.dataflow; arms = c.put_in_force.new.arms; boards = i.boards; stops = i.stops; back = i.back.items })
+    refl (ap (λ items. record i.log { items = items }) c.in_ok-push_command.ensures.ok) c.put_in_force.ensures.arms c.put_in_force.ensures.dataflow refl refl)
+
+pub returns-clause-ok : goal.returns-clause-ok
+returns-clause-ok c =
+    let i = c.self.inside in
+    let e = seen i in
+    let live = kept i in
+    log-commanded e live c.self.invariant (ap (λ (h : HomeState). h.phase) c.self.view_is ∙ c.requires.resting) c.args.command.now c.in-AtRest.effect
     (sym c.action.ensures ∙ c.in-AtRest.is)
     (ap (λ (h : HomeState). ends_over false h.log.items) c.self.view_is ∙ c.requires.open) (ap (λ (h : HomeState). fits_of h.flow c.args.command.now) c.self.view_is ∙ c.requires.fits)
     c.commands_have_text.ensures
     (record { batch = i.log.batch; items = c.push_command.new.items })
     (record { dataflow = c.put_in_force.new.dataflow; arms = c.put_in_force.new.arms; boards = i.boards; stops = i.stops; back = i.back.items })
     refl (ap (λ items. record i.log { items = items }) c.in_ok-push_command.ensures.ok) c.put_in_force.ensures.arms c.put_in_force.ensures.dataflow refl refl
+    ∙ ap (λ (h : HomeState). record h { log = with_item h.log (item.Do c.args.command.now) }) c.self.view_is

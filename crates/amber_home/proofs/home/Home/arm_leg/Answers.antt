@@ -2,6 +2,7 @@
 use Rattle.std.proofs.Common.{sym, ap, subst, ◌∙◌, length}
 use Rattle.std.proofs.lemmas.List.{length-map}
 use Rattle.amber_boards.specs.Boards.{AreBelow, StandInForce, has_target}
+use Rattle.amber_dataflow.specs.AtWork.{turned_by}
 use Rattle.amber_dataflow.specs.Dataflow.{leg_parts}
 use Rattle.amber_home.specs.Asked.{Asked}
 use Rattle.amber_home.specs.HomeState.{HomeState, counts_in, runs_to_end}
@@ -10,6 +11,7 @@ use Rattle.amber_home.specs.Leg.{counts_asked, is_counted}
 use Rattle.amber_home.specs.declared.phase.Counts.TheVariants.{Armed}
 use Rattle.amber_home.specs.declared.phase.Phase.TheVariants as phase
 use Rattle.amber_home.proofs.Armings.{asked-counted, leg-boarded, parts-armed, stands-as, stands-leg}
+use Rattle.amber_home.proofs.Driven.{home-driven, turned-open, units-turned}
 use Rattle.amber_home.proofs.Homes.{home-of, in-open, leg-unarmed}
 use Rattle.amber_home.proofs.Inside.{kept, long-within, opens, seen, there-within}
 use Rattle.amber_home.proofs.home.Home.arm_leg.Goals as goal
@@ -51,21 +53,25 @@ invariant_of-self-2 c =
     let leg = leg-unarmed (seen i) (kept i) i.phase c.self.invariant (opens i c.self.invariant c.args.self.now c.self.view_is c.requires.within)
     (ap (λ (h : HomeState). counts_in h.phase) c.self.view_is ∙ c.requires.unarmed) in
     let armed = c.in_ok-arm.ensures in
-    subst (λ to_end. IsHome (record (seen i) { flow = c.arm.new.dataflow.flow; phase = phase.Open to_end Armed; parts = leg_parts c.arm.new.dataflow })
+    subst (λ to_end. IsHome (record (seen i) { flow = c.arm.new.dataflow.flow; phase = phase.Open to_end Armed; parts = leg_parts c.arm.new.dataflow; turned = turned_by c.arm.new.dataflow.workers })
     (record (kept i) { dataflow = c.arm.new.dataflow; boards = c.arm.new.self })) (sym c.runs_to_end-to_end.ensures)
+    (home-driven (turned_by c.arm.new.dataflow.workers)
     (home-of (seen i) (record (kept i) { dataflow = c.arm.new.dataflow; boards = c.arm.new.self }) (runs_to_end i.phase) Armed c.arm.new.dataflow.flow armed.flow
     (leg-boarded (seen i) (kept i) (runs_to_end i.phase) leg c.as_slice.result.now (c.as_slice.ensures.value ∙ c.in_ok-counts.ensures) c.arm.new.dataflow c.arm.new.self
-    armed.arms armed.counted armed.targets))
+    armed.arms armed.counted armed.targets)))
 
 pub returns-clause-ok : goal.returns-clause-ok
 returns-clause-ok c =
     let i = c.self.inside in
     let armed = c.in_ok-arm.ensures in
+    let within = opens i c.self.invariant c.args.self.now c.self.view_is c.requires.within in
+    let driven = units-turned (has_target c.as_slice.result.now) i.dataflow c.arm.new.dataflow armed.arms.units ∙ sym (turned-open (kept i) i.phase within) in
     (λ k. record (seen i) {
       flow = armed.flow k;
       phase = phase.Open (c.runs_to_end-to_end.ensures k) Armed;
       parts = parts-armed (seen i) (kept i) (runs_to_end i.phase) c.as_slice.result.now c.arm.new.dataflow armed.arms k;
+      turned = driven k;
     })
     ∙ ap (λ parts. record (seen i) { phase = phase.Open (runs_to_end i.phase) Armed; parts = parts })
-    (ap (λ (h : HomeState). h.parts) (sym (in-open (seen i) (kept i) i.phase (opens i c.self.invariant c.args.self.now c.self.view_is c.requires.within))))
+    (ap (λ (h : HomeState). h.parts) (sym (in-open (seen i) (kept i) i.phase within)))
     ∙ ap (λ (h : HomeState). record h { phase = phase.Open (runs_to_end h.phase) Armed }) c.self.view_is

@@ -1,6 +1,7 @@
 -- The boards are closed, and the home stays one.
 use Rattle.std.proofs.Common.{◌≡◌, refl, sym, ap, subst, ◌∙◌}
 use Rattle.amber_boards.specs.Boards.{has_board}
+use Rattle.amber_dataflow.specs.AtWork.{turned_by}
 use Rattle.amber_dataflow.specs.Dataflow.{leg_parts}
 use Rattle.amber_home.specs.HomeState.{DisarmsLeg, HomeState, counts_in, runs_to_end}
 use Rattle.amber_home.specs.Kept.{IsHome}
@@ -8,6 +9,7 @@ use Rattle.amber_home.specs.Leg.{is_counted}
 use Rattle.amber_home.specs.declared.phase.Counts.TheVariants.{Armed, Disarmed}
 use Rattle.amber_home.specs.declared.phase.Phase.TheVariants as phase
 use Rattle.amber_home.proofs.Armings.{disarmed-leg, disarms-home, stands-as, stands-leg}
+use Rattle.amber_home.proofs.Driven.{home-driven, turned-open, units-turned}
 use Rattle.amber_home.proofs.Homes.{home-of, leg-armed}
 use Rattle.amber_home.proofs.Inside.{kept, opens, seen, there-within}
 use Rattle.amber_home.proofs.Ready.{boards-counted}
@@ -37,10 +39,11 @@ invariant_of-self c =
     let leg = leg-armed (seen i) (kept i) i.phase c.self.invariant (opens i c.self.invariant c.args.self.now c.self.view_is c.requires.within)
     (ap (λ (h : HomeState). counts_in h.phase) c.self.view_is ∙ c.requires.armed) in
     let disarms = c.disarm.ensures in
-    subst (λ to_end. IsHome (record (seen i) { flow = c.disarm.new.dataflow.flow; phase = phase.Open to_end Disarmed; parts = leg_parts c.disarm.new.dataflow })
+    subst (λ to_end. IsHome (record (seen i) { flow = c.disarm.new.dataflow.flow; phase = phase.Open to_end Disarmed; parts = leg_parts c.disarm.new.dataflow; turned = turned_by c.disarm.new.dataflow.workers })
     (record (kept i) { dataflow = c.disarm.new.dataflow; boards = c.disarm.new.self })) (sym c.runs_to_end.ensures)
+    (home-driven (turned_by c.disarm.new.dataflow.workers)
     (home-of (seen i) (record (kept i) { dataflow = c.disarm.new.dataflow; boards = c.disarm.new.self }) (runs_to_end i.phase) Disarmed c.disarm.new.dataflow.flow disarms.disarms.units.flow
-    (disarmed-leg (seen i) (kept i) (runs_to_end i.phase) leg c.disarm.new.dataflow disarms.disarms c.disarm.new.self disarms.none))
+    (disarmed-leg (seen i) (kept i) (runs_to_end i.phase) leg c.disarm.new.dataflow disarms.disarms c.disarm.new.self disarms.none)))
 
 pub returns : goal.returns
 returns c =
@@ -49,6 +52,9 @@ returns c =
     let is : counts_in i.phase ≡ Armed = ap (λ (h : HomeState). counts_in h.phase) c.self.view_is ∙ c.requires.armed in
     let leg = leg-armed (seen i) (kept i) i.phase c.self.invariant within is in
     let disarms = c.disarm.ensures in
-    subst (λ (h : HomeState). DisarmsLeg h (record (seen i) { flow = c.disarm.new.dataflow.flow; phase = phase.Open c.runs_to_end.result Disarmed; parts = leg_parts c.disarm.new.dataflow })) c.self.view_is
-    (subst (λ to_end. DisarmsLeg (seen i) (record (seen i) { flow = c.disarm.new.dataflow.flow; phase = phase.Open to_end Disarmed; parts = leg_parts c.disarm.new.dataflow })) (sym c.runs_to_end.ensures)
-    (disarms-home (seen i) (kept i) i.phase within is leg c.disarm.new.dataflow disarms.disarms refl c.disarm.new.self disarms.none))
+    let driven = units-turned (has_board i.boards) i.dataflow c.disarm.new.dataflow disarms.disarms.units ∙ sym (turned-open (kept i) i.phase within) in
+    let after : HomeState = record (seen i) { flow = c.disarm.new.dataflow.flow; parts = leg_parts c.disarm.new.dataflow; turned = turned_by c.disarm.new.dataflow.workers } in
+    subst (λ (h : HomeState). DisarmsLeg h (record after { phase = phase.Open c.runs_to_end.result Disarmed })) c.self.view_is
+    (subst (λ to_end. DisarmsLeg (seen i) (record after { phase = phase.Open to_end Disarmed })) (sym c.runs_to_end.ensures)
+    (subst (λ turned. DisarmsLeg (seen i) (record after { phase = phase.Open (runs_to_end i.phase) Disarmed; turned = turned })) (sym driven)
+    (disarms-home (seen i) (kept i) i.phase within is leg c.disarm.new.dataflow disarms.disarms refl c.disarm.new.self disarms.none)))

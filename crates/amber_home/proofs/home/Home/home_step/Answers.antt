@@ -3,9 +3,10 @@ use Rattle.std.proofs.Common.{◌+◌, ◌<◌, ◌≤◌, refl, ap, sym, subst,
 use Rattle.amber_meaning.specs.State.{emitted_by, steps_in}
 use Rattle.amber_home.specs.HomeState.{AreArmed, HomeState, MovesOrHolds, NoneIsPaused, StepsOn, alone_more, runs_to_end, state_of, stops_of_home}
 use Rattle.amber_home.specs.Kept.{IsHome}
-use Rattle.amber_home.specs.Parts.{open_parts}
+use Rattle.amber_home.specs.Parts.{open_parts, open_turned}
 use Rattle.amber_home.proofs.Armings.{stands-leg}
 use Rattle.amber_home.proofs.AsFar.{rows-are}
+use Rattle.amber_home.proofs.Driven.{home-driven, turned-goes}
 use Rattle.amber_home.proofs.Fed.{next-rows}
 use Rattle.amber_home.proofs.Free.{goes-home, running-home}
 use Rattle.amber_home.proofs.Homes.{leg-of, open-there}
@@ -67,10 +68,12 @@ invariant_of-self-2 c =
     let leg = leg-of (seen i) (kept i) i.phase c.self.invariant within in
     let next = c.in_ok-step_next.ensures in
     let later = record (kept i) { dataflow = c.step_next.new.dataflow; boards = c.step_next.new.boards } in
-    subst (λ alone. IsHome (record (seen i) { flow = c.step_next.new.dataflow.flow; parts = open_parts i.phase later; alone = alone }) later) (sym c.saturating_add-self-inside.ensures)
+    subst (λ alone. IsHome (record (seen i) { flow = c.step_next.new.dataflow.flow; parts = open_parts i.phase later; alone = alone; turned = open_turned i.phase later }) later)
+    (sym c.saturating_add-self-inside.ensures)
+    (home-driven (open_turned i.phase later)
     (home-stepped (seen i) (kept i) i.phase leg within (subst AreArmed (sym c.self.view_is) c.requires.armed)
     (few-step (seen i) (kept i) i.phase leg within (subst (λ (h : HomeState). steps_in (state_of h) < h.most) (sym c.self.view_is) c.requires.few))
-    c.step_next.new.dataflow c.step_next.new.boards refl next.on next.steps next.counted next.targets)
+    c.step_next.new.dataflow c.step_next.new.boards refl next.on next.steps next.counted next.targets))
 
 pub returns-clause-ok : goal.returns-clause-ok
 returns-clause-ok c =
@@ -79,11 +82,14 @@ returns-clause-ok c =
     let leg = leg-of (seen i) (kept i) i.phase c.self.invariant within in
     let next = c.in_ok-step_next.ensures in
     let later = record (kept i) { dataflow = c.step_next.new.dataflow; boards = c.step_next.new.boards } in
-    subst (λ alone. StepsOn c.args.self.now (record (seen i) { flow = c.step_next.new.dataflow.flow; parts = open_parts i.phase later; alone = alone })) (sym c.saturating_add-self-inside.ensures)
-    (subst (λ (h : HomeState). StepsOn h (record (seen i) { flow = c.step_next.new.dataflow.flow; parts = open_parts i.phase later; alone = alone_more i.alone })) c.self.view_is
+    let driven = turned-goes i.phase within (kept i) later next.on (there-within i c.self.invariant c.args.self.now c.self.view_is c.requires.within) in
+    let after : HomeState = record (seen i) { flow = c.step_next.new.dataflow.flow; parts = open_parts i.phase later; turned = open_turned i.phase later } in
+    subst (λ alone. StepsOn c.args.self.now (record after { alone = alone })) (sym c.saturating_add-self-inside.ensures)
+    (subst (λ (h : HomeState). StepsOn h (record after { alone = alone_more i.alone })) c.self.view_is
+    (subst (λ turned. StepsOn (seen i) (record after { alone = alone_more i.alone; turned = turned })) (sym driven)
     (steps-stepped (seen i) (kept i) i.phase leg within (subst AreArmed (sym c.self.view_is) c.requires.armed)
     (few-step (seen i) (kept i) i.phase leg within (subst (λ (h : HomeState). steps_in (state_of h) < h.most) (sym c.self.view_is) c.requires.few))
-    c.step_next.new.dataflow c.step_next.new.boards refl next.on next.steps next.counted next.targets))
+    c.step_next.new.dataflow c.step_next.new.boards refl next.on next.steps next.counted next.targets)))
 
 pub returns-clause-rows : goal.returns-clause-rows
 returns-clause-rows c op =
@@ -92,10 +98,11 @@ returns-clause-rows c op =
     let leg = leg-of (seen i) (kept i) i.phase c.self.invariant within in
     let next = c.in_ok-step_next.ensures in
     let later = record (kept i) { dataflow = c.step_next.new.dataflow; boards = c.step_next.new.boards } in
-    let after : HomeState = record (seen i) { flow = c.step_next.new.dataflow.flow; parts = open_parts i.phase later; alone = alone_more i.alone } in
-    let stepped = home-stepped (seen i) (kept i) i.phase leg within (subst AreArmed (sym c.self.view_is) c.requires.armed)
+    let after : HomeState = record (seen i) { flow = c.step_next.new.dataflow.flow; parts = open_parts i.phase later; alone = alone_more i.alone; turned = open_turned i.phase later } in
+    let stepped : IsHome after later = home-driven (open_turned i.phase later)
+    (home-stepped (seen i) (kept i) i.phase leg within (subst AreArmed (sym c.self.view_is) c.requires.armed)
     (few-step (seen i) (kept i) i.phase leg within (subst (λ (h : HomeState). steps_in (state_of h) < h.most) (sym c.self.view_is) c.requires.few))
-    c.step_next.new.dataflow c.step_next.new.boards refl next.on next.steps next.counted next.targets in
+    c.step_next.new.dataflow c.step_next.new.boards refl next.on next.steps next.counted next.targets) in
     let was = rows-are (seen i) (kept i) i.phase c.self.invariant (open-there i.phase within) op in
     let is = rows-are after later i.phase stepped (open-there i.phase within) op in
     let more = next-rows i.arms i.boards i.dataflow c.step_next.new.dataflow next.steps op in
@@ -110,10 +117,11 @@ returns-clause-moves c =
     let leg = leg-of (seen i) (kept i) i.phase c.self.invariant within in
     let next = c.in_ok-step_next.ensures in
     let later = record (kept i) { dataflow = c.step_next.new.dataflow; boards = c.step_next.new.boards } in
-    let after : HomeState = record (seen i) { flow = c.step_next.new.dataflow.flow; parts = open_parts i.phase later; alone = alone_more i.alone } in
-    let stepped = home-stepped (seen i) (kept i) i.phase leg within (subst AreArmed (sym c.self.view_is) c.requires.armed)
+    let after : HomeState = record (seen i) { flow = c.step_next.new.dataflow.flow; parts = open_parts i.phase later; alone = alone_more i.alone; turned = open_turned i.phase later } in
+    let stepped : IsHome after later = home-driven (open_turned i.phase later)
+    (home-stepped (seen i) (kept i) i.phase leg within (subst AreArmed (sym c.self.view_is) c.requires.armed)
     (few-step (seen i) (kept i) i.phase leg within (subst (λ (h : HomeState). steps_in (state_of h) < h.most) (sym c.self.view_is) c.requires.few))
-    c.step_next.new.dataflow c.step_next.new.boards refl next.on next.steps next.counted next.targets in
+    c.step_next.new.dataflow c.step_next.new.boards refl next.on next.steps next.counted next.targets) in
     let there = open-there i.phase within in
     subst (λ alone. MovesOrHolds c.args.self.now (record after { alone = alone })) (sym c.saturating_add-self-inside.ensures)
     (subst (λ (h : HomeState). MovesOrHolds h after) c.self.view_is
