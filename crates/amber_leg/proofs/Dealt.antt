@@ -1,5 +1,5 @@
 -- Workers are dealt among drivers, from the last one on.
-use Rattle.std.proofs.Common.{◌≡◌, ◌≢◌, sym, ap, subst, ◌∙◌, ℕ, ◌+◌, ◌-◌, ◌%◌, ◌<◌, ◌≤◌, List, length, set, take, slice_index_or, None, Some, if◌then◌else◌, inl, inr, length-set, arith}
+use Rattle.std.proofs.Common.{◌≡◌, ◌≢◌, sym, ap, subst, ◌∙◌, ℕ, ◌+◌, ◌-◌, ◌<◌, ◌≤◌, List, length, set, take, slice_index, slice_index_or, None, Some, if◌then◌else◌, inl, inr, length-set, arith}
 use Rattle.std.proofs.lemmas.Bool.{cases_lt, eq-eqb, ne_eqb}
 use Rattle.std.proofs.lemmas.Bool.Decides.{eqb_tells}
 use Rattle.std.proofs.lemmas.List.{get_or-set_other, get_or-set_same, get_or-take, take-take}
@@ -11,20 +11,20 @@ use Rattle.amber_leg.specs.Driving.{worker_placed}
 use Rattle.amber_leg.specs.declared.driver.Driver.{Driver}
 
 -- those with the greatest numbers are dealt, and the places of the others are empty
-pub record AreDealtFrom (count : ℕ) (crew : List WorkerState) (drivers : List Driver) : Type 0 where
+pub record AreDealtFrom (count : ℕ) (owners : List ℕ) (crew : List WorkerState) (drivers : List Driver) : Type 0 where
   pub all : (driver : ℕ) (d : Driver) → driver < length drivers → length (slice_index_or drivers driver d).workers.items ≡ length crew
   pub each : (driver place : ℕ) (d : Driver) → driver < length drivers → count ≤ place → place < length crew
-      → worker_placed (slice_index_or drivers driver d) place ≡ dealt_place (length drivers) crew driver place
+      → worker_placed (slice_index_or drivers driver d) place ≡ dealt_place owners crew driver place
   pub rest : (driver place : ℕ) (d : Driver) → driver < length drivers → place < count → worker_placed (slice_index_or drivers driver d) place ≡ None
 
 -- before any is dealt
-pub dealt-none : (crew : List WorkerState) (drivers : List Driver) → ((driver : ℕ) (d : Driver) → driver < length drivers → length (slice_index_or drivers driver d).workers.items ≡ length crew)
-    → ((driver place : ℕ) (d : Driver) → driver < length drivers → worker_placed (slice_index_or drivers driver d) place ≡ None) → AreDealtFrom (length crew) crew drivers
-dealt-none crew drivers all none = record { all = all; each = λ driver place d there past inside. absurd (omega arith); rest = λ driver place d there less. none driver place d there }
+pub dealt-none : (owners : List ℕ) (crew : List WorkerState) (drivers : List Driver) → ((driver : ℕ) (d : Driver) → driver < length drivers → length (slice_index_or drivers driver d).workers.items ≡ length crew)
+    → ((driver place : ℕ) (d : Driver) → driver < length drivers → worker_placed (slice_index_or drivers driver d) place ≡ None) → AreDealtFrom (length crew) owners crew drivers
+dealt-none owners crew drivers all none = record { all = all; each = λ driver place d there past inside. absurd (omega arith); rest = λ driver place d there less. none driver place d there }
 
--- a worker more is dealt to the driver whose turn it is
-module _ (count : ℕ) (crew : List WorkerState) (drivers : List Driver) (turn : ℕ) (d : Driver) (next : Driver) (before : AreDealtFrom (count + 1) crew drivers)
-    (inside : count < length crew) (turn-is : turn ≡ count % length drivers) (there : turn < length drivers)
+-- a worker more is dealt to the driver that owns it
+module _ (count : ℕ) (owners : List ℕ) (crew : List WorkerState) (drivers : List Driver) (turn : ℕ) (d : Driver) (next : Driver) (before : AreDealtFrom (count + 1) owners crew drivers)
+    (inside : count < length crew) (turn-is : turn ≡ slice_index owners count) (there : turn < length drivers)
     (next-is : next.workers.items ≡ set (slice_index_or drivers turn d).workers.items count (Some (worker_state_at crew count))) where
   abbrev after : List Driver
   after = set drivers turn next
@@ -43,7 +43,7 @@ module _ (count : ℕ) (crew : List WorkerState) (drivers : List Driver) (turn :
   same-long : length after ≡ length drivers
   same-long = length-set drivers turn next
 
-  -- what is said of each driver, said of the one whose turn it is and of the others
+  -- what is said of each driver, said of that one and of the others
   by-driver : (P : ℕ → Driver → Type 0) → P turn next → ((driver : ℕ) (e : Driver) → driver ≢ turn → driver < length drivers → P driver (slice_index_or drivers driver e))
       → (driver : ℕ) (e : Driver) → driver < length drivers → P driver (slice_index_or after driver e)
   by-driver P own others driver e known = elim (eqb_tells driver turn) [
@@ -52,7 +52,7 @@ module _ (count : ℕ) (crew : List WorkerState) (drivers : List Driver) (turn :
   ]
 
   abbrev Holds : ℕ → Driver → Type 0
-  Holds driver one = (place : ℕ) → count ≤ place → place < length crew → worker_placed one place ≡ dealt_place (length drivers) crew driver place
+  Holds driver one = (place : ℕ) → count ≤ place → place < length crew → worker_placed one place ≡ dealt_place owners crew driver place
 
   later : (place : ℕ) → count ≤ place → place ≢ count → count + 1 ≤ place
   later place past apart = elim (cases_lt count place) [ inl less ↦ (let less = less in omega arith) | inr more ↦ absurd (apart (let more = more in omega arith)) ]
@@ -60,36 +60,35 @@ module _ (count : ℕ) (crew : List WorkerState) (drivers : List Driver) (turn :
   own-holds : Holds turn next
   own-holds place past known = elim (eqb_tells place count) [
     | inl same ↦
-        subst (λ k. worker_placed next k ≡ dealt_place (length drivers) crew turn k) (sym same.1)
-        (now-here ∙ sym (ap (λ b. if b then Some (worker_state_at crew count) else None) (eq-eqb (count % length drivers) turn (sym turn-is))))
+        subst (λ k. worker_placed next k ≡ dealt_place owners crew turn k) (sym same.1)
+        (now-here ∙ sym (ap (λ b. if b then Some (worker_state_at crew count) else None) (eq-eqb (slice_index owners count) turn (sym turn-is))))
     | inr other ↦ now-still place other.1 ∙ before.each turn place d there (later place past other.1) known
   ]
 
   others-hold : (driver : ℕ) (e : Driver) → driver ≢ turn → driver < length drivers → Holds driver (slice_index_or drivers driver e)
   others-hold driver e apart known place past within = elim (eqb_tells place count) [
     | inl same ↦
-        subst (λ k. worker_placed (slice_index_or drivers driver e) k ≡ dealt_place (length drivers) crew driver k) (sym same.1)
+        subst (λ k. worker_placed (slice_index_or drivers driver e) k ≡ dealt_place owners crew driver k) (sym same.1)
         (before.rest driver count e known (omega arith)
-        ∙ sym (ap (λ b. if b then Some (worker_state_at crew count) else None) (ne_eqb (count % length drivers) driver (λ is. apart (sym is ∙ sym turn-is)))))
+        ∙ sym (ap (λ b. if b then Some (worker_state_at crew count) else None) (ne_eqb (slice_index owners count) driver (λ is. apart (sym is ∙ sym turn-is)))))
     | inr other ↦ before.each driver place e known (later place past other.1) within
   ]
 
-  pub dealt-more : AreDealtFrom count crew after
+  pub dealt-more : AreDealtFrom count owners crew after
   dealt-more = record {
     all = λ driver e known. by-driver (λ k one. length one.workers.items ≡ length crew)
         (ap length next-is ∙ length-set (slice_index_or drivers turn d).workers.items count (Some (worker_state_at crew count)) ∙ was-long)
         (λ k f apart within. before.all k f within) driver e (subst (λ n. driver < n) same-long known);
     each = λ driver place e known past within.
-        by-driver Holds own-holds others-hold driver e (subst (λ n. driver < n) same-long known) place past within
-        ∙ ap (λ n. dealt_place n crew driver place) (sym same-long);
+        by-driver Holds own-holds others-hold driver e (subst (λ n. driver < n) same-long known) place past within;
     rest = λ driver place e known less. by-driver (λ k one. worker_placed one place ≡ None)
         (now-still place (λ same. absurd (omega (arith, same))) ∙ before.rest turn place d there (omega arith))
         (λ k f apart within. before.rest k place f within (omega arith)) driver e (subst (λ n. driver < n) same-long known);
   }
 
 -- all are dealt
-pub dealt-all : (crew : List WorkerState) (drivers : List Driver) → AreDealtFrom 0 crew drivers → AreDealtOut crew drivers
-dealt-all crew drivers dealt = record { all = dealt.all; each = λ driver place d there known. dealt.each driver place d there (omega arith) known }
+pub dealt-all : (owners : List ℕ) (crew : List WorkerState) (drivers : List Driver) → AreDealtFrom 0 owners crew drivers → AreDealtOut owners crew drivers
+dealt-all owners crew drivers dealt = record { all = dealt.all; each = λ driver place d there known. dealt.each driver place d there (omega arith) known }
 
 -- the last of those that are left
 pub last-left : (crew left : List WorkerState) (n m : ℕ) (w d : WorkerState) → left ≡ take m crew → m ≡ n + 1 → n < length crew → Some w ≡ Some (slice_index_or left (m - 1) d) → w ≡ worker_state_at crew n

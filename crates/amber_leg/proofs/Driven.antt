@@ -75,10 +75,10 @@ module _ (boards : List (Option (Bor Board))) where
     each = λ place. turned-then m n (board_for boards place) (worker_placed a place) (worker_placed b place) (worker_placed c place) (one.each place) (two.each place);
   }
 
-  pub driven-more : (m n : ℕ) (a b : Driver) → m ≤ n → HasDrivenAll m boards a b → HasDrivenAll n boards a b
-  driven-more m n a b within driven = record {
+  pub driven-more : (m n : ℕ) (a b : Driver) → m ≤ n → (1 ≤ n → 1 ≤ m) → HasDrivenAll m boards a b → HasDrivenAll n boards a b
+  driven-more m n a b within some driven = record {
     all = driven.all;
-    each = λ place. turned-more m n (board_for boards place) (worker_placed a place) (worker_placed b place) within (driven.each place);
+    each = λ place. turned-more m n (board_for boards place) (worker_placed a place) (worker_placed b place) within some (driven.each place);
   }
 
   -- as many turns as are left
@@ -91,3 +91,17 @@ module _ (boards : List (Option (Bor Board))) where
 -- one pass more
 pub pass-more : (made passes slice : ℕ) → made < passes → made * slice + slice ≤ passes * slice
 pass-more made passes slice less = let all = mul-le-mul_right {m = made + 1} {n = passes} slice (omega arith) in omega (arith, all)
+
+-- where a turn might be made one might be made in a pass
+pub pass-some : (made passes slice : ℕ) → 1 ≤ passes * slice → 1 ≤ made * slice + slice
+pass-some made passes slice some = elim (cases_lt 0 slice) [
+  | inl more ↦ (let more = more in omega arith)
+  | inr none ↦ (let is : slice ≡ 0 = (let none = none in omega arith) in let zero : passes * slice ≡ 0 = ap (λ n. passes * n) is ∙ (let none : passes * 0 ≡ 0 = omega arith in none) in absurd (omega (arith, some, zero)))
+]
+
+-- so many passes and one more are no more turns than those of all passes
+pub passed : (boards : List (Option (Bor Board))) (made passes slice : ℕ) (old mid new : Driver) → made < passes → HasDrivenAll (made * slice) boards old mid → HasDrivenAll slice boards mid new
+    → HasDrivenAll (passes * slice) boards old new
+passed boards made passes slice old mid new less before one =
+    driven-more boards (made * slice + slice) (passes * slice) old new (pass-more made passes slice less) (pass-some made passes slice)
+    (driven-then boards (made * slice) slice old mid new before one)

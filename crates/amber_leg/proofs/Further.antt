@@ -1,9 +1,11 @@
 -- A leg goes on, in time.
-use Rattle.std.proofs.Common.{◌≡◌, ◌⊎◌, refl, sym, ap, subst, ◌∙◌, ℕ, ◌+◌, ◌*◌, ◌<◌, ◌≤◌, List, [], length, Bool, true, Some, unwrap_or, inl, inr, arith}
+use Rattle.std.proofs.Common.{◌≡◌, ◌⊎◌, refl, sym, ap, subst, ◌∙◌, ℕ, ◌+◌, ◌*◌, ◌<◌, ◌≤◌, List, [], length, slice_index_or, Bool, true, Option, None, Some, unwrap_or, inl, inr, arith}
+use Rattle.std.specs.List.{sum}
+use Rattle.std.specs.Option.{IfNone}
 use Rattle.std.proofs.Math.Nat.{mul-le-mul_right}
 use Rattle.std.proofs.lemmas.Bool.{false≢true}
 use Rattle.amber_rows.specs.Lists.{nth}
-use Rattle.amber_rows.specs.Topology.{workers_of}
+use Rattle.amber_rows.specs.Topology.{crew_of, workers_of}
 use Rattle.amber_log.specs.declared.leg.Part.{Part}
 use Rattle.amber_meaning.specs.State.{State, arms_at, emitted_by, no_arms, steps_in}
 use Rattle.amber_home.specs.HomeState.{DisarmsLeg, HomeState, IsAsFar, IsEarly, MovesOrHolds, NoneIsHeld, counts_in, is_open, runs_to_end, state_of, stops_of_home}
@@ -12,31 +14,42 @@ use Rattle.amber_home.specs.declared.phase.Counts.TheVariants.{Armed, Disarmed}
 use Rattle.amber_home.proofs.Homes.{open-is}
 use Rattle.amber_home.specs.declared.phase.Phase.{Phase}
 use Rattle.amber_home.specs.declared.phase.Phase.TheVariants as phase
-use Rattle.amber_leg.specs.Leg.{AreOnTime, DrivesLeg, GoesFurther, IsOneHeld, MakesRound, MovesOn, most_late}
+use Rattle.amber_leg.specs.Leg.{AreOnTime, DrivesLeg, GoesFurther, AddsUp, IsOneHeld, IsUndriven, MakesRound, MovesOn, most_late, turned_at}
+
+-- what is said where there is none
+pub if-none : {A P : Type 0} (found : Option A) → ((x : A) → found ≡ Some x → ⊥) → IfNone found P → P
+if-none None not holds = holds
+if-none (Some x) not holds = absurd (not x refl)
 
 -- what is in force within a leg does not depend on what was done
-arms-of : (e : HomeState) (now : Phase) (parts other : List Part) (alone : ℕ) → is_open now ≡ true
-    → (state_of (record e { phase = now; parts = parts; alone = alone })).arms ≡ (state_of (record e { phase = now; parts = other })).arms
+arms-of : (e : HomeState) (now : Phase) (parts other : List Part) (alone : ℕ) (turned : List ℕ) → is_open now ≡ true
+    → (state_of (record e { phase = now; parts = parts; alone = alone; turned = turned })).arms ≡ (state_of (record e { phase = now; parts = other })).arms
 unfolding state_of Rattle.amber_meaning.specs.Replay.after_leg
-arms-of e phase.Resting parts other alone within = absurd (false≢true within)
-arms-of e (phase.Open to_end counts) parts other alone within = refl
-arms-of e (phase.Lent to_end) parts other alone within = absurd (false≢true within)
-arms-of e (phase.Unsettled to_end) parts other alone within = absurd (false≢true within)
-arms-of e phase.Over parts other alone within = absurd (false≢true within)
-arms-of e phase.Spent parts other alone within = absurd (false≢true within)
+arms-of e phase.Resting parts other alone turned within = absurd (false≢true within)
+arms-of e (phase.Open to_end counts) parts other alone turned within = refl
+arms-of e (phase.Lent to_end) parts other alone turned within = absurd (false≢true within)
+arms-of e (phase.Unsettled to_end) parts other alone turned within = absurd (false≢true within)
+arms-of e phase.Over parts other alone turned within = absurd (false≢true within)
+arms-of e phase.Spent parts other alone turned within = absurd (false≢true within)
 
-pub arms-same : (old new : HomeState) → is_open old.phase ≡ true → new ≡ record old { parts = new.parts; alone = new.alone } → (op : ℕ)
+pub arms-same : (old new : HomeState) → is_open old.phase ≡ true → new ≡ record old { parts = new.parts; alone = new.alone; turned = new.turned } → (op : ℕ)
     → arms_at (state_of new) op ≡ arms_at (state_of old) op
 arms-same old new within only op =
     ap (λ (h : HomeState). arms_at (state_of h) op) only
-    ∙ ap (λ arms. unwrap_or (nth arms op) no_arms) (arms-of old old.phase new.parts old.parts new.alone within)
+    ∙ ap (λ arms. unwrap_or (nth arms op) no_arms) (arms-of old old.phase new.parts old.parts new.alone new.turned within)
 
--- where no step was made at home
-pub only-alone : (old new : HomeState) → new ≡ record old { parts = new.parts } → new ≡ record old { parts = new.parts; alone = new.alone }
-only-alone old new only = only ∙ ap (λ n. record old { parts = new.parts; alone = n }) (sym (ap (λ (h : HomeState). h.alone) only))
+-- where nobody was driven, and no step was made at home
+pub only-alone : (old new : HomeState) → new ≡ record old { parts = new.parts } → new ≡ record old { parts = new.parts; alone = new.alone; turned = new.turned }
+only-alone old new only =
+    only ∙ (λ i. record old { parts = new.parts; alone = sym (ap (λ (h : HomeState). h.alone) only) i; turned = sym (ap (λ (h : HomeState). h.turned) only) i })
 
-pub only-then : (a b c : HomeState) → b ≡ record a { parts = b.parts; alone = b.alone } → c ≡ record b { parts = c.parts; alone = c.alone } → c ≡ record a { parts = c.parts; alone = c.alone }
-only-then a b c one two = two ∙ ap (λ (h : HomeState). record h { parts = c.parts; alone = c.alone }) one
+-- where workers were
+pub only-turned : (old new : HomeState) → new ≡ record old { parts = new.parts; turned = new.turned } → new ≡ record old { parts = new.parts; alone = new.alone; turned = new.turned }
+only-turned old new only = only ∙ ap (λ n. record old { parts = new.parts; alone = n; turned = new.turned }) (sym (ap (λ (h : HomeState). h.alone) only))
+
+pub only-then : (a b c : HomeState) → b ≡ record a { parts = b.parts; alone = b.alone; turned = b.turned } → c ≡ record b { parts = c.parts; alone = c.alone; turned = c.turned }
+    → c ≡ record a { parts = c.parts; alone = c.alone; turned = c.turned }
+only-then a b c one two = two ∙ ap (λ (h : HomeState). record h { parts = c.parts; alone = c.alone; turned = c.turned }) one
 
 pub further-same : (e : HomeState) → GoesFurther e e
 further-same e = record { only = refl; on_time = λ time. time }
@@ -51,7 +64,7 @@ pub further-round : (old fed new : HomeState) (turns : ℕ) → is_open old.phas
     → ((op n : ℕ) → (arms_at (state_of fed) op).pause ≡ Some n → turns ≤ most_late) → GoesFurther old new
 further-round old fed new turns within early only far round late =
     let fed-only = only-alone old fed only in
-    let new-only = only-alone fed new round.only in
+    let new-only = only-turned fed new round.only in
     let flow : fed.flow ≡ old.flow = ap (λ (h : HomeState). h.flow) only in
     let now : new.flow ≡ fed.flow = ap (λ (h : HomeState). h.flow) round.only in
     let within-fed : is_open fed.phase ≡ true = ap (λ (h : HomeState). is_open h.phase) only ∙ within in
@@ -74,7 +87,8 @@ pub further-step : (old mid new : HomeState) (alone : ℕ) → is_open old.phase
     → new ≡ record mid { parts = new.parts; alone = alone } → ((op : ℕ) → emitted_by new.flow (state_of new) op ≤ emitted_by mid.flow (state_of mid) op + 1) → GoesFurther old new
 further-step old mid new alone within early only far stepped rows =
     let mid-only = only-alone old mid only in
-    let new-only : new ≡ record mid { parts = new.parts; alone = new.alone } = stepped ∙ ap (λ n. record mid { parts = new.parts; alone = n }) (sym (ap (λ (h : HomeState). h.alone) stepped)) in
+    let new-only : new ≡ record mid { parts = new.parts; alone = new.alone; turned = new.turned } =
+    stepped ∙ (λ i. record mid { parts = new.parts; alone = sym (ap (λ (h : HomeState). h.alone) stepped) i; turned = sym (ap (λ (h : HomeState). h.turned) stepped) i }) in
     let within-mid : is_open mid.phase ≡ true = ap (λ (h : HomeState). is_open h.phase) only ∙ within in
     record {
       only = only-then old mid new mid-only new-only;
@@ -159,17 +173,55 @@ disarmed-time old new within disarms time op n armed =
     let most = time op n (ap (λ found. found.pause) (sym same) ∙ armed) in
     subst (λ f. emitted_by new.flow (state_of new) op ≤ n + most_late * length (workers_of f op)) (sym flow) (omega (arith, rows, most))
 
+-- the boards are closed behind rounds
+driven-disarmed : (old armed ran new : HomeState) → state_of armed ≡ state_of old → AddsUp armed ran → DisarmsLeg ran new → AddsUp old new
+driven-disarmed old armed ran new same driven disarms =
+    let alone : new.alone ≡ ran.alone = ap (λ (h : HomeState). h.alone) disarms.only in
+    let turned : new.turned ≡ ran.turned = ap (λ (h : HomeState). h.turned) disarms.only in
+    let workers : crew_of new.flow ≡ crew_of ran.flow = ap (λ (h : HomeState). crew_of h.flow) disarms.only in
+    record {
+      driven = λ worker inside.
+          let own = driven.driven worker (omega (arith, inside, workers)) in
+          let here : turned_at new worker ≡ turned_at ran worker = ap (λ ns. slice_index_or ns worker 0) turned in
+          omega (arith, own, here, alone, workers);
+      steps =
+          let steps = driven.steps in
+          let far = disarms.far.steps in
+          let start = ap steps_in same in
+          let sums = ap sum turned in
+          omega (arith, steps, far, start, sums, alone);
+    }
+
+-- in a leg in which nothing was done yet
+pub driven-none : (e : HomeState) → IsUndriven e → AddsUp e e
+driven-none e undriven =
+    let none = undriven.alone in
+    record { driven = λ worker inside. omega (arith, none); steps = omega arith }
+
+-- counts are armed in it
+pub undriven-armed : (old armed : HomeState) (counts : Counts) → armed ≡ record old { phase = phase.Open (runs_to_end old.phase) counts } → IsUndriven old → IsUndriven armed
+undriven-armed old armed counts is undriven = record {
+  alone = ap (λ (h : HomeState). h.alone) is ∙ undriven.alone;
+  turned = λ worker. ap (λ (h : HomeState). turned_at h worker) is ∙ undriven.turned worker;
+}
+
 -- a leg that was driven
 pub drives-leg : (old armed ran new : HomeState) → is_open old.phase ≡ true → armed ≡ record old { phase = phase.Open (runs_to_end old.phase) Armed } → stops_of_home old ≡ [] → IsEarly old
-    → GoesFurther armed ran → DisarmsLeg ran new → DrivesLeg old new
-drives-leg old armed ran new within is none early further disarms =
-    let within-ran : is_open ran.phase ≡ true = ap (λ (h : HomeState). is_open h.phase) (further.only ∙ ap (λ (h : HomeState). record h { parts = ran.parts; alone = ran.alone }) is) in
+    → GoesFurther armed ran → AddsUp armed ran → DisarmsLeg ran new → DrivesLeg old new
+drives-leg old armed ran new within is none early further driven disarms =
+    let within-ran : is_open ran.phase ≡ true = ap (λ (h : HomeState). is_open h.phase) (further.only ∙ ap (λ (h : HomeState). record h { parts = ran.parts; alone = ran.alone; turned = ran.turned }) is) in
     record {
       counts = Disarmed;
       unarmed = λ same. absurd (cc same);
       only = disarms.only
-          ∙ ap (λ (h : HomeState). record h { parts = new.parts; phase = phase.Open (runs_to_end h.phase) Disarmed }) (further.only ∙ ap (λ (h : HomeState). record h { parts = ran.parts; alone = ran.alone }) is)
-          ∙ ap (λ n. record old { phase = phase.Open (runs_to_end old.phase) Disarmed; parts = new.parts; alone = n }) (sym (ap (λ (h : HomeState). h.alone) disarms.only));
+          ∙ ap (λ (h : HomeState). record h { parts = new.parts; phase = phase.Open (runs_to_end h.phase) Disarmed }) (further.only ∙ ap (λ (h : HomeState). record h { parts = ran.parts; alone = ran.alone; turned = ran.turned }) is)
+          ∙ (λ i. record old {
+            phase = phase.Open (runs_to_end old.phase) Disarmed;
+            parts = new.parts;
+            alone = sym (ap (λ (h : HomeState). h.alone) disarms.only) i;
+            turned = sym (ap (λ (h : HomeState). h.turned) disarms.only) i;
+          });
+      driven = driven-disarmed old armed ran new (armed-state old armed Armed within is) driven disarms;
       in_time = inr (none, disarmed-time ran new within-ran disarms (further.on_time (armed-time old armed Armed within is early)));
     }
 

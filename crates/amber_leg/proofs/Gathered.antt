@@ -1,5 +1,5 @@
 -- Workers that are put back, one after the other.
-use Rattle.std.proofs.Common.{◌≡◌, sym, ap, subst, ◌∙◌, ℕ, ◌+◌, ◌%◌, ◌<◌, ◌≤◌, List, [], ◌∷◌, ◌++◌, length, set, slice_index_or, Option, None, Some, is_some, true, inl, inr, length-set, arith}
+use Rattle.std.proofs.Common.{◌≡◌, sym, ap, subst, ◌∙◌, ℕ, ◌+◌, ◌<◌, ◌≤◌, List, [], ◌∷◌, ◌++◌, length, set, slice_index, slice_index_or, Option, None, Some, is_some, true, inl, inr, arith}
 use Rattle.std.proofs.Math.ListN.{get_or-eq_default}
 use Rattle.std.proofs.lemmas.Bool.{cases_lt, false≢true}
 use Rattle.std.proofs.lemmas.Bool.Decides.{eqb_tells}
@@ -9,17 +9,16 @@ use Rattle.amber_dataflow.specs.AtWork.{no_worker_state, worker_state_at}
 use Rattle.amber_leg.specs.Driving.{worker_placed}
 use Rattle.amber_leg.specs.declared.driver.Driver.{Driver}
 
--- the driver that has a place, of so many
-abbrev pub driver_of : List Driver → ℕ → Driver → Driver
-driver_of drivers place d = slice_index_or drivers (place % length drivers) d
+-- the driver that has a place
+abbrev pub driver_of : List ℕ → List Driver → ℕ → Driver → Driver
+driver_of owners drivers place d = slice_index_or drivers (slice_index owners place) d
 
 -- where a worker is taken out, the later places are as they were
-module _ (drivers : List Driver) (number turn : ℕ) (d next : Driver) (turn-is : turn ≡ number % length drivers) (there : turn < length drivers)
+module _ (owners : List ℕ) (drivers : List Driver) (number turn : ℕ) (d next : Driver) (there : turn < length drivers)
     (next-is : next.workers.items ≡ set (slice_index_or drivers turn d).workers.items number None) where
-  pub later-same : (place : ℕ) (e : Driver) → number + 1 ≤ place → worker_placed (driver_of (set drivers turn next) place e) place ≡ worker_placed (driver_of drivers place e) place
+  pub later-same : (place : ℕ) (e : Driver) → number + 1 ≤ place → worker_placed (driver_of owners (set drivers turn next) place e) place ≡ worker_placed (driver_of owners drivers place e) place
   later-same place e past =
-      ap (λ n. worker_placed (slice_index_or (set drivers turn next) (place % n) e) place) (length-set drivers turn next)
-      ∙ elim (eqb_tells (place % length drivers) turn) [
+      elim (eqb_tells (slice_index owners place) turn) [
         | inl same ↦
             ap (λ k. worker_placed (slice_index_or (set drivers turn next) k e) place) same.1
             ∙ ap (λ one. worker_placed one place) (get_or-set_same drivers turn next e there)
@@ -27,19 +26,19 @@ module _ (drivers : List Driver) (number turn : ℕ) (d next : Driver) (turn-is 
             ∙ get_or-set_other (slice_index_or drivers turn d).workers.items number place None None (λ is. absurd (omega (arith, is)))
             ∙ ap (λ one. worker_placed one place) (get_or_default drivers turn d e there)
             ∙ ap (λ k. worker_placed (slice_index_or drivers k e) place) (sym same.1)
-        | inr other ↦ ap (λ one. worker_placed one place) (get_or-set_other drivers turn (place % length drivers) next e other.1)
+        | inr other ↦ ap (λ one. worker_placed one place) (get_or-set_other drivers turn (slice_index owners place) next e other.1)
       ]
 
 -- a worker more is back
-pub back-more : (drivers : List Driver) (number : ℕ) (crew : List WorkerState) (w : WorkerState) → length crew ≡ number
-    → ((place : ℕ) (e : Driver) → place < number → worker_placed (driver_of drivers place e) place ≡ Some (worker_state_at crew place))
-    → ((e : Driver) → worker_placed (driver_of drivers number e) number ≡ Some w)
-    → (place : ℕ) (e : Driver) → place < number + 1 → worker_placed (driver_of drivers place e) place ≡ Some (worker_state_at (crew ++ w ∷ []) place)
-back-more drivers number crew w long back here place e inside = elim (cases_lt place number) [
+pub back-more : (owners : List ℕ) (drivers : List Driver) (number : ℕ) (crew : List WorkerState) (w : WorkerState) → length crew ≡ number
+    → ((place : ℕ) (e : Driver) → place < number → worker_placed (driver_of owners drivers place e) place ≡ Some (worker_state_at crew place))
+    → ((e : Driver) → worker_placed (driver_of owners drivers number e) number ≡ Some w)
+    → (place : ℕ) (e : Driver) → place < number + 1 → worker_placed (driver_of owners drivers place e) place ≡ Some (worker_state_at (crew ++ w ∷ []) place)
+back-more owners drivers number crew w long back here place e inside = elim (cases_lt place number) [
   | inl before ↦ back place e before ∙ ap Some (sym (get_or_append_left crew (w ∷ []) no_worker_state place (let before = before in omega (arith, long))))
   | inr past ↦
       let same : place ≡ number = (let past = past in omega arith) in
-      subst (λ k. worker_placed (driver_of drivers k e) k ≡ Some (worker_state_at (crew ++ w ∷ []) k)) (sym same)
+      subst (λ k. worker_placed (driver_of owners drivers k e) k ≡ Some (worker_state_at (crew ++ w ∷ []) k)) (sym same)
       (here e ∙ ap Some (sym (get_or_push crew w no_worker_state number long)))
 ]
 

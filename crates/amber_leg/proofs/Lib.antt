@@ -8,3 +8,4 @@ pub mod Gathered
 pub mod Rounded
 pub mod Sliced
 pub mod Turned
+pub mod Working

@@ -1,11 +1,13 @@
 -- Turns of a worker in slices.
-use Rattle.std.proofs.Common.{◌≡◌, ◌+◌, ◌-◌, ◌≤◌, ℕ, List, count_by, length, arith}
+use Rattle.std.proofs.Common.{◌≡◌, ◌+◌, ◌-◌, ◌^◌, ◌<◌, ◌≤◌, ℕ, List, count_by, length, inl, inr, arith}
+use Rattle.std.proofs.lemmas.Bool.{cases_lt}
 use Rattle.std.proofs.lemmas.List.Sums.{count_by-le-length}
 use Rattle.amber_mail.specs.Controls.{is_pause}
-use Rattle.amber_worker.specs.Driving.{Driven}
+use Rattle.amber_worker.specs.Driving.{CountsTurns, Driven}
 use Rattle.amber_worker.specs.Turning.{MakesTurns}
 use Rattle.amber_worker.specs.WorkerState.{WorkerState}
-use Rattle.amber_worker.proofs.ManyTurns.{makes-armed, makes-more, makes-then}
+use Rattle.amber_worker.proofs.ManyTurns.{makes-armed, makes-more, makes-same, makes-then}
+use Rattle.amber_leg.specs.Slices.{HasCounted}
 
 -- a drive makes no more turns than it was asked for
 pub drives-most : (turns : List Driven) (most looks looked pauses paused : ℕ) (old new : WorkerState) → looked ≡ looks + length turns
@@ -16,6 +18,49 @@ drives-most turns most looks looked pauses paused old new looked-is paused-is wi
     let n : ℕ = length turns - count_by (λ (one : Driven). is_pause one.told) turns in
     makes-more n most old new (omega (arith, few, within)) (makes n (omega (arith, few, looked-is, paused-is)))
 
+-- what a worker has counted that was driven, for so many turns at most
+pub counted-drive : (turns most : ℕ) (old new : WorkerState) → old.turned + most < 2 ^ 64 → turns ≤ most → (0 < most → 0 < turns) → CountsTurns turns old new → MakesTurns most old new
+    → HasCounted most old new
+counted-drive turns most old new fits within some counts makes =
+    let is = counts.turned (omega (arith, fits, within)) in
+    let steps = counts.steps in
+    record {
+      makes = makes;
+      some = λ one. let first = some (omega (arith, one)) in omega (arith, is, first);
+      more = omega (arith, is);
+      within = omega (arith, is, within);
+      steps = omega (arith, is, steps);
+    }
+
+-- none
+pub counted-same : (w : WorkerState) → HasCounted 0 w w
+counted-same w = record { makes = makes-same w; some = λ one. absurd (omega (arith, one)); more = omega arith; within = omega arith; steps = omega arith }
+
+-- no more than so many
+pub counted-more : (m n : ℕ) (a b : WorkerState) → m ≤ n → (1 ≤ n → 1 ≤ m) → HasCounted m a b → HasCounted n a b
+counted-more m n a b within some one = record {
+  makes = makes-more m n a b within one.makes;
+  some = λ first. one.some (some first);
+  more = one.more;
+  within = (let most = one.within in omega (arith, within, most));
+  steps = one.steps;
+}
+
 -- slices, one after the other
-pub makes-both : (m n most : ℕ) (a b c : WorkerState) → m + n ≤ most → MakesTurns m a b → MakesTurns n b c → MakesTurns most a c
-makes-both m n most a b c within one two = makes-more (m + n) most a c within (makes-then m n a b c (makes-armed m a b one) one two)
+pub counted-then : (m n : ℕ) (a b c : WorkerState) → HasCounted m a b → HasCounted n b c → HasCounted (m + n) a c
+counted-then m n a b c one two =
+    let first = one.more in
+    let second = two.more in
+    record {
+      makes = makes-then m n a b c (makes-armed m a b one.makes) one.makes two.makes;
+      some = λ some. elim (cases_lt 0 m) [
+        | inl before ↦ (let more = one.some (let before = before in omega arith) in omega (arith, more, second))
+        | inr none ↦ (let more = two.some (let none = none in omega (arith, some)) in omega (arith, more, first))
+      ];
+      more = omega (arith, first, second);
+      within = (let most = one.within in let rest = two.within in omega (arith, most, rest));
+      steps = (let made = one.steps in let rest = two.steps in omega (arith, made, rest));
+    }
+
+pub counted-both : (m n most : ℕ) (a b c : WorkerState) → m + n ≤ most → (1 ≤ most → 1 ≤ m + n) → HasCounted m a b → HasCounted n b c → HasCounted most a c
+counted-both m n most a b c within some one two = counted-more (m + n) most a c within some (counted-then m n a b c one two)

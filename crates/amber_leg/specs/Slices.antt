@@ -1,18 +1,27 @@
 -- A worker that is driven: what it may do, and what it has done.
-use Rattle.std.specs.Prelude.{◌+◌, ◌^◌, ◌≤◌, ℕ, Option, None, Some}
+use Rattle.std.specs.Prelude.{◌+◌, ◌^◌, ◌<◌, ◌≤◌, ℕ, Option, None, Some}
 use Rattle.amber_board.specs.declared.types.Board.{Board}
 use Rattle.amber_worker.specs.Counting.{IsBoardOf}
 use Rattle.amber_worker.specs.Turning.{MakesTurns}
 use Rattle.amber_worker.specs.WorkerState.{WorkerState, steps_made}
 
--- a worker, where there is one, may make so many turns: it has the seat of this board, if there is one, and has made few steps
+-- a worker has made turns, so many at most, and has counted them: one at least where it might make one, and no more steps than turns
+pub record HasCounted (turns : ℕ) (old new : WorkerState) : Type 0 where
+  pub makes : MakesTurns turns old new
+  pub some : 1 ≤ turns → old.turned + 1 ≤ new.turned
+  pub more : old.turned ≤ new.turned
+  pub within : new.turned ≤ old.turned + turns
+  pub steps : steps_made new + old.turned ≤ steps_made old + new.turned
+
+-- a worker, where there is one, may make so many turns: it has the seat of this board, if there is one, and has made few steps, and few
+-- turns
 abbrev pub MayTurn : ℕ → Option Board → Option WorkerState → Type 0
 MayTurn turns board None = Unit {0}
-MayTurn turns board (Some w) = (steps_made w + turns ≤ 2 ^ 40) × IsBoardOf board w.seat
+MayTurn turns board (Some w) = (steps_made w + turns ≤ 2 ^ 40) × IsBoardOf board w.seat × (w.turned + turns < 2 ^ 64)
 
 -- it has made turns, so many at most, and has its seat still
 abbrev pub HasTurnedSo : ℕ → Option Board → Option WorkerState → Option WorkerState → Type 0
 HasTurnedSo turns board None None = Unit {0}
 HasTurnedSo turns board None (Some v) = ⊥
 HasTurnedSo turns board (Some w) None = ⊥
-HasTurnedSo turns board (Some w) (Some v) = MakesTurns turns w v × IsBoardOf board v.seat
+HasTurnedSo turns board (Some w) (Some v) = HasCounted turns w v × IsBoardOf board v.seat

@@ -5,21 +5,33 @@ ghost use Rattle.amber_rows.specs.Topology.{crew_of};
 ghost use Rattle.amber_meaning.specs.State.{arms_at, steps_in};
 ghost use Rattle.amber_home.specs.HomeState.{is_open, state_of};
 ghost use Rattle.amber_leg.specs.Driving.{turns_of};
-ghost use Rattle.amber_leg.specs.Leg.{most_late};
+ghost use Rattle.amber_leg.specs.Leg.{most_late, most_turned};
 
 use amber_home::Home;
 
 // The turns of a slice. Where a pause is in force a round has no more, since none is seen before its end.
 const SLICE: u64 = 1024;
 
-// The slices of a round on several threads where no pause is in force.
+// The slices of a round where no pause is in force.
 const PASSES: u64 = 64;
 
-/// The turns of a round: so many slices of each worker, one of each after the other, with so many turns in a slice.
+// How often a thread looks again whose workers all wait for workers of other threads.
+const LOOKS: u32 = 4;
+
+/// The turns of a round: so many slices of each worker, one of each after the other, with so many turns in a slice; and how
+/// often in a row a thread looks again where none of its workers moves.
 #[derive(Clone, Copy)]
 pub(crate) struct Budget {
     pub passes: u32,
     pub slice: u32,
+    pub looks: u32,
+}
+
+// With one thread there is nobody to wait for.
+fn looks_of(threads: u32) -> u32
+    ensures { result ≤ 4 }
+{
+    if threads == 1 { 0 } else { LOOKS }
 }
 
 /// As many turns as each worker may make, so that all together make no more steps than are left; at least one where as
@@ -30,6 +42,7 @@ pub(crate) fn budget_of(home: &Home, threads: u32) -> Budget
         ≤ home.now.most }
     ensures some { steps_in (state_of home.now) + crew_of home.now.flow ≤ home.now.most
         → 1 ≤ turns_of result }
+    ensures within { turns_of result ≤ most_turned }
     ensures late { (op n : ℕ) → (arms_at (state_of home.now) op).pause ≡ Some n
         → turns_of result ≤ most_late }
 {
@@ -37,13 +50,10 @@ pub(crate) fn budget_of(home: &Home, threads: u32) -> Budget
     let flow = home.flow();
     let _operators = flow.get();
     let share = left / u64::from(flow.workers());
-    let most = if threads == 1 || home.has_pause() {
-        1
-    } else {
-        PASSES
-    };
+    let most = if home.has_pause() { 1 } else { PASSES };
     Budget {
         passes: (share / SLICE).max(1).min(most) as u32,
         slice: share.min(SLICE) as u32,
+        looks: looks_of(threads),
     }
 }

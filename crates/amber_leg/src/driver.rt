@@ -11,8 +11,8 @@ use amber_worker::Worker;
 use std::alloc::AllocError;
 use std::thread::yield_now;
 
-// How often a thread lets others go on where none of its workers moves.
-const WAITS: u32 = 64;
+// How often a thread lets others go on before it looks again.
+const YIELDS: u32 = 64;
 
 /// The workers that one thread drives, each at the place of its number; other places are empty.
 #[derive(Drop)]
@@ -46,12 +46,13 @@ fn drive_slices<G: Gate>(
 
 // Lets other threads go on for about as long as a slice takes.
 fn wait() {
-    for _ in 0..WAITS {
+    for _ in 0..YIELDS {
         yield_now();
     }
 }
 
-// Slices of a driver's workers, until all have made their turns or all stand.
+// Slices of a driver's workers, until all have made their turns, or none of them has moved for as many looks as the budget
+// allows, or all stand.
 fn drive_passes<G: Gate>(
     driver: &mut Driver,
     boards: &[Option<&Board>],
@@ -62,12 +63,15 @@ fn drive_passes<G: Gate>(
     ensures driven { OnOk result (HasDrivenAll (turns_of budget)
         boards.now driver.old driver.new) }
 {
+    let mut looks = 0;
     'passes: for made in 0..budget.passes {
         match drive_slices(driver, boards, gate, budget.slice)? {
-            Pace::Moves => {}
-            Pace::Waits if made + 1 == budget.passes => {}
-            Pace::Waits => wait(),
-            Pace::Stands => return Ok(()),
+            Pace::Moves => looks = 0,
+            Pace::Waits if looks < budget.looks && made + 1 < budget.passes => {
+                looks += 1;
+                wait();
+            }
+            Pace::Waits | Pace::Stands => return Ok(()),
         }
     }
     Ok(())

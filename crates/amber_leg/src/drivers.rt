@@ -1,14 +1,16 @@
-//! Workers that are dealt among drivers, driven side by side, one driver a thread, and put back in their order. Over `drive`
-//! of `driver`.
+//! Workers that are dealt among drivers, driven side by side, one driver a thread, and put back
+//! in their order. Over `drive` of `driver`, over `owners` and over `done`.
 
-ghost use Rattle.std.specs.Prelude.{◌≡◌, ◌%◌, ◌<◌, ◌≤◌, ℕ, All, IfOk, OnOk, [], false, is_some, length, replicate, slice_index_or, true, vec_capacity, vec_len};
+ghost use Rattle.std.specs.Prelude.{◌≡◌, ◌<◌, ◌≤◌, ℕ, All, IfOk, OnOk, [], false, is_some, length, replicate, slice_index, slice_index_or, true, vec_capacity, vec_len};
 ghost use Rattle.amber_home.specs.Lent.{MakeTurns};
-ghost use Rattle.amber_leg.specs.Dealing.{AreBoardsOf, AreDealtOut, AreOf, AreReadyFor, HaveDriven, HaveNotFailed};
+ghost use Rattle.amber_leg.specs.Dealing.{AreBoardsOf, AreDealtOut, AreOf, AreReadyFor, HaveCounted, HaveDriven, HaveNotFailed};
 ghost use Rattle.amber_leg.specs.Driving.{MayDrive, turns_of, worker_placed};
 ghost use Rattle.amber_leg.specs.declared.driver.Driver.{Driver as OneDriver};
 
 use crate::budget::Budget;
+use crate::done::{begin_round, end_round};
 use crate::driver::{Driver, drive};
+use crate::owners::owners_of;
 use amber_board::Board;
 use amber_boards::Boards;
 use amber_home::Crew;
@@ -45,36 +47,38 @@ fn empty_drivers(alloc: Global, drivers: usize, places: usize) -> Result<Vec<Dri
     Ok(made)
 }
 
-// Deals the workers out, to each driver in turn. Their list keeps its room.
-fn deal(workers: &mut Vec<Worker>, drivers: &mut [Driver])
-    requires some { 0 < length drivers.old }
+// Deals the workers out, each to the driver that owns it. Their list keeps its room.
+fn deal(workers: &mut Vec<Worker>, owners: &[usize], drivers: &mut [Driver])
+    requires all { length owners.now ≡ vec_len workers.old }
+    requires within { All (λ owner. owner < length drivers.old) owners.now }
     requires empty { All (λ driver. driver.workers.items
         ≡ replicate (vec_len workers.old) None) drivers.old }
-    ensures dealt { AreDealtOut workers.old.items drivers.new }
+    ensures dealt { AreDealtOut owners.now workers.old.items drivers.new }
     ensures long { length drivers.new ≡ length drivers.old }
     ensures none { workers.new.items ≡ [] }
     ensures room { vec_len workers.old ≤ vec_capacity workers.new }
 {
     'workers: while let Some(worker) = workers.pop() {
         let number = workers.len();
-        let driver = number % drivers.len();
-        drivers[driver].workers[number] = Some(worker);
+        let owner = owners[number];
+        drivers[owner].workers[number] = Some(worker);
     }
 }
 
 // Puts the workers back, by their numbers, into a list that has room for all.
-fn gather(drivers: &mut [Driver], workers: &mut Vec<Worker>, count: usize)
-    requires some { 0 < length drivers.old }
+fn gather(drivers: &mut [Driver], owners: &[usize], workers: &mut Vec<Worker>, count: usize)
+    requires all { length owners.now ≡ count }
+    requires within { All (λ owner. owner < length drivers.old) owners.now }
     requires there { (place : ℕ) (d : OneDriver) → place < count → is_some
-        (worker_placed (slice_index_or drivers.old (place % length drivers.old) d) place) ≡ true }
+        (worker_placed (slice_index_or drivers.old (slice_index owners.now place) d) place) ≡ true }
     requires none { workers.old.items ≡ [] }
     requires room { count ≤ vec_capacity workers.old }
     ensures long { length workers.new.items ≡ count }
-    ensures gathered { AreOf drivers.old workers.new.items }
+    ensures gathered { AreOf owners.now drivers.old workers.new.items }
 {
     'workers: for number in 0..count {
-        let driver = number % drivers.len();
-        let Some(worker) = drivers[driver].workers[number].take() else {
+        let owner = owners[number];
+        let Some(worker) = drivers[owner].workers[number].take() else {
             unreachable!()
         };
         workers.push_reserved(worker);
@@ -125,7 +129,9 @@ fn boards_of<'a>(
     Ok(found)
 }
 
-/// Each worker makes the turns of a round, on so many threads, but on no more than there are workers.
+/// Each worker makes the turns of a round, on so many threads, but on no more than there are
+/// workers. They are dealt by what each did in the round before; `done` has that, and then what
+/// each did in this one.
 ///
 /// # Errors
 ///
@@ -137,21 +143,28 @@ pub(crate) fn drive_crew<R: Threads + Sync, G: Gate + Sync>(
     threads: u32,
     gate: &G,
     budget: Budget,
+    done: &mut Vec<u64>,
 ) -> Result<(), AllocError>
     requires some { 0 < threads }
     requires ready { AreReadyFor (turns_of budget) crew.old }
-    ensures { OnOk result (MakeTurns (turns_of budget) crew.old crew.new) }
+    ensures made { OnOk result (MakeTurns (turns_of budget) crew.old crew.new) }
+    ensures counted { OnOk result (HaveCounted (turns_of budget)
+        crew.old.workers.items crew.new.workers.items) }
 {
     let count = crew.workers.len();
     let wanted = (threads as usize).min(count).max(1);
+    let chosen = owners_of(alloc, done.as_slice(), count, wanted)?;
+    let owners = chosen.as_slice();
+    begin_round(done, crew.workers.as_slice())?;
     let mut made = empty_drivers(alloc, wanted, count)?;
     let boards = boards_of(alloc, crew.workers.as_slice(), &crew.boards)?;
     let drivers = made.as_mut_slice();
-    deal(&mut crew.workers, drivers);
+    deal(&mut crew.workers, owners, drivers);
     drive_all(rt, drivers, boards.as_slice(), gate, budget);
     if has_any_failed(drivers) {
         return Err(AllocError);
     }
-    gather(drivers, &mut crew.workers, count);
+    gather(drivers, owners, &mut crew.workers, count);
+    end_round(done.as_mut_slice(), crew.workers.as_slice());
     Ok(())
 }

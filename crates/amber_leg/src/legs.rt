@@ -2,10 +2,10 @@
 
 ghost use Rattle.std.specs.Prelude.{◌≡◌, ◌≢◌, ◌<◌, ◌≤◌, IfOk, OnErr, OnOk, [], false, true};
 ghost use Rattle.amber_log.specs.Grammar.{ends_over};
-ghost use Rattle.amber_home.specs.HomeState.{MayClose, counts_in, is_open, runs_to_end, state_of, stops_of_home};
+ghost use Rattle.amber_home.specs.HomeState.{MayClose, counts_in, is_open, runs_to_end, spent_at, state_of, stops_of_home};
 ghost use Rattle.amber_home.specs.declared.phase.Counts.TheVariants as counts;
 ghost use Rattle.amber_home.specs.declared.phase.Phase.TheVariants as phase;
-ghost use Rattle.amber_leg.specs.Leg.{DrivesLeg, Ends};
+ghost use Rattle.amber_leg.specs.Leg.{DrivesLeg, Ends, IsUndriven};
 
 use crate::error::LegErr;
 use crate::looking::look;
@@ -28,11 +28,10 @@ fn drive_leg<R: Threads + Sync, G: Gate + Sync>(
     requires some { 0 < threads }
     requires within { is_open home.old.phase ≡ true }
     requires unarmed { counts_in home.old.phase ≡ counts.Unarmed }
+    requires undriven { IsUndriven home.old }
     ensures drives { OnOk result (DrivesLeg home.old home.new) }
     ensures may { IfOk result (MayClose (runs_to_end home.old.phase) home.new) }
-    ensures err { OnErr result (home.new ≡ record home.old {
-      phase = phase.Spent;
-      parts = [];
+    ensures err { OnErr result (home.new ≡ record (spent_at home.old) {
       alone = home.new.alone;
     }) }
 {

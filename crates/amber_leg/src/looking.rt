@@ -2,8 +2,7 @@
 
 ghost use Rattle.std.specs.Prelude.{◌≡◌, ◌<◌, IfNone, IfOk, IfSome, OnErr, OnOk, [], true};
 ghost use Rattle.amber_meaning.specs.State.{steps_in};
-ghost use Rattle.amber_home.specs.HomeState.{IsEarly, MayClose, is_open, runs_to_end, state_of, stops_of_home};
-ghost use Rattle.amber_home.specs.declared.phase.Phase.TheVariants as phase;
+ghost use Rattle.amber_home.specs.HomeState.{IsEarly, MayClose, is_open, runs_to_end, spent_at, state_of, stops_of_home};
 
 use amber_home::Home;
 use amber_log::Close;
@@ -39,7 +38,7 @@ pub(crate) fn look(alloc: Global, home: &mut Home) -> Result<Option<Close>, Allo
     ensures early { IfOk result (λ found. IfNone found (IsEarly home.old)) }
     ensures few { IfOk result
         (λ found. IfNone found (steps_in (state_of home.old) < home.old.most)) }
-    ensures err { OnErr result (home.new ≡ record home.old { phase = phase.Spent; parts = [] }) }
+    ensures err { OnErr result (home.new ≡ spent_at home.old) }
 {
     match find_close(alloc, home) {
         Ok(found) => Ok(found),

@@ -1,14 +1,13 @@
 //! A round of a leg: all workers leave the home, make turns on threads, and come back. Over `Home` and `drive_crew` of
 //! `drivers`.
 
-ghost use Rattle.std.specs.Prelude.{◌≡◌, ◌+◌, ◌*◌, ◌<◌, ◌≤◌, OnErr, OnOk, [], true};
+ghost use Rattle.std.specs.Prelude.{◌≡◌, ◌+◌, ◌*◌, ◌<◌, ◌≤◌, OnErr, OnOk, true};
 ghost use Rattle.amber_rows.specs.Topology.{crew_of};
 ghost use Rattle.amber_meaning.specs.State.{steps_in};
-ghost use Rattle.amber_home.specs.HomeState.{counts_in, is_open, state_of};
+ghost use Rattle.amber_home.specs.HomeState.{counts_in, is_open, spent_at, state_of};
 ghost use Rattle.amber_home.specs.declared.phase.Counts.TheVariants as counts;
-ghost use Rattle.amber_home.specs.declared.phase.Phase.TheVariants as phase;
 ghost use Rattle.amber_leg.specs.Driving.{turns_of};
-ghost use Rattle.amber_leg.specs.Leg.{MakesRound};
+ghost use Rattle.amber_leg.specs.Leg.{MakesRound, MayCount};
 
 use crate::budget::Budget;
 use crate::drivers::drive_crew;
@@ -26,18 +25,20 @@ pub(crate) fn round<R: Threads + Sync, G: Gate + Sync>(
     threads: u32,
     gate: &G,
     budget: Budget,
+    done: &mut Vec<u64>,
 ) -> Result<(), AllocError>
     requires some { 0 < threads }
     requires within { is_open home.old.phase ≡ true }
     requires armed { counts_in home.old.phase ≡ counts.Armed }
     requires few { steps_in (state_of home.old) + crew_of home.old.flow * turns_of budget
         ≤ home.old.most }
+    requires fits { MayCount (turns_of budget) home.old }
     ensures ok { OnOk result (MakesRound (turns_of budget) home.old home.new) }
-    ensures err { OnErr result (home.new ≡ record home.old { phase = phase.Spent; parts = [] }) }
+    ensures err { OnErr result (home.new ≡ spent_at home.old) }
 {
     let _most = home.most();
     let mut crew = home.lend(alloc);
-    match drive_crew(rt, alloc, &mut crew, threads, gate, budget) {
+    match drive_crew(rt, alloc, &mut crew, threads, gate, budget, done) {
         Ok(()) => {
             home.take_back(crew);
             home.settle(alloc)

@@ -2,10 +2,9 @@
 
 ghost use Rattle.std.specs.Prelude.{◌≡◌, ◌<◌, ◌≤◌, IfNone, IfOk, IfSome, OnErr, OnOk, [], true};
 ghost use Rattle.amber_meaning.specs.State.{steps_in};
-ghost use Rattle.amber_home.specs.HomeState.{IsEarly, MayClose, counts_in, is_open, runs_to_end, state_of, stops_of_home};
+ghost use Rattle.amber_home.specs.HomeState.{IsEarly, MayClose, counts_in, is_open, runs_to_end, spent_at, state_of, stops_of_home};
 ghost use Rattle.amber_home.specs.declared.phase.Counts.TheVariants as counts;
-ghost use Rattle.amber_home.specs.declared.phase.Phase.TheVariants as phase;
-ghost use Rattle.amber_leg.specs.Leg.{GoesFurther, MovesOn};
+ghost use Rattle.amber_leg.specs.Leg.{DrivesRound, EndsRounds, GoesFurther, AddsUp, IsUndriven, MakesRoundAndStep, MayCount, MovesOn, StepsAlone, most_turned};
 
 use crate::budget::budget_of;
 use crate::looking::look;
@@ -24,22 +23,22 @@ fn feed_and_drive<R: Threads + Sync, G: Gate + Sync>(
     threads: u32,
     gate: &G,
     number: u64,
+    done: &mut Vec<u64>,
 ) -> Result<(), AllocError>
     requires some { 0 < threads }
     requires within { is_open home.old.phase ≡ true }
     requires armed { counts_in home.old.phase ≡ counts.Armed }
     requires early { IsEarly home.old }
+    requires fits { MayCount most_turned home.old }
     ensures ok { OnOk result (GoesFurther home.old home.new) }
+    ensures drives { OnOk result (DrivesRound home.old home.new) }
     ensures more { OnOk result (steps_in (state_of home.old) ≤ steps_in (state_of home.new)) }
     ensures few { OnOk result (steps_in (state_of home.new) ≤ home.old.most) }
-    ensures err { OnErr result (home.new ≡ record home.old {
-      phase = phase.Spent;
-      parts = [];
-    }) }
+    ensures err { OnErr result (home.new ≡ spent_at home.old) }
 {
     home.feed(number)?;
     let budget = budget_of(home, threads);
-    round(rt, alloc, home, threads, gate, budget)
+    round(rt, alloc, home, threads, gate, budget, done)
 }
 
 // Where nobody is held and no stop stands, whoever was paused goes on, and the first worker that has not finished makes a step.
@@ -51,9 +50,8 @@ fn step_on(home: &mut Home) -> Result<(), AllocError>
     requires few { steps_in (state_of home.old) < home.old.most }
     ensures ok { OnOk result (GoesFurther home.old home.new) }
     ensures moves { OnOk result (MovesOn home.old home.new) }
-    ensures err { OnErr result (home.new ≡ record home.old {
-      phase = phase.Spent;
-      parts = [];
+    ensures alone { OnOk result (StepsAlone home.old home.new) }
+    ensures err { OnErr result (home.new ≡ record (spent_at home.old) {
       alone = home.new.alone;
     }) }
 {
@@ -72,17 +70,19 @@ fn go_on<R: Threads + Sync, G: Gate + Sync>(
     threads: u32,
     gate: &G,
     number: u64,
+    done: &mut Vec<u64>,
 ) -> Result<Option<Close>, AllocError>
     requires some { 0 < threads }
     requires within { is_open home.old.phase ≡ true }
     requires armed { counts_in home.old.phase ≡ counts.Armed }
+    requires fits { MayCount most_turned home.old }
     ensures ok { OnOk result (GoesFurther home.old home.new) }
     ensures may { IfOk result
         (λ found. IfSome found (MayClose (runs_to_end home.new.phase) home.new)) }
     ensures moves { IfOk result (λ found. IfNone found (MovesOn home.old home.new)) }
-    ensures err { OnErr result (home.new ≡ record home.old {
-      phase = phase.Spent;
-      parts = [];
+    ensures ends { IfOk result (λ found. IfSome found (λ _. EndsRounds home.old home.new)) }
+    ensures works { IfOk result (λ found. IfNone found (MakesRoundAndStep home.old home.new)) }
+    ensures err { OnErr result (home.new ≡ record (spent_at home.old) {
       alone = home.new.alone;
     }) }
 {
@@ -92,7 +92,7 @@ fn go_on<R: Threads + Sync, G: Gate + Sync>(
     if !home.are_loose() {
         unreachable!()
     }
-    feed_and_drive(rt, alloc, home, threads, gate, number)?;
+    feed_and_drive(rt, alloc, home, threads, gate, number, done)?;
     if let Some(close) = look(alloc, home)? {
         return Ok(Some(close));
     }
@@ -112,17 +112,19 @@ pub(crate) fn go_rounds<R: Threads + Sync, G: Gate + Sync>(
     requires some { 0 < threads }
     requires within { is_open home.old.phase ≡ true }
     requires armed { counts_in home.old.phase ≡ counts.Armed }
+    requires undriven { IsUndriven home.old }
     ensures ok { OnOk result (GoesFurther home.old home.new) }
+    ensures driven { OnOk result (AddsUp home.old home.new) }
     ensures may { IfOk result (MayClose (runs_to_end home.new.phase) home.new) }
-    ensures err { OnErr result (home.new ≡ record home.old {
-      phase = phase.Spent;
-      parts = [];
+    ensures err { OnErr result (home.new ≡ record (spent_at home.old) {
       alone = home.new.alone;
     }) }
 {
     let left = home.most() - home.steps();
+    // What each worker did in the round before: before the first one nothing is known.
+    let mut done = Vec::new(alloc);
     'rounds: for number in 0..left + 2 {
-        if let Some(close) = go_on(rt, alloc, home, threads, gate, number)? {
+        if let Some(close) = go_on(rt, alloc, home, threads, gate, number, &mut done)? {
             return Ok(close);
         }
     }

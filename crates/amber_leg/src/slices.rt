@@ -1,11 +1,10 @@
 //! Slices of turns of one worker. Over `Worker::drive` of `amber_worker`.
 
-ghost use Rattle.std.specs.Prelude.{◌+◌, ◌^◌, ◌≤◌, OnOk};
+ghost use Rattle.std.specs.Prelude.{◌+◌, ◌^◌, ◌<◌, ◌≤◌, OnOk};
 ghost use Rattle.std.specs.Option.{option_copied};
 ghost use Rattle.amber_worker.specs.Counting.{IsBoardOf};
-ghost use Rattle.amber_worker.specs.Turning.{MakesTurns};
 ghost use Rattle.amber_worker.specs.WorkerState.{steps_made};
-ghost use Rattle.amber_leg.specs.Slices.{HasTurnedSo, MayTurn};
+ghost use Rattle.amber_leg.specs.Slices.{HasCounted, HasTurnedSo, MayTurn};
 
 use amber_board::Board;
 use amber_mail::{Gate, SilentMail};
@@ -35,7 +34,8 @@ fn drive_worker<G: Gate>(
 ) -> Result<Pace, AllocError>
     requires few { steps_made worker.old + most ≤ 2 ^ 40 }
     requires own { IsBoardOf (option_copied board) worker.old.seat }
-    ensures made { OnOk result (MakesTurns most worker.old worker.new) }
+    requires fits { worker.old.turned + most < 2 ^ 64 }
+    ensures made { OnOk result (HasCounted most worker.old worker.new) }
     ensures own { OnOk result (IsBoardOf (option_copied board.entry) worker.new.seat) }
 {
     let mut left = most;

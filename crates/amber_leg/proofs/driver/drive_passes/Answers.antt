@@ -1,7 +1,7 @@
 -- Pass after pass, until none moves.
 use Rattle.std.proofs.Common.{◌≡◌, ◌+◌, ◌*◌, subst, arith}
 use Rattle.amber_leg.specs.Driving.{HasDrivenAll}
-use Rattle.amber_leg.proofs.Driven.{driven-more, driven-none, driven-then, drives-on, pass-more}
+use Rattle.amber_leg.proofs.Driven.{driven-none, driven-then, drives-on, pass-more, passed}
 use Rattle.amber_leg.proofs.driver.drive_passes.Goals as goal
 
 pub passes-init : goal.passes-init
@@ -20,15 +20,28 @@ drive_slices-requires g c =
           c.args.driver.now c.passes.driver (pass-more c.passes.made c.args.budget.passes c.args.budget.slice (omega arith)) c.requires.may c.passes.invariant.driven;
     }
 
-pub returns-in-Stands : goal.returns-in-Stands
-returns-in-Stands g c =
+pub returns-in-Waits-2 : goal.returns-in-Waits-2
+returns-in-Waits-2 g c =
     let test = c.passes-test.true in
-    let made = c.passes.made * c.args.budget.slice in
     record {
-      driven = driven-more c.args.boards.now (made + c.args.budget.slice) (c.args.budget.passes * c.args.budget.slice) c.args.driver.now c.drive_slices.new.driver
-          (pass-more c.passes.made c.args.budget.passes c.args.budget.slice (omega arith))
-          (driven-then c.args.boards.now made c.args.budget.slice c.args.driver.now c.passes.driver c.drive_slices.new.driver
-          c.passes.invariant.driven c.in_ok-drive_slices.ensures.driven);
+      driven = passed c.args.boards.now c.passes.made c.args.budget.passes c.args.budget.slice c.args.driver.now c.passes.driver c.drive_slices.new.driver (omega arith)
+          c.passes.invariant.driven c.in_ok-drive_slices.ensures.driven;
+    }
+
+pub returns-in-Waits-2-2 : goal.returns-in-Waits-2-2
+returns-in-Waits-2-2 g c =
+    let test = c.passes-test.true in
+    record {
+      driven = passed c.args.boards.now c.passes.made c.args.budget.passes c.args.budget.slice c.args.driver.now c.passes.driver c.drive_slices.new.driver (omega arith)
+          c.passes.invariant.driven c.in_ok-drive_slices.ensures.driven;
+    }
+
+pub returns-in-Waits-2-3 : goal.returns-in-Waits-2-3
+returns-in-Waits-2-3 g c =
+    let test = c.passes-test.true in
+    record {
+      driven = passed c.args.boards.now c.passes.made c.args.budget.passes c.args.budget.slice c.args.driver.now c.passes.driver c.drive_slices.new.driver (omega arith)
+          c.passes.invariant.driven c.in_ok-drive_slices.ensures.driven;
     }
 
 pub passes-preserved : goal.passes-preserved

@@ -9,7 +9,7 @@ invariant-workers l = record {
   left : l.workers.items ≡ take (vec_len l.workers) l.initial.workers.items;
   long : length l.drivers ≡ length l.initial.drivers;
   room : vec_len l.initial.workers ≤ vec_capacity l.workers;
-  dealt : AreDealtFrom (vec_len l.workers) l.initial.workers.items l.drivers;
+  dealt : AreDealtFrom (vec_len l.workers) l.owners l.initial.workers.items l.drivers;
 }
 
 abbrev pub decreases-workers : goal.decreases-workers

@@ -1,13 +1,12 @@
 -- Slice after slice, until the worker does not move.
 use Rattle.std.proofs.Common.{◌-◌, arith}
-use Rattle.amber_worker.proofs.ManyTurns.{makes-more, makes-same}
-use Rattle.amber_leg.proofs.Sliced.{drives-most, makes-both}
+use Rattle.amber_leg.proofs.Sliced.{counted-both, counted-drive, counted-more, counted-same, drives-most}
 use Rattle.amber_leg.proofs.slices.drive_worker.Goals as goal
 
 pub slices-init : goal.slices-init
 slices-init g c = record {
   within = omega arith;
-  made = makes-more 0 (c.args.most - c.args.most) c.args.worker.now c.args.worker.now (omega arith) (makes-same c.args.worker.now);
+  made = counted-more 0 (c.args.most - c.args.most) c.args.worker.now c.args.worker.now (omega arith) (λ one. absurd (omega (arith, one))) (counted-same c.args.worker.now);
   own = c.requires.own;
 }
 
@@ -17,11 +16,13 @@ returns-in-Some-Held g c =
     let drove = c.in_ok-drove.ensures in
     let driven = drove.drives.driven in
     let slice = c.min-turns.ensures in
+    let test = c.slices-test.true in
     let within = c.slices.invariant.within in
     record {
-      made = makes-both (c.args.most - c.slices.left) c.min-turns.result c.args.most c.args.worker.now c.slices.worker c.drive.new.self (omega arith) c.slices.invariant.made
+      made = counted-both (c.args.most - c.slices.left) c.min-turns.result c.args.most c.args.worker.now c.slices.worker c.drive.new.self (omega arith) (λ one. omega arith) c.slices.invariant.made
+          (counted-drive _ c.min-turns.result c.slices.worker c.drive.new.self (let counted = c.slices.invariant.made.within in let fits = c.requires.fits in omega arith) drove.within drove.some drove.counts
           (drives-most drove.drives.turns c.min-turns.result _ _ _ _ c.slices.worker c.drive.new.self driven.looks driven.pauses
-          (omega (arith, drove.within, drove.drives.tells.turns_made)) drove.makes);
+          (omega (arith, drove.within, drove.drives.tells.turns_made)) drove.makes));
       own = drove.own;
     }
 
@@ -31,10 +32,12 @@ returns-in-Some-Idle-clause-made g c =
     let drove = c.in_ok-drove.ensures in
     let driven = drove.drives.driven in
     let slice = c.min-turns.ensures in
+    let test = c.slices-test.true in
     let within = c.slices.invariant.within in
-    makes-both (c.args.most - c.slices.left) c.min-turns.result c.args.most c.args.worker.now c.slices.worker c.drive.new.self (omega arith) c.slices.invariant.made
+    counted-both (c.args.most - c.slices.left) c.min-turns.result c.args.most c.args.worker.now c.slices.worker c.drive.new.self (omega arith) (λ one. omega arith) c.slices.invariant.made
+    (counted-drive _ c.min-turns.result c.slices.worker c.drive.new.self (let counted = c.slices.invariant.made.within in let fits = c.requires.fits in omega arith) drove.within drove.some drove.counts
     (drives-most drove.drives.turns c.min-turns.result _ _ _ _ c.slices.worker c.drive.new.self driven.looks driven.pauses
-    (omega (arith, drove.within, drove.drives.tells.turns_made)) drove.makes)
+    (omega (arith, drove.within, drove.drives.tells.turns_made)) drove.makes))
 
 -- it moved
 pub slices-preserved : goal.slices-preserved
@@ -42,12 +45,13 @@ slices-preserved g c =
     let drove = c.in_ok-drove.ensures in
     let driven = drove.drives.driven in
     let slice = c.min-turns.ensures in
+    let test = c.slices-test.true in
     let within = c.slices.invariant.within in
     record {
       within = omega arith;
-      made = makes-both (c.args.most - c.slices.left) c.min-turns.result (c.args.most - (c.slices.left - c.min-turns.result)) c.args.worker.now c.slices.worker c.drive.new.self
-          (omega arith) c.slices.invariant.made
+      made = counted-both (c.args.most - c.slices.left) c.min-turns.result (c.args.most - (c.slices.left - c.min-turns.result)) c.args.worker.now c.slices.worker c.drive.new.self (omega arith) (λ one. omega arith) c.slices.invariant.made
+          (counted-drive _ c.min-turns.result c.slices.worker c.drive.new.self (let counted = c.slices.invariant.made.within in let fits = c.requires.fits in omega arith) drove.within drove.some drove.counts
           (drives-most drove.drives.turns c.min-turns.result _ _ _ _ c.slices.worker c.drive.new.self driven.looks driven.pauses
-          (omega (arith, drove.within, drove.drives.tells.turns_made)) drove.makes);
+          (omega (arith, drove.within, drove.drives.tells.turns_made)) drove.makes));
       own = drove.own;
     }

@@ -2,13 +2,13 @@
 use Rattle.std.proofs.Common.{◌-◌, ◌≤◌}
 use Rattle.std.specs.Option.{option_copied}
 use Rattle.amber_worker.specs.Counting.{IsBoardOf}
-use Rattle.amber_worker.specs.Turning.{MakesTurns}
+use Rattle.amber_leg.specs.Slices.{HasCounted}
 use Rattle.amber_leg.proofs.slices.drive_worker.Given as goal
 
 abbrev pub invariant-slices : goal.invariant-slices
 invariant-slices g l = record {
   within : l.left ≤ l.most;
-  made : MakesTurns (l.most - l.left) l.initial.worker l.worker;
+  made : HasCounted (l.most - l.left) l.initial.worker l.worker;
   own : IsBoardOf (option_copied l.initial.board) l.worker.seat;
 }
 
