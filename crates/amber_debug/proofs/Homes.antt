@@ -108,7 +108,7 @@ answer-replied old new leg =
     ap (λ f. answer_text f (answer_in (query_of new) (state_of new))) flow ∙ ap (λ q. answer_text old.flow (answer_in q (state_of new))) query
     ∙ ap (λ state. answer_text old.flow (answer_in (query_of old) state)) (state-after old new leg)
 
-abbrev over : (mid new : HomeState) → new ≡ record mid { phase = phase.Over } → HasLog mid new mid.log
+abbrev over : (mid new : HomeState) → new ≡ record mid { phase = phase.Over; turned = [] } → HasLog mid new mid.log
 over mid new e = record {
   flow = ap (λ (h : HomeState). h.flow) e;
   files = ap (λ (h : HomeState). h.files) e;
@@ -116,7 +116,7 @@ over mid new e = record {
   log = ap (λ (h : HomeState). h.log) e;
 }
 
-abbrev over-leg : (old mid new : HomeState) → HasLeg true old mid close.Cut → new ≡ record mid { phase = phase.Over } → HasLeg true old new close.Cut
+abbrev over-leg : (old mid new : HomeState) → HasLeg true old mid close.Cut → new ≡ record mid { phase = phase.Over; turned = [] } → HasLeg true old new close.Cut
 over-leg old mid new leg e =
     let same = over mid new e in
     record {
@@ -131,7 +131,7 @@ over-leg old mid new leg e =
     }
 
 pub runs-end : (old mid new : HomeState) (done : Done) (flow : List Operator) (answer : Answer) → TellsLeg (Ok done.item) true old mid
-    → new ≡ record mid { phase = phase.Over } → flow ≡ new.flow → answer ≡ answer_in (query_of mid) (state_of mid) → done.reply ≡ answer_text flow answer → RunsAs (Ok done) true old new
+    → new ≡ record mid { phase = phase.Over; turned = [] } → flow ≡ new.flow → answer ≡ answer_in (query_of mid) (state_of mid) → done.reply ≡ answer_text flow answer → RunsAs (Ok done) true old new
 runs-end old mid new done flow answer (leg, text) e same is reply = (
   over-leg old mid new (has-leg true old mid close.Cut leg) e,
   text,
