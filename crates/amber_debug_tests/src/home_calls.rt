@@ -9,7 +9,7 @@ use crate::query::{files_of, query};
 use amber_home::{Counts, Home, NoMemory, Phase};
 use amber_leg::leg;
 use amber_log::{Close, Command, Item, Leg, fits};
-use amber_mail::OpenGate;
+use amber_mail::{Gate, OpenGate};
 use amber_meaning::Answer;
 use amber_report::{answer_lines, inspect_lines, stop_lines};
 use amber_rows::Bytes;
@@ -144,10 +144,25 @@ pub fn run_leg<R: Threads + Sync>(
     home: &mut Home,
     to_end: bool,
 ) -> Result<bool, Fail> {
+    run_leg_on(rt, alloc, home, to_end, 1, &OpenGate)
+}
+
+/// The same on so many threads, 1 to 64, each turn passing a gate.
+pub fn run_leg_on<R: Threads + Sync, G: Gate + Sync>(
+    rt: &R,
+    alloc: Global,
+    home: &mut Home,
+    to_end: bool,
+    threads: u32,
+    gate: &G,
+) -> Result<bool, Fail>
+    requires some { 0 < threads }
+    requires few { threads ≤ 64 }
+{
     if !may_go_on(home) {
         return Ok(false);
     }
-    leg(rt, alloc, home, to_end, 1, &OpenGate)?;
+    leg(rt, alloc, home, to_end, threads, gate)?;
     Ok(true)
 }
 

@@ -19,3 +19,5 @@ mod journals;
 mod lent;
 #[cfg(test)]
 mod query;
+#[cfg(test)]
+mod side_by_side;
