@@ -1,4 +1,5 @@
 mod Examples
+pub mod Halves
 pub mod LineRecords
 pub mod Places
 pub mod PieceFacts

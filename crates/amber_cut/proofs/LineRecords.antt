@@ -82,7 +82,7 @@ join-onto fields field c [] = refl
 join-onto fields field c (part ∷ parts) = ap (λ x. fields ++ x ∷ parts) (append_assoc field (c ∷ []) part)
 
 -- a split gives at least one part
-parts-some : (p : ℕ → Bool) (xs : List ℕ) → (part : List ℕ) × (parts : List (List ℕ)) × (slice_split p xs ≡ part ∷ parts)
+pub parts-some : (p : ℕ → Bool) (xs : List ℕ) → (part : List ℕ) × (parts : List (List ℕ)) × (slice_split p xs ≡ part ∷ parts)
 parts-some p [] = ([], [], refl)
 parts-some p (x ∷ xs) =
     let more = parts-some p xs in

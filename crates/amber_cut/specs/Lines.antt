@@ -1,5 +1,5 @@
 -- The lines of a text, and the fields of a line.
-use Rattle.std.specs.Prelude.{ℕ, ◌==◌, ◌||◌, List, [], ◌∷◌, Bool, true, false, cond, drop, filter, Contains}
+use Rattle.std.specs.Prelude.{◌≡◌, ◌<◌, ℕ, ◌-◌, ◌==◌, ◌||◌, List, [], ◌∷◌, All, Bool, true, false, cond, drop, filter, length, map, slice_index, Contains}
 use Rattle.std.specs.List.{slice_split}
 
 -- ---- lines and fields
@@ -47,3 +47,12 @@ line_at bytes start = until ends_line (drop start bytes)
 -- what is noted of a line that begins at this place: the place, if the line has bytes
 abbrev pub start_if_filled : ℕ → ℕ → List ℕ
 start_if_filled start length = cond (length == 0) [] (start ∷ [])
+
+-- a line can begin at this place of a text: the text ends there, or the byte before it ends a line
+abbrev pub CanBegin : List ℕ → ℕ → Type 0
+CanBegin bytes place = place < length bytes → (0 < place) × (ends_line (slice_index bytes (place - 1)) ≡ true)
+
+-- the places at which the lines of a text begin from this place on
+pub record AreStarts (bytes : List ℕ) (from : ℕ) (starts : List ℕ) : Type 0 where
+  pub lines : map (line_at bytes) starts ≡ lines (drop from bytes)
+  pub within : All (λ start. start < length bytes) starts

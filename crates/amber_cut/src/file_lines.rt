@@ -1,24 +1,37 @@
-//! The lines of a file, each to be taken by its number. Over `line_starts` of `starts`, `type_line` of `typing` and
+//! The lines of a file, each to be taken by its number. Over `line_starts_on` of `starts`, `type_line` of `typing` and
 //! `finding`; the bytes are those of `FileBytes` of `amber_rows`.
 
-ghost use Rattle.std.specs.Prelude.{◌≡◌, ◌<◌, ◌≤◌, ◌^◌, ◌⊎◌, ◌↔◌, [], length, map, slice_index_or, IfOk, IfSome, IsNone};
+ghost use Rattle.std.specs.Prelude.{◌≡◌, ◌<◌, ◌≤◌, ◌*◌, ◌^◌, ◌⊎◌, ◌↔◌, [], length, map, slice_index_or, IfOk, IfSome, IsNone};
 ghost use Rattle.amber_rows.specs.Record.{file_records, row_of};
 ghost use Rattle.amber_cut.specs.Lines.{HasQuote, cut};
 
 use crate::finding::{has_quote, line_end, mark_length};
-use crate::starts::line_starts;
+use crate::starts::line_starts_on;
 use crate::typing::type_line;
 use amber_rows::{FileBytes, Row, RowFault, Schema, Value};
 use std::alloc::{AllocError, Global};
 use std::marker::Model;
+use std::thread::Threads;
 
 // How many bytes a file has at most: the places of its bytes fit 32 bits.
 const MOST_BYTES: usize = 4_294_967_295;
 
+// How many bytes at least are worth a thread of their own.
+const PIECE_BYTES: usize = 65_536;
+
+// In how many pieces the lines of so many bytes are noted on so many threads. One piece, or 0, starts no thread.
+fn piece_count(bytes: usize, threads: u32) -> usize
+    ensures few { result ≤ threads }
+    ensures long { result * 65_536 ≤ bytes }
+{
+    (bytes / PIECE_BYTES).min(threads as usize)
+}
+
 /// A file without a double quote, shorter than 4 GiB, seen as the list of its records: its lines, the header first. A
 /// record's fields are its line cut at commas.
 ///
-/// The format is that of `LineReader`. Besides the file it keeps 4 bytes for each line, where the line begins.
+/// The format is that of `LineReader`. Besides the file it keeps 4 bytes for each line, where the line begins. While it
+/// is made on several threads, it may take as much again.
 pub struct Lines {
     file: FileBytes,
     // Where each line begins, in order.
@@ -44,8 +57,15 @@ impl Model for Lines {
 }
 
 impl Lines {
-    /// The lines of a file; none exactly where a double quote stands in it or it has 4 GiB or more.
-    pub fn new(alloc: Global, file: &FileBytes) -> Result<Option<Lines>, AllocError>
+    /// The lines of a file; none exactly where a double quote stands in it or it has 4 GiB or more. Where they begin is
+    /// noted on so many threads, 0 counted as 1, or on fewer where the file has less than 64 KiB for each. The lines are
+    /// the same for any number.
+    pub fn new<R: Threads + Sync>(
+        rt: &R,
+        alloc: Global,
+        file: &FileBytes,
+        threads: u32,
+    ) -> Result<Option<Lines>, AllocError>
         ensures refused { IfOk result
             (λ found. IsNone found ↔ ((2 ^ 32 ≤ length file.now) ⊎ HasQuote file.now)) }
         ensures records { IfOk result
@@ -55,7 +75,8 @@ impl Lines {
         if bytes.len() > MOST_BYTES || has_quote(bytes) {
             return Ok(None);
         }
-        let starts = line_starts(alloc, bytes, mark_length(bytes))?;
+        let pieces = piece_count(bytes.len(), threads);
+        let starts = line_starts_on(rt, alloc, bytes, mark_length(bytes), pieces)?;
         let shared = file.clone()?;
         Ok(Some(Lines {
             file: shared,

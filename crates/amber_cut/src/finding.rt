@@ -2,7 +2,7 @@
 
 ghost use Rattle.std.specs.Prelude.{◌≡◌, ◌<◌, ◌≤◌, ◌+◌, ◌↔◌, IsTrue, drop, length, take};
 ghost use Rattle.csv.specs.Reading.{is_bom, strip_bom};
-ghost use Rattle.amber_cut.specs.Lines.{HasQuote, past, ends_line, until};
+ghost use Rattle.amber_cut.specs.Lines.{CanBegin, HasQuote, past, ends_line, until};
 
 use memchr::{memchr, memchr2};
 
@@ -21,6 +21,20 @@ pub fn line_end(bytes: &[u8]) -> usize
 {
     match memchr2(b'\r', b'\n', bytes) {
         Some(end) => end,
+        None => bytes.len(),
+    }
+}
+
+/// Where a line begins behind this place of a text: behind the first end of a line from this place on. Where nothing
+/// ends a line there, the end of the text.
+pub fn next_start(bytes: &[u8], place: usize) -> usize
+    requires { place ≤ length bytes.now }
+    ensures within { result ≤ length bytes.now }
+    ensures later { place ≤ result }
+    ensures begins { CanBegin bytes.now result }
+{
+    match memchr2(b'\r', b'\n', &bytes[place..]) {
+        Some(end) => place + end + 1,
         None => bytes.len(),
     }
 }

@@ -10,6 +10,10 @@
 //! not copied, and where each line begins. Of any other file it keeps the fields that `csv` reads in it, one after the
 //! other, and where each record ends among them.
 //!
+//! Where the lines of a long file begin is noted on several threads, if they are allowed: the file is cut in pieces at
+//! places where a line begins, each thread notes the lines of a piece, and their places are put one behind the other.
+//! The records are the same on any number of threads.
+//!
 //! `LineReader` goes through a file without a double quote line by line, and needs no memory. `type_line` types a line.
 //!
 //! That these are the records is proved: what either gives is `file_records` of the file, as `csv` reads it. A line

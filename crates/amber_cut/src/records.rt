@@ -8,6 +8,7 @@ use crate::file_lines::Lines;
 use amber_rows::{FileBytes, Row, RowFault, Schema, Value};
 use std::alloc::{AllocError, Global};
 use std::marker::Model;
+use std::thread::Threads;
 
 // How the records are kept.
 enum Kind {
@@ -53,11 +54,17 @@ impl Model for Records {
 }
 
 impl Records {
-    /// The records of a file.
-    pub fn new(alloc: Global, file: &FileBytes) -> Result<Records, AllocError>
+    /// The records of a file. Where the lines of a file without a double quote begin is noted on so many threads at
+    /// most, 0 counted as 1. The records are the same for any number.
+    pub fn new<R: Threads + Sync>(
+        rt: &R,
+        alloc: Global,
+        file: &FileBytes,
+        threads: u32,
+    ) -> Result<Records, AllocError>
         ensures { IfOk result (λ records. records ≡ file_records file.now) }
     {
-        let kind = match Lines::new(alloc, file)? {
+        let kind = match Lines::new(rt, alloc, file, threads)? {
             Some(lines) => Kind::Lines(lines),
             None => Kind::Fields(Fields::new(alloc, file.get())?),
         };

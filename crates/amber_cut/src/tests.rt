@@ -1,7 +1,10 @@
-//! Small files: their lines, cut at commas, against the records that `csv` reads in them, and their records by number.
+//! Small files: their lines, cut at commas, against the records that `csv` reads in them, and their records by number;
+//! and where lines begin, on several threads.
 
-ghost use Rattle.std.specs.Prelude.{◌≡◌, length, IfOk};
+ghost use Rattle.std.specs.Prelude.{◌≡◌, ◌<◌, ◌^◌, length, IfOk};
 
+use crate::finding::mark_length;
+use crate::starts::line_starts_on;
 use crate::{LineReader, NoMemory, Records};
 use amber_rows::{
     Bytes, ColKind, Column, FileBytes, RecordReader, RowFault, Schema, Text, row_text,
@@ -9,6 +12,7 @@ use amber_rows::{
 use csv::ByteRecord;
 use std::alloc::Global;
 use std::test::Fail;
+use std::thread::Threads;
 
 // Appends the fields of a record, with a `;` after each, and a `/` at the end.
 fn append_record(text: &mut Vec<u8>, fields: &ByteRecord) -> Result<(), NoMemory> {
@@ -92,10 +96,15 @@ fn fault_text(fault: RowFault) -> &'static [u8] {
 }
 
 // The records of a file after the header, typed one after the other in one room.
-fn typed(alloc: Global, file: &[u8]) -> Result<Vec<u8>, NoMemory> {
+fn typed<R: Threads + Sync>(
+    rt: &R,
+    alloc: Global,
+    file: &[u8],
+    threads: u32,
+) -> Result<Vec<u8>, NoMemory> {
     let schema = day_and_word(alloc)?;
     let bytes = Bytes::new(Vec::from_slice(alloc, file)?);
-    let records = Records::new(alloc, &FileBytes::new(alloc, bytes)?)?;
+    let records = Records::new(rt, alloc, &FileBytes::new(alloc, bytes)?, threads)?;
     let mut text = Vec::new(alloc);
     let mut room = Vec::new(alloc);
     for number in 1..records.len() {
@@ -113,9 +122,57 @@ fn typed(alloc: Global, file: &[u8]) -> Result<Vec<u8>, NoMemory> {
     Ok(text)
 }
 
+// Where the lines of a file begin, each place with a space after it, noted in so many pieces.
+fn starts<R: Threads + Sync>(
+    rt: &R,
+    alloc: Global,
+    file: &[u8],
+    pieces: usize,
+) -> Result<String, NoMemory>
+    requires { length file.now < 2 ^ 32 }
+{
+    let mut text = String::new(alloc);
+    for start in &line_starts_on(rt, alloc, file, mark_length(file), pieces)? {
+        text.push_str(&format!(in alloc; "{start} ")?)?;
+    }
+    Ok(text)
+}
+
+// Fails unless the lines of the file begin at these places, in however many pieces they are noted.
+fn expect_starts<R: Threads + Sync>(
+    rt: &R,
+    alloc: Global,
+    file: &[u8],
+    want: &str,
+) -> Result<(), Fail>
+    requires { length file.now < 2 ^ 32 }
+{
+    for pieces in [0, 1, 2, 3, 4, 64] {
+        let found = starts(rt, alloc, file, pieces)?;
+        if found.as_str() != want {
+            return Err(Fail::new(found));
+        }
+    }
+    Ok(())
+}
+
+// A file that is long enough to be noted in four pieces.
+fn long_file(alloc: Global) -> Result<Vec<u8>, NoMemory> {
+    let mut file = Vec::from_slice(alloc, b"day,word\n")?;
+    for _ in 0..9_000 {
+        file.extend_from_slice(b"7,a b\r\n\n-8,\r9\n\r1,a longer text\n")?;
+    }
+    Ok(file)
+}
+
 // Fails unless the records of the file are typed as this text.
-fn expect_typed(alloc: Global, file: &[u8], want: &str) -> Result<(), Fail> {
-    let found = typed(alloc, file)?;
+fn expect_typed<R: Threads + Sync>(
+    rt: &R,
+    alloc: Global,
+    file: &[u8],
+    want: &str,
+) -> Result<(), Fail> {
+    let found = typed(rt, alloc, file, 1)?;
     if found.as_slice() != want.as_bytes() {
         return Err(Fail::new(String::from_utf8_lossy(alloc, &found)?));
     }
@@ -174,13 +231,53 @@ fn quotes_are_refused(rt: HostRuntime) -> Result<(), Fail> {
 #[test]
 fn lines_are_typed_by_number(rt: HostRuntime) -> Result<(), Fail> {
     let file = b"day,word\r\n7,a b\n\n-8,\n9\nx,y,z\nx,\xFF\n1,\xFF\n0,c";
-    expect_typed(rt.alloc(), file, "7,a b\n-8,\nwidth/width/int/utf8/0,c\n")
+    expect_typed(
+        &rt,
+        rt.alloc(),
+        file,
+        "7,a b\n-8,\nwidth/width/int/utf8/0,c\n",
+    )
+}
+
+#[test]
+fn lines_begin_at_the_same_places_in_any_number_of_pieces(rt: HostRuntime) -> Result<(), Fail> {
+    let alloc = rt.alloc();
+    for (file, want) in [
+        ("", ""),
+        ("\n", ""),
+        ("a", "0 "),
+        ("\u{FEFF}", ""),
+        ("\u{FEFF}a\nb", "3 5 "),
+        ("a\nb\nc\nd", "0 2 4 6 "),
+        ("a\rb\rc\rd\r", "0 2 4 6 "),
+        ("a\r\nb\r\nc\r\n", "0 3 6 "),
+        ("\n\na\n\n\nb\n\n", "2 6 "),
+        ("\r\r\na\rb\n\r\rc", "3 5 9 "),
+        ("\r\n\r\n\r\n\r\n", ""),
+        ("a line longer than all others\nb\nc\n", "0 30 32 "),
+        ("b\nc\na line longer than all others", "0 2 4 "),
+    ] {
+        expect_starts(&rt, alloc, file.as_bytes(), want)?;
+    }
+    Ok(())
+}
+
+#[test]
+fn records_are_the_same_on_any_number_of_threads(rt: HostRuntime) -> Result<(), Fail> {
+    let alloc = rt.alloc();
+    let file = long_file(alloc)?;
+    let want = typed(&rt, alloc, &file, 1)?;
+    for threads in [0, 2, 4, 64] {
+        assert!(rt; typed(&rt, alloc, &file, threads)? == want);
+    }
+    Ok(())
 }
 
 #[test]
 fn quoted_records_are_typed_by_number(rt: HostRuntime) -> Result<(), Fail> {
     let file = b"day,word\r\n7,\"a\n,b\"\n\n\"-8\",\n9\nx,y,z\nx,\xFF\n1,\xFF\n0,c";
     expect_typed(
+        &rt,
         rt.alloc(),
         file,
         "7,\"a\n,b\"\n-8,\nwidth/width/int/utf8/0,c\n",

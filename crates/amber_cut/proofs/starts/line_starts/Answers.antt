@@ -20,9 +20,13 @@ lines-preserved c =
       within = within-note bytes starts c.lines.at c.line_end-end.result c.lines-test.true inv.within;
     })
 
-pub returns-clause-lines : goal.returns-clause-lines
-returns-clause-lines c =
+pub returns : goal.returns
+returns c =
     let bytes = c.args.bytes.now in
     let f = line_at bytes in
     let starts = c.lines.starts.items in
-    sym (c.lines.invariant.start_if_filled ∙ ap (λ xs. map f starts ++ lines xs) (drop_all c.lines.at bytes c.lines-test.false) ∙ ap (λ xs. map f starts ++ xs) lines-none ∙ append-nil (map f starts))
+    let inv = c.lines.invariant in
+    record {
+      lines = sym (inv.start_if_filled ∙ ap (λ xs. map f starts ++ lines xs) (drop_all c.lines.at bytes c.lines-test.false) ∙ ap (λ xs. map f starts ++ xs) lines-none ∙ append-nil (map f starts));
+      within = inv.within;
+    }

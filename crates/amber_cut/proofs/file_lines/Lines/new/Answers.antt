@@ -6,7 +6,7 @@ use Rattle.amber_cut.proofs.LineRecords.{file-lines}
 use Rattle.amber_cut.proofs.file_lines.Lines.new.Goals as goal
 
 pub returns-clause-records : goal.returns-clause-records
-returns-clause-records c =
+returns-clause-records g c =
     let file = c.args.file.now in
     let from = c.mark_length.result in
     let none : ¬ HasQuote file = λ quote. let found = (rw c.get-bytes.ensures at c.has_quote.ensures).1 quote in cc in
