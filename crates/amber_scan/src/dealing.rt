@@ -11,6 +11,7 @@ use amber_cut::Records;
 use amber_rows::{FileBytes, Schema, has_header};
 use std::alloc::{AllocError, Global};
 use std::sync::Arc;
+use std::thread::Threads;
 
 /// Why a file cannot be dealt.
 #[derive(Clone, Copy, Debug, PartialEq, Eq)]
@@ -30,11 +31,13 @@ impl From<AllocError> for ScanErr {
 }
 
 /// Deals the records of a file, as `deal` does, of which it is known that it begins with the names of its columns.
-pub fn deal_checked(
+pub fn deal_checked<R: Threads + Sync>(
+    rt: &R,
     alloc: Global,
     file: &FileBytes,
     schema: &Schema,
     workers: u32,
+    threads: u32,
 ) -> Result<Vec<Share>, AllocError>
     requires some { 1 ≤ workers }
     requires few { workers ≤ 16 }
@@ -47,7 +50,7 @@ pub fn deal_checked(
     ensures columns { IfOk result (λ shares.
         All (λ share. share.columns ≡ schema.now) shares.items) }
 {
-    let records = Arc::new(alloc, Records::new(alloc, file)?)?;
+    let records = Arc::new(alloc, Records::new(rt, alloc, file, threads)?)?;
     let mut shares = Vec::with_capacity(alloc, workers as usize)?;
     'workers: for worker in 0..workers {
         let share = Share::new(alloc, records.clone()?, schema.clone()?, worker, workers);
@@ -60,12 +63,15 @@ pub fn deal_checked(
 /// w + 1, w + 1 + W, and so on, each as its row or its fault.
 ///
 /// The file is comma-separated text with double quotes, as RFC 4180 has it. Its first record must be the names of the
-/// columns, else the answer is `Header`. The shares stand in the order of the workers.
-pub fn deal(
+/// columns, else the answer is `Header`. The shares stand in the order of the workers. The beginnings of the file's
+/// lines are noted on so many threads, 0 counted as 1; the shares are the same for any.
+pub fn deal<R: Threads + Sync>(
+    rt: &R,
     alloc: Global,
     file: &FileBytes,
     schema: &Schema,
     workers: u32,
+    threads: u32,
 ) -> Result<Vec<Share>, ScanErr>
     requires some { 1 ≤ workers }
     requires few { workers ≤ 16 }
@@ -84,5 +90,5 @@ pub fn deal(
     if !headed {
         return Err(ScanErr::Header);
     }
-    Ok(deal_checked(alloc, file, schema, workers)?)
+    Ok(deal_checked(rt, alloc, file, schema, workers, threads)?)
 }

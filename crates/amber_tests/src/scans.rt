@@ -8,6 +8,7 @@ use amber_rows::{Bytes, FileBytes, Row};
 use amber_scan::{NoMemory, ScanErr, Scanned, Share, deal};
 use std::alloc::Global;
 use std::test::Fail;
+use std::thread::Threads;
 
 // A record's number, and its cells or its fault.
 fn append_record(alloc: Global, text: &mut String, one: &Scanned) -> Result<(), NoMemory> {
@@ -48,13 +49,18 @@ fn file_of(alloc: Global, text: &str) -> Result<FileBytes, NoMemory> {
 }
 
 // The shares of a file.
-fn dealt(alloc: Global, file: &str, workers: u32) -> Result<String, NoMemory>
+fn dealt<R: Threads + Sync>(
+    rt: &R,
+    alloc: Global,
+    file: &str,
+    workers: u32,
+) -> Result<String, NoMemory>
     requires some { 1 ≤ workers }
     requires few { workers ≤ 16 }
 {
     let schema = two_columns(alloc)?;
     let mut text = String::new(alloc);
-    match deal(alloc, &file_of(alloc, file)?, &schema, workers) {
+    match deal(rt, alloc, &file_of(alloc, file)?, &schema, workers, 2) {
         Ok(shares) => append_shares(alloc, &mut text, shares)?,
         Err(ScanErr::Header) => text.push_str("header")?,
         Err(ScanErr::NoMemory) => text.push_str("no memory")?,
@@ -68,16 +74,16 @@ const SEVEN: &str = "number,word\r\n1,a\r\nx,b\r\n3,c\r\n4\r\n5,\"e,e\"\r\n6,f\r
 fn workers_take_turns_at_rows_and_faults(rt: HostRuntime) -> Result<(), Fail> {
     let alloc = rt.alloc();
     expect_text(
-        dealt(alloc, SEVEN, 3)?,
+        dealt(&rt, alloc, SEVEN, 3)?,
         "1: 1 'a ; 4: width ; 7: 7 'g ; | 2: int 1 ; 5: 5 'e,e ; | 3: 3 'c ; 6: 6 'f ; | ",
     )?;
     expect_text(
-        dealt(alloc, SEVEN, 1)?,
+        dealt(&rt, alloc, SEVEN, 1)?,
         "1: 1 'a ; 2: int 1 ; 3: 3 'c ; 4: width ; 5: 5 'e,e ; 6: 6 'f ; 7: 7 'g ; | ",
     )?;
-    expect_text(dealt(alloc, "number,word\n8,z", 2)?, "1: 8 'z ; | | ")?;
-    expect_text(dealt(alloc, "number,word\r\n", 4)?, "| | | | ")?;
-    expect_text(dealt(alloc, "1,a\n", 2)?, "header")
+    expect_text(dealt(&rt, alloc, "number,word\n8,z", 2)?, "1: 8 'z ; | | ")?;
+    expect_text(dealt(&rt, alloc, "number,word\r\n", 4)?, "| | | | ")?;
+    expect_text(dealt(&rt, alloc, "1,a\n", 2)?, "header")
 }
 
 // Whether a copy of a share has what is left of it.
@@ -100,7 +106,7 @@ fn takes_one(share: &mut Share) -> Result<bool, NoMemory> {
 fn a_copy_has_what_is_left(rt: HostRuntime) -> Result<(), Fail> {
     let alloc = rt.alloc();
     let schema = two_columns(alloc)?;
-    let Ok(shares) = deal(alloc, &file_of(alloc, SEVEN)?, &schema, 3) else {
+    let Ok(shares) = deal(&rt, alloc, &file_of(alloc, SEVEN)?, &schema, 3, 2) else {
         return Err(Fail::from(NoMemory));
     };
     for mut share in shares {
@@ -115,7 +121,7 @@ fn records_that_were_read_ahead_are_left_as_before(rt: HostRuntime) -> Result<()
     let alloc = rt.alloc();
     let schema = two_columns(alloc)?;
     for count in [0, 1, 2, 9] {
-        let Ok(shares) = deal(alloc, &file_of(alloc, SEVEN)?, &schema, 3) else {
+        let Ok(shares) = deal(&rt, alloc, &file_of(alloc, SEVEN)?, &schema, 3, 2) else {
             return Err(Fail::from(NoMemory));
         };
         for mut share in shares {
@@ -169,7 +175,7 @@ fn a_record_typed_over_another_row_is_typed_as_anew(rt: HostRuntime) -> Result<(
         "1 2 3",
     ];
     for file in [SEVEN, LONG_WORDS] {
-        let Ok(shares) = deal(alloc, &file_of(alloc, file)?, &schema, 1) else {
+        let Ok(shares) = deal(&rt, alloc, &file_of(alloc, file)?, &schema, 1, 2) else {
             return Err(Fail::from(NoMemory));
         };
         for share in &shares {

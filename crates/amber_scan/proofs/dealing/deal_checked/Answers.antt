@@ -10,7 +10,7 @@ use Rattle.amber_scan.proofs.Taking.{each-push}
 use Rattle.amber_scan.proofs.dealing.deal_checked.Goals as goal
 
 pub workers-preserved : goal.workers-preserved
-workers-preserved c =
+workers-preserved g c =
     let shares = c.workers.shares.items in
     let share = c.new-share.result in
     let worker = c.workers.worker in
@@ -27,6 +27,6 @@ workers-preserved c =
     })
 
 pub returns-clause-shares : goal.returns-clause-shares
-returns-clause-shares c = λ worker d h.
+returns-clause-shares g c = λ worker d h.
     let scanned = records-scanned c.args.schema.now (arc_value c.in_ok-records.records) c.args.file.now (c.in_ok-records.ensures.ok ∙ c.in_ok-new.ensures) in
     c.workers.invariant.shares worker d (omega (arith, h, c.workers-test.false)) ∙ ap (share_of scanned_number c.args.workers worker) scanned
