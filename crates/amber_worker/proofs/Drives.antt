@@ -1,18 +1,19 @@
 -- Turns that are driven one after the other.
-use Rattle.std.proofs.Common.{◌≡◌, ℕ, ◌+◌, ◌-◌, ◌^◌, ◌<◌, ◌≤◌, not, List, [], ◌∷◌, length, count_by, Option, Some, None, Bool, true, false, if◌then◌else◌, refl, sym, ap, ◌∙◌, subst, arith}
+use Rattle.std.proofs.Common.{◌≡◌, ℕ, ◌+◌, ◌-◌, ◌<◌, ◌≤◌, not, List, [], ◌∷◌, length, count_by, Option, Some, None, Bool, true, false, if◌then◌else◌, refl, sym, ap, ◌∙◌, subst, arith}
 use Rattle.std.specs.List.{list_all}
 use Rattle.std.specs.Option.{IfSome, option_map}
 use Rattle.std.proofs.lemmas.Bool.{and_from}
 use Rattle.std.proofs.Math.Nat.{min-eq_left}
 use Rattle.std.proofs.lemmas.List.Sums.{sum_by-cons}
-use Rattle.amber_rows.specs.Lists.{first_of}
+use Rattle.amber_rows.specs.Lists.{first_of, later_of}
 use Rattle.amber_link.proofs.SentOn.{sent_on-same, sent_on-then}
 use Rattle.amber_mail.specs.Controls.{answer_at, is_pause}
 use Rattle.amber_mail.specs.declared.mail.Control.{Control}
 use Rattle.amber_worker.specs.Acting.{Acts}
+use Rattle.amber_worker.specs.AtPosition.{IsLookedAt}
 use Rattle.amber_worker.specs.Steps.{held_at}
 use Rattle.amber_worker.specs.declared.driving.Drove.{Drove}
-use Rattle.amber_worker.specs.Driving.{AreAnswers, BreaksOff, CountsTurns, Driven, Drives, DrivesOnce, Driving, HasDriven, HasSent, OnlyLooks, RanBy, StandsAfter, stops, turned_once}
+use Rattle.amber_worker.specs.Driving.{AreAnswers, BreaksOff, CountsTurns, Driven, Drives, DrivesOnce, Driving, HasDriven, HasSent, OnlyLooks, RanBy, StandsAfter, stops, turned_by}
 use Rattle.amber_worker.specs.Turning.{IsCalm, MakesTurn, MakesTurns, StaysCalm}
 use Rattle.amber_worker.specs.WorkerState.{WorkerState, is_starved, next_turn, steps_made}
 use Rattle.amber_worker.specs.declared.turn.Turn.{Turn}
@@ -36,7 +37,7 @@ sent-then a b c one two = record {
 ran-sent : (turns : List Driven) (old mid new : WorkerState) → RanBy turns old mid → HasSent mid new → RanBy turns old new
 unfolding RanBy
 ran-sent [] old mid new ran sent = sent-then old mid new ran sent
-ran-sent (one ∷ earlier) old mid new ran sent = (ran.0, ran.1, ran.2, ran.3, sent-then (turned_once ran.1) mid new ran.4 sent)
+ran-sent (one ∷ earlier) old mid new ran sent = (ran.0, ran.1, ran.2, ran.3, sent-then ran.1 mid new ran.4 sent)
 
 -- what a worker stands on after a turn does not depend on what was sent
 stands-sent : (old new : WorkerState) (done : Turn) → HasSent old new → StandsAfter old done → StandsAfter new done
@@ -53,15 +54,24 @@ if-sent old new (Some done) sent stands = stands-sent old new done sent stands
 
 -- ---- turns so far
 
--- so many turns were driven, and the last of them came to this
+-- these turns were made, the last one first, and none of them was counted yet
+pub record HasRun (turns : List Driven) (old new : Driving) : Type 0 where
+  pub ran : RanBy turns old.worker new.worker
+  pub looks : new.looks ≡ old.looks + length turns
+  pub pauses : new.pauses ≡ old.pauses + count_by (λ one. is_pause one.told) turns
+  pub plan : new.plan ≡ old.plan
+  pub answers : IfSome old.plan (λ plan. AreAnswers plan old.looks turns)
+  pub on : list_all (λ one. not (stops one.done)) (later_of turns) ≡ true
+  pub turned : new.worker.turned ≡ old.worker.turned
+
+-- so many turns were made, and the last of them came to this
 pub record Reached (made : ℕ) (old new : Driving) (last : Option Turn) : Type 0 where
   pub turns : List Driven
-  pub driven : HasDriven turns old new
+  pub driven : HasRun turns old new
   pub long : length turns ≡ made
   pub last_is : last ≡ option_map (λ one. one.done) (first_of turns)
   pub makes : (n : ℕ) → n + old.looks + new.pauses ≡ new.looks + old.pauses → MakesTurns n old.worker new.worker
   pub few : new.pauses + old.looks ≤ new.looks + old.pauses
-  pub turned : old.worker.turned + made < 2 ^ 64 → new.worker.turned ≡ old.worker.turned + made
   pub calm : IsCalm old.worker → old.plan ≡ Some [] → StaysCalm old.worker new.worker
   pub stands : IfSome last (StandsAfter new.worker)
 
@@ -83,12 +93,12 @@ begins old = record {
       plan = refl;
       answers = none old.plan;
       on = refl;
+      turned = refl;
     };
     long = refl;
     last_is = refl;
     makes = λ n same. makes-more 0 n old.worker old.worker (omega arith) (makes-same old.worker);
     few = omega arith;
-    turned = λ fits. omega arith;
     calm = λ calm plan. record { calm = calm; writes = refl };
     stands = tt;
   };
@@ -123,39 +133,42 @@ stands-turned old new turn.Starved makes = ap is_starved makes.turned ∙ starve
 stands-turned old new turn.Paused makes = ap (λ (w : WorkerState). w.restraint.paused) makes.turned ∙ pauses-by old makes.next
 stands-turned old new turn.Ended makes = ap (λ (w : WorkerState). w.finished) makes.turned ∙ ends-by old makes.next
 
-stands-once : (w : WorkerState) (done : Turn) → StandsAfter w done → StandsAfter (turned_once w) done
-stands-once w turn.Moved stands = tt
-stands-once w turn.Idle stands = stands
-stands-once w turn.Held stands = stands
-stands-once w turn.Starved stands = stands
-stands-once w turn.Paused stands = stands
-stands-once w turn.Ended stands = stands
+stands-counted : (n : ℕ) (w : WorkerState) (done : Turn) → StandsAfter w done → StandsAfter (turned_by n w) done
+stands-counted n w turn.Moved stands = tt
+stands-counted n w turn.Idle stands = stands
+stands-counted n w turn.Held stands = stands
+stands-counted n w turn.Starved stands = stands
+stands-counted n w turn.Paused stands = stands
+stands-counted n w turn.Ended stands = stands
 
--- a turn more was driven
+if-counted : (n : ℕ) (w : WorkerState) (last : Option Turn) → IfSome last (StandsAfter w) → IfSome last (StandsAfter (turned_by n w))
+if-counted n w None stands = tt
+if-counted n w (Some done) stands = stands-counted n w done stands
+
+-- a turn more was made
 pub drives-more : (made : ℕ) (old mid new : Driving) (last : Option Turn) (done : Turn) → UnderWay made old mid last → DrivesOnce mid new done → Reached (made + 1) old new (Some done)
 unfolding RanBy
 drives-more made old mid new last done way once =
     let before = way.reached in
     let one : Driven = record { told = once.told; done = done } in
     let driven = before.driven in
-    let whole : new.worker ≡ turned_once once.after = once.counted in
     record {
       turns = one ∷ before.turns;
       driven = record {
-        ran = (mid.worker, once.after, driven.ran, once.turns, subst (HasSent (turned_once once.after)) (sym whole) (sent-same (turned_once once.after)));
+        ran = (mid.worker, new.worker, driven.ran, once.turns, sent-same new.worker);
         looks = omega (arith, once.looks, driven.looks);
         pauses = by (is_pause once.told) refl ∙ ap (λ n. old.pauses + n) (sym (sum_by-cons (λ (other : Driven). if is_pause other.told then 1 else 0) one before.turns));
         plan = once.plan ∙ driven.plan;
         answers = answers-more old.plan mid.plan old.looks mid.looks before.turns one driven.plan driven.looks driven.answers once.answer;
         on = way.on;
+        turned = turns-uncounted once.told mid.worker new.worker done once.turns ∙ driven.turned;
       };
       long = omega (arith, before.long);
       last_is = refl;
       makes = λ n same. adds (is_pause once.told) refl n same;
       few = more (is_pause once.told) refl;
-      turned = λ fits. counted fits;
       calm = λ calm plan. stays calm plan;
-      stands = subst (λ w. StandsAfter w done) (sym whole) (stands-once once.after done (stands-turned once.turns.between once.after done once.turns.makes));
+      stands = stands-turned once.turns.between new.worker done once.turns.makes;
     }
   where
     by : (b : Bool) → is_pause once.told ≡ b → new.pauses ≡ old.pauses + ((if is_pause once.told then 1 else 0) + count_by (λ (other : Driven). is_pause other.told) way.reached.turns)
@@ -180,23 +193,13 @@ drives-more made old mid new last done way once =
     more true e = let now = rw e at once.pauses in let few = way.reached.few in omega (arith, now, once.looks, few)
     more false e = let now = rw e at once.pauses in let few = way.reached.few in omega (arith, now, once.looks, few)
 
-    counted : old.worker.turned + (made + 1) < 2 ^ 64 → new.worker.turned ≡ old.worker.turned + (made + 1)
-    counted fits =
-        let before = way.reached.turned (omega (arith, fits)) in
-        let same = turns-uncounted once.told mid.worker once.after done once.turns in
-        let fit : once.after.turned + 1 ≤ 2 ^ 64 - 1 = omega (arith, same, before, fits) in
-        let one : new.worker.turned ≡ once.after.turned + 1 = ap (λ (w : WorkerState). w.turned) once.counted ∙ min-eq_left fit in
-        omega (arith, one, same, before)
-
     stays : IsCalm old.worker → old.plan ≡ Some [] → StaysCalm old.worker new.worker
     stays calm plan =
         let first = way.reached.calm calm plan in
         let told = silent mid.plan once.told mid.looks (way.reached.driven.plan ∙ plan) once.answer in
         let acts : once.turns.between ≡ mid.worker = subst (λ t. Acts t mid.worker once.turns.between) told once.turns.acts in
-        let turned = calm-turn mid.worker once.after done first.calm (subst (λ w. MakesTurn w once.after done) acts once.turns.makes) in
         calm-then old.worker mid.worker new.worker first
-        (subst (StaysCalm mid.worker) (sym once.counted)
-        (record { calm = record { unwatched = turned.calm.unwatched; unarmed = turned.calm.unarmed; loose = turned.calm.loose }; writes = turned.writes }))
+        (calm-turn mid.worker new.worker done first.calm (subst (λ w. MakesTurn w new.worker done) acts once.turns.makes))
 
 -- and is under way where it does not stop
 pub goes-on : (made : ℕ) (old mid new : Driving) (last : Option Turn) (done : Turn) → (way : UnderWay made old mid last) → DrivesOnce mid new done → stops done ≡ false
@@ -217,6 +220,7 @@ reached-sent made old mid new last reached sent looks pauses plan = record {
     plan = plan ∙ reached.driven.plan;
     answers = reached.driven.answers;
     on = reached.driven.on;
+    turned = ap (λ (w : WorkerState). w.turned) sent.only ∙ reached.driven.turned;
   };
   long = reached.long;
   last_is = reached.last_is;
@@ -225,7 +229,6 @@ reached-sent made old mid new last reached sent looks pauses plan = record {
       subst (λ k. MakesTurns k old.worker new.worker) (omega arith)
       (makes-then n 0 old.worker mid.worker new.worker (makes-armed n old.worker mid.worker first) first (makes-sent mid.worker new.worker mid.worker.turned sent));
   few = rw (looks, pauses) reached.few;
-  turned = λ fits. ap (λ (w : WorkerState). w.turned) sent.only ∙ reached.turned fits;
   calm = λ calm is.
       let first = reached.calm calm is in
       calm-then old.worker mid.worker new.worker first
@@ -239,34 +242,109 @@ pub way-sent : (made : ℕ) (old mid new : Driving) (last : Option Turn) → Und
 unfolding reached-sent
 way-sent made old mid new last way sent looks pauses plan = record { reached = reached-sent made old mid new last way.reached sent looks pauses plan; on = way.on }
 
--- ---- what a drive answers
+-- ---- the end of a drive
 
-pub tells-all : (made : ℕ) (old new : Driving) (last : Option Turn) (drove : Drove) → Reached made old new last → drove.turns ≡ made → drove.last ≡ last → Drives old new drove
-tells-all made old new last drove reached turns_are last_is = record {
-  turns = reached.turns;
-  driven = reached.driven;
-  tells = record { turns_made = turns_are ∙ sym reached.long; last = last_is ∙ reached.last_is };
+-- so many turns were driven and counted, and the last of them came to this
+pub record Counted (made : ℕ) (old new : Driving) (last : Option Turn) : Type 0 where
+  pub turns : List Driven
+  pub driven : HasDriven turns old new
+  pub long : length turns ≡ made
+  pub last_is : last ≡ option_map (λ one. one.done) (first_of turns)
+  pub makes : (n : ℕ) → n + old.looks + new.pauses ≡ new.looks + old.pauses → MakesTurns n old.worker new.worker
+  pub few : new.pauses + old.looks ≤ new.looks + old.pauses
+  pub calm : IsCalm old.worker → old.plan ≡ Some [] → StaysCalm old.worker new.worker
+  pub stands : IfSome last (StandsAfter new.worker)
+
+-- the turns are counted, and batches are sent: what is not counted is as after the turns
+sent-apart : (n turned : ℕ) (mid new : WorkerState) → mid.turned ≡ turned → HasSent (turned_by n mid) new → HasSent mid (record new { turned = turned })
+sent-apart n turned mid new same sent = record {
+  sent = sent.sent;
+  only = ap (λ (w : WorkerState). record w { turned = turned }) sent.only ∙ ap (λ t. record mid { turned = t; outs = new.outs }) (sym same);
 }
 
-pub breaks-off : (made : ℕ) (old mid new : Driving) (last : Option Turn) → UnderWay made old mid last → OnlyLooks mid new → BreaksOff old new
-breaks-off made old mid new last way looked = record { turns = way.reached.turns; between = mid; driven = way.reached.driven; on = way.on; looked = looked }
+pub counts-all : (made : ℕ) (old mid new : Driving) (last : Option Turn) → Reached made old mid last → HasSent (turned_by made mid.worker) new.worker
+    → new.looks ≡ mid.looks → new.pauses ≡ mid.pauses → new.plan ≡ mid.plan → Counted made old new last
+counts-all made old mid new last reached sent looks pauses plan =
+    let counted : WorkerState = turned_by made mid.worker in
+    let driven = reached.driven in
+    record {
+      turns = reached.turns;
+      driven = record {
+        ran = ran-sent reached.turns old.worker mid.worker (record new.worker { turned = old.worker.turned }) driven.ran
+            (sent-apart made old.worker.turned mid.worker new.worker driven.turned sent);
+        turned = ap (λ (w : WorkerState). w.turned) sent.only ∙ rw (driven.turned, reached.long) refl;
+        looks = looks ∙ driven.looks;
+        pauses = pauses ∙ driven.pauses;
+        plan = plan ∙ driven.plan;
+        answers = driven.answers;
+        on = driven.on;
+      };
+      long = reached.long;
+      last_is = reached.last_is;
+      makes = λ n same.
+          let first = reached.makes n (rw (looks, pauses) at same) in
+          subst (λ k. MakesTurns k old.worker new.worker) (omega arith)
+          (makes-then n 0 old.worker mid.worker new.worker (makes-armed n old.worker mid.worker first) first (makes-sent mid.worker new.worker counted.turned sent));
+      few = rw (looks, pauses) reached.few;
+      calm = λ calm is.
+          let first = reached.calm calm is in
+          calm-then old.worker mid.worker new.worker first
+          (subst (StaysCalm mid.worker) (sym sent.only)
+          (record { calm = record { unwatched = first.calm.unwatched; unarmed = first.calm.unarmed; loose = first.calm.loose }; writes = refl }));
+      stands = if-sent counted new.worker last sent (if-counted made mid.worker last reached.stands);
+    }
+
+-- ---- what a drive answers
+
+pub tells-all : (made : ℕ) (old new : Driving) (last : Option Turn) (drove : Drove) → Counted made old new last → drove.turns ≡ made → drove.last ≡ last → Drives old new drove
+tells-all made old new last drove counted turns_are last_is = record {
+  turns = counted.turns;
+  driven = counted.driven;
+  tells = record { turns_made = turns_are ∙ sym counted.long; last = last_is ∙ counted.last_is };
+}
+
+-- memory ran out: the turns before are counted, then one look was made
+looked-counted : (n : ℕ) (old new : WorkerState) → IsLookedAt old new → IsLookedAt (turned_by n old) (turned_by n new)
+looked-counted n old new looked = record { looked = looked.looked; only = ap (turned_by n) looked.only }
+
+pub breaks-off : (made : ℕ) (old mid between : Driving) (new : WorkerState) (last : Option Turn) → UnderWay made old mid last → OnlyLooks mid between
+    → new ≡ turned_by made between.worker → BreaksOff old (record between { worker = new })
+unfolding counts-all
+breaks-off made old mid between new last way looked is =
+    let counted : Driving = record mid { worker = turned_by made mid.worker } in
+    let so = counts-all made old mid counted last way.reached (sent-same (turned_by made mid.worker)) refl refl refl in
+    record {
+      turns = so.turns;
+      between = counted;
+      driven = so.driven;
+      on = way.on;
+      looked = subst (λ w. OnlyLooks counted (record between { worker = w })) (sym is)
+          (record { worker = looked-counted made mid.worker between.worker looked.worker; looks = looked.looks; pauses = looked.pauses; plan = looked.plan });
+    }
 
 -- it makes no more turns than looks that were no pause, also where it breaks off
-pub breaks-makes : (made : ℕ) (old mid new : Driving) (last : Option Turn) → UnderWay made old mid last → OnlyLooks mid new
-    → (n : ℕ) → n + old.looks + new.pauses ≡ new.looks + old.pauses → MakesTurns n old.worker new.worker
-breaks-makes made old mid new last way looked n same =
+pub breaks-makes : (made : ℕ) (old mid between : Driving) (new : WorkerState) (last : Option Turn) → UnderWay made old mid last → OnlyLooks mid between
+    → new ≡ turned_by made between.worker → (n : ℕ) → n + old.looks + between.pauses ≡ between.looks + old.pauses → MakesTurns n old.worker new
+breaks-makes made old mid between new last way looked is n same =
     let few = way.reached.few in
     let pauses = looked.pauses in
     let m : ℕ = (mid.looks + old.pauses) - (old.looks + mid.pauses) in
     let first = way.reached.makes m (omega (arith, few)) in
-    makes-more (m + 0) n old.worker new.worker (omega (arith, few, pauses, looked.looks, same))
-    (makes-then m 0 old.worker mid.worker new.worker (makes-armed m old.worker mid.worker first) first (makes-looked mid.worker new.worker looked.worker))
+    let counted : WorkerState = turned_by made between.worker in
+    let more = makes-then m 0 old.worker mid.worker between.worker (makes-armed m old.worker mid.worker first) first (makes-looked mid.worker between.worker looked.worker) in
+    subst (MakesTurns n old.worker) (sym is)
+    (makes-more (m + 0 + 0) n old.worker counted (omega (arith, few, pauses, looked.looks, same))
+    (makes-then (m + 0) 0 old.worker between.worker counted (makes-armed (m + 0) old.worker between.worker more) more
+    (makes-sent between.worker counted counted.turned (sent-same counted))))
 
-pub breaks-calm : (made : ℕ) (old mid new : Driving) (last : Option Turn) → UnderWay made old mid last → OnlyLooks mid new → IsCalm old.worker → old.plan ≡ Some []
-    → StaysCalm old.worker new.worker
-breaks-calm made old mid new last way looked calm plan =
+pub breaks-calm : (made : ℕ) (old mid between : Driving) (new : WorkerState) (last : Option Turn) → UnderWay made old mid last → OnlyLooks mid between
+    → new ≡ turned_by made between.worker → IsCalm old.worker → old.plan ≡ Some [] → StaysCalm old.worker new
+breaks-calm made old mid between new last way looked is calm plan =
     let first = way.reached.calm calm plan in
-    calm-then old.worker mid.worker new.worker first (calm-broken mid.worker new.worker first.calm looked.worker)
+    let broken = calm-broken mid.worker between.worker first.calm looked.worker in
+    calm-then old.worker mid.worker new first
+    (subst (StaysCalm mid.worker) (sym is)
+    (record { calm = record { unwatched = broken.calm.unwatched; unarmed = broken.calm.unarmed; loose = broken.calm.loose }; writes = broken.writes }))
 
 -- ---- what a drive needs
 
@@ -278,5 +356,11 @@ steps-within made old new last reached =
     omega (arith, makes.steps, reached.driven.looks, reached.driven.pauses, reached.long)
 
 -- as many turns were counted as were driven
-pub counts-turns : (made : ℕ) (old new : Driving) (last : Option Turn) → Reached made old new last → CountsTurns made old.worker new.worker
-counts-turns made old new last reached = record { turned = reached.turned; steps = steps-within made old new last reached }
+pub counts-turns : (made : ℕ) (old new : Driving) (last : Option Turn) → Counted made old new last → CountsTurns made old.worker new.worker
+counts-turns made old new last counted = record {
+  turned = λ fits. counted.driven.turned ∙ min-eq_left (omega (arith, counted.long, fits)) ∙ ap (λ n. old.worker.turned + n) counted.long;
+  steps =
+      let n : ℕ = (new.looks + old.pauses) - (old.looks + new.pauses) in
+      let makes = counted.makes n (omega (arith, counted.few)) in
+      omega (arith, makes.steps, counted.driven.looks, counted.driven.pauses, counted.long);
+}

@@ -22,27 +22,27 @@ pub record Driven : Type 0 where
   pub told : Option Control
   pub done : Turn
 
--- a turn more was driven; at its end the number stands still
-abbrev pub turned_once : WorkerState → WorkerState
-turned_once w = record w { turned = min (w.turned + 1) (2 ^ 64 - 1) }
+-- so many turns more were driven; at its end the number stands still
+abbrev pub turned_by : ℕ → WorkerState → WorkerState
+turned_by turns w = record w { turned = min (w.turned + turns) (2 ^ 64 - 1) }
 
 -- as many turns were counted as were driven, and no more steps were made
 pub record CountsTurns (turns : ℕ) (old new : WorkerState) : Type 0 where
   pub turned : old.turned + turns < 2 ^ 64 → new.turned ≡ old.turned + turns
   pub steps : steps_made new ≤ steps_made old + turns
 
--- these turns were made one after the other, the last one first; batches may have been sent between them
+-- these turns were made one after the other, the last one first, none of them counted; batches may have been sent between them
 unfoldable pub RanBy : List Driven → WorkerState → WorkerState → Type 0
 RanBy [] old new = HasSent old new
 RanBy (one ∷ earlier) old new = (before : WorkerState) × (after : WorkerState)
-    × RanBy earlier old before × TurnsUnder one.told before after one.done × HasSent (turned_once after) new
+    × RanBy earlier old before × TurnsUnder one.told before after one.done × HasSent after new
 
 -- after such a turn no other is made
 abbrev pub stops : Turn → Bool
 stops turn.Moved = false
 stops turn.Idle = false
-stops turn.Held = true
 stops turn.Starved = false
+stops turn.Held = true
 stops turn.Paused = true
 stops turn.Ended = true
 
@@ -58,9 +58,10 @@ pub record Driving : Type 0 where
   pub pauses : ℕ
   pub plan : Option (List (Option Control))
 
--- these turns were driven, the last one first: one look for each, and none behind one that stops
+-- these turns were driven, the last one first, and counted: one look for each, and none behind one that stops
 pub record HasDriven (turns : List Driven) (old new : Driving) : Type 0 where
-  pub ran : RanBy turns old.worker new.worker
+  pub ran : RanBy turns old.worker (record new.worker { turned = old.worker.turned })
+  pub turned : new.worker.turned ≡ min (old.worker.turned + length turns) (2 ^ 64 - 1)
   pub looks : new.looks ≡ old.looks + length turns
   pub pauses : new.pauses ≡ old.pauses + count_by (λ one. is_pause one.told) turns
   pub plan : new.plan ≡ old.plan
@@ -101,9 +102,7 @@ was_stopped (Some done) = stops done
 -- one turn was driven: one look was made, and its answer was done
 pub record DrivesOnce (old new : Driving) (done : Turn) : Type 0 where
   pub told : Option Control
-  pub after : WorkerState
-  pub turns : TurnsUnder told old.worker after done
-  pub counted : new.worker ≡ turned_once after
+  pub turns : TurnsUnder told old.worker new.worker done
   pub looks : new.looks ≡ old.looks + 1
   pub pauses : new.pauses ≡ (if is_pause told then old.pauses + 1 else old.pauses)
   pub plan : new.plan ≡ old.plan

@@ -132,6 +132,10 @@ pub record IsFree (w : WorkerState) : Type 0 where
   pub running : w.restraint.paused ≡ false
   pub loose : w.restraint.held ≡ false
 
+-- it has finished, is paused or is held
+abbrev pub stands_still : WorkerState → Bool
+stands_still w = (w.finished || w.restraint.paused) || w.restraint.held
+
 -- it stands still whatever comes, and this is why
 abbrev pub StandsStill : WorkerState → Turn → Type 0
 StandsStill w turn.Moved = ⊥

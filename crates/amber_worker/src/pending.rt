@@ -83,6 +83,9 @@ impl Pending {
         requires { self.old ≡ [] }
         ensures { self.new ≡ row ∷ [] }
     {
+        if self.first.is_some() {
+            unreachable!()
+        }
         self.first = Some(row);
     }
 

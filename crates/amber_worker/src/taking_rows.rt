@@ -163,7 +163,11 @@ fn take_record(share: &mut Share, op: u32, gains: &mut Gains) -> Result<(), Allo
     ensures gains_on_err { OnErr result (AreSame gains.old gains.new) }
 {
     gains.refused.reserve(1)?;
-    let Some(one) = share.next(gains.free.take())? else {
+    let used = gains.free.take();
+    if share.is_empty() {
+        unreachable!()
+    }
+    let Some(one) = share.next(used)? else {
         unreachable!()
     };
     put_record(one, op, &mut gains.pending, &mut gains.refused);

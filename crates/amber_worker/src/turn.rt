@@ -7,10 +7,10 @@ pub enum Turn {
     Moved,
     /// It can do nothing until a batch comes.
     Idle,
-    /// It stands before a row that meets its operator's condition.
-    Held,
     /// A count is armed, and it has no unit for what comes next.
     Starved,
+    /// It stands before a row that meets its operator's condition.
+    Held,
     /// It is paused.
     Paused,
     /// It had finished before.

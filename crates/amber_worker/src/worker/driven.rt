@@ -5,7 +5,7 @@ ghost use Rattle.std.specs.Prelude.{All, IfOk, IfSome, OnErr, OnOk, Some, [], �
 ghost use Rattle.std.specs.Option.{option_copied};
 ghost use Rattle.amber_link.specs.Sides.{CanSendNoMore};
 ghost use Rattle.amber_worker.specs.Counting.{IsBoardOf};
-ghost use Rattle.amber_worker.specs.Driving.{BreaksOff, CountsTurns, Drives, DrivesOnce, HasSent, OnlyLooks, StandsAfter, turned_once, was_stopped};
+ghost use Rattle.amber_worker.specs.Driving.{BreaksOff, CountsTurns, Drives, DrivesOnce, HasSent, OnlyLooks, StandsAfter, turned_by, was_stopped};
 ghost use Rattle.amber_worker.specs.Turning.{IsCalm, MakesTurns, StaysCalm};
 ghost use Rattle.amber_worker.specs.WorkerState.{steps_made};
 
@@ -29,31 +29,36 @@ impl Worker {
         send_all(self.outs.as_mut_slice());
     }
 
-    // A turn more was driven.
-    #[inline(always)]
-    fn count_turn(&mut self)
-        ensures { self.new ≡ turned_once self.old }
+    // So many turns more were driven.
+    fn count_turns(&mut self, turns: u32)
+        ensures { self.new ≡ turned_by turns self.old }
     {
-        self.turned = self.turned.saturating_add(1);
+        self.turned = self.turned.saturating_add(u64::from(turns));
     }
 
-    // Sends what waits after every so many turns.
+    // Sends what waits, where no turn more may pass before. The answer is how many turns may pass then.
     #[inline(always)]
-    fn send_after(&mut self, made: u32)
-        ensures { HasSent self.old self.new }
+    fn send_after(&mut self, turns: u32) -> u32
+        requires { 0 < turns }
+        ensures sends { HasSent self.old self.new }
+        ensures some { 0 < result }
     {
-        if made % SENDS == SENDS - 1 {
-            self.send();
+        if turns > 1 {
+            return turns - 1;
         }
+        self.send();
+        SENDS
     }
 
-    // One turn of a drive: the gate is passed, a look is made, and a turn is made under its answer.
+    // One turn of a drive, so many before which are not counted yet: the gate is passed, a look is made, and a turn is
+    // made under its answer.
     #[inline(always)]
     fn drive_once<M: Mail, G: Gate>(
         &mut self,
         board: Option<&Board>,
         mail: &mut M,
         gate: &G,
+        made: u32,
     ) -> Result<Turn, AllocError>
         requires looks { M.looks mail.old + 1 < 2 ^ 64 }
         requires few { steps_made self.old < 2 ^ 40 }
@@ -86,11 +91,22 @@ impl Worker {
               plan = M.plan mail.new;
             })) }
     {
-        gate.pass(self.number(), self.turned());
+        gate.pass(self.number(), self.turned().saturating_add(u64::from(made)));
         let control = mail.look();
         let turn = self.turn(board, control)?;
-        self.count_turn();
         Ok(turn)
+    }
+
+    // The end of a drive of so many turns: they are counted, and what waits is sent.
+    fn end_drive(&mut self, turns: u32, last: Option<Turn>) -> Drove
+        ensures sends { HasSent (turned_by turns self.old) self.new }
+        ensures all { All CanSendNoMore self.new.outs }
+        ensures turns { result.turns ≡ turns }
+        ensures last { result.last ≡ last }
+    {
+        self.count_turns(turns);
+        self.send();
+        Drove { turns, last }
     }
 
     /// Makes turns, at most `budget`. For each the gate is passed, with the worker's running number and the turns that
@@ -150,24 +166,23 @@ impl Worker {
     {
         let mut noted = Noted::nothing(self.emitted());
         let mut last = None;
+        let mut unsent = SENDS;
         'turns: for made in 0..budget {
-            let turn = self.drive_once(board, mail, gate)?;
+            let turn = match self.drive_once(board, mail, gate, made) {
+                Ok(turn) => turn,
+                Err(error) => {
+                    self.count_turns(made);
+                    return Err(error);
+                }
+            };
             noted.note(mail, turn, self.is_finished(), self.emitted());
             last = Some(turn);
             if stops(turn) {
-                self.send();
-                return Ok(Drove {
-                    turns: made + 1,
-                    last,
-                });
+                return Ok(self.end_drive(made + 1, last));
             }
-            self.send_after(made);
+            unsent = self.send_after(unsent);
         }
-        self.send();
-        Ok(Drove {
-            turns: budget,
-            last,
-        })
+        Ok(self.end_drive(budget, last))
     }
 
     /// For how many turns the worker was driven since its leg began.

@@ -8,7 +8,7 @@ ghost use Rattle.amber_link.specs.Sides.{have_all_ended};
 ghost use Rattle.amber_link.specs.declared.upstreams.Upstream.{Upstream as OneUpstream};
 ghost use Rattle.amber_worker.specs.Acting.{DealsAt, MayDeal};
 ghost use Rattle.amber_worker.specs.Counting.{IsBoardOf};
-ghost use Rattle.amber_worker.specs.WorkerState.{IsFree, StandsStill, WorkerState, has_ready, must_hold, steps_made};
+ghost use Rattle.amber_worker.specs.WorkerState.{IsFree, StandsStill, WorkerState, has_ready, must_hold, stands_still, steps_made};
 ghost use Rattle.amber_worker.specs.Steps.{TakesRow};
 ghost use Rattle.amber_worker.specs.AtPosition.{IsLookedAt};
 ghost use Rattle.amber_worker.specs.Links.{MayTakeAt};
@@ -58,7 +58,7 @@ impl Worker {
     fn fetch_used(&mut self)
         ensures { self.new ≡ self.old }
     {
-        if self.makes_rows() && self.gains.free.is_due() {
+        if self.gains.free.is_empty() && self.makes_rows() && self.gains.free.is_due() {
             self.gains.free.trade(&mut self.outs);
         }
     }
@@ -87,22 +87,27 @@ impl Worker {
         }
     }
 
-    // Why the worker stands still whatever comes: it has finished, it is paused, or it is held.
+    // Whether the worker stands still whatever comes: it has finished, it is paused, or it is held.
     #[inline(always)]
-    fn standing(&self) -> Option<Turn>
-        ensures some { IfSome result (StandsStill self.now) }
-        ensures none { IfNone result (IsFree self.now) }
+    fn stands_still(&self) -> bool
+        ensures still { result ≡ stands_still self.now }
+        ensures free { result ≡ false → IsFree self.now }
     {
-        if !(self.finished | self.flags.paused | self.flags.held) {
-            return None;
-        }
+        self.finished | self.flags.paused | self.flags.held
+    }
+
+    // Why the worker stands still.
+    fn standing(&self) -> Turn
+        requires { stands_still self.now ≡ true }
+        ensures { StandsStill self.now result }
+    {
         if self.finished {
-            return Some(Turn::Ended);
+            return Turn::Ended;
         }
         if self.flags.paused {
-            return Some(Turn::Paused);
+            return Turn::Paused;
         }
-        Some(Turn::Held)
+        Turn::Held
     }
 
     // Whether the next row holds the worker: it meets the condition, and was not waved on.
@@ -123,6 +128,19 @@ impl Worker {
         self.journal.reserve(2)?;
         deal(how, &mut self.seat, &mut self.journal, board);
         Ok(())
+    }
+
+    // Deals with the hand so, where the worker stands still.
+    fn stand(&mut self, board: Option<&Board>, how: Dealing) -> Result<Turn, AllocError>
+        requires own { IsBoardOf (option_copied board) self.old.seat }
+        requires still { stands_still self.old ≡ true }
+        ensures own { IsBoardOf (option_copied board.entry) self.new.seat }
+        ensures ok { IfOk result (TurnsDealing how self.old self.new) }
+        ensures err { OnErr result (self.new ≡ self.old) }
+    {
+        let turn = self.standing();
+        self.deal_with(board, how)?;
+        Ok(turn)
     }
 
     // Deals with the hand so, and stands before the next row, which meets the condition.
@@ -381,9 +399,8 @@ impl Worker {
         ensures ok { IfOk result (TurnsDealing how self.old self.new) }
         ensures err { OnErr result (IsLookedAt self.old self.new) }
     {
-        if let Some(turn) = self.standing() {
-            self.deal_with(board, how)?;
-            return Ok(turn);
+        if self.stands_still() {
+            return self.stand(board, how);
         }
         if self.has_pending() {
             if self.must_hold() {

@@ -1,4 +1,5 @@
 -- So many turns were driven, and none of them stops.
+use Rattle.std.proofs.Common.{◌<◌}
 use Rattle.std.specs.Option.{option_copied}
 use Rattle.amber_worker.specs.Counting.{IsBoardOf}
 use Rattle.amber_worker.proofs.Drives.{UnderWay}
@@ -11,3 +12,4 @@ invariant-turns g l =
     (record { worker = l.self; looks = g.M.Mail.looks l.mail; pauses = g.M.Mail.pauses l.mail; plan = g.M.Mail.plan l.mail })
     l.last
     × IsBoardOf (option_copied l.initial.board) l.self.seat
+    × (0 < l.unsent)

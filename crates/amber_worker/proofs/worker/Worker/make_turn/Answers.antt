@@ -3,20 +3,15 @@ use Rattle.std.proofs.Common.{◌≡◌, Result, Ok, Err}
 use Rattle.std.specs.Result.{OnErr}
 use Rattle.amber_worker.specs.AtPosition.{IsLookedAt}
 use Rattle.amber_worker.specs.WorkerState.{WorkerState}
-use Rattle.amber_worker.proofs.Dealings.{stands-dealing}
 use Rattle.amber_worker.proofs.Turns.{looked-none}
-use Rattle.amber_worker.proofs.Unchanged.{err_so}
 use Rattle.amber_worker.proofs.worker.Worker.make_turn.Goals as goal
 
 same-looked : {T E : Type 0} (r : Result T E) (old new : WorkerState) → OnErr r (new ≡ old) → OnErr r (IsLookedAt old new)
 same-looked (Ok x) old new h = tt
 same-looked (Err e) old new h = looked-none old new h
 
-pub returns-in_err-deal_with-clause-err : goal.returns-in_err-deal_with-clause-err
-returns-in_err-deal_with-clause-err c = err_so c.from_residual.result _ (looked-none c.args.self.now c.deal_with.new.self c.in_err-deal_with.ensures.err)
-
-pub returns-in-Some-clause-ok : goal.returns-in-Some-clause-ok
-returns-in-Some-clause-ok c = stands-dealing c.args.how c.args.self.now c.deal_with.new.self c.in-Some.turn c.in-Some.ensures.some c.in_ok-deal_with.ensures.ok
+pub returns-then-stands_still-clause-err : goal.returns-then-stands_still-clause-err
+returns-then-stands_still-clause-err c = same-looked c.stand.result c.args.self.now c.stand.new.self c.stand.ensures.err
 
 pub returns-then-must_hold-clause-err : goal.returns-then-must_hold-clause-err
 returns-then-must_hold-clause-err c = same-looked c.hold.result c.args.self.now c.hold.new.self c.hold.ensures.err

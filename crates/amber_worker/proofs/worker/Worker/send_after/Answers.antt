@@ -2,5 +2,5 @@
 use Rattle.amber_worker.proofs.Drives.{sent-same}
 use Rattle.amber_worker.proofs.worker.Worker.send_after.Goals as goal
 
-pub returns-else-made : goal.returns-else-made
-returns-else-made c = sent-same c.args.self.now
+pub returns-then-turns-gt1-clause-sends : goal.returns-then-turns-gt1-clause-sends
+returns-then-turns-gt1-clause-sends c = sent-same c.args.self.now
