@@ -34,6 +34,7 @@ use amber_worker::Worker;
 use std::alloc::{AllocError, Global};
 use std::marker::Model;
 use std::mem;
+use std::thread::Threads;
 
 /// All workers of a run, with the workflow that they carry out, seen as a `DataflowState`. Operators are
 /// numbered from 1, workers from 0 over all operators.
@@ -56,12 +57,15 @@ impl Model for Dataflow {
 
 impl Dataflow {
     /// The workers of a workflow over the files of its scans, each of which is known to begin with the names
-    /// of its columns, at the start of a run, with this many rows in a batch, 1 to 65,536.
-    pub fn new(
+    /// of its columns, at the start of a run, with this many rows in a batch, 1 to 65,536. Where the lines of
+    /// the files begin is noted on so many threads, 0 counted as 1.
+    pub fn new<R: Threads + Sync>(
+        rt: &R,
         alloc: Global,
         flow: Flow,
         files: &Files,
         batch_size: u32,
+        threads: u32,
     ) -> Result<Dataflow, AllocError>
         requires some { 0 < batch_size }
         requires few { batch_size ≤ 65536 }
@@ -72,7 +76,7 @@ impl Dataflow {
         ensures journals { IfOk result HaveDoneNothing }
         ensures unarmed { IfOk result (λ made. (worker : ℕ) → seat_of made worker ≡ None) }
     {
-        let workers = start_crew(alloc, &flow, files, batch_size)?;
+        let workers = start_crew(rt, alloc, &flow, files, batch_size, threads)?;
         Ok(Dataflow { flow, workers })
     }
 

@@ -18,6 +18,7 @@ use amber_rows::{Files, Flow};
 use amber_scan::Share;
 use amber_worker::Worker;
 use std::alloc::{AllocError, Global};
+use std::thread::Threads;
 
 // Makes the workers, each of its share and of its ends.
 fn make_crew(
@@ -58,12 +59,14 @@ fn make_crew(
 }
 
 // The workers of a workflow over the files of its scans, which were checked, at the start of a run, in the
-// order of their numbers.
-pub(crate) fn start_crew(
+// order of their numbers. Where the lines of the files begin is noted on so many threads.
+pub(crate) fn start_crew<R: Threads + Sync>(
+    rt: &R,
     alloc: Global,
     flow: &Flow,
     files: &Files,
     batch_size: u32,
+    threads: u32,
 ) -> Result<Vec<Worker>, AllocError>
     requires some { 0 < batch_size }
     requires few { batch_size ≤ 65536 }
@@ -77,7 +80,7 @@ pub(crate) fn start_crew(
         → (worker_state_at crew.items worker).seat ≡ None) }
 {
     let _operators = flow.get();
-    let shares = deal_all(alloc, flow, files)?;
+    let shares = deal_all(rt, alloc, flow, files, threads)?;
     let (outs, ins) = link_crew(alloc, flow, batch_size)?;
     make_crew(alloc, flow, batch_size, shares, outs, ins)
 }

@@ -11,6 +11,7 @@ use amber_meaning::shared_file_after;
 use amber_rows::{FileBytes, Files, Flow, Operator};
 use amber_scan::{Share, deal_checked};
 use std::alloc::{AllocError, Global};
+use std::thread::Threads;
 
 // This many workers more, who are given nothing.
 fn push_none(workers: u32, shares: &mut Vec<Option<Share>>) -> Result<(), AllocError>
@@ -33,11 +34,14 @@ fn push_shares(dealt: Vec<Share>, shares: &mut Vec<Option<Share>>) -> Result<(),
 }
 
 // Gives each worker of an operator, which come after the others, its share of the file, if it is a scan; a scan has one.
-fn deal_operator(
+// On so many threads it is noted where the file's lines begin.
+fn deal_operator<R: Threads + Sync>(
+    rt: &R,
     alloc: Global,
     operator: &Operator,
     file: Option<&FileBytes>,
     shares: &mut Vec<Option<Share>>,
+    threads: u32,
 ) -> Result<(), AllocError>
     requires some { 0 < operator.now.workers }
     requires few { operator.now.workers ≤ 16 }
@@ -56,16 +60,18 @@ fn deal_operator(
         return push_none(operator.workers, shares);
     }
     let Some(file) = file else { unreachable!() };
-    let dealt = deal_checked(alloc, file, &operator.schema, operator.workers)?;
+    let dealt = deal_checked(rt, alloc, file, &operator.schema, operator.workers, threads)?;
     push_shares(dealt, shares)
 }
 
 // What each worker is given of the files, which were checked: a scan's its share of the records, nobody else
-// a share.
-pub(crate) fn deal_all(
+// a share. The files come one after the other; where the lines of one begin is noted on so many threads.
+pub(crate) fn deal_all<R: Threads + Sync>(
+    rt: &R,
     alloc: Global,
     flow: &Flow,
     files: &Files,
+    threads: u32,
 ) -> Result<Vec<Option<Share>>, AllocError>
     requires headers { wrong_header 1 files.now flow.now ≡ None }
     ensures { IfOk result (λ shares.
@@ -75,7 +81,7 @@ pub(crate) fn deal_all(
     let mut shares = Vec::new(alloc);
     'operators: for before in 0..operators.len() {
         let file = shared_file_after(flow, files, before);
-        deal_operator(alloc, &operators[before], file, &mut shares)?;
+        deal_operator(rt, alloc, &operators[before], file, &mut shares, threads)?;
     }
     Ok(shares)
 }

@@ -227,12 +227,14 @@ fn answer_to_run(told: Result<Done, EndErr>, spent: &mut bool) -> Result<Done, D
 
 impl Debugger {
     /// A run that has not begun: of a workflow over the files of its scans, with this many rows in a batch, 1
-    /// to 65,536, on this many threads, 1 to 64, and with at most `most` steps, 2^40 or fewer.
+    /// to 65,536, on this many threads, 1 to 64, and with at most `most` steps, 2^40 or fewer. Where the lines of
+    /// the files begin is noted on the same threads.
     ///
     /// # Errors
     ///
     /// `Header` with the first scan whose file does not begin with the names of its columns.
-    pub fn start(
+    pub fn start<R: Threads + Sync>(
+        rt: &R,
         alloc: Global,
         flow: Flow,
         files: Files,
@@ -259,11 +261,12 @@ impl Debugger {
         if let Some(op) = wrong_header(alloc, &flow, &files)? {
             return Err(HomeErr::Header(op));
         }
-        Ok(Debugger::start_checked(alloc, flow, files, batch_size, threads, most)?)
+        Ok(Debugger::start_checked(rt, alloc, flow, files, batch_size, threads, most)?)
     }
 
     /// The same, where each file is known to begin with the names of its columns.
-    pub fn start_checked(
+    pub fn start_checked<R: Threads + Sync>(
+        rt: &R,
         alloc: Global,
         flow: Flow,
         files: Files,
@@ -287,7 +290,7 @@ impl Debugger {
           spent = false;
         }) }
     {
-        let home = Home::start_checked(alloc, flow, files, batch_size, most)?;
+        let home = Home::start_checked(rt, alloc, flow, files, batch_size, most, threads)?;
         Ok(Debugger {
             home,
             threads,

@@ -42,7 +42,7 @@ fn away_text(alloc: Global, home: &mut Home, rounds: &[&[&str]]) -> Result<Strin
 #[test]
 fn workers_come_back_without_a_turn(rt: HostRuntime) -> Result<(), Fail> {
     let alloc = rt.alloc();
-    let mut home = home_of(alloc, "n\n2\n1\n3\n", 400, 1000)?;
+    let mut home = home_of(&rt, alloc, "n\n2\n1\n3\n", 400, 1000)?;
     expect_text(
         away_text(alloc, &mut home, &[&[]])?,
         "opened true away 1 resumed 1 closed false\n",
@@ -53,7 +53,7 @@ fn workers_come_back_without_a_turn(rt: HostRuntime) -> Result<(), Fail> {
 #[test]
 fn a_leg_is_lent_twice(rt: HostRuntime) -> Result<(), Fail> {
     let alloc = rt.alloc();
-    let mut home = home_of(alloc, "n\n2\n1\n3\n", 400, 1000)?;
+    let mut home = home_of(&rt, alloc, "n\n2\n1\n3\n", 400, 1000)?;
     expect_text(
         away_text(alloc, &mut home, &[&["", "--p"], &["", "", ""]])?,
         "opened true away 2 resumed 2 closed true\nstop end\nw 0 g 3 3 f 0 0 w 1 t 0 0 g 1 0 p 0 0 r 0 0 g 2 2 f 0 0 w 2 t 1 0 g 2 0 f 0 0 ",
@@ -81,7 +81,7 @@ fn watched_text(alloc: Global, home: &mut Home) -> Result<String, Fail> {
 #[test]
 fn two_workers_are_held_at_once(rt: HostRuntime) -> Result<(), Fail> {
     let alloc = rt.alloc();
-    let mut home = home_of(alloc, "n\n2\n3\n", 1, 1000)?;
+    let mut home = home_of(&rt, alloc, "n\n2\n3\n", 1, 1000)?;
     expect_text(
         watched_text(alloc, &mut home)?,
         "watched true opened true away 1 resumed 0 closed true\nstop held all 0 3\nstop held big 0 2\nw 0 g 2 1 h 0 0 w 1 t 0 0 g 1 0 h 0 0 ",

@@ -13,13 +13,18 @@ use std::test::Fail;
 use std::thread::Threads;
 
 // A debugger of the query over this file, with 400 rows in a batch and at most `most` steps.
-fn started(alloc: Global, file: &str, most: u64) -> Result<Debugger, HomeErr>
+fn started<R: Threads + Sync>(
+    rt: &R,
+    alloc: Global,
+    file: &str,
+    most: u64,
+) -> Result<Debugger, HomeErr>
     requires { most ≤ 2 ^ 40 }
     ensures { IfOk result (λ d. d.log.items ≡ []) }
 {
     let flow = query(alloc)?;
     let files = files_of(alloc, file)?;
-    Debugger::start(alloc, flow, files, 400, 1, most)
+    Debugger::start(rt, alloc, flow, files, 400, 1, most)
 }
 
 // What a command wrote and replied.
@@ -67,7 +72,7 @@ fn told<R: Threads + Sync>(
     file: &str,
     most: u32,
 ) -> Result<String, NoMemory> {
-    match started(alloc, file, u64::from(most)) {
+    match started(rt, alloc, file, u64::from(most)) {
         Ok(mut debugger) => end_text(rt, alloc, &mut debugger),
         Err(error) => refusal(alloc, error),
     }

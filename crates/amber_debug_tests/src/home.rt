@@ -55,7 +55,7 @@ fn stopped_text(alloc: Global, home: &mut Home) -> Result<String, NoMemory> {
 #[test]
 fn a_leg_is_run_step_by_step(rt: HostRuntime) -> Result<(), Fail> {
     let alloc = rt.alloc();
-    let mut home = home_over(alloc, "n\n2\n1\n3\n")?;
+    let mut home = home_over(&rt, alloc, "n\n2\n1\n3\n")?;
     expect_text(
         stopped_text(alloc, &mut home)?,
         "opened true steps 10 closed true\nstop pause big 1 1\noperators 3 files 1 items 2 most 30 steps 10",
@@ -84,7 +84,7 @@ fn asked_text(alloc: Global, home: &mut Home) -> Result<String, NoMemory> {
 #[test]
 fn a_filter_shows_what_was_asked_of_it(rt: HostRuntime) -> Result<(), Fail> {
     let alloc = rt.alloc();
-    let mut home = home_over(alloc, "n\n2\n1\n3\n4\n")?;
+    let mut home = home_over(&rt, alloc, "n\n2\n1\n3\n4\n")?;
     expect_text(
         asked_text(alloc, &mut home)?,
         "asked true\ninspect big filter\nconstant 3\npause 1\nworker 0 taken 0 rest 0 out 0 pending 0 ready\ncleared true\ninspect big filter\nconstant 3\nworker 0 taken 0 rest 0 out 0 pending 0 ready\n",
@@ -132,7 +132,7 @@ fn paused_text<R: Threads + Sync>(
 #[test]
 fn a_leg_past_a_pause_goes_on_to_the_end_of_its_round(rt: HostRuntime) -> Result<(), Fail> {
     let alloc = rt.alloc();
-    let mut home = home_over(alloc, "n\n2\n1\n3\n4\n")?;
+    let mut home = home_over(&rt, alloc, "n\n2\n1\n3\n4\n")?;
     expect_text(
         paused_text(&rt, alloc, &mut home, 2)?,
         "ran true\nstop pause big 2 3\nstop end\ninspect big filter\nconstant 2\nworker 0 taken 4 rest 0 out 3 pending 0 finished\nw 0 g 4 4 f 0 0 w 1 t 0 0 g 4 3 f 0 0 w 2 t 1 0 g 3 0 f 0 0 ",
@@ -143,7 +143,7 @@ fn a_leg_past_a_pause_goes_on_to_the_end_of_its_round(rt: HostRuntime) -> Result
 #[test]
 fn nobody_does_anything_where_a_pause_stands(rt: HostRuntime) -> Result<(), Fail> {
     let alloc = rt.alloc();
-    let mut home = home_over(alloc, "n\n2\n1\n3\n4\n")?;
+    let mut home = home_over(&rt, alloc, "n\n2\n1\n3\n4\n")?;
     let _ran = run_to_a_count(&rt, alloc, &mut home, 2)?;
     expect_text(
         paused_text(&rt, alloc, &mut home, 1)?,
@@ -165,7 +165,7 @@ fn changed_text<R: Threads + Sync>(rt: &R, alloc: Global, home: &mut Home) -> Re
 #[test]
 fn a_constant_holds_from_the_next_row_on(rt: HostRuntime) -> Result<(), Fail> {
     let alloc = rt.alloc();
-    let mut home = home_over(alloc, "n\n2\n1\n3\n4\n")?;
+    let mut home = home_over(&rt, alloc, "n\n2\n1\n3\n4\n")?;
     expect_text(
         changed_text(&rt, alloc, &mut home)?,
         "ran true set true ended true\nrows 2\nn\n2\n4\n",
@@ -209,7 +209,7 @@ fn watched_text<R: Threads + Sync>(rt: &R, alloc: Global, home: &mut Home) -> Re
 #[test]
 fn a_held_row_is_dropped_or_let_go(rt: HostRuntime) -> Result<(), Fail> {
     let alloc = rt.alloc();
-    let mut home = home_over(alloc, "n\n2\n1\n3\n4\n")?;
+    let mut home = home_over(&rt, alloc, "n\n2\n1\n3\n4\n")?;
     expect_text(
         watched_text(&rt, alloc, &mut home)?,
         "ran true\nstop held big 0 3\ninspect big filter\nconstant 2\nwhen n >= 3\nworker 0 taken 3 rest 1 out 1 pending 1 held\nnext 3\nw 0 g 4 4 f 0 0 w 1 t 0 0 g 3 1 h 0 0 \nran true\nstop held big 0 4\ninspect big filter\nconstant 2\nwhen n >= 3\nworker 0 taken 4 rest 0 out 1 pending 1 held\nnext 4\nw 1 g 1 0 h 0 0 \ntrue true true true\nrows 2\nn\n2\n4\n",
@@ -239,7 +239,7 @@ fn counted_text<R: Threads + Sync>(
 #[test]
 fn a_leg_stops_with_the_row_that_a_count_asks_for(rt: HostRuntime) -> Result<(), Fail> {
     let alloc = rt.alloc();
-    let mut home = home_over(alloc, "n\n2\n1\n3\n4\n")?;
+    let mut home = home_over(&rt, alloc, "n\n2\n1\n3\n4\n")?;
     expect_text(
         counted_text(&rt, alloc, &mut home, 2)?,
         "asked true ran true\nstop count big 2\ninspect big filter\nconstant 2\nworker 0 taken 3 rest 1 out 2 pending 0 ready\nw 0 g 4 4 f 0 0 w 1 t 0 0 a 2 0 g 3 2 \n",
@@ -250,7 +250,7 @@ fn a_leg_stops_with_the_row_that_a_count_asks_for(rt: HostRuntime) -> Result<(),
 #[test]
 fn units_that_are_left_are_given_back(rt: HostRuntime) -> Result<(), Fail> {
     let alloc = rt.alloc();
-    let mut home = home_over(alloc, "n\n2\n1\n3\n4\n")?;
+    let mut home = home_over(&rt, alloc, "n\n2\n1\n3\n4\n")?;
     expect_text(
         counted_text(&rt, alloc, &mut home, 5)?,
         "asked true ran true\nstop end\ninspect big filter\nconstant 2\ncount 3 of 5\nworker 0 taken 4 rest 0 out 3 pending 0 finished\nw 0 g 4 4 f 0 0 w 1 t 0 0 a 5 0 g 4 3 f 0 0 b 2 0 w 2 t 1 0 g 3 0 f 0 0 \n",
@@ -272,7 +272,7 @@ fn count_and_watch_text<R: Threads + Sync>(
 #[test]
 fn a_held_row_uses_a_unit_once_it_is_emitted(rt: HostRuntime) -> Result<(), Fail> {
     let alloc = rt.alloc();
-    let mut home = home_over(alloc, "n\n2\n1\n3\n4\n")?;
+    let mut home = home_over(&rt, alloc, "n\n2\n1\n3\n4\n")?;
     expect_text(
         count_and_watch_text(&rt, alloc, &mut home)?,
         "watched true asked true ran true\nstop held big 0 3\ninspect big filter\nconstant 2\ncount 1 of 2\nwhen n >= 3\nworker 0 taken 3 rest 1 out 1 pending 1 held\nnext 3\nw 0 g 4 4 f 0 0 w 1 t 0 0 a 2 0 g 3 1 h 0 0 b 1 0 \nran true\nstop count big 2\ninspect big filter\nconstant 2\nwhen n >= 3\nworker 0 taken 3 rest 1 out 2 pending 0 ready\nw 1 a 1 0 g 0 1 \n",
@@ -293,7 +293,7 @@ fn counted_by_steps_text(alloc: Global, home: &mut Home, n: u64) -> Result<Strin
 #[test]
 fn units_are_handed_out_step_by_step(rt: HostRuntime) -> Result<(), Fail> {
     let alloc = rt.alloc();
-    let mut home = home_over(alloc, "n\n2\n1\n3\n4\n")?;
+    let mut home = home_over(&rt, alloc, "n\n2\n1\n3\n4\n")?;
     expect_text(
         counted_by_steps_text(alloc, &mut home, 1)?,
         "opened true steps 12 closed true\nstop count big 1\nw 0 g 4 4 f 0 0 w 1 t 0 0 a 1 0 g 1 1 ",
@@ -332,7 +332,7 @@ fn end_text<R: Threads + Sync>(rt: &R, alloc: Global, home: &mut Home) -> Result
 #[test]
 fn the_answer_is_told_and_taken_out(rt: HostRuntime) -> Result<(), Fail> {
     let alloc = rt.alloc();
-    let mut home = home_over(alloc, "n\n2\n1\n3\n4\n")?;
+    let mut home = home_over(&rt, alloc, "n\n2\n1\n3\n4\n")?;
     expect_text(
         end_text(&rt, alloc, &mut home)?,
         "ended true finished true closed true\nrows 2\nn\n3\n4\nrows 2\nn\n3\n4\nover true",

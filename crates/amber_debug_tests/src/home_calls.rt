@@ -17,19 +17,26 @@ use std::alloc::Global;
 use std::test::Fail;
 use std::thread::Threads;
 
-/// The home of the query over this file, with 400 rows in a batch and at most 30 steps.
-pub fn home_over(alloc: Global, file: &str) -> Result<Home, Fail> {
-    home_of(alloc, file, 400, 30)
+/// The home of the query over this file, with 400 rows in a batch and at most 30 steps. Where the file's lines begin is noted
+/// by one thread.
+pub fn home_over<R: Threads + Sync>(rt: &R, alloc: Global, file: &str) -> Result<Home, Fail> {
+    home_of(rt, alloc, file, 400, 30)
 }
 
 /// The same with so many rows in a batch, 1 to 400, and at most so many steps.
-pub fn home_of(alloc: Global, file: &str, batch: u32, most: u32) -> Result<Home, Fail>
+pub fn home_of<R: Threads + Sync>(
+    rt: &R,
+    alloc: Global,
+    file: &str,
+    batch: u32,
+    most: u32,
+) -> Result<Home, Fail>
     requires some { 0 < batch }
     requires few { batch ≤ 400 }
 {
     let flow = query(alloc)?;
     let files = files_of(alloc, file)?;
-    let home = Home::new(alloc, flow, files, batch, u64::from(most))?;
+    let home = Home::new(rt, alloc, flow, files, batch, u64::from(most), 1)?;
     Ok(home)
 }
 

@@ -12,7 +12,7 @@ const LOOKS: u64 = 4_000_000_000;
 #[test]
 fn a_leg_is_made_in_turns_alone(rt: HostRuntime) -> Result<(), Fail> {
     let alloc = rt.alloc();
-    let mut home = home_of(alloc, "n\n2\n1\n3\n", 400, 1000)?;
+    let mut home = home_of(&rt, alloc, "n\n2\n1\n3\n", 400, 1000)?;
     let went = run_leg_on(&rt, alloc, &mut home, true, 1, &OpenGate)?;
     let told = numbers(alloc, &home)?;
     let alone = home.alone();
@@ -27,7 +27,7 @@ fn a_leg_is_made_in_turns_alone(rt: HostRuntime) -> Result<(), Fail> {
 #[test]
 fn two_workers_run_side_by_side(rt: HostRuntime) -> Result<(), Fail> {
     let alloc = rt.alloc();
-    let mut home = home_of(alloc, "n\n2\n1\n3\n", 400, 1000)?;
+    let mut home = home_of(&rt, alloc, "n\n2\n1\n3\n", 400, 1000)?;
     let gate = MeetGate::new(0, 1, LOOKS);
     let went = run_leg_on(&rt, alloc, &mut home, true, 2, &gate)?;
     let told = numbers(alloc, &home)?;

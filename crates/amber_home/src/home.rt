@@ -34,6 +34,7 @@ use amber_rows::{Files, Flow, Row};
 use amber_worker::Worker;
 use std::alloc::{AllocError, Global};
 use std::marker::Model;
+use std::thread::Threads;
 
 /// The home of a run, seen as a `HomeState`.
 #[derive(Drop)]
@@ -108,17 +109,20 @@ impl Model for Home {
 
 impl Home {
     /// The home of a run that has not begun: of a workflow over the files of its scans, with this many rows
-    /// in a batch, 1 to 65,536, and at most `most` steps, 2^40 or fewer.
+    /// in a batch, 1 to 65,536, and at most `most` steps, 2^40 or fewer. Where the lines of the files begin is
+    /// noted on so many threads, 0 counted as 1.
     ///
     /// # Errors
     ///
     /// `Header` with the first scan whose file does not begin with the names of its columns.
-    pub fn new(
+    pub fn new<R: Threads + Sync>(
+        rt: &R,
         alloc: Global,
         flow: Flow,
         files: Files,
         batch_size: u32,
         most: u64,
+        threads: u32,
     ) -> Result<Home, HomeErr>
         requires one_each { length files ≡ scan_count flow }
         requires some { 0 < batch_size }
@@ -139,16 +143,18 @@ impl Home {
         if let Some(op) = wrong_header(alloc, &flow, &files)? {
             return Err(HomeErr::Header(op));
         }
-        Ok(Home::start_checked(alloc, flow, files, batch_size, most)?)
+        Ok(Home::start_checked(rt, alloc, flow, files, batch_size, most, threads)?)
     }
 
     /// The same, where each file is known to begin with the names of its columns.
-    pub fn start_checked(
+    pub fn start_checked<R: Threads + Sync>(
+        rt: &R,
         alloc: Global,
         flow: Flow,
         files: Files,
         batch_size: u32,
         most: u64,
+        threads: u32,
     ) -> Result<Home, AllocError>
         requires one_each { length files ≡ scan_count flow }
         requires headers { wrong_header 1 files flow ≡ None }
@@ -166,7 +172,7 @@ impl Home {
           turned = home.turned;
         }) }
     {
-        let dataflow = Dataflow::new(alloc, flow, &files, batch_size)?;
+        let dataflow = Dataflow::new(rt, alloc, flow, &files, batch_size, threads)?;
         let arms = InForce::new(alloc, dataflow.flow())?;
         Ok(Home {
             dataflow,

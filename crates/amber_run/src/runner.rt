@@ -29,7 +29,8 @@ use std::thread::Threads;
 // How many steps a run may make.
 const MOST_STEPS: u64 = 1 << 40;
 
-/// A run that writes the log of this name. Its workers go on threads of `rt`, and pass the gate before each turn.
+/// A run that writes the log of this name. On threads of `rt` it is noted where the lines of its files begin, and then
+/// its workers go on threads of `rt`, and pass the gate before each turn.
 pub(crate) struct Runner<'a, R: Threads + Sync, G: Gate + Sync, W: Outside> {
     alloc: Global,
     log_name: &'a str,
@@ -245,7 +246,7 @@ impl<'a, R: Threads + Sync, G: Gate + Sync, W: Outside> Runner<'a, R, G, W> {
     {
         let (flow, files) = inputs.into_parts();
         let mut debugger = Debugger::start_checked(
-            self.alloc, flow, files, batch_size, threads, MOST_STEPS,
+            self.rt, self.alloc, flow, files, batch_size, threads, MOST_STEPS,
         )?;
         self.create_log(batch_size)?;
         self.do_script(&mut debugger, commands)

@@ -6,35 +6,35 @@ use Rattle.amber_dataflow.proofs.Dealing.{all-dealt, crew-start, dealt-more, hea
 use Rattle.amber_dataflow.proofs.shares.deal_all.Goals as goal
 
 pub operators-init : goal.operators-init
-operators-init c = record {
+operators-init g c = record {
   header = header-start c.args.flow.now c.args.files.now;
   all = ap length c.new-shares.ensures.items ∙ sym crew-start;
   dealt = λ k below. absurd (omega (arith, crew-start, below));
 }
 
 pub deal_operator-requires-clause-some : goal.deal_operator-requires-clause-some
-deal_operator-requires-clause-some c =
+deal_operator-requires-clause-some g c κs within =
     let inside : c.operators.before < length c.args.flow.now = rw c.get-operators.ensures.operators at c.operators-test.true in
     let o = c.index-operators-before.result in
     let is : o ≡ get_or c.args.flow.now c.operators.before o = rw c.get-operators.ensures.operators at c.index-operators-before.is in
     (operator-facts c.args.flow.now c.operators.before o c.get-operators.ensures.flow inside is).0
 
 pub deal_operator-requires-clause-few : goal.deal_operator-requires-clause-few
-deal_operator-requires-clause-few c =
+deal_operator-requires-clause-few g c κs within =
     let inside : c.operators.before < length c.args.flow.now = rw c.get-operators.ensures.operators at c.operators-test.true in
     let o = c.index-operators-before.result in
     let is : o ≡ get_or c.args.flow.now c.operators.before o = rw c.get-operators.ensures.operators at c.index-operators-before.is in
     (operator-facts c.args.flow.now c.operators.before o c.get-operators.ensures.flow inside is).1
 
 pub deal_operator-requires-clause-columns : goal.deal_operator-requires-clause-columns
-deal_operator-requires-clause-columns c =
+deal_operator-requires-clause-columns g c κs within =
     let inside : c.operators.before < length c.args.flow.now = rw c.get-operators.ensures.operators at c.operators-test.true in
     let o = c.index-operators-before.result in
     let is : o ≡ get_or c.args.flow.now c.operators.before o = rw c.get-operators.ensures.operators at c.index-operators-before.is in
     (operator-facts c.args.flow.now c.operators.before o c.get-operators.ensures.flow inside is).2
 
 pub deal_operator-requires-clause-headed : goal.deal_operator-requires-clause-headed
-deal_operator-requires-clause-headed c =
+deal_operator-requires-clause-headed g c κs within =
     let inside : c.operators.before < length c.args.flow.now = rw c.get-operators.ensures.operators at c.operators-test.true in
     let o = c.index-operators-before.result in
     let is : o ≡ get_or c.args.flow.now c.operators.before o = rw c.get-operators.ensures.operators at c.index-operators-before.is in
@@ -42,7 +42,7 @@ deal_operator-requires-clause-headed c =
     header-right c.args.flow.now c.args.files.now c.operators.before o inside is file (next-file _ _ c.shared_file_after-file.ensures) c.operators.invariant.header c.requires.headers
 
 pub operators-preserved : goal.operators-preserved
-operators-preserved c =
+operators-preserved g c =
     let inside : c.operators.before < length c.args.flow.now = rw c.get-operators.ensures.operators at c.operators-test.true in
     let o = c.index-operators-before.result in
     let is : o ≡ get_or c.args.flow.now c.operators.before o = rw c.get-operators.ensures.operators at c.index-operators-before.is in
@@ -58,6 +58,6 @@ operators-preserved c =
     }
 
 pub returns : goal.returns
-returns c =
+returns g c =
     let all : length c.args.flow.now ≤ c.operators.before = rw c.get-operators.ensures.operators at c.operators-test.false in
     all-dealt c.args.flow.now (records_of c.args.files.now c.args.flow.now) c.operators.before c.operators.shares.items all c.operators.invariant.all c.operators.invariant.dealt

@@ -8,7 +8,7 @@ use Rattle.amber_dataflow.proofs.Dealing.{IsDealt}
 use Rattle.amber_dataflow.proofs.shares.deal_all.Given as goal
 
 abbrev pub invariant-operators : goal.invariant-operators
-invariant-operators l = record {
+invariant-operators g l = record {
   header : wrong_header 1 l.files l.flow ≡ wrong_header (l.before + 1) (files_left l.files (take l.before l.flow)) (drop l.before l.flow);
   all : length l.shares.items ≡ crew_of (take l.before l.flow);
   dealt : (k : ℕ) → k < crew_of (take l.before l.flow) → IsDealt l.flow (records_of l.files l.flow) k (share_of_worker l.shares.items k);

@@ -7,7 +7,7 @@ use Rattle.amber_dataflow.proofs.Dealing.{dealt-other, dealt-scan, headless}
 use Rattle.amber_dataflow.proofs.shares.deal_operator.Goals as goal
 
 pub returns-then-not-is_scan : goal.returns-then-not-is_scan
-returns-then-not-is_scan c =
+returns-then-not-is_scan g c =
     let old = c.args.shares.now.items in
     let new = c.push_none.new.shares.items in
     let scan : is_scan c.args.operator.now.what ≡ false = sym c.if-not-is_scan.ensures in
@@ -20,7 +20,7 @@ returns-then-not-is_scan c =
     }
 
 pub returns : goal.returns
-returns c =
+returns g c =
     let old = c.args.shares.now.items in
     let new = c.push_shares.new.shares.items in
     let scan : is_scan c.args.operator.now.what ≡ true = sym c.if-not-is_scan.ensures in
@@ -36,4 +36,4 @@ returns c =
     }
 
 pub unreachable-requires : goal.unreachable-requires
-unreachable-requires c = headless c.args.operator.now.what c.args.operator.now.schema (rw c.in_default.is at c.requires.headed) (sym c.if-not-is_scan.ensures)
+unreachable-requires g c = headless c.args.operator.now.what c.args.operator.now.schema (rw c.in_default.is at c.requires.headed) (sym c.if-not-is_scan.ensures)

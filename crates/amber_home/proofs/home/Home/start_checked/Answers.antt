@@ -9,7 +9,7 @@ use Rattle.amber_home.proofs.Fresh.{home-new}
 use Rattle.amber_home.proofs.home.Home.start_checked.Goals as goal
 
 pub invariant_of-result : goal.invariant_of-result
-invariant_of-result c =
+invariant_of-result g c =
     let made = c.in_ok-dataflow.ensures in
     let d = c.in_ok-dataflow.dataflow in
     subst (λ (flow : List Operator). IsHome (record { flow = flow; files = c.args.files; most = c.args.most; log = record { batch = c.args.batch_size; items = c.new-4.result }; phase = phase.Resting; parts = []; alone = 0; turned = turned_by d.workers })
