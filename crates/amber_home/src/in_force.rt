@@ -1,7 +1,7 @@
 //! What commands have put in force at each operator. A command changes what it names and nothing else. Over
 //! `Armed` of `armed`, one for each operator.
 
-ghost use Rattle.std.specs.Prelude.{◌≡◌, ◌<◌, ◌≤◌, ℕ, IfOk, None, Some, false, if◌then◌else◌, length, map, option_map, true};
+ghost use Rattle.std.specs.Prelude.{◌≡◌, ◌<◌, ◌≤◌, ℕ, IfOk, None, Some, false, if◌then◌else◌, is_some, length, map, option_map, true};
 ghost use Rattle.amber_rows.specs.Lists.{changed_at, nth};
 ghost use Rattle.amber_meaning.specs.State.{put};
 ghost use Rattle.amber_home.specs.Leg.{counts_asked};
@@ -70,6 +70,20 @@ impl InForce {
         let arms = self.arms.as_slice();
         for armed in arms {
             if armed.pause().is_some() {
+                return true;
+            }
+        }
+        false
+    }
+
+    /// Whether a count is armed at any operator.
+    pub fn has_count(&self) -> bool
+        ensures none { result ≡ false → (op : ℕ) → (asked_at self.now op).count ≡ None }
+        ensures some { result ≡ true → (op : ℕ) × (is_some (asked_at self.now op).count ≡ true) }
+    {
+        let arms = self.arms.as_slice();
+        for armed in arms {
+            if armed.count().is_some() {
                 return true;
             }
         }

@@ -1,6 +1,6 @@
 //! What is read of a home: its stops, what operators show, its answer, its log, and how far its workers are.
 
-ghost use Rattle.std.specs.Prelude.{◌≡◌, ◌^◌, ◌<◌, ◌≤◌, ◌≢◌, ℕ, [], IfOk, None, Some, false, length, option_map, true};
+ghost use Rattle.std.specs.Prelude.{◌≡◌, ◌^◌, ◌<◌, ◌≤◌, ◌≢◌, ℕ, [], IfOk, None, Some, false, is_some, length, option_map, true};
 ghost use Rattle.amber_log.specs.Fits.{fits_of};
 ghost use Rattle.amber_log.specs.Grammar.{ends_over};
 ghost use Rattle.amber_meaning.specs.Legal.{IsLegal};
@@ -126,6 +126,17 @@ impl Home {
             × ((arms_at (state_of self.now) op).pause ≡ Some n) }
     {
         self.arms.has_pause()
+    }
+
+    /// Whether an operator's count is in force.
+    pub fn has_count(&self) -> bool
+        requires there { has_crew self.now.phase ≡ true }
+        ensures none { result ≡ false → (op : ℕ)
+            → (arms_at (state_of self.now) op).count ≡ None }
+        ensures some { result ≡ true → (op : ℕ)
+            × (is_some (arms_at (state_of self.now) op).count ≡ true) }
+    {
+        self.arms.has_count()
     }
 
     /// The log of the run so far.

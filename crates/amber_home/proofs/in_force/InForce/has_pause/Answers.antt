@@ -1,25 +1,10 @@
 -- No pause is armed at one operator more, or one is armed there.
-use Rattle.std.proofs.Common.{◌≡◌, refl, sym, ap, ◌∙◌, ℕ, ◌+◌, ◌<◌, List, length, get_or, true, false, Option, None, Some, is_some, unwrap_or, inl, inr, arith}
-use Rattle.std.proofs.lemmas.Bool.{cases_lt, false≢true}
-use Rattle.std.proofs.lemmas.List.{get_or_default}
-use Rattle.amber_meaning.proofs.Lists.{numbered_or}
+use Rattle.std.proofs.Common.{◌≡◌, sym, ap, ◌∙◌, ℕ, ◌+◌, List, length, Option, unwrap_or, inl, inr, arith}
+use Rattle.std.proofs.lemmas.Bool.{cases_lt}
 use Rattle.amber_home.specs.Asked.{Asked, asked_at, no_asked}
+use Rattle.amber_home.proofs.AskedNext.{asked-next, none-of, some-of}
 use Rattle.amber_home.proofs.Places.{nth-past}
 use Rattle.amber_home.proofs.in_force.InForce.has_pause.Goals as goal
-
--- what is in force at the operator after so many
-asked-next : (arms : List Asked) (before : ℕ) (one : Asked) → before < length arms → one ≡ get_or arms before one → asked_at arms (before + 1) ≡ one
-asked-next arms before one less is = numbered_or arms before no_asked ∙ get_or_default arms before no_asked one less ∙ sym is
-
--- a pause that is there
-some-of : (pause : Option ℕ) → is_some pause ≡ true → (n : ℕ) × (pause ≡ Some n)
-some-of None is = absurd (false≢true is)
-some-of (Some n) is = (n, refl)
-
--- and one that is not
-none-of : (pause : Option ℕ) → is_some pause ≡ false → pause ≡ None
-none-of None is = refl
-none-of (Some n) is = absurd (false≢true (sym is))
 
 pub loop-armed-init : goal.loop-armed-init
 loop-armed-init c op within =
