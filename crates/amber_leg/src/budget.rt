@@ -9,10 +9,10 @@ ghost use Rattle.amber_leg.specs.Leg.{most_late, most_turned};
 
 use amber_home::Home;
 
-// The turns of a slice. Where a pause is in force a round has no more, since none is seen before its end.
+// The turns of a slice.
 const SLICE: u64 = 1024;
 
-// The slices of a round where no pause is in force.
+// The slices of a round in which each worker can go on by itself.
 const PASSES: u64 = 64;
 
 // How often a thread looks again whose workers all wait for workers of other threads.
@@ -34,6 +34,21 @@ fn looks_of(threads: u32) -> u32
     if threads == 1 { 0 } else { LOOKS }
 }
 
+// The slices of a round. Where a pause is in force there is one, since none is seen before the round's end; and with one
+// thread also where a count is, since one worker of its operator has units in a round, and rows wait for the others.
+fn passes_of(home: &Home, threads: u32) -> u64
+    requires within { is_open home.now.phase ≡ true }
+    ensures some { 1 ≤ result }
+    ensures few { result ≤ 64 }
+    ensures late { (op n : ℕ) → (arms_at (state_of home.now) op).pause ≡ Some n → result ≡ 1 }
+{
+    if home.has_pause() || threads == 1 && home.has_count() {
+        1
+    } else {
+        PASSES
+    }
+}
+
 /// As many turns as each worker may make, so that all together make no more steps than are left; at least one where as
 /// many steps are left as there are workers.
 pub(crate) fn budget_of(home: &Home, threads: u32) -> Budget
@@ -50,9 +65,8 @@ pub(crate) fn budget_of(home: &Home, threads: u32) -> Budget
     let flow = home.flow();
     let _operators = flow.get();
     let share = left / u64::from(flow.workers());
-    let most = if home.has_pause() { 1 } else { PASSES };
     Budget {
-        passes: (share / SLICE).max(1).min(most) as u32,
+        passes: (share / SLICE).max(1).min(passes_of(home, threads)) as u32,
         slice: share.min(SLICE) as u32,
         looks: looks_of(threads),
     }

@@ -13,7 +13,7 @@
 //! to the end where all have finished, and as too long exactly where the run has made as many steps as it may and that is not
 //! so. A pause is seen at the end of a round, so that an operator goes past it by 1,024 rows a worker at most; a count stands at
 //! exactly its target. At home no more steps are made than each worker is driven for turns, but for as many as there are
-//! workers, and no step is made but at home or in such a turn.
+//! workers; and the steps of a leg are no more than those made at home and the turns of all workers together.
 //!
 //! For instance, `leg` to the end on four threads, at the home of a workflow of four scans, four
 //! filters and a sink, gives in the first round each driver a scan and the filter behind it, and

@@ -4,7 +4,6 @@ use Rattle.std.proofs.Math.Nat.{le-div_iff_mul-le, one-le-mul}
 use Rattle.amber_rows.specs.Topology.{crew_of}
 use Rattle.amber_dataflow.proofs.Answered.{some-crew}
 use Rattle.amber_leg.proofs.budget.budget_of.Goals as goal
-use Rattle.amber_leg.proofs.budget.budget_of.Goals.{then-has_pause, else-has_pause}
 
 pub nonzero_div-share : goal.nonzero_div-share
 nonzero_div-share c =
@@ -19,10 +18,6 @@ returns-clause-some c enough =
     let workers = c.from.ensures ∙ c.workers.ensures ∙ ap crew_of c.flow-flow.ensures in
     let some : 0 < c.from.result = subst (λ n. 0 < n) (sym (c.from.ensures ∙ c.workers.ensures)) (some-crew c.flow-flow.result.now c.get-operators.ensures.flow) in
     let share = one-left (c.most.result - c.steps.result) c.from.result some (omega (arith, workers, enough, c.most.ensures.most, c.steps.ensures.steps)) in
-    let most : 1 ≤ c.if-has_pause.most = elim c.if-has_pause.branch [
-      | then-has_pause w ↦ omega (arith, w.most-is)
-      | else-has_pause w ↦ omega (arith, w.most-is)
-    ] in
     let slice : 1 ≤ c.min-2.result = omega (arith, share, c.min-2.ensures) in
-    let passes : 1 ≤ c.min.result = omega (arith, most, c.min.ensures, c.max.ensures) in
+    let passes : 1 ≤ c.min.result = omega (arith, c.passes_of.ensures.some, c.min.ensures, c.max.ensures) in
     one-le-mul passes slice
