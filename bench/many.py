@@ -9,7 +9,8 @@ tells, a run without `set` and `drop` has the answer of `plain`, a count stops a
 an operator with a pause at N has emitted at most N rows, or as many as when the leg began, and 1,024 more for each of its
 workers. The judge computes all of this from the files and the log (`judge.py`).
 
-Four processes that only spin run beside them, so that threads are interrupted anywhere; `--quiet` leaves them out. First a
+Four processes that only spin run beside them, so that threads are interrupted anywhere, and sixteen runs go side by side, since
+each waits most of its time; `--quiet` leaves the four out, and as many runs as processors go side by side. First a
 legal log of each job is changed in one place many times, and the judge has to refuse what this gives; `--broken` tries more
 changes of more logs, prints those that pass, and ends there. A wrong run's files are kept, and where they are is printed with
 the seed. Ends with status 0 exactly where nothing was wrong.
@@ -35,6 +36,7 @@ from verdict import Run, check
 
 SIZES = [1, 2, 3, 7, 400, 65536]
 SECONDS = 300
+SIDE_BY_SIDE = 16
 JOBS = all_jobs()
 
 
@@ -190,8 +192,9 @@ def main():
     given = words()
     program, kept = os.path.abspath(given.program), tempfile.mkdtemp(prefix="amber-many-")
     print(f"seed {given.seed}", flush=True)
-    spinners = [multiprocessing.Process(target=spin, daemon=True) for _ in range(0 if given.quiet or given.broken else 4)]
-    with tempfile.TemporaryDirectory() as top, multiprocessing.Pool() as pool:
+    alone = given.quiet or given.broken
+    spinners = [multiprocessing.Process(target=spin, daemon=True) for _ in range(0 if alone else 4)]
+    with tempfile.TemporaryDirectory() as top, multiprocessing.Pool(None if alone else SIDE_BY_SIDE) as pool:
         tasks = Tasks(program, top, kept, given.seed)
         wrong = plain_faults(program, top) + try_broken(pool, tasks, given.broken)
         for line in wrong:
