@@ -1,10 +1,11 @@
 -- A text that is cut in two where a line begins: its lines are those of both parts, one after the other.
-use Rattle.std.proofs.Common.{◌≡◌, ◌<◌, ◌≤◌, ◌-◌, ◌∙◌, ◌++◌, ℕ, zero, suc, Bool, true, List, [], ◌∷◌, length, drop, get_or, take, map, inl, inr, refl, sym, ap, ap₂, arith, filter}
+use Rattle.std.proofs.Common.{◌≡◌, ◌<◌, ◌≤◌, ◌+◌, ◌-◌, ◌∙◌, ◌++◌, ℕ, zero, suc, Bool, true, List, [], ◌∷◌, length, drop, get_or, take, map, inl, inr, refl, sym, subst, ap, ap₂, arith, filter}
 use Rattle.std.specs.List.{All, onto_first, slice_split}
 use Rattle.std.proofs.lemmas.Bool.{cases_Bool, cases_lt}
 use Rattle.std.proofs.lemmas.List.{append-nil, drop_all, get_or-take, length-take-le, map-append, take-take, take_all}
 use Rattle.std.proofs.lemmas.List.Elements.{All-append, All-head, All-tail, All-weaker, filter-append}
-use Rattle.amber_cut.specs.Lines.{AreStarts, CanBegin, ends_line, is_filled, line_at, lines, until}
+use Rattle.amber_cut.specs.Lines.{AreApart, AreEnds, AreStarts, CanBegin, ends_line, is_filled, line_at, lines, until}
+use Rattle.amber_cut.proofs.Apart.{apart-append}
 use Rattle.amber_cut.proofs.LineRecords.{lines-none, parts-some}
 
 -- ---- a text of which a byte ends a line
@@ -80,6 +81,28 @@ front-lines bytes front k h at within =
     map-each (line_at (take (suc k) bytes)) (line_at bytes) front
     (All-weaker (λ start. start < length (take (suc k) bytes)) (λ start. line_at (take (suc k) bytes) start ≡ line_at bytes start) (λ start l. until-from ends_line start bytes k (omega (arith, l, long)) h at) front within)
 
+-- nor do other bytes stand between them
+front-ends : (bytes : List ℕ) (m from to : ℕ) → m ≤ length bytes → to ≤ m → AreEnds (take m bytes) from to → AreEnds bytes from to
+front-ends bytes m from to short within ends =
+    let long : length (take m bytes) ≡ m = length-take-le m bytes short in
+    record { order = ends.order; ends = λ k l h w. ap ends_line (sym (get_or-take m bytes k 0 (omega (arith, h, within)))) ∙ ends.ends k l h (omega (arith, h, within, long)) }
+
+front-apart : (bytes : List ℕ) (from k : ℕ) (front : List ℕ) → k < length bytes → ends_line (get_or bytes k 0) ≡ true → All (λ start. start < length (take (suc k) bytes)) front
+    → AreApart (take (suc k) bytes) from front (length (take (suc k) bytes)) → AreApart bytes from front (suc k)
+unfolding AreApart
+front-apart bytes from k [] h at within apart =
+    let long : length (take (suc k) bytes) ≡ suc k = length-take-le (suc k) bytes (omega (arith, h)) in
+    front-ends bytes (suc k) from (suc k) (omega (arith, h)) (omega arith) (rw long at apart)
+front-apart bytes from k (start ∷ front) h at within apart =
+    let long : length (take (suc k) bytes) ≡ suc k = length-take-le (suc k) bytes (omega (arith, h)) in
+    let first = All-head (λ start. start < length (take (suc k) bytes)) start front within in
+    let less : start < suc k = omega (arith, first, long) in
+    let same : line_at (take (suc k) bytes) start ≡ line_at bytes start = until-from ends_line start bytes k (omega (arith, less)) h at in (
+      front-ends bytes (suc k) from start (omega (arith, h)) (omega (arith, less)) apart.0,
+      front-apart bytes (start + length (line_at bytes start)) k front h at (All-tail (λ start. start < length (take (suc k) bytes)) start front within)
+          (subst (λ line. AreApart (take (suc k) bytes) (start + length line) front (length (take (suc k) bytes))) same apart.1),
+    )
+
 -- where a byte ends a line, and the second part begins behind it
 halves-at : (bytes front back : List ℕ) (from k : ℕ) → from ≤ suc k → k < length bytes → ends_line (get_or bytes k 0) ≡ true → AreStarts (take (suc k) bytes) from front → AreStarts bytes (suc k) back
     → AreStarts bytes from (front ++ back)
@@ -91,18 +114,20 @@ halves-at bytes front back from k l h at first second =
           ∙ ap₂ (λ xs ys. xs ++ ys) (sym (front-lines bytes front k h at first.within) ∙ first.lines) second.lines
           ∙ sym (lines-from from bytes k l h at);
       within = All-append (λ start. start < length bytes) front back (All-weaker (λ start. start < length (take (suc k) bytes)) (λ start. start < length bytes) (λ start less. omega (arith, less, long, h)) front first.within) second.within;
+      apart = apart-append bytes from (suc k) front back (length bytes) (front-apart bytes from k front h at first.within first.apart) second.apart;
     }
+
+no-starts : (bytes back : List ℕ) → map (line_at bytes) back ≡ [] → back ≡ []
+no-starts bytes [] none = refl
+no-starts bytes (start ∷ back) none = absurd (cc none)
 
 -- where the text ends
 halves-end : (bytes front back : List ℕ) (from place : ℕ) → length bytes ≤ place → AreStarts (take place bytes) from front → AreStarts bytes place back → AreStarts bytes from (front ++ back)
 halves-end bytes front back from place h first second =
     let whole : take place bytes ≡ bytes = take_all place bytes h in
     let all : AreStarts bytes from front = rw whole at first in
-    let none : map (line_at bytes) back ≡ [] = second.lines ∙ ap lines (drop_all place bytes h) ∙ lines-none in
-    record {
-      lines = map-append (line_at bytes) front back ∙ ap₂ (λ xs ys. xs ++ ys) all.lines none ∙ append-nil (lines (drop from bytes));
-      within = All-append (λ start. start < length bytes) front back all.within second.within;
-    }
+    let none : back ≡ [] = no-starts bytes back (second.lines ∙ ap lines (drop_all place bytes h) ∙ lines-none) in
+    rw (none, append-nil front) all
 
 -- the lines of both parts are those of the whole
 pub halves : (bytes front back : List ℕ) (from place : ℕ) → from ≤ place → CanBegin bytes place → AreStarts (take place bytes) from front → AreStarts bytes place back → AreStarts bytes from (front ++ back)

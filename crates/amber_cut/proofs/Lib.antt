@@ -1,3 +1,4 @@
+pub mod Apart
 mod Examples
 pub mod Halves
 pub mod LineRecords

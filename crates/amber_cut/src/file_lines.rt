@@ -1,11 +1,11 @@
 //! The lines of a file, each to be taken by its number. Over `line_starts_on` of `starts`, `type_line` of `typing` and
 //! `finding`; the bytes are those of `FileBytes` of `amber_rows`.
 
-ghost use Rattle.std.specs.Prelude.{◌≡◌, ◌<◌, ◌≤◌, ◌*◌, ◌^◌, ◌⊎◌, ◌↔◌, [], length, map, slice_index_or, IfOk, IfSome, IsNone};
+ghost use Rattle.std.specs.Prelude.{◌≡◌, ◌<◌, ◌≤◌, ◌+◌, ◌*◌, ◌^◌, ◌⊎◌, ◌↔◌, [], length, map, slice_index_or, IfOk, IfSome, IsNone};
 ghost use Rattle.amber_rows.specs.Record.{file_records, row_of};
 ghost use Rattle.amber_cut.specs.Lines.{HasQuote, cut};
 
-use crate::finding::{has_quote, line_end, mark_length};
+use crate::finding::{has_quote, length_before_ends, mark_length};
 use crate::starts::line_starts_on;
 use crate::typing::type_line;
 use amber_rows::{FileBytes, Row, RowFault, Schema, Value};
@@ -25,6 +25,17 @@ fn piece_count(bytes: usize, threads: u32) -> usize
     ensures long { result * 65_536 ≤ bytes }
 {
     (bytes / PIECE_BYTES).min(threads as usize)
+}
+
+// Where the line behind the one with this number begins; behind the last one the text ends here.
+fn start_after(starts: &[u32], number: usize, end: usize) -> usize
+    requires { number < length starts.now }
+    ensures { result ≡ slice_index_or starts.now (number + 1) end }
+{
+    match starts.get(number + 1) {
+        Some(start) => *start as usize,
+        None => end,
+    }
 }
 
 /// A file without a double quote, shorter than 4 GiB, seen as the list of its records: its lines, the header first. A
@@ -47,13 +58,14 @@ impl Drop for Lines {
 impl Model for Lines {
     ghost use Rattle.std.specs.Prelude.{◌<◌, ◌^◌, List, ℕ, length, map};
     ghost use Rattle.std.specs.List.{All};
-    ghost use Rattle.amber_cut.specs.Lines.{line_at};
+    ghost use Rattle.amber_cut.specs.Lines.{AreApart, line_at};
 
     ghost Value = { List (List ℕ) };
 
     ghost view = { λ a. map (line_at a.file) a.starts.items };
 
-    ghost invariant = { λ a. All (λ start. start < length a.file) a.starts.items };
+    ghost invariant = { λ a. All (λ start. start < length a.file) a.starts.items
+        × ((from : ℕ) × AreApart a.file from a.starts.items (length a.file)) };
 }
 
 impl Lines {
@@ -91,14 +103,16 @@ impl Lines {
         self.starts.len()
     }
 
-    // The line with this number, from 0, without what ends it.
+    // The line with this number, from 0, without what ends it. Up to where the next begins nothing stands but ends of
+    // lines.
     fn line(&self, number: usize) -> &[u8]
         requires { number < length self.now }
         ensures { result.now ≡ slice_index_or self.now number [] }
     {
+        let bytes = self.file.get();
         let start = self.starts[number] as usize;
-        let rest = &self.file.get()[start..];
-        &rest[..line_end(rest)]
+        let line = &bytes[start..start_after(&self.starts, number, bytes.len())];
+        &line[..length_before_ends(line)]
     }
 
     /// The row that the line with this number, from 0, is under these columns, or the first fault, as `type_line` has

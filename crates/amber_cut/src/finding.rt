@@ -1,8 +1,8 @@
 //! Finds quotes, the ends of lines and a byte order mark in a text. Rests on `memchr`.
 
-ghost use Rattle.std.specs.Prelude.{◌≡◌, ◌<◌, ◌≤◌, ◌+◌, ◌↔◌, IsTrue, drop, length, take};
+ghost use Rattle.std.specs.Prelude.{◌≡◌, ◌<◌, ◌≤◌, ◌+◌, ◌-◌, ◌↔◌, IsTrue, drop, false, length, slice_index, take};
 ghost use Rattle.csv.specs.Reading.{is_bom, strip_bom};
-ghost use Rattle.amber_cut.specs.Lines.{CanBegin, HasQuote, past, ends_line, until};
+ghost use Rattle.amber_cut.specs.Lines.{AreEnds, CanBegin, HasQuote, past, ends_line, until};
 
 use memchr::{memchr, memchr2};
 
@@ -23,6 +23,19 @@ pub fn line_end(bytes: &[u8]) -> usize
         Some(end) => end,
         None => bytes.len(),
     }
+}
+
+/// How long a text is without the ends of lines at its end.
+pub fn length_before_ends(bytes: &[u8]) -> usize
+    ensures within { result ≤ length bytes.now }
+    ensures ends { AreEnds bytes.now result (length bytes.now) }
+    ensures last { 0 < result → ends_line (slice_index bytes.now (result - 1)) ≡ false }
+{
+    let mut length = bytes.len();
+    'ends: while length > 0 && matches!(bytes[length - 1], b'\r' | b'\n') {
+        length -= 1;
+    }
+    length
 }
 
 /// Where a line begins behind this place of a text: behind the first end of a line from this place on. Where nothing

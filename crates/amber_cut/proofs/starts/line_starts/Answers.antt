@@ -1,10 +1,14 @@
 -- Line by line.
-use Rattle.std.proofs.Common.{◌≡◌, ◌≤◌, ◌-◌, ◌∙◌, ◌++◌, arith, drop, length, length-drop, map, sym, take, ap}
+use Rattle.std.proofs.Common.{◌≡◌, ◌≤◌, ◌-◌, ◌∙◌, ◌++◌, arith, drop, length, length-drop, map, refl, sym, take, ap}
 use Rattle.std.proofs.lemmas.List.{append-nil, drop_all, take_all}
 use Rattle.amber_cut.specs.Lines.{line_at, lines}
+use Rattle.amber_cut.proofs.Apart.{apart-all, apart-none, apart-note}
 use Rattle.amber_cut.proofs.LineRecords.{lines-none}
 use Rattle.amber_cut.proofs.Places.{lines-note, within-note}
 use Rattle.amber_cut.proofs.starts.line_starts.Goals as goal
+
+pub lines-init : goal.lines-init
+lines-init c = rw c.new-starts.ensures.items (record { start_if_filled = refl; within = λ k d h. absurd (omega (arith, h)); apart = apart-none c.args.bytes.now c.args.from })
 
 pub lines-preserved : goal.lines-preserved
 lines-preserved c =
@@ -18,6 +22,7 @@ lines-preserved c =
     rw c.in_ok-note.ensures (record {
       start_if_filled = lines-note bytes _ starts c.lines.at c.line_end-end.result c.lines-test.true before within past inv.start_if_filled;
       within = within-note bytes starts c.lines.at c.line_end-end.result c.lines-test.true inv.within;
+      apart = apart-note bytes c.args.from starts c.lines.at c.line_end-end.result before within inv.apart;
     })
 
 pub returns : goal.returns
@@ -29,4 +34,5 @@ returns c =
     record {
       lines = sym (inv.start_if_filled ∙ ap (λ xs. map f starts ++ lines xs) (drop_all c.lines.at bytes c.lines-test.false) ∙ ap (λ xs. map f starts ++ xs) lines-none ∙ append-nil (map f starts));
       within = inv.within;
+      apart = apart-all bytes c.args.from starts c.lines.at c.requires.within inv.within c.lines-test.false inv.apart;
     }
