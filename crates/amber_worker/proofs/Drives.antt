@@ -13,7 +13,7 @@ use Rattle.amber_worker.specs.Acting.{Acts}
 use Rattle.amber_worker.specs.AtPosition.{IsLookedAt}
 use Rattle.amber_worker.specs.Steps.{held_at}
 use Rattle.amber_worker.specs.declared.driving.Drove.{Drove}
-use Rattle.amber_worker.specs.Driving.{AreAnswers, BreaksOff, CountsTurns, Driven, Drives, DrivesOnce, Driving, HasDriven, HasSent, OnlyLooks, RanBy, StandsAfter, stops, turned_by}
+use Rattle.amber_worker.specs.Driving.{AreAnswers, BreaksOff, CountsTurns, Driven, Drives, DrivesOnce, Driving, HasDriven, HasSent, OnlyLooks, RanBy, StandsAfter, stops, with_turns}
 use Rattle.amber_worker.specs.Turning.{IsCalm, MakesTurn, MakesTurns, StaysCalm}
 use Rattle.amber_worker.specs.WorkerState.{WorkerState, is_starved, next_turn, steps_made}
 use Rattle.amber_worker.specs.declared.turn.Turn.{Turn}
@@ -133,7 +133,7 @@ stands-turned old new turn.Starved makes = ap is_starved makes.turned ∙ starve
 stands-turned old new turn.Paused makes = ap (λ (w : WorkerState). w.restraint.paused) makes.turned ∙ pauses-by old makes.next
 stands-turned old new turn.Ended makes = ap (λ (w : WorkerState). w.finished) makes.turned ∙ ends-by old makes.next
 
-stands-counted : (n : ℕ) (w : WorkerState) (done : Turn) → StandsAfter w done → StandsAfter (turned_by n w) done
+stands-counted : (n : ℕ) (w : WorkerState) (done : Turn) → StandsAfter w done → StandsAfter (with_turns n w) done
 stands-counted n w turn.Moved stands = tt
 stands-counted n w turn.Idle stands = stands
 stands-counted n w turn.Held stands = stands
@@ -141,7 +141,7 @@ stands-counted n w turn.Starved stands = stands
 stands-counted n w turn.Paused stands = stands
 stands-counted n w turn.Ended stands = stands
 
-if-counted : (n : ℕ) (w : WorkerState) (last : Option Turn) → IfSome last (StandsAfter w) → IfSome last (StandsAfter (turned_by n w))
+if-counted : (n : ℕ) (w : WorkerState) (last : Option Turn) → IfSome last (StandsAfter w) → IfSome last (StandsAfter (with_turns n w))
 if-counted n w None stands = tt
 if-counted n w (Some done) stands = stands-counted n w done stands
 
@@ -256,16 +256,16 @@ pub record Counted (made : ℕ) (old new : Driving) (last : Option Turn) : Type 
   pub stands : IfSome last (StandsAfter new.worker)
 
 -- the turns are counted, and batches are sent: what is not counted is as after the turns
-sent-apart : (n turned : ℕ) (mid new : WorkerState) → mid.turned ≡ turned → HasSent (turned_by n mid) new → HasSent mid (record new { turned = turned })
+sent-apart : (n turned : ℕ) (mid new : WorkerState) → mid.turned ≡ turned → HasSent (with_turns n mid) new → HasSent mid (record new { turned = turned })
 sent-apart n turned mid new same sent = record {
   sent = sent.sent;
   only = ap (λ (w : WorkerState). record w { turned = turned }) sent.only ∙ ap (λ t. record mid { turned = t; outs = new.outs }) (sym same);
 }
 
-pub counts-all : (made : ℕ) (old mid new : Driving) (last : Option Turn) → Reached made old mid last → HasSent (turned_by made mid.worker) new.worker
+pub counts-all : (made : ℕ) (old mid new : Driving) (last : Option Turn) → Reached made old mid last → HasSent (with_turns made mid.worker) new.worker
     → new.looks ≡ mid.looks → new.pauses ≡ mid.pauses → new.plan ≡ mid.plan → Counted made old new last
 counts-all made old mid new last reached sent looks pauses plan =
-    let counted : WorkerState = turned_by made mid.worker in
+    let counted : WorkerState = with_turns made mid.worker in
     let driven = reached.driven in
     record {
       turns = reached.turns;
@@ -304,15 +304,15 @@ tells-all made old new last drove counted turns_are last_is = record {
 }
 
 -- memory ran out: the turns before are counted, then one look was made
-looked-counted : (n : ℕ) (old new : WorkerState) → IsLookedAt old new → IsLookedAt (turned_by n old) (turned_by n new)
-looked-counted n old new looked = record { looked = looked.looked; only = ap (turned_by n) looked.only }
+looked-counted : (n : ℕ) (old new : WorkerState) → IsLookedAt old new → IsLookedAt (with_turns n old) (with_turns n new)
+looked-counted n old new looked = record { looked = looked.looked; only = ap (with_turns n) looked.only }
 
 pub breaks-off : (made : ℕ) (old mid between : Driving) (new : WorkerState) (last : Option Turn) → UnderWay made old mid last → OnlyLooks mid between
-    → new ≡ turned_by made between.worker → BreaksOff old (record between { worker = new })
+    → new ≡ with_turns made between.worker → BreaksOff old (record between { worker = new })
 unfolding counts-all
 breaks-off made old mid between new last way looked is =
-    let counted : Driving = record mid { worker = turned_by made mid.worker } in
-    let so = counts-all made old mid counted last way.reached (sent-same (turned_by made mid.worker)) refl refl refl in
+    let counted : Driving = record mid { worker = with_turns made mid.worker } in
+    let so = counts-all made old mid counted last way.reached (sent-same (with_turns made mid.worker)) refl refl refl in
     record {
       turns = so.turns;
       between = counted;
@@ -324,13 +324,13 @@ breaks-off made old mid between new last way looked is =
 
 -- it makes no more turns than looks that were no pause, also where it breaks off
 pub breaks-makes : (made : ℕ) (old mid between : Driving) (new : WorkerState) (last : Option Turn) → UnderWay made old mid last → OnlyLooks mid between
-    → new ≡ turned_by made between.worker → (n : ℕ) → n + old.looks + between.pauses ≡ between.looks + old.pauses → MakesTurns n old.worker new
+    → new ≡ with_turns made between.worker → (n : ℕ) → n + old.looks + between.pauses ≡ between.looks + old.pauses → MakesTurns n old.worker new
 breaks-makes made old mid between new last way looked is n same =
     let few = way.reached.few in
     let pauses = looked.pauses in
     let m : ℕ = (mid.looks + old.pauses) - (old.looks + mid.pauses) in
     let first = way.reached.makes m (omega (arith, few)) in
-    let counted : WorkerState = turned_by made between.worker in
+    let counted : WorkerState = with_turns made between.worker in
     let more = makes-then m 0 old.worker mid.worker between.worker (makes-armed m old.worker mid.worker first) first (makes-looked mid.worker between.worker looked.worker) in
     subst (MakesTurns n old.worker) (sym is)
     (makes-more (m + 0 + 0) n old.worker counted (omega (arith, few, pauses, looked.looks, same))
@@ -338,7 +338,7 @@ breaks-makes made old mid between new last way looked is n same =
     (makes-sent between.worker counted counted.turned (sent-same counted))))
 
 pub breaks-calm : (made : ℕ) (old mid between : Driving) (new : WorkerState) (last : Option Turn) → UnderWay made old mid last → OnlyLooks mid between
-    → new ≡ turned_by made between.worker → IsCalm old.worker → old.plan ≡ Some [] → StaysCalm old.worker new
+    → new ≡ with_turns made between.worker → IsCalm old.worker → old.plan ≡ Some [] → StaysCalm old.worker new
 breaks-calm made old mid between new last way looked is calm plan =
     let first = way.reached.calm calm plan in
     let broken = calm-broken mid.worker between.worker first.calm looked.worker in

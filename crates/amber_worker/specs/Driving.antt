@@ -23,8 +23,8 @@ pub record Driven : Type 0 where
   pub done : Turn
 
 -- so many turns more were driven; at its end the number stands still
-abbrev pub turned_by : ℕ → WorkerState → WorkerState
-turned_by turns w = record w { turned = min (w.turned + turns) (2 ^ 64 - 1) }
+abbrev pub with_turns : ℕ → WorkerState → WorkerState
+with_turns turns w = record w { turned = min (w.turned + turns) (2 ^ 64 - 1) }
 
 -- as many turns were counted as were driven, and no more steps were made
 pub record CountsTurns (turns : ℕ) (old new : WorkerState) : Type 0 where

@@ -17,6 +17,7 @@ mod beginning;
 mod driven;
 mod linking;
 mod orders;
+mod standing;
 mod stepping;
 mod turning;
 mod views;

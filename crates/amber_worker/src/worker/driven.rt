@@ -5,7 +5,7 @@ ghost use Rattle.std.specs.Prelude.{All, IfOk, IfSome, OnErr, OnOk, Some, [], �
 ghost use Rattle.std.specs.Option.{option_copied};
 ghost use Rattle.amber_link.specs.Sides.{CanSendNoMore};
 ghost use Rattle.amber_worker.specs.Counting.{IsBoardOf};
-ghost use Rattle.amber_worker.specs.Driving.{BreaksOff, CountsTurns, Drives, DrivesOnce, HasSent, OnlyLooks, StandsAfter, turned_by, was_stopped};
+ghost use Rattle.amber_worker.specs.Driving.{BreaksOff, CountsTurns, Drives, DrivesOnce, HasSent, OnlyLooks, StandsAfter, was_stopped, with_turns};
 ghost use Rattle.amber_worker.specs.Turning.{IsCalm, MakesTurns, StaysCalm};
 ghost use Rattle.amber_worker.specs.WorkerState.{steps_made};
 
@@ -31,7 +31,7 @@ impl Worker {
 
     // So many turns more were driven.
     fn count_turns(&mut self, turns: u32)
-        ensures { self.new ≡ turned_by turns self.old }
+        ensures { self.new ≡ with_turns turns self.old }
     {
         self.turned = self.turned.saturating_add(u64::from(turns));
     }
@@ -99,7 +99,7 @@ impl Worker {
 
     // The end of a drive of so many turns: they are counted, and what waits is sent.
     fn end_drive(&mut self, turns: u32, last: Option<Turn>) -> Drove
-        ensures sends { HasSent (turned_by turns self.old) self.new }
+        ensures sends { HasSent (with_turns turns self.old) self.new }
         ensures all { All CanSendNoMore self.new.outs }
         ensures turns { result.turns ≡ turns }
         ensures last { result.last ≡ last }

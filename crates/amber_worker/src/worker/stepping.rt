@@ -1,14 +1,14 @@
 //! The steps that a worker makes, each after it has dealt with its hand of units, and the turn that makes one of them.
-//! Rests on `taking_rows`, `links`, `counting` and `journal`.
+//! Rests on `standing`, `taking_rows`, `links`, `counting` and `journal`.
 
 ghost use Rattle.std.specs.Prelude.{false, true, IfNone, IfSome, length, slice_index_or, IfOk, OnErr, OnOk, ◌≡◌, ◌≢◌, ◌^◌, ◌<◌, ℕ};
 ghost use Rattle.std.specs.Option.{option_copied};
 ghost use Rattle.amber_link.specs.Links.{has_some};
 ghost use Rattle.amber_link.specs.Sides.{have_all_ended};
 ghost use Rattle.amber_link.specs.declared.upstreams.Upstream.{Upstream as OneUpstream};
-ghost use Rattle.amber_worker.specs.Acting.{DealsAt, MayDeal};
+ghost use Rattle.amber_worker.specs.Acting.{MayDeal};
 ghost use Rattle.amber_worker.specs.Counting.{IsBoardOf};
-ghost use Rattle.amber_worker.specs.WorkerState.{IsFree, StandsStill, WorkerState, has_ready, must_hold, stands_still, steps_made};
+ghost use Rattle.amber_worker.specs.WorkerState.{IsFree, WorkerState, has_ready, must_hold, steps_made};
 ghost use Rattle.amber_worker.specs.Steps.{TakesRow};
 ghost use Rattle.amber_worker.specs.AtPosition.{IsLookedAt};
 ghost use Rattle.amber_worker.specs.Links.{MayTakeAt};
@@ -87,60 +87,12 @@ impl Worker {
         }
     }
 
-    // Whether the worker stands still whatever comes: it has finished, it is paused, or it is held.
-    #[inline(always)]
-    fn stands_still(&self) -> bool
-        ensures still { result ≡ stands_still self.now }
-        ensures free { result ≡ false → IsFree self.now }
-    {
-        self.finished | self.flags.paused | self.flags.held
-    }
-
-    // Why the worker stands still.
-    fn standing(&self) -> Turn
-        requires { stands_still self.now ≡ true }
-        ensures { StandsStill self.now result }
-    {
-        if self.finished {
-            return Turn::Ended;
-        }
-        if self.flags.paused {
-            return Turn::Paused;
-        }
-        Turn::Held
-    }
-
     // Whether the next row holds the worker: it meets the condition, and was not waved on.
     #[inline(always)]
     fn must_hold(&self) -> bool
         ensures { result ≡ must_hold self.now }
     {
         is_first_watched(&self.when, &self.gains.pending) && !self.flags.waved
-    }
-
-    // Deals with the hand so, and makes no step.
-    fn deal_with(&mut self, board: Option<&Board>, how: Dealing) -> Result<(), AllocError>
-        requires { IsBoardOf (option_copied board) self.old.seat }
-        ensures own { IsBoardOf (option_copied board.entry) self.new.seat }
-        ensures ok { OnOk result (DealsAt how self.old self.new) }
-        ensures err { OnErr result (self.new ≡ self.old) }
-    {
-        self.journal.reserve(2)?;
-        deal(how, &mut self.seat, &mut self.journal, board);
-        Ok(())
-    }
-
-    // Deals with the hand so, where the worker stands still.
-    fn stand(&mut self, board: Option<&Board>, how: Dealing) -> Result<Turn, AllocError>
-        requires own { IsBoardOf (option_copied board) self.old.seat }
-        requires still { stands_still self.old ≡ true }
-        ensures own { IsBoardOf (option_copied board.entry) self.new.seat }
-        ensures ok { IfOk result (TurnsDealing how self.old self.new) }
-        ensures err { OnErr result (self.new ≡ self.old) }
-    {
-        let turn = self.standing();
-        self.deal_with(board, how)?;
-        Ok(turn)
     }
 
     // Deals with the hand so, and stands before the next row, which meets the condition.

@@ -2,7 +2,7 @@
 use Rattle.std.proofs.Common.{◌≡◌, ◌+◌, ◌∙◌, Some, refl, sym, subst, arith}
 use Rattle.std.specs.Option.{option_copied}
 use Rattle.amber_worker.specs.Counting.{IsBoardOf}
-use Rattle.amber_worker.specs.Driving.{CountsTurns, HasSent, turned_by}
+use Rattle.amber_worker.specs.Driving.{CountsTurns, HasSent, with_turns}
 use Rattle.amber_worker.specs.WorkerState.{WorkerState}
 use Rattle.amber_worker.proofs.Drives.{begins, breaks-calm, breaks-makes, breaks-off, counts-all, counts-turns, drives-more, goes-on, steps-within, tells-all, way-sent}
 use Rattle.amber_worker.proofs.worker.Worker.drive.Goals as goal
@@ -58,13 +58,13 @@ returns-then-stops-clause-counts g c =
 pub returns-clause-drives : goal.returns-clause-drives
 returns-clause-drives g c =
     let made : c.end_drive-2.result.turns ≡ c.turns.made = omega (arith, c.end_drive-2.ensures.turns) in
-    tells-all c.turns.made _ _ c.turns.last _ (counts-all c.turns.made _ _ _ c.turns.last c.turns.invariant.0.reached (subst (λ n. HasSent (turned_by n c.turns.self) c.end_drive-2.new.self) (omega arith) c.end_drive-2.ensures.sends) refl refl refl) made c.end_drive-2.ensures.last
+    tells-all c.turns.made _ _ c.turns.last _ (counts-all c.turns.made _ _ _ c.turns.last c.turns.invariant.0.reached (subst (λ n. HasSent (with_turns n c.turns.self) c.end_drive-2.new.self) (omega arith) c.end_drive-2.ensures.sends) refl refl refl) made c.end_drive-2.ensures.last
 
 pub returns-clause-makes : goal.returns-clause-makes
-returns-clause-makes g c = (counts-all c.turns.made _ _ _ c.turns.last c.turns.invariant.0.reached (subst (λ n. HasSent (turned_by n c.turns.self) c.end_drive-2.new.self) (omega arith) c.end_drive-2.ensures.sends) refl refl refl).makes
+returns-clause-makes g c = (counts-all c.turns.made _ _ _ c.turns.last c.turns.invariant.0.reached (subst (λ n. HasSent (with_turns n c.turns.self) c.end_drive-2.new.self) (omega arith) c.end_drive-2.ensures.sends) refl refl refl).makes
 
 pub returns-clause-counts : goal.returns-clause-counts
 returns-clause-counts g c =
     let made : c.turns.made ≡ c.end_drive-2.result.turns = omega (arith, c.end_drive-2.ensures.turns) in
     subst (λ made. CountsTurns made c.args.self.now c.end_drive-2.new.self) made
-    (counts-turns c.turns.made _ _ c.turns.last (counts-all c.turns.made _ _ _ c.turns.last c.turns.invariant.0.reached (subst (λ n. HasSent (turned_by n c.turns.self) c.end_drive-2.new.self) (omega arith) c.end_drive-2.ensures.sends) refl refl refl))
+    (counts-turns c.turns.made _ _ c.turns.last (counts-all c.turns.made _ _ _ c.turns.last c.turns.invariant.0.reached (subst (λ n. HasSent (with_turns n c.turns.self) c.end_drive-2.new.self) (omega arith) c.end_drive-2.ensures.sends) refl refl refl))
