@@ -15,6 +15,9 @@ const SLICE: u64 = 1024;
 // The slices of a round in which each worker can go on by itself.
 const PASSES: u64 = 64;
 
+// The slices of a round on one thread where a count is in force.
+const COUNT_PASSES: u64 = 4;
+
 // How often a thread looks again whose workers all wait for workers of other threads.
 const LOOKS: u32 = 4;
 
@@ -34,16 +37,19 @@ fn looks_of(threads: u32) -> u32
     if threads == 1 { 0 } else { LOOKS }
 }
 
-// The slices of a round. Where a pause is in force there is one, since none is seen before the round's end; and with one
-// thread also where a count is, since one worker of its operator has units in a round, and rows wait for the others.
+// The slices of a round. Where a pause is in force there is one, since none is seen before the round's end. With one thread
+// there are few where a count is, since operators in front of a count that is reached go on to the end of the round.
 fn passes_of(home: &Home, threads: u32) -> u64
     requires within { is_open home.now.phase ≡ true }
     ensures some { 1 ≤ result }
     ensures few { result ≤ 64 }
     ensures late { (op n : ℕ) → (arms_at (state_of home.now) op).pause ≡ Some n → result ≡ 1 }
 {
-    if home.has_pause() || threads == 1 && home.has_count() {
-        1
+    if home.has_pause() {
+        return 1;
+    }
+    if threads == 1 && home.has_count() {
+        COUNT_PASSES
     } else {
         PASSES
     }
