@@ -1,7 +1,7 @@
 pub mod Alike
 pub mod Armings
 pub mod AsFar
-pub mod AskedNext
+pub mod AnyAsked
 pub mod Begun
 pub mod Below
 pub mod Closed

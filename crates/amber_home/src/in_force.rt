@@ -1,7 +1,8 @@
 //! What commands have put in force at each operator. A command changes what it names and nothing else. Over
 //! `Armed` of `armed`, one for each operator.
 
-ghost use Rattle.std.specs.Prelude.{◌≡◌, ◌<◌, ◌≤◌, ℕ, IfOk, None, Some, false, if◌then◌else◌, is_some, length, map, option_map, true};
+ghost use Rattle.std.specs.Prelude.{◌≡◌, ◌<◌, ◌≤◌, IfOk, None, if◌then◌else◌, is_some, length, map, option_map};
+ghost use Rattle.std.specs.List.{list_any};
 ghost use Rattle.amber_rows.specs.Lists.{changed_at, nth};
 ghost use Rattle.amber_meaning.specs.State.{put};
 ghost use Rattle.amber_home.specs.Leg.{counts_asked};
@@ -64,30 +65,16 @@ impl InForce {
 
     /// Whether a pause is armed at any operator.
     pub fn has_pause(&self) -> bool
-        ensures none { result ≡ false → (op : ℕ) → (asked_at self.now op).pause ≡ None }
-        ensures some { result ≡ true → (op n : ℕ) × ((asked_at self.now op).pause ≡ Some n) }
+        ensures { result ≡ list_any (λ asked. is_some asked.pause) self.now }
     {
-        let arms = self.arms.as_slice();
-        for armed in arms {
-            if armed.pause().is_some() {
-                return true;
-            }
-        }
-        false
+        self.arms.iter().any(|armed| armed.pause().is_some())
     }
 
     /// Whether a count is armed at any operator.
     pub fn has_count(&self) -> bool
-        ensures none { result ≡ false → (op : ℕ) → (asked_at self.now op).count ≡ None }
-        ensures some { result ≡ true → (op : ℕ) × (is_some (asked_at self.now op).count ≡ true) }
+        ensures { result ≡ list_any (λ asked. is_some asked.count) self.now }
     {
-        let arms = self.arms.as_slice();
-        for armed in arms {
-            if armed.count().is_some() {
-                return true;
-            }
-        }
-        false
+        self.arms.iter().any(|armed| armed.count().is_some())
     }
 
     /// An operator's count, if one is armed there.

@@ -1,10 +1,11 @@
 -- The counts that are kept are those of the state.
-use Rattle.std.proofs.Common.{◌≡◌, ap, subst, ◌∙◌, ℕ, refl, List, Option, None, Some, is_some, true}
+use Rattle.std.proofs.Common.{◌≡◌, sym, ap, subst, ◌∙◌, ℕ, refl, List, Option, None, Some, is_some, true}
 use Rattle.amber_boards.specs.declared.target.Target.{Target}
 use Rattle.amber_meaning.specs.Position.{Position}
 use Rattle.amber_meaning.specs.State.{Counting, arms_at}
-use Rattle.amber_home.specs.Asked.{IsCountOf}
+use Rattle.amber_home.specs.Asked.{Asked, IsCountOf}
 use Rattle.amber_home.specs.HomeState.{HomeState, has_crew, state_of}
+use Rattle.amber_home.proofs.AnyAsked.{none-asked, none-of, some-asked}
 use Rattle.amber_home.proofs.Inside.{kept, seen}
 use Rattle.amber_home.proofs.Saying.{stands-somewhere}
 use Rattle.amber_home.proofs.home.Home.has_count.Goals as goal
@@ -26,12 +27,12 @@ returns-clause-none c is op =
     let i = c.self.inside in
     let h = stands-somewhere (seen i) (kept i) i.phase c.self.invariant (ap (λ (h : HomeState). has_crew h.phase) c.self.view_is ∙ c.requires.there) in
     subst (λ (h : HomeState). (arms_at (state_of h) op).count ≡ None) c.self.view_is
-    (no-count _ _ _ (h.in_force.each op).count (c.has_count.ensures.none is op))
+    (no-count _ _ _ (h.in_force.each op).count (none-of _ (none-asked (λ (asked : Asked). is_some asked.count) i.arms (sym c.has_count.ensures ∙ is) refl op)))
 
 pub returns-clause-some : goal.returns-clause-some
 returns-clause-some c is =
     let i = c.self.inside in
     let h = stands-somewhere (seen i) (kept i) i.phase c.self.invariant (ap (λ (h : HomeState). has_crew h.phase) c.self.view_is ∙ c.requires.there) in
-    let found = c.has_count.ensures.some is in
+    let found = some-asked (λ (asked : Asked). is_some asked.count) i.arms (sym c.has_count.ensures ∙ is) in
     subst (λ (h : HomeState). (op : ℕ) × (is_some (arms_at (state_of h) op).count ≡ true)) c.self.view_is
     (found.0, a-count _ _ _ (h.in_force.each found.0).count found.1)
