@@ -1,7 +1,9 @@
-//! Legs whose workers go away and come back: without a turn, twice, paused, and held. Rests on `lent` and `home_calls`.
+//! Legs whose workers go away and come back: without a turn, twice, paused, held, and up to two counts. Rests on `lent` and `home_calls`.
 
 use crate::expected::expect_text;
-use crate::home_calls::{apply, close_leg, disarm_leg, home_of, open_leg, resume, stops, written};
+use crate::home_calls::{
+    apply, close_leg, disarm_leg, feed, home_of, open_leg, resume, stops, written,
+};
 use crate::lent::go_away;
 use amber_home::{Home, NoMemory};
 use amber_log::Command;
@@ -9,12 +11,13 @@ use amber_rows::{Cmp, Cond, Value};
 use std::alloc::Global;
 use std::test::Fail;
 
-// The workers go away once for each of these lists of plans, and whoever is paused then goes on where nobody is held. How often they
+// The workers go away once for each of these lists of plans, with units where they need some, and whoever is paused then goes on where nobody is held. How often they
 // were away, and how often it was so.
 fn go_and_come(alloc: Global, home: &mut Home, rounds: &[&[&str]]) -> Result<(u32, u32), NoMemory> {
     let mut away = 0u32;
     let mut resumed = 0u32;
     for plans in rounds {
+        let _fed = feed(home)?;
         if go_away(alloc, home, plans)? {
             away = away.saturating_add(1);
         }
@@ -85,5 +88,25 @@ fn two_workers_are_held_at_once(rt: HostRuntime) -> Result<(), Fail> {
     expect_text(
         watched_text(alloc, &mut home)?,
         "watched true opened true away 1 resumed 0 closed true\nstop held all 0 3\nstop held big 0 2\nw 0 g 2 1 h 0 0 w 1 t 0 0 g 1 0 h 0 0 ",
+    )
+}
+
+// Counts at scan and filter, and a leg in which the workers go away twice.
+fn counted_text(alloc: Global, home: &mut Home) -> Result<String, Fail> {
+    let scan = apply(alloc, home, &Command::Count { op: 1, n: 2 })?;
+    let filter = apply(alloc, home, &Command::Count { op: 2, n: 1 })?;
+    let told = away_text(alloc, home, &[&["---p", ""], &["", ""]])?;
+    Ok(format!(in alloc; "counted {scan} {filter} {told}")?)
+}
+
+// The scan is told to pause before it emits its second row; then it does so, while the filter emits its first one: both have used all
+// of their units, and both counts stand at one cut.
+#[test]
+fn two_counts_stop_at_one_cut(rt: HostRuntime) -> Result<(), Fail> {
+    let alloc = rt.alloc();
+    let mut home = home_of(&rt, alloc, "n\n2\n3\n4\n", 1, 1000)?;
+    expect_text(
+        counted_text(alloc, &mut home)?,
+        "counted true true opened true away 2 resumed 2 closed true\nstop count all 2\nstop count big 1\nw 0 a 2 0 g 2 1 p 0 0 r 0 0 g 0 1 w 1 t 0 0 a 1 0 g 1 1 t 0 1 ",
     )
 }

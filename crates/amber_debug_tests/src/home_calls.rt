@@ -108,6 +108,15 @@ pub fn step(alloc: Global, home: &mut Home) -> Result<bool, NoMemory> {
     Ok(true)
 }
 
+/// Hands units to a worker of each operator in the leg that is open, whose counts are armed, where it needs one.
+pub fn feed(home: &mut Home) -> Result<bool, NoMemory> {
+    if !is_armed(home) {
+        return Ok(false);
+    }
+    home.feed(0)?;
+    Ok(true)
+}
+
 /// Lets whoever was paused go on in the leg that is open, whose counts are armed, where nobody is held.
 pub fn resume(home: &mut Home) -> Result<bool, NoMemory> {
     if !is_armed(home) || !home.are_loose() {
