@@ -4,7 +4,7 @@ use Rattle.std.specs.List.{All}
 use Rattle.std.proofs.lemmas.Bool.{cases_Bool, cases_lt, ne_eqb}
 use Rattle.std.proofs.lemmas.List.{get_or-drop, get_or-take, length-take-le, take-take}
 use Rattle.std.proofs.lemmas.List.Elements.{All-head, All-tail}
-use Rattle.amber_cut.specs.Lines.{AreApart, AreEnds, ends_line, line_at, start_if_filled, until}
+use Rattle.amber_cut.specs.Lines.{StandApart, AreLineEnds, ends_line, line_at, start_if_filled, until}
 
 -- ---- the first part
 
@@ -54,10 +54,10 @@ module _ (p : ℕ → Bool) where
 
 -- ---- ends
 
-pub ends-none : (bytes : List ℕ) (place : ℕ) → AreEnds bytes place place
+pub ends-none : (bytes : List ℕ) (place : ℕ) → AreLineEnds bytes place place
 ends-none bytes place = record { order = omega arith; ends = λ k l h w. absurd (omega (arith, l, h)) }
 
-ends-on : (bytes : List ℕ) (from mid to : ℕ) → AreEnds bytes from mid → AreEnds bytes mid to → AreEnds bytes from to
+ends-on : (bytes : List ℕ) (from mid to : ℕ) → AreLineEnds bytes from mid → AreLineEnds bytes mid to → AreLineEnds bytes from to
 ends-on bytes from mid to first second =
     record {
       order = omega (arith, first.order, second.order);
@@ -69,33 +69,33 @@ ends-on bytes from mid to first second =
 
 -- ---- one after the other
 
-apart-before : (bytes : List ℕ) (from mid : ℕ) (starts : List ℕ) (to : ℕ) → AreEnds bytes from mid → AreApart bytes mid starts to → AreApart bytes from starts to
-unfolding AreApart
+apart-before : (bytes : List ℕ) (from mid : ℕ) (starts : List ℕ) (to : ℕ) → AreLineEnds bytes from mid → StandApart bytes mid starts to → StandApart bytes from starts to
+unfolding StandApart
 apart-before bytes from mid [] to first later = ends-on bytes from mid to first later
 apart-before bytes from mid (start ∷ starts) to first later = (ends-on bytes from mid start first later.0, later.1)
 
-pub apart-append : (bytes : List ℕ) (from mid : ℕ) (front back : List ℕ) (to : ℕ) → AreApart bytes from front mid → AreApart bytes mid back to → AreApart bytes from (front ++ back) to
-unfolding AreApart
+pub apart-append : (bytes : List ℕ) (from mid : ℕ) (front back : List ℕ) (to : ℕ) → StandApart bytes from front mid → StandApart bytes mid back to → StandApart bytes from (front ++ back) to
+unfolding StandApart
 apart-append bytes from mid [] back to first second = apart-before bytes from mid back to first second
 apart-append bytes from mid (start ∷ front) back to first second = (first.0, apart-append bytes (start + length (line_at bytes start)) mid front back to first.1 second)
 
-pub apart-none : (bytes : List ℕ) (from : ℕ) → AreApart bytes from [] from
-unfolding AreApart
+pub apart-none : (bytes : List ℕ) (from : ℕ) → StandApart bytes from [] from
+unfolding StandApart
 apart-none bytes from = ends-none bytes from
 
 -- a line more was noted
-apart-line : (bytes : List ℕ) (at n : ℕ) → length (line_at bytes at) ≡ n → AreEnds bytes (at + n) (at + (n + 1)) → AreApart bytes at (start_if_filled at n) (at + (n + 1))
-unfolding AreApart
+apart-line : (bytes : List ℕ) (at n : ℕ) → length (line_at bytes at) ≡ n → AreLineEnds bytes (at + n) (at + (n + 1)) → StandApart bytes at (start_if_filled at n) (at + (n + 1))
+unfolding StandApart
 apart-line bytes at zero long ends = let same : at + 0 ≡ at = omega arith in rw same at ends
 apart-line bytes at (suc n) long ends =
     let some : (suc n == 0) ≡ false = ne_eqb (suc n) 0 (λ z. omega (arith, z)) in
-    rw some (ends-none bytes at, subst (λ line. AreEnds bytes (at + line) (at + (suc n + 1))) (sym long) ends)
+    rw some (ends-none bytes at, subst (λ line. AreLineEnds bytes (at + line) (at + (suc n + 1))) (sym long) ends)
 
-pub apart-note : (bytes : List ℕ) (from : ℕ) (starts : List ℕ) (at n : ℕ) → take n (drop at bytes) ≡ until ends_line (drop at bytes) → n ≤ length (drop at bytes) → AreApart bytes from starts at
-    → AreApart bytes from (starts ++ start_if_filled at n) (at + (n + 1))
+pub apart-note : (bytes : List ℕ) (from : ℕ) (starts : List ℕ) (at n : ℕ) → take n (drop at bytes) ≡ until ends_line (drop at bytes) → n ≤ length (drop at bytes) → StandApart bytes from starts at
+    → StandApart bytes from (starts ++ start_if_filled at n) (at + (n + 1))
 apart-note bytes from starts at n line within before =
     let long : length (line_at bytes at) ≡ n = until-length ends_line (drop at bytes) n line within in
-    let ends : AreEnds bytes (at + n) (at + (n + 1)) = record {
+    let ends : AreLineEnds bytes (at + n) (at + (n + 1)) = record {
       order = omega arith;
       ends = λ k l h w.
           let here : k ≡ at + n = omega (arith, l, h) in
@@ -107,8 +107,8 @@ apart-note bytes from starts at n line within before =
     apart-append bytes from at starts (start_if_filled at n) (at + (n + 1)) before (apart-line bytes at n long ends)
 
 -- all lines were noted
-pub apart-all : (bytes : List ℕ) (from : ℕ) (starts : List ℕ) (to : ℕ) → from ≤ length bytes → All (λ start. start < length bytes) starts → length bytes ≤ to → AreApart bytes from starts to → AreApart bytes from starts (length bytes)
-unfolding AreApart
+pub apart-all : (bytes : List ℕ) (from : ℕ) (starts : List ℕ) (to : ℕ) → from ≤ length bytes → All (λ start. start < length bytes) starts → length bytes ≤ to → StandApart bytes from starts to → StandApart bytes from starts (length bytes)
+unfolding StandApart
 apart-all bytes from [] to short within long apart = record { order = short; ends = λ k l h w. apart.ends k l (omega (arith, h, long)) w }
 apart-all bytes from (start ∷ starts) to short within long apart =
     let here = All-head (λ start. start < length bytes) start starts within in
@@ -117,9 +117,9 @@ apart-all bytes from (start ∷ starts) to short within long apart =
 
 -- ---- the line behind one
 
-pub apart-next : (bytes : List ℕ) (from : ℕ) (starts : List ℕ) (to k : ℕ) → AreApart bytes from starts to → k < length starts
-    → AreEnds bytes (get_or starts k 0 + length (line_at bytes (get_or starts k 0))) (get_or starts (k + 1) to)
-unfolding AreApart
+pub apart-next : (bytes : List ℕ) (from : ℕ) (starts : List ℕ) (to k : ℕ) → StandApart bytes from starts to → k < length starts
+    → AreLineEnds bytes (get_or starts k 0 + length (line_at bytes (get_or starts k 0))) (get_or starts (k + 1) to)
+unfolding StandApart
 apart-next bytes from [] to k apart h = absurd (omega (arith, h))
 apart-next bytes from (start ∷ []) to zero apart h = apart.1
 apart-next bytes from (start ∷ next ∷ starts) to zero apart h = apart.1.0
@@ -134,11 +134,11 @@ next-within bytes [] k within = omega arith
 next-within bytes (start ∷ starts) zero within = let here = All-head (λ start. start < length bytes) start starts within in omega (arith, here)
 next-within bytes (start ∷ starts) (suc k) within = next-within bytes starts k (All-tail (λ start. start < length bytes) start starts within)
 
-pub next-behind : (bytes : List ℕ) (from : ℕ) (starts : List ℕ) (k : ℕ) → AreApart bytes from starts (length bytes) → k < length starts → get_or starts k 0 ≤ get_or starts (k + 1) (length bytes)
+pub next-behind : (bytes : List ℕ) (from : ℕ) (starts : List ℕ) (k : ℕ) → StandApart bytes from starts (length bytes) → k < length starts → get_or starts k 0 ≤ get_or starts (k + 1) (length bytes)
 next-behind bytes from starts k apart h = let next = apart-next bytes from starts (length bytes) k apart h in let order = next.order in omega (arith, order)
 
 -- what stands before the ends of lines in front of it is the line
-line-length : (bytes : List ℕ) (start next found : ℕ) → AreEnds bytes (start + length (line_at bytes start)) next → next ≤ length bytes → (let rest = take (next - start) (drop start bytes) in AreEnds rest found (length rest) → found ≤ length rest → (0 < found → ends_line (get_or rest (found - 1) 0) ≡ false) → found ≡ length (line_at bytes start))
+line-length : (bytes : List ℕ) (start next found : ℕ) → AreLineEnds bytes (start + length (line_at bytes start)) next → next ≤ length bytes → (let rest = take (next - start) (drop start bytes) in AreLineEnds rest found (length rest) → found ≤ length rest → (0 < found → ends_line (get_or rest (found - 1) 0) ≡ false) → found ≡ length (line_at bytes start))
 line-length bytes start next found apart within ends short last =
     let xs = drop start bytes in
     let rest = take (next - start) xs in
@@ -161,7 +161,7 @@ line-length bytes start next found apart within ends short last =
       ]
     ]
 
-pub line-found : (bytes : List ℕ) (start next found : ℕ) → AreEnds bytes (start + length (line_at bytes start)) next → next ≤ length bytes → (let rest = take (next - start) (drop start bytes) in AreEnds rest found (length rest) → found ≤ length rest → (0 < found → ends_line (get_or rest (found - 1) 0) ≡ false) → take found rest ≡ line_at bytes start)
+pub line-found : (bytes : List ℕ) (start next found : ℕ) → AreLineEnds bytes (start + length (line_at bytes start)) next → next ≤ length bytes → (let rest = take (next - start) (drop start bytes) in AreLineEnds rest found (length rest) → found ≤ length rest → (0 < found → ends_line (get_or rest (found - 1) 0) ≡ false) → take found rest ≡ line_at bytes start)
 line-found bytes start next found apart within ends short last =
     let xs = drop start bytes in
     let order = apart.order in

@@ -4,7 +4,7 @@ use Rattle.std.specs.List.{All, onto_first, slice_split}
 use Rattle.std.proofs.lemmas.Bool.{cases_Bool, cases_lt}
 use Rattle.std.proofs.lemmas.List.{append-nil, drop_all, get_or-take, length-take-le, map-append, take-take, take_all}
 use Rattle.std.proofs.lemmas.List.Elements.{All-append, All-head, All-tail, All-weaker, filter-append}
-use Rattle.amber_cut.specs.Lines.{AreApart, AreEnds, AreStarts, CanBegin, ends_line, is_filled, line_at, lines, until}
+use Rattle.amber_cut.specs.Lines.{StandApart, AreLineEnds, AreStarts, CanBegin, ends_line, is_filled, line_at, lines, until}
 use Rattle.amber_cut.proofs.Apart.{apart-append}
 use Rattle.amber_cut.proofs.LineRecords.{lines-none, parts-some}
 
@@ -82,14 +82,14 @@ front-lines bytes front k h at within =
     (All-weaker (λ start. start < length (take (suc k) bytes)) (λ start. line_at (take (suc k) bytes) start ≡ line_at bytes start) (λ start l. until-from ends_line start bytes k (omega (arith, l, long)) h at) front within)
 
 -- nor do other bytes stand between them
-front-ends : (bytes : List ℕ) (m from to : ℕ) → m ≤ length bytes → to ≤ m → AreEnds (take m bytes) from to → AreEnds bytes from to
+front-ends : (bytes : List ℕ) (m from to : ℕ) → m ≤ length bytes → to ≤ m → AreLineEnds (take m bytes) from to → AreLineEnds bytes from to
 front-ends bytes m from to short within ends =
     let long : length (take m bytes) ≡ m = length-take-le m bytes short in
     record { order = ends.order; ends = λ k l h w. ap ends_line (sym (get_or-take m bytes k 0 (omega (arith, h, within)))) ∙ ends.ends k l h (omega (arith, h, within, long)) }
 
 front-apart : (bytes : List ℕ) (from k : ℕ) (front : List ℕ) → k < length bytes → ends_line (get_or bytes k 0) ≡ true → All (λ start. start < length (take (suc k) bytes)) front
-    → AreApart (take (suc k) bytes) from front (length (take (suc k) bytes)) → AreApart bytes from front (suc k)
-unfolding AreApart
+    → StandApart (take (suc k) bytes) from front (length (take (suc k) bytes)) → StandApart bytes from front (suc k)
+unfolding StandApart
 front-apart bytes from k [] h at within apart =
     let long : length (take (suc k) bytes) ≡ suc k = length-take-le (suc k) bytes (omega (arith, h)) in
     front-ends bytes (suc k) from (suc k) (omega (arith, h)) (omega arith) (rw long at apart)
@@ -100,7 +100,7 @@ front-apart bytes from k (start ∷ front) h at within apart =
     let same : line_at (take (suc k) bytes) start ≡ line_at bytes start = until-from ends_line start bytes k (omega (arith, less)) h at in (
       front-ends bytes (suc k) from start (omega (arith, h)) (omega (arith, less)) apart.0,
       front-apart bytes (start + length (line_at bytes start)) k front h at (All-tail (λ start. start < length (take (suc k) bytes)) start front within)
-          (subst (λ line. AreApart (take (suc k) bytes) (start + length line) front (length (take (suc k) bytes))) same apart.1),
+          (subst (λ line. StandApart (take (suc k) bytes) (start + length line) front (length (take (suc k) bytes))) same apart.1),
     )
 
 -- where a byte ends a line, and the second part begins behind it

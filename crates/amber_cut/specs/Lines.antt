@@ -53,17 +53,17 @@ abbrev pub CanBegin : List ℕ → ℕ → Type 0
 CanBegin bytes place = place < length bytes → (0 < place) × (ends_line (slice_index bytes (place - 1)) ≡ true)
 
 -- nothing but ends of lines stands in a text from one place to another
-pub record AreEnds (bytes : List ℕ) (from to : ℕ) : Type 0 where
+pub record AreLineEnds (bytes : List ℕ) (from to : ℕ) : Type 0 where
   pub order : from ≤ to
   pub ends : (k : ℕ) → from ≤ k → k < to → k < length bytes → ends_line (slice_index bytes k) ≡ true
 
 -- of a text from one place to another, nothing but ends of lines stands outside the lines that begin at these places
-unfoldable pub AreApart : List ℕ → ℕ → List ℕ → ℕ → Type 0
-AreApart bytes from [] to = AreEnds bytes from to
-AreApart bytes from (start ∷ starts) to = AreEnds bytes from start × AreApart bytes (start + length (line_at bytes start)) starts to
+unfoldable pub StandApart : List ℕ → ℕ → List ℕ → ℕ → Type 0
+StandApart bytes from [] to = AreLineEnds bytes from to
+StandApart bytes from (start ∷ starts) to = AreLineEnds bytes from start × StandApart bytes (start + length (line_at bytes start)) starts to
 
 -- the places at which the lines of a text begin from this place on
 pub record AreStarts (bytes : List ℕ) (from : ℕ) (starts : List ℕ) : Type 0 where
   pub lines : map (line_at bytes) starts ≡ lines (drop from bytes)
   pub within : All (λ start. start < length bytes) starts
-  pub apart : AreApart bytes from starts (length bytes)
+  pub apart : StandApart bytes from starts (length bytes)

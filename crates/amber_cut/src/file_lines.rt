@@ -58,14 +58,14 @@ impl Drop for Lines {
 impl Model for Lines {
     ghost use Rattle.std.specs.Prelude.{◌<◌, ◌^◌, List, ℕ, length, map};
     ghost use Rattle.std.specs.List.{All};
-    ghost use Rattle.amber_cut.specs.Lines.{AreApart, line_at};
+    ghost use Rattle.amber_cut.specs.Lines.{StandApart, line_at};
 
     ghost Value = { List (List ℕ) };
 
     ghost view = { λ a. map (line_at a.file) a.starts.items };
 
     ghost invariant = { λ a. All (λ start. start < length a.file) a.starts.items
-        × ((from : ℕ) × AreApart a.file from a.starts.items (length a.file)) };
+        × ((from : ℕ) × StandApart a.file from a.starts.items (length a.file)) };
 }
 
 impl Lines {

@@ -2,7 +2,7 @@
 
 ghost use Rattle.std.specs.Prelude.{◌≡◌, ◌<◌, ◌≤◌, ◌+◌, ◌-◌, ◌↔◌, IsTrue, drop, false, length, slice_index, take};
 ghost use Rattle.csv.specs.Reading.{is_bom, strip_bom};
-ghost use Rattle.amber_cut.specs.Lines.{AreEnds, CanBegin, HasQuote, past, ends_line, until};
+ghost use Rattle.amber_cut.specs.Lines.{AreLineEnds, CanBegin, HasQuote, past, ends_line, until};
 
 use memchr::{memchr, memchr2};
 
@@ -28,7 +28,7 @@ pub fn line_end(bytes: &[u8]) -> usize
 /// How long a text is without the ends of lines at its end.
 pub fn length_before_ends(bytes: &[u8]) -> usize
     ensures within { result ≤ length bytes.now }
-    ensures ends { AreEnds bytes.now result (length bytes.now) }
+    ensures ends { AreLineEnds bytes.now result (length bytes.now) }
     ensures last { 0 < result → ends_line (slice_index bytes.now (result - 1)) ≡ false }
 {
     let mut length = bytes.len();

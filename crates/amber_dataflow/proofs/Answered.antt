@@ -26,7 +26,7 @@ use Rattle.amber_meaning.specs.Views.{answer_in, sink_rows, taken_of}
 use Rattle.amber_meaning.proofs.Crews.{place-worker, worker-known, worker-op}
 use Rattle.amber_meaning.proofs.Flows.{sink-last, there}
 use Rattle.amber_meaning.proofs.Numbers.{among, among-first}
-use Rattle.amber_worker.specs.AtPosition.{no_base, placement_of}
+use Rattle.amber_worker.specs.AtPosition.{placement_of}
 use Rattle.amber_worker.specs.WorkerState.{WorkerState}
 use Rattle.amber_dataflow.specs.Answers.{HaveGiven, IsGathered, ShowAll, refused_at, rows_before, sort_refusals}
 use Rattle.amber_dataflow.specs.AtWork.{AreAtWork}
@@ -39,7 +39,7 @@ use Rattle.amber_dataflow.proofs.Within.{position-here}
 pub at-work-show : (query : Query) (start : State) (crew : List WorkerState) (positions : ℕ → Position) → AreAtWork query start crew positions → ShowAll query crew positions
 at-work-show query start crew positions work worker inside =
     let here : worker < crew_of query.flow = rw (← work.at.at_positions.all) inside in
-    (orders_in query start worker, no_base, (work.at.at_positions.each worker here).shows)
+    (orders_in query start worker, work.at.at_positions.bases worker, (work.at.at_positions.each worker here).shows)
 
 -- ---- the sink
 

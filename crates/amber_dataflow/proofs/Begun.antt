@@ -24,7 +24,7 @@ use Rattle.amber_meaning.specs.Plan.{role_of}
 use Rattle.amber_meaning.specs.Position.{Taken, origin}
 use Rattle.amber_meaning.specs.State.{arms_at, first_constants, no_arms, orders_of, position_at, start_of}
 use Rattle.amber_meaning.proofs.OneState.{position-get_or}
-use Rattle.amber_worker.specs.AtPosition.{IsAtPosition, Output, Placement, ReceiveAll, SendAll, first_context, first_orders, placement_of}
+use Rattle.amber_worker.specs.AtPosition.{IsAtPosition, Output, Placement, ReceiveAll, SendAll, first_context, first_orders, no_base, placement_of}
 use Rattle.amber_worker.specs.Changes.{StandsNew}
 use Rattle.amber_worker.specs.Made.{end_of, link_of, roomless}
 use Rattle.amber_worker.specs.Pairs.{AreJoined, AreSettledAt, IsLinkAt}
@@ -183,10 +183,12 @@ module _ (flow : List Operator) (files : List (List ℕ)) (parts : Parts) (crew 
     at = record {
       flow = ok;
       at_positions = record {
+        bases = λ _. no_base;
+        earlier = λ from to. refl;
         all = new.all ∙ ap crew_of flow_is;
         each = λ worker below.
-            subst (λ p. IsAtPosition (context_in query (start_of flow) worker) (worker_state_at crew worker) p origin) (sym (start-position flow worker))
-            (subst (λ orders. IsAtPosition (record (context_in query (start_of flow) worker) { orders = orders }) (worker_state_at crew worker) origin origin)
+            subst (λ p. IsAtPosition (context_in (λ _. no_base) query (start_of flow) worker) (worker_state_at crew worker) p origin) (sym (start-position flow worker))
+            (subst (λ orders. IsAtPosition (record (context_in (λ _. no_base) query (start_of flow) worker) { orders = orders }) (worker_state_at crew worker) origin origin)
             (sym (start-orders flow worker)) (stands worker below));
       };
       joined = joined;

@@ -1,16 +1,14 @@
 -- One worker's turn leaves all workers standing, and so does moving batches from one to another.
-use Rattle.std.proofs.Common.{None, Option, ◌≡◌, ◌≢◌, refl, sym, ap, subst, ◌∙◌, ℕ, ◌<◌, List, length, set, nat_eq, Bool, true, false, is_some, if◌then◌else◌, inl, inr, get_or-set_same, get_or-set_other, length-set}
+use Rattle.std.proofs.Common.{◌≡◌, ◌≢◌, refl, sym, subst, ◌∙◌, ℕ, ◌<◌, List, length, set, nat_eq, Bool, true, if◌then◌else◌, inl, inr, get_or-set_same, get_or-set_other, length-set}
 use Rattle.std.proofs.lemmas.Bool.{eq-eqb, ne_eqb}
 use Rattle.std.proofs.lemmas.Bool.Decides.{eqb_tells}
-use Rattle.amber_rows.specs.Topology.{crew_of, op_of}
-use Rattle.amber_lines.specs.Moving.{orders_in}
+use Rattle.amber_rows.specs.Topology.{crew_of}
 use Rattle.amber_meaning.specs.Legal.{Query}
 use Rattle.amber_meaning.specs.Position.{Position}
 use Rattle.amber_meaning.specs.State.{State, position_at}
 use Rattle.amber_worker.specs.AtPosition.{HasSameEnds, IsAtPosition, KeepsUnder}
 use Rattle.amber_worker.specs.Pairs.{AreJoined, StaysAt}
-use Rattle.amber_board.specs.declared.types.WorkSeat.{WorkSeat}
-use Rattle.amber_worker.specs.WorkerState.{WorkerState, is_armed}
+use Rattle.amber_worker.specs.WorkerState.{WorkerState}
 use Rattle.amber_worker.proofs.Turns.{ends-same}
 use Rattle.amber_dataflow.specs.AtWork.{AreJoinedAt, context_in, is_counted, no_worker_state, worker_state_at}
 use Rattle.amber_dataflow.proofs.Linked.{joined-still}
@@ -59,7 +57,7 @@ module _ (query : Query) (start : State) (crew : List WorkerState) (positions : 
   unfolding KeepsUnder
   joined-turned at inside counted under keeps same =
       let here : worker < crew_of query.flow = rw (← at.at_positions.all) inside in
-      let moved = keeps (context_in query start worker) (position_at start.positions worker) (positions worker)
+      let moved = keeps (context_in at.at_positions.bases query start worker) (position_at start.positions worker) (positions worker)
       under
       (at.at_positions.each worker here) in
       let q = moved.0 in (
@@ -67,8 +65,10 @@ module _ (query : Query) (start : State) (crew : List WorkerState) (positions : 
         record {
           flow = at.flow;
           at_positions = record {
+            bases = at.at_positions.bases;
+            earlier = at.at_positions.earlier;
             all = length-set crew worker now ∙ at.at_positions.all;
-            each = at-each (λ k. k < crew_of query.flow → IsAtPosition (context_in query start k)
+            each = at-each (λ k. k < crew_of query.flow → IsAtPosition (context_in at.at_positions.bases query start k)
                 (worker_state_at (set crew worker now) k) (position_at start.positions k) (placed positions worker q k)) worker
                 (λ h. rw (here-now crew worker now inside, same-place worker) moved.1)
                 (λ k ne h. rw (there-still crew worker now inside k ne, ne_eqb k worker ne) (at.at_positions.each k h));
@@ -88,11 +88,13 @@ module _ (query : Query) (start : State) (crew : List WorkerState) (positions : 
   joined-stays at inside stays same = record {
     flow = at.flow;
     at_positions = record {
+      bases = at.at_positions.bases;
+      earlier = at.at_positions.earlier;
       all = length-set crew worker now ∙ at.at_positions.all;
-      each = at-each (λ k. k < crew_of query.flow → IsAtPosition (context_in query start k)
+      each = at-each (λ k. k < crew_of query.flow → IsAtPosition (context_in at.at_positions.bases query start k)
           (worker_state_at (set crew worker now) k) (position_at start.positions k) (positions k)) worker
           (λ h. rw (here-now crew worker now inside)
-          (stays (context_in query start worker) (position_at start.positions worker) (positions worker) (at.at_positions.each worker h)))
+          (stays (context_in at.at_positions.bases query start worker) (position_at start.positions worker) (positions worker) (at.at_positions.each worker h)))
           (λ k ne h. rw (there-still crew worker now inside k ne) (at.at_positions.each k h));
     };
     joined = λ from to from-in to-in.

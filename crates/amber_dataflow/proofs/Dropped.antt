@@ -1,8 +1,8 @@
 -- The row before which a worker is held is dropped.
-use Rattle.std.proofs.Common.{◌≡◌, ◌≢◌, refl, sym, ap, subst, ◌∙◌, ℕ, zero, suc, ◌+◌, ◌<◌, ◌≤◌, List, [], ◌∷◌, length, drop, map, set, eqb, Bool, true, false, None, Option, if◌then◌else◌, is_some, inl, inr, arith, length-set}
+use Rattle.std.proofs.Common.{◌≡◌, ◌≢◌, refl, sym, ap, ◌∙◌, ℕ, zero, suc, ◌<◌, ◌≤◌, List, [], ◌∷◌, length, drop, set, eqb, Bool, true, false, None, if◌then◌else◌, is_some, inl, inr, arith, length-set}
 use Rattle.std.proofs.lemmas.Bool.{cases_lt, eq-eqb, false≢true, ne_eqb}
 use Rattle.std.proofs.lemmas.List.{drop_all}
-use Rattle.amber_rows.specs.Lists.{first_of, numbers_below}
+use Rattle.amber_rows.specs.Lists.{first_of}
 use Rattle.amber_rows.specs.Topology.{crew_of}
 use Rattle.amber_rows.specs.declared.value.Value.{Value}
 use Rattle.amber_log.specs.Grammar.{AreEntries}
@@ -10,12 +10,12 @@ use Rattle.amber_lines.specs.Moving.{orders_in}
 use Rattle.amber_meaning.specs.Legal.{Query}
 use Rattle.amber_meaning.specs.Position.{Position, Restraint, produced_rows}
 use Rattle.amber_meaning.specs.Rules.{Leads}
-use Rattle.amber_meaning.specs.State.{State, arms_at, position_at, without_held}
+use Rattle.amber_meaning.specs.State.{State, position_at, without_held}
 use Rattle.amber_worker.specs.AtPosition.{Context, IsAtPosition, Shows}
 use Rattle.amber_worker.specs.Changes.{ShowsDropped, held_dropped, row_held}
 use Rattle.amber_worker.specs.WorkerState.{WorkerState, steps_made}
 use Rattle.amber_worker.proofs.Commands.{shows-dropped}
-use Rattle.amber_dataflow.specs.AtWork.{context_in, state_reached, steps_by, worker_state_at}
+use Rattle.amber_dataflow.specs.AtWork.{context_in, state_reached, worker_state_at}
 use Rattle.amber_dataflow.specs.Dataflow.{AreHeldByRows, DataflowState, HaveDoneNothing, IsDataflow, StandAt, held_row, is_held, journal_of, row_dropped, step_count}
 use Rattle.amber_dataflow.proofs.Crews.{at-each, here-now, there-still}
 use Rattle.amber_dataflow.proofs.Reached.{listed-at}
@@ -81,9 +81,9 @@ module _ (query : Query) (start : State) (d : DataflowState) (positions : ℕ �
       (λ k ne. rw (there-still crew worker now there k ne) (record { number = refl; ins = refl; outs = refl }))
 
   -- one of them, with nothing done since
-  at : (k : ℕ) → k < crew_of query.flow → IsAtPosition (context_in query start k) (worker_state_at (set crew worker now) k) (dropped_at k) (dropped_at k)
+  at : (k : ℕ) → k < crew_of query.flow → IsAtPosition (context_in stand.work.at.at_positions.bases query start k) (worker_state_at (set crew worker now) k) (dropped_at k) (dropped_at k)
   unfolding dropped_at journal_of is_held held_row ShowsDropped Leads AreEntries
-  at = at-each (λ k. k < crew_of query.flow → IsAtPosition (context_in query start k) (worker_state_at (set crew worker now) k) (dropped_at k) (dropped_at k)) worker
+  at = at-each (λ k. k < crew_of query.flow → IsAtPosition (context_in stand.work.at.at_positions.bases query start k) (worker_state_at (set crew worker now) k) (dropped_at k) (dropped_at k)) worker
       (λ less.
       let w = worker_state_at crew worker in
       let shows = (stand.work.at.at_positions.each worker less).shows in
@@ -92,7 +92,7 @@ module _ (query : Query) (start : State) (d : DataflowState) (positions : ℕ �
       (record {
         leads = rw journal refl;
         text = rw journal tt;
-        shows = shows-dropped w (context_in query start worker) (positions worker) (holds-row (context_in query start worker) w (positions worker) shows (rows worker)) shows;
+        shows = shows-dropped w (context_in stand.work.at.at_positions.bases query start worker) (positions worker) (holds-row (context_in stand.work.at.at_positions.bases query start worker) w (positions worker) shows (rows worker)) shows;
       }))
       (λ k ne less.
       rw (there-still crew worker now there k ne, ne_eqb k worker ne)

@@ -1,9 +1,9 @@
 -- Workers with the same ends of their links that stand somewhere under what another state has in force.
-use Rattle.std.proofs.Common.{◌≡◌, sym, ap, ◌∙◌, ℕ, ◌<◌, List, length, get_or, None}
+use Rattle.std.proofs.Common.{◌≡◌, sym, ap, ◌∙◌, ℕ, ◌<◌, List, length, get_or}
 use Rattle.amber_rows.specs.Topology.{crew_of}
 use Rattle.amber_meaning.specs.Legal.{Query}
 use Rattle.amber_meaning.specs.Position.{Position}
-use Rattle.amber_meaning.specs.State.{State, arms_at, position_at}
+use Rattle.amber_meaning.specs.State.{State, position_at}
 use Rattle.amber_worker.specs.AtPosition.{IsAtPosition}
 use Rattle.amber_worker.specs.Pairs.{AreJoined}
 use Rattle.amber_worker.specs.WorkerState.{WorkerState}
@@ -30,12 +30,17 @@ joined-same from to from_now to_now out_ends in_ends joined j k places one other
 module _ (query : Query) (start now : State) (crew after : List WorkerState) (positions later : ℕ → Position) (work : AreAtWork query start crew positions) where
   pub renewed : length after ≡ length crew → ((k : ℕ) → HasItsEnds (worker_state_at crew k) (worker_state_at after k))
       → ((worker : ℕ) → worker < crew_of query.flow
-      → IsAtPosition (context_in query now worker) (worker_state_at after worker) (position_at now.positions worker) (later worker))
+      → IsAtPosition (context_in work.at.at_positions.bases query now worker) (worker_state_at after worker) (position_at now.positions worker) (later worker))
       → AreAtWork query now after later
   renewed long same each = record {
     at = record {
       flow = work.at.flow;
-      at_positions = record { all = long ∙ work.at.at_positions.all; each = each };
+      at_positions = record {
+        bases = work.at.at_positions.bases;
+        earlier = work.at.at_positions.earlier;
+        all = long ∙ work.at.at_positions.all;
+        each = each;
+      };
       joined = λ from to from-in to-in.
           joined-same (worker_state_at crew from) (worker_state_at crew to) (worker_state_at after from) (worker_state_at after to) (same from) (same to)
           (work.at.joined from to from-in to-in);

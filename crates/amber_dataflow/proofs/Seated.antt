@@ -1,5 +1,5 @@
 -- One worker is given a seat or gives it back, or room is kept in its journal: where all stand then.
-use Rattle.std.proofs.Common.{◌≡◌, ◌≢◌, refl, sym, ap, subst, Result, Ok, Err, ℕ, ◌<◌, ◌≤◌, ◌^◌, List, length, set, Bool, true, if◌then◌else◌, arith, length-set}
+use Rattle.std.proofs.Common.{◌≡◌, refl, sym, ap, subst, Result, Ok, Err, ℕ, ◌<◌, List, length, set, Bool, true, if◌then◌else◌, arith, length-set}
 use Rattle.std.specs.Result.{OnErr, OnOk}
 use Rattle.std.proofs.lemmas.Bool.{ne_eqb}
 use Rattle.amber_rows.specs.Topology.{crew_of}
@@ -33,12 +33,12 @@ module _ (d : DataflowState) (worker : ℕ) (now : WorkerState) (there : worker 
   unfolding KeepsUnder MovesUnder
   moves-put counted keeps query start positions stand under =
       let inside : worker < crew_of query.flow = rw (← stand.work.at.at_positions.all) there in
-      let moved = keeps (context_in query start worker) (position_at start.positions worker) (positions worker) under (stand.work.at.at_positions.each worker inside) in (
+      let moved = keeps (context_in stand.work.at.at_positions.bases query start worker) (position_at start.positions worker) (positions worker) under (stand.work.at.at_positions.each worker inside) in (
         placed positions worker moved.0,
         record {
           flow = stand.flow;
           work = renewed query start start crew (set crew worker now) positions (placed positions worker moved.0) stand.work (length-set crew worker now) same
-              (at-each (λ k. k < crew_of query.flow → IsAtPosition (context_in query start k)
+              (at-each (λ k. k < crew_of query.flow → IsAtPosition (context_in stand.work.at.at_positions.bases query start k)
               (worker_state_at (set crew worker now) k) (position_at start.positions k) (placed positions worker moved.0 k)) worker
               (λ h. rw (here-now crew worker now there, same-place worker) moved.1)
               (λ k ne h. rw (there-still crew worker now there k ne, ne_eqb k worker ne) (stand.work.at.at_positions.each k h)));
@@ -110,8 +110,8 @@ stand-reserved query start d positions worker there stand =
       flow = stand.flow;
       work = renewed query start start d.workers (set d.workers worker now) positions positions stand.work (length-set d.workers worker now)
           (same d worker now there (record { number = refl; ins = refl; outs = refl }))
-          (at-each (λ k. k < crew_of query.flow → IsAtPosition (context_in query start k) (worker_state_at (set d.workers worker now) k) (position_at start.positions k) (positions k)) worker
-          (λ h. rw (here-now d.workers worker now there) (room-at (context_in query start worker) w (position_at start.positions worker) (positions worker) true (stand.work.at.at_positions.each worker h)))
+          (at-each (λ k. k < crew_of query.flow → IsAtPosition (context_in stand.work.at.at_positions.bases query start k) (worker_state_at (set d.workers worker now) k) (position_at start.positions k) (positions k)) worker
+          (λ h. rw (here-now d.workers worker now there) (room-at (context_in stand.work.at.at_positions.bases query start worker) w (position_at start.positions worker) (positions worker) true (stand.work.at.at_positions.each worker h)))
           (λ k ne h. rw (there-still d.workers worker now there k ne) (stand.work.at.at_positions.each k h)));
     }
 

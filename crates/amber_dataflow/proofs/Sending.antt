@@ -32,13 +32,13 @@ module _ (query : Query) (start : State) (crew : List WorkerState) (positions : 
   pub receivers-are : (worker other : ℕ) → worker < length crew → list_any (λ one. nat_eq one.to other) (worker_state_at crew worker).outs ≡ is_in (receivers_of query.flow worker) other
   unfolding placement_of
   receivers-are worker other inside =
-      sends-to (context_in query start worker) (worker_state_at crew worker) (positions worker) other
+      sends-to (context_in at.at_positions.bases query start worker) (worker_state_at crew worker) (positions worker) other
       (at.at_positions.each worker (rw (← at.at_positions.all) inside)).shows
 
   pub senders-are : (worker other : ℕ) → worker < length crew → list_any (λ one. nat_eq one.from other) (worker_state_at crew worker).ins ≡ is_in (senders_of query.flow worker) other
   unfolding placement_of role_of
   senders-are worker other inside =
-      receives-from (context_in query start worker) (worker_state_at crew worker) (positions worker) other
+      receives-from (context_in at.at_positions.bases query start worker) (worker_state_at crew worker) (positions worker) other
       (at.at_positions.each worker (rw (← at.at_positions.all) inside)).shows
 
   pub sending : (from to : ℕ) → SendsTo query.flow from to → IsSending query crew from to

@@ -1,6 +1,5 @@
 -- Where the workers stand after each call, and what is then read of them.
 use Rattle.std.proofs.Common.{None, Option, ◌≡◌, ◌≢◌, refl, sym, ap, subst, ◌∙◌, ℕ, zero, suc, ◌+◌, ◌<◌, ◌≤◌, eqb, List, [], ◌∷◌, ◌++◌, length, map, take, Bool, true, false, if◌then◌else◌, inl, inr, add-one, arith}
-use Rattle.std.proofs.lemmas.Bool.{eq-eqb, ne_eqb}
 use Rattle.std.proofs.lemmas.Bool.Decides.{eqb_tells}
 use Rattle.std.proofs.lemmas.List.{map-append, take_all, length-map}
 use Rattle.std.proofs.lemmas.Grind.{take_at_read}
@@ -15,12 +14,12 @@ use Rattle.amber_meaning.specs.Legal.{IsWorked, Query, assignment_in, entries_of
 use Rattle.amber_meaning.specs.Position.{Position, origin}
 use Rattle.amber_meaning.specs.Replay.{after_leg}
 use Rattle.amber_meaning.specs.Rules.{Leads, Orders}
-use Rattle.amber_meaning.specs.State.{State, arms_at, emitted_by, have_finished, let_go, position_at, restraint_released, steps_in}
+use Rattle.amber_meaning.specs.State.{State, emitted_by, have_finished, let_go, position_at, steps_in}
 use Rattle.amber_meaning.proofs.OneState.{position-get_or}
 use Rattle.amber_worker.specs.AtPosition.{Context, IsAtPosition, Shows, placement_of}
-use Rattle.amber_worker.specs.Changes.{ShowsSet, StandsAtLeg, at_leg_start, with_value, with_when}
+use Rattle.amber_worker.specs.Changes.{StandsAtLeg, at_leg_start, with_value, with_when}
 use Rattle.amber_worker.specs.WorkerState.{WorkerState, steps_made}
-use Rattle.amber_worker.proofs.Commands.{shows-set, stands-at_leg, stands-watched}
+use Rattle.amber_worker.proofs.Commands.{stands-at_leg, stands-watched}
 use Rattle.amber_dataflow.specs.AtWork.{AreAtWork, context_in, emitted_at, state_reached, steps_by, worker_state_at}
 use Rattle.amber_dataflow.specs.Dataflow.{AreAllThere, DataflowState, FirstHaveFinished, HaveDoneNothing, StandAt, leg_begun, handed_out, has_finished, have_all_finished, journal_of, leg_parts, rows_emitted, step_count, constant_put, when_put, worker_begun, worker_set, worker_watching}
 use Rattle.amber_dataflow.specs.Parts.{parts_from, without_journal}
@@ -215,6 +214,8 @@ module _ (query : Query) (start : State) (d : DataflowState) (positions : ℕ �
       at = record {
         flow = work.at.flow;
         at_positions = record {
+          bases = work.at.at_positions.bases;
+          earlier = work.at.at_positions.earlier;
           all = work.at.at_positions.all;
           each = λ worker inside. rw (same worker inside) (work.at.at_positions.each worker inside);
         };
@@ -236,7 +237,7 @@ module _ (query : Query) (start : State) (d : DataflowState) (positions : ℕ �
           (λ worker inside.
           let here : worker < length d.workers = rw stand-all inside in
           let w = worker_state_at d.workers worker in
-          let begin = begins to_end (context_in query start worker) w (positions worker) (work.at.at_positions.each worker inside).shows in
+          let begin = begins to_end (context_in work.at.at_positions.bases query start worker) w (positions worker) (work.at.at_positions.each worker inside).shows in
           rw (begun-at to_end d.workers worker here, orders worker inside, at worker inside) begin);
     }
 
@@ -250,13 +251,13 @@ module _ (query : Query) (start : State) (d : DataflowState) (positions : ℕ �
           (length-map d.workers without_journal) (ends-handed d.workers)
           (λ worker inside.
           rw (handed-at d.workers worker, at worker inside)
-          (recounted (context_in query start worker) (without_journal (worker_state_at d.workers worker)) (positions worker) (orders_in query now worker) (orders worker inside) refl
-          (stands-handed (context_in query start worker) (worker_state_at d.workers worker) (position_at start.positions worker) (positions worker)
+          (recounted (context_in work.at.at_positions.bases query start worker) (without_journal (worker_state_at d.workers worker)) (positions worker) (orders_in query now worker) (orders worker inside) refl
+          (stands-handed (context_in work.at.at_positions.bases query start worker) (worker_state_at d.workers worker) (position_at start.positions worker) (positions worker)
           (work.at.at_positions.each worker inside))));
     }
 
     -- another constant, where nothing was done since a leg began
-    at-rest : HaveDoneNothing d → (worker : ℕ) → worker < crew_of query.flow → IsAtPosition (context_in query start worker) (worker_state_at d.workers worker) (positions worker) (positions worker)
+    at-rest : HaveDoneNothing d → (worker : ℕ) → worker < crew_of query.flow → IsAtPosition (context_in work.at.at_positions.bases query start worker) (worker_state_at d.workers worker) (positions worker) (positions worker)
     unfolding journal_of Leads AreEntries
     at-rest none worker inside = record { leads = rw (none worker) refl; text = rw (none worker) tt; shows = (work.at.at_positions.each worker inside).shows }
 
@@ -275,7 +276,7 @@ module _ (query : Query) (start : State) (d : DataflowState) (positions : ℕ �
             let was = at-rest none worker inside in
             rw (set-at op value d.workers worker there, at worker inside)
             (elim (eqb_tells (op_of query.flow worker) op) [
-              | inl same ↦ rw (here worker inside same.1) (stands-set op value (context_in query start worker) w (positions worker) same.1 (none worker) was)
+              | inl same ↦ rw (here worker inside same.1) (stands-set op value (context_in work.at.at_positions.bases query start worker) w (positions worker) same.1 (none worker) was)
               | inr other ↦
                   let apart : w.op ≢ op = λ is. other.1 (sym was.shows.op ∙ is) in
                   rw (elsewhere worker inside other.1, stays op value w apart) was
@@ -298,13 +299,13 @@ module _ (query : Query) (start : State) (d : DataflowState) (positions : ℕ �
             rw (watched-at op when d.workers worker there, at worker inside)
             (elim (eqb_tells (op_of query.flow worker) op) [
               | inl same ↦
-                  recounted (with_when when (orders_in query start worker).counted (context_in query start worker)) (worker_watching op when w) (positions worker) (orders_in query now worker)
+                  recounted (with_when when (orders_in query start worker).counted (context_in work.at.at_positions.bases query start worker)) (worker_watching op when w) (positions worker) (orders_in query now worker)
                   (here worker inside same.1) (watching-nothing op when w (none worker))
-                  (watches op when (context_in query start worker) w (positions worker) same.1 (none worker) was)
+                  (watches op when (context_in work.at.at_positions.bases query start worker) w (positions worker) same.1 (none worker) was)
               | inr other ↦
                   let apart : w.op ≢ op = λ is. other.1 (sym was.shows.op ∙ is) in
                   rw (unwatched op when w apart)
-                  (recounted (context_in query start worker) w (positions worker) (orders_in query now worker) (elsewhere worker inside other.1) (none worker) was)
+                  (recounted (context_in work.at.at_positions.bases query start worker) w (positions worker) (orders_in query now worker) (elsewhere worker inside other.1) (none worker) was)
             ]));
       }
 
@@ -318,7 +319,7 @@ module _ (query : Query) (start : State) (d : DataflowState) (positions : ℕ �
       work = renewed query start now d.workers d.workers positions positions work refl (λ k. record { number = refl; ins = refl; outs = refl })
           (λ worker inside.
           rw (at worker inside)
-          (recounted (context_in query start worker) (worker_state_at d.workers worker) (positions worker) (orders_in query now worker) (orders worker inside) (none worker)
+          (recounted (context_in work.at.at_positions.bases query start worker) (worker_state_at d.workers worker) (positions worker) (orders_in query now worker) (orders worker inside) (none worker)
           (record { leads = rw (none worker) refl; text = rw (none worker) tt; shows = (work.at.at_positions.each worker inside).shows })));
     }
 

@@ -1,20 +1,19 @@
 -- A turn of the first unfinished worker: it makes a step. And the steps of all.
-use Rattle.std.proofs.Common.{◌≡◌, ◌⊎◌, if◌then◌else◌, refl, sym, ap, ◌∙◌, ℕ, zero, suc, ◌+◌, ◌<◌, ◌≤◌, List, [], ◌∷◌, ◌++◌, length, get_or, set, nat_eq, ◌&&◌, true, false, is_some, inl, inr, subst, arith, take, drop, sum_by, zero-add}
+use Rattle.std.proofs.Common.{◌≡◌, ◌⊎◌, if◌then◌else◌, refl, sym, ap, ◌∙◌, ℕ, zero, suc, ◌+◌, ◌<◌, ◌≤◌, List, [], ◌∷◌, ◌++◌, length, get_or, set, nat_eq, true, false, inl, inr, subst, arith, take, drop, sum_by, zero-add}
 use Rattle.std.proofs.lemmas.Bool.{eq-eqb, false≢true, or_cases, or_left, or_right}
 use Rattle.std.proofs.lemmas.Grind.{take_at_read}
 use Rattle.std.proofs.lemmas.List.{take-append-drop}
 use Rattle.std.proofs.lemmas.List.Sums.{sum_by-append, sum_by-cons}
 use Rattle.std.specs.List.{list_any}
 use Rattle.amber_rows.specs.Topology.{crew_of}
-use Rattle.amber_link.specs.Links.{come, waiting}
+use Rattle.amber_link.specs.Links.{waiting}
 use Rattle.amber_link.specs.Sides.{AreLooked, IsLooked}
 use Rattle.amber_link.proofs.Sides.{pairwise-length}
 use Rattle.amber_link.specs.declared.upstreams.Upstream.{Upstream}
 use Rattle.amber_rows.specs.Chunks.{chunks_of}
 use Rattle.amber_rows.specs.declared.batch.Batch.{Batch}
 use Rattle.amber_meaning.specs.Legal.{Query, role_in}
-use Rattle.amber_meaning.specs.Position.{Position, Restraint, emitted_rows, has_last, taken_from}
-use Rattle.amber_meaning.specs.Task.{is_builder}
+use Rattle.amber_meaning.specs.Position.{Position, emitted_rows, taken_from}
 use Rattle.amber_meaning.specs.State.{State}
 use Rattle.amber_worker.specs.AtPosition.{placement_of, stream_to}
 use Rattle.amber_worker.specs.Turning.{HasTurned, IsNextTurn, MakesStep}
@@ -24,16 +23,15 @@ use Rattle.amber_worker.specs.WorkerState.{IsFree, WorkerState, is_armed, needs_
 use Rattle.amber_worker.specs.declared.turn.Turn.{Turn}
 use Rattle.amber_worker.specs.declared.turn.Turn.TheVariants as turn
 use Rattle.amber_worker.proofs.Idle.{has_marked, has_marked-chunks_of, never_idle}
-use Rattle.amber_worker.proofs.PairFacts.{offers-all, receives-at}
+use Rattle.amber_worker.proofs.PairFacts.{offers-all}
 use Rattle.amber_worker.proofs.Settling.{Shows-relinked}
 use Rattle.amber_worker.proofs.Received.{receive_all-looked, sides-looked}
 use Rattle.amber_worker.proofs.TurnCases.{ends-by, pauses-by}
-use Rattle.amber_worker.proofs.Turns.{looked-none}
 use Rattle.amber_dataflow.proofs.Linked.{pairwise-at}
 use Rattle.amber_dataflow.proofs.Sending.{sending-in}
 use Rattle.amber_dataflow.proofs.Split.{read-at}
 use Rattle.amber_dataflow.proofs.Untold.{starving}
-use Rattle.amber_dataflow.specs.AtWork.{AreAtWork, AreJoinedAt, HaveFinished, IsCrewUnder, context_in, placement_at, steps_by, worker_state_at}
+use Rattle.amber_dataflow.specs.AtWork.{AreAtWork, HaveFinished, IsCrewUnder, context_in, placement_at, steps_by, worker_state_at}
 
 -- ---- who has something to do
 
@@ -46,27 +44,6 @@ pub any-at : (ins : List Upstream) (k n : ℕ) → k < length ins → ((d : Upst
 any-at [] k n less own = absurd (omega arith)
 any-at (one ∷ ins) zero n less own = or_left _ _ (eq-eqb one.from n (own one))
 any-at (one ∷ ins) (suc k) n less own = or_right _ _ (any-at ins k n (omega arith) own)
-
--- what a worker's position says of the sender at a place
-pub record IsReceived (query : Query) (p : Position) (worker sender : ℕ) (one : Upstream) : Type 0 where
-  pub ended : one.ended ≡ has_last p.taken sender
-  pub builds : one.builds ≡ is_builder (role_in query worker).task sender
-  pub come : come one.link ≡ taken_from p.taken sender ++ waiting one.link
-
-module _ (query : Query) (start : State) (crew : List WorkerState) (positions : ℕ → Position) (at : AreJoinedAt query start crew positions)
-    (worker : ℕ) (inside : worker < length crew) where
-  -- the position that a worker shows says so of each sender
-  pub received-at : (k sender : ℕ) (d : Upstream) → k < length (worker_state_at crew worker).ins → (get_or (worker_state_at crew worker).ins k d).from ≡ sender
-      → IsReceived query (positions worker) worker sender (get_or (worker_state_at crew worker).ins k d)
-  unfolding placement_of
-  received-at k sender d less own =
-      let shows = (at.at_positions.each worker (rw (← at.at_positions.all) inside)).shows in
-      let one = receives-at (role_in query worker).senders (λ sender. []) (positions worker).taken (worker_state_at crew worker).ins k sender d less own shows.ins in
-      record {
-        ended = one.ended;
-        builds = shows.sides k d less ∙ ap (is_builder (role_in query worker).task) own;
-        come = one.come.all;
-      }
 
 module _ (query : Query) (start : State) (crew : List WorkerState) (positions : ℕ → Position) (work : AreAtWork query start crew positions)
     (worker : ℕ) (inside : worker < length crew) where
@@ -83,14 +60,9 @@ module _ (query : Query) (start : State) (crew : List WorkerState) (positions : 
       let sends = work.at.at_positions.each sender there in
       let takes = work.at.at_positions.each worker one.does.0 in
       offers-all (worker_state_at crew sender) me (work.settled sender worker one.does)
-      (record { context = context_in query start sender; position = positions sender }) (record { context = context_in query start worker; position = positions worker })
-      (record { shows = sends.shows; other_shows = takes.shows; earlier = refl })
+      (record { context = context_in work.at.at_positions.bases query start sender; position = positions sender }) (record { context = context_in work.at.at_positions.bases query start worker; position = positions worker })
+      (record { shows = sends.shows; other_shows = takes.shows; earlier = work.at.at_positions.earlier sender worker })
       k d less (own d)
-
-  -- and these have come
-  pub all-come : (sender k : ℕ) → k < length me.ins → ((d : Upstream) → (get_or me.ins k d).from ≡ sender) → (d : Upstream)
-      → come (get_or me.ins k d).link ≡ made_for (placement_at query sender) (positions sender) worker
-  all-come sender k less own d = (received-at query start crew positions work.at worker inside k sender d less (own d)).come ∙ offered sender k less own d
 
   module _ (finished : HaveFinished worker crew) where
     -- of each sender the last batch was taken or waits
@@ -111,9 +83,9 @@ module _ (query : Query) (start : State) (crew : List WorkerState) (positions : 
     busy found looked idle =
         let here : worker < crew_of query.flow = rw (← work.at.at_positions.all) inside in
         let stands = work.at.at_positions.each worker here in
-        let context = context_in query start worker in
+        let context = context_in work.at.at_positions.bases query start worker in
         let shows = Shows-relinked context me (positions worker) found me.outs me.journal stands.shows
-        (receive_all-looked (λ sender. []) (positions worker).taken context.placement.role.senders me.ins found looked stands.shows.ins)
+        (receive_all-looked context.base.had (positions worker).taken context.placement.role.senders me.ins found looked stands.shows.ins)
         (sides-looked context.placement.role.task me.ins found looked stands.shows.sides) stands.shows.outs in
         let long : length found ≡ length me.ins = pairwise-length IsLooked me.ins found looked in
         never_idle context (record me { ins = found }) (positions worker) shows

@@ -56,8 +56,8 @@ module _ (query : Query) (start : State) (crew : List WorkerState) (positions : 
       let place = at.0 in
       let d : Upstream = first-of-senders (worker_state_at crew receiver).ins place at.1 in
       let all = offers-all (worker_state_at crew sender) (worker_state_at crew receiver) (work.settled sender receiver one.does)
-      (record { context = context_in query start sender; position = positions sender }) (record { context = context_in query start receiver; position = positions receiver })
-      (record { shows = sends.shows; other_shows = takes.shows; earlier = refl })
+      (record { context = context_in work.at.at_positions.bases query start sender; position = positions sender }) (record { context = context_in work.at.at_positions.bases query start receiver; position = positions receiver })
+      (record { shows = sends.shows; other_shows = takes.shows; earlier = work.at.at_positions.earlier sender receiver })
       place d at.1 (at.2 d) in (
         waiting (get_or (worker_state_at crew receiver).ins place d).link,
         rw (position-here receiver inside, position-here sender there) all,
@@ -89,7 +89,7 @@ module _ (query : Query) (start : State) (crew : List WorkerState) (positions : 
   unfolding steps_in
   steps-reached =
       steps-listed crew positions (crew_of query.flow) (let all = work.at.at_positions.all in omega arith)
-      (λ k below. steps-shown (context_in query start k) (worker_state_at crew k) (positions k) (work.at.at_positions.each k below).shows)
+      (λ k below. steps-shown (context_in work.at.at_positions.bases query start k) (worker_state_at crew k) (positions k) (work.at.at_positions.each k below).shows)
       ∙ ap steps_by (take_all (crew_of query.flow) crew (let all = work.at.at_positions.all in omega arith))
 
   -- whether all have finished

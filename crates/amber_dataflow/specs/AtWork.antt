@@ -14,7 +14,7 @@ use Rattle.amber_lines.specs.Moving.{orders_in}
 use Rattle.amber_meaning.specs.Legal.{Query}
 use Rattle.amber_meaning.specs.Position.{Position}
 use Rattle.amber_meaning.specs.State.{State, position_at}
-use Rattle.amber_worker.specs.AtPosition.{Context, IsAtPosition, KeepsUnder, Placement, no_base, placement_of}
+use Rattle.amber_worker.specs.AtPosition.{Base, Context, IsAtPosition, KeepsUnder, Placement, placement_of}
 use Rattle.amber_worker.specs.Counting.{IsSameSeat, mine_in}
 use Rattle.amber_worker.specs.Pairs.{AreJoined, AreSettledAt, IsLinkAt}
 use Rattle.amber_worker.specs.Turning.{WritesStep, other_entries}
@@ -34,9 +34,9 @@ worker_state_at crew worker = slice_index_or crew worker no_worker_state
 abbrev pub placement_at : Query → ℕ → Placement
 placement_at query worker = placement_of query.flow query.records query.batch_size worker
 
--- its place under the orders that are in force in a state, where nothing went through earlier links
-abbrev pub context_in : Query → State → ℕ → Context
-context_in query state worker = record { placement = placement_at query worker; orders = orders_in query state worker; base = no_base }
+-- its place under the orders that are in force in a state, over what went through the earlier links of each worker
+abbrev pub context_in : (ℕ → Base) → Query → State → ℕ → Context
+context_in bases query state worker = record { placement = placement_at query worker; orders = orders_in query state worker; base = bases worker }
 
 -- ---- their links
 
@@ -58,11 +58,14 @@ pub record AllHasCome (from to : WorkerState) : Type 0 where
 
 -- ---- all of them
 
--- each worker stands at its position, with a journal that leads there from where it stood in the state in which the leg began
+-- each worker stands at its position, with a journal that leads there from where it stood in the state in which the leg began; what went
+-- through an earlier link the one had sent and the other had got
 pub record AreAtPositions (query : Query) (start : State) (crew : List WorkerState) (positions : ℕ → Position) : Type 0 where
+  pub bases : ℕ → Base
+  pub earlier : (from to : ℕ) → (bases from).gave to ≡ (bases to).had from
   pub all : length crew ≡ crew_of query.flow
   pub each : (worker : ℕ) → worker < crew_of query.flow
-      → IsAtPosition (context_in query start worker) (worker_state_at crew worker) (position_at start.positions worker) (positions worker)
+      → IsAtPosition (context_in bases query start worker) (worker_state_at crew worker) (position_at start.positions worker) (positions worker)
 
 -- the workers of a workflow stand somewhere, and who sends to whom hold the two ends of a link
 pub record AreJoinedAt (query : Query) (start : State) (crew : List WorkerState) (positions : ℕ → Position) : Type 0 where

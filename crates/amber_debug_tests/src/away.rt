@@ -1,4 +1,5 @@
-//! Legs whose workers go away and come back: without a turn, twice, paused, held, and up to two counts. Rests on `lent` and `home_calls`.
+//! Legs whose workers go away and come back: without a turn, twice, paused, held, and up to two counts. Rests on `lent`
+//! and `home_calls`.
 
 use crate::expected::expect_text;
 use crate::home_calls::{
@@ -11,8 +12,8 @@ use amber_rows::{Cmp, Cond, Value};
 use std::alloc::Global;
 use std::test::Fail;
 
-// The workers go away once for each of these lists of plans, with units where they need some, and whoever is paused then goes on where nobody is held. How often they
-// were away, and how often it was so.
+// The workers go away once for each of these lists of plans, with units where they need some, and whoever is paused then
+// goes on where nobody is held. How often they were away, and how often it was so.
 fn go_and_come(alloc: Global, home: &mut Home, rounds: &[&[&str]]) -> Result<(u32, u32), NoMemory> {
     let mut away = 0u32;
     let mut resumed = 0u32;

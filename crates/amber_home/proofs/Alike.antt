@@ -72,7 +72,7 @@ module _ (query : Query) (start : State) (crew : List WorkerState) (positions : 
 
   each-told : (worker : ℕ) → worker < crew_of query.flow → steps_made (worker_state_at crew worker) ≡ steps_of (position_at now.positions worker)
   each-told worker inside =
-      steps-shown (context_in query start worker) (worker_state_at crew worker) (positions worker) (at.at_positions.each worker inside).shows
+      steps-shown (context_in at.at_positions.bases query start worker) (worker_state_at crew worker) (positions worker) (at.at_positions.each worker inside).shows
       ∙ alike-steps (positions worker) (position_at now.positions worker) (alike-at worker inside)
 
   emitted-by : (worker : ℕ) → worker < crew_of query.flow → (worker_state_at crew worker).emitted ≡ emitted_count (position_at now.positions worker).outcomes

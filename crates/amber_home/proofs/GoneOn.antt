@@ -13,7 +13,7 @@ use Rattle.amber_worker.specs.Counting.{IsBoardOf, mine_in}
 use Rattle.amber_worker.specs.Turning.{MakesTurns}
 use Rattle.amber_worker.specs.WorkerState.{WorkerState, is_armed}
 use Rattle.amber_dataflow.specs.AtWork as work
-use Rattle.amber_dataflow.specs.AtWork.{AreJoinedAt, context_in, emitted_at, no_worker_state, steps_by, units_at, worker_state_at}
+use Rattle.amber_dataflow.specs.AtWork.{AreJoinedAt, context_in, emitted_at, steps_by, units_at, worker_state_at}
 use Rattle.amber_dataflow.specs.Dataflow.{DataflowState, has_room, rows_emitted, seat_of, units_counted}
 use Rattle.amber_dataflow.proofs.Linked.{joined-still}
 use Rattle.amber_dataflow.proofs.Steps.{steps-cons}
@@ -35,10 +35,10 @@ module _ (query : Query) (start : State) (old new : List WorkerState) (positions
   inside-old worker inside = rw at.at_positions.all inside
 
   one : (worker : ℕ) → worker < crew_of query.flow
-      → (q : Position) × IsAtPosition (context_in query start worker) (worker_state_at new worker) (position_at start.positions worker) q
+      → (q : Position) × IsAtPosition (context_in at.at_positions.bases query start worker) (worker_state_at new worker) (position_at start.positions worker) q
   unfolding KeepsUnder
   one worker inside =
-      (each worker (inside-old worker inside)).keeps (context_in query start worker) (position_at start.positions worker) (positions worker) (under worker inside)
+      (each worker (inside-old worker inside)).keeps (context_in at.at_positions.bases query start worker) (position_at start.positions worker) (positions worker) (under worker inside)
       (at.at_positions.each worker inside)
 
   chosen : (worker : ℕ) → (worker < crew_of query.flow) ⊎ (crew_of query.flow ≤ worker) → Position
@@ -46,7 +46,7 @@ module _ (query : Query) (start : State) (old new : List WorkerState) (positions
   chosen worker (inr past) = positions worker
 
   holds : (worker : ℕ) (tells : (worker < crew_of query.flow) ⊎ (crew_of query.flow ≤ worker)) → worker < crew_of query.flow
-      → IsAtPosition (context_in query start worker) (worker_state_at new worker) (position_at start.positions worker) (chosen worker tells)
+      → IsAtPosition (context_in at.at_positions.bases query start worker) (worker_state_at new worker) (position_at start.positions worker) (chosen worker tells)
   unfolding chosen
   holds worker (inl within) inside = (one worker within).1
   holds worker (inr past) inside = absurd (omega arith)
@@ -57,6 +57,8 @@ module _ (query : Query) (start : State) (old new : List WorkerState) (positions
     record {
       flow = at.flow;
       at_positions = record {
+        bases = at.at_positions.bases;
+        earlier = at.at_positions.earlier;
         all = long ∙ at.at_positions.all;
         each = λ worker inside. holds worker (cases_lt worker (crew_of query.flow)) inside;
       };

@@ -1,12 +1,12 @@
 -- A line stands before the ends of lines in front of the next.
 use Rattle.std.proofs.Common.{◌≡◌, ◌<◌, ◌≤◌, ◌+◌, ◌∙◌, List, ℕ, [], ap, arith, get_or, length, map, sym}
 use Rattle.std.proofs.lemmas.List.{get_or-map, get_or_default, length-map}
-use Rattle.amber_cut.specs.Lines.{AreApart, line_at}
+use Rattle.amber_cut.specs.Lines.{StandApart, line_at}
 use Rattle.amber_cut.proofs.Apart.{apart-next, line-found, next-behind, next-within}
 use Rattle.amber_cut.proofs.file_lines.Lines.line.Goals as goal
 
 -- the place of a line as it was read, and that of the next
-from-to : (starts : List ℕ) (from : ℕ) (bytes now : List ℕ) (number start next : ℕ) → now ≡ bytes → AreApart bytes from starts (length bytes) → number < length starts → start ≡ get_or starts number start → next ≡ get_or starts (number + 1) (length now) → start ≤ next
+from-to : (starts : List ℕ) (from : ℕ) (bytes now : List ℕ) (number start next : ℕ) → now ≡ bytes → StandApart bytes from starts (length bytes) → number < length starts → start ≡ get_or starts number start → next ≡ get_or starts (number + 1) (length now) → start ≤ next
 from-to starts from bytes now number start next file apart within here there =
     let at : start ≡ get_or starts number 0 = here ∙ get_or_default starts number start 0 within in
     let to : next ≡ get_or starts (number + 1) (length bytes) = there ∙ ap (λ xs. get_or starts (number + 1) (length xs)) file in
