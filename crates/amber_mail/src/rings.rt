@@ -92,6 +92,22 @@ impl Post {
     }
 }
 
+impl RingMail {
+    /// Counts looks from here on. Nothing else changes.
+    pub fn count_looks_anew(&mut self)
+        ensures looks { ⟦<RingMail as Mail>⟧.looks self.new ≡ 0 }
+        ensures pauses { ⟦<RingMail as Mail>⟧.pauses self.new
+            ≡ ⟦<RingMail as Mail>⟧.pauses self.old }
+        ensures mail { SameMail self.old self.new }
+        ensures taken { taken_controls self.new ≡ taken_controls self.old }
+        ensures waiting { waiting_controls self.new ≡ waiting_controls self.old }
+        ensures noted { sent_notes self.new ≡ sent_notes self.old }
+        ensures room { free_note_slots self.new ≡ free_note_slots self.old }
+    {
+        self.looked = 0;
+    }
+}
+
 impl Mail for RingMail {
     ghost looks = { λ mail. mail.looked };
 

@@ -17,6 +17,16 @@ fn a_control_comes_once(rt: HostRuntime) -> Result<(), Fail> {
 }
 
 #[test]
+fn a_control_waits_where_looks_are_counted_anew(rt: HostRuntime) -> Result<(), Fail> {
+    let (mut post, mut mail) = mail_rings(rt.alloc())?;
+    assert!(rt; mail.look() == None);
+    assert!(rt; post.push(Control::Claim).is_ok());
+    mail.count_looks_anew();
+    assert!(rt; mail.look() == Some(Control::Claim));
+    Ok(())
+}
+
+#[test]
 fn a_note_comes_once(rt: HostRuntime) -> Result<(), Fail> {
     let (mut post, mut mail) = mail_rings(rt.alloc())?;
     mail.note(Note::Held);
