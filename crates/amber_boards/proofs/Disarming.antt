@@ -8,7 +8,7 @@ use Rattle.amber_rows.specs.Topology.{first_worker_of, worker_count, workers_of}
 use Rattle.amber_board.specs.declared.types.Board.{Board}
 use Rattle.amber_board.specs.declared.types.WorkSeat.{WorkSeat}
 use Rattle.amber_board.specs.declared.view.View.{View}
-use Rattle.amber_board.specs.Seats.{IsChiefOf, IsSeatOf, board_workers, chief_view, work_view}
+use Rattle.amber_board.specs.Seats.{IsSeatOf, board_workers, work_view}
 use Rattle.amber_meaning.proofs.Crews.{own-worker, worker-within}
 use Rattle.amber_meaning.proofs.Numbers.{among}
 use Rattle.amber_worker.specs.Changes.{disarmed_at}
@@ -103,11 +103,9 @@ back-more board first n old seats before seat back is own gives =
     }
 
 -- once all are, the counter holds them
-pub holds-seats : (counter now : CounterState) (op first n : ℕ) (old : DataflowState) → IsCountedOn counter op old → now.board ≡ counter.board → now.chief ≡ counter.chief
+pub holds-seats : (counter now : CounterState) (op first n : ℕ) (old : DataflowState) → IsCountedOn counter op old → now.board ≡ counter.board
     → AreBack now.board first n old now.seats → first ≡ first_worker_of old.flow op → n ≡ worker_count old.flow op → HoldsSeats now (units_counted old op)
-holds-seats counter now op first n old counted same-board same-chief back first-is whole = record {
-  chief = subst (λ b. IsChiefOf b now.chief) (sym same-board) (subst (IsChiefOf counter.board) (sym same-chief) counted.chief);
-  empty = ap (λ c. (chief_view c).hand) same-chief ∙ counted.empty;
+holds-seats counter now op first n old counted same-board back first-is whole = record {
   own = back.own;
   all = back.all ∙ whole ∙ sym counted.workers ∙ ap board_workers (sym same-board);
   hands = back.hands;

@@ -1,5 +1,6 @@
 pub mod Arming
 pub mod Disarming
+pub mod Led
 pub mod OneByOne
 pub mod OneMoreArmed
 pub mod OneMoreDisarmed

@@ -94,8 +94,6 @@ module _ (old new : DataflowState) (op : ℕ) (flow : new.flow ≡ old.flow)
   -- its count is counted as it was
   counted-on-kept : (counter : CounterState) → IsCountedOn counter op old → IsCountedOn counter op new
   counted-on-kept counter on = record {
-    chief = on.chief;
-    empty = on.empty;
     workers = on.workers ∙ ap (λ f. worker_count f op) (sym flow);
     none = on.none;
     room = subst (λ f. worker_count f op ≤ counter.room) (sym flow) on.room;

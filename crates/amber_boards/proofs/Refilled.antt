@@ -9,6 +9,7 @@ use Rattle.amber_rows.specs.declared.flow.Operator.{Operator}
 use Rattle.amber_meaning.proofs.Crews.{own-worker, worker-known, worker-op, worker-within}
 use Rattle.amber_meaning.proofs.Numbers.{among, among-first, among-more}
 use Rattle.amber_board.specs.declared.types.Board.{Board}
+use Rattle.amber_board.specs.declared.types.ChiefSeat.{ChiefSeat}
 use Rattle.amber_board.specs.declared.types.WorkSeat.{WorkSeat}
 use Rattle.amber_board.specs.declared.view.View.{View}
 use Rattle.amber_board.specs.Opening.{AreDealt, Opening}
@@ -134,18 +135,16 @@ module _ (seating : Seating) (old new : DataflowState) (arms : ArmsOperator seat
       armed-mine seating.board (seating.given (worker - first_worker_of old.flow seating.op)) (worker_state_at old.workers worker) (worker_state_at new.workers worker) armed)
 
 -- a count is counted on a board that was made for what is left to its target
-pub counted-now : (counter : CounterState) (dealt : List WorkSeat) (opening : Opening) (op : ℕ) (old new : DataflowState) → IsMadeSo counter dealt opening
+pub counted-now : (counter : CounterState) (chief : ChiefSeat) (dealt : List WorkSeat) (opening : Opening) (op : ℕ) (old new : DataflowState) → IsMadeSo counter chief dealt opening
     → opening.workers ≡ worker_count old.flow op → ArmsOperator (record { board = counter.board; op = op; given = opening.given }) old new
     → IsSince counter.target (rows_emitted old op) → opening.target + rows_emitted old op ≡ counter.target.target + counter.target.since → IsCountedOn counter op new
-counted-now counter dealt opening op old new made workers arms since left =
+counted-now counter chief dealt opening op old new made workers arms since left =
     let seating : Seating = record { board = counter.board; op = op; given = opening.given } in
     let rows = rows-same old new arms.change.flow arms.change.same op in
     let none = none-counted seating old new arms in
     let count : opening.workers ≡ worker_count new.flow op = workers ∙ ap (λ f. worker_count f op) (sym arms.change.flow) in
     let target = made.made.target in
     record {
-      chief = made.made.chief;
-      empty = made.made.empty;
       workers = made.made.workers ∙ count;
       none = made.none;
       room = subst (λ n. n ≤ counter.room) count made.room;

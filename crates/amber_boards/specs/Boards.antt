@@ -18,11 +18,10 @@ use Rattle.amber_dataflow.specs.AtWork.{worker_state_at}
 use Rattle.amber_dataflow.specs.Dataflow.{DataflowState, StandAt, hand_of, has_finished, has_room, is_short, journal_of, rows_emitted, seat_of, units_counted}
 use Rattle.amber_boards.specs.declared.target.Target.{Target}
 
--- what a count asks for, its board with the chief's seat, and a place for the seats of its workers: those that are there, and how many fit
+-- what a count asks for, its board, and a place for the seats of its workers: those that are there, and how many fit
 pub record CounterState : Type 0 where
   pub target : Target
   pub board : Board
-  pub chief : ChiefSeat
   pub seats : List WorkSeat
   pub room : ℕ
 
@@ -74,8 +73,6 @@ pub record IsSince (count : Target) (rows : ℕ) : Type 0 where
 -- its count is counted on a board: each of its workers has a seat, and the units of the board are those that its workers have
 -- counted, and one for each row that is left to the target
 pub record IsCountedOn (counter : CounterState) (op : ℕ) (d : DataflowState) : Type 0 where
-  pub chief : IsChiefOf counter.board counter.chief
-  pub empty : (chief_view counter.chief).hand ≡ 0
   pub workers : board_workers counter.board ≡ worker_count d.flow op
   pub none : counter.seats ≡ []
   pub room : worker_count d.flow op ≤ counter.room
@@ -88,7 +85,19 @@ abbrev pub IsCountedAt : Option CounterState → ℕ → DataflowState → Type 
 IsCountedAt None op d = AreUnarmedAt op d
 IsCountedAt (Some counter) op d = IsCountedOn counter op d
 
+-- the chief of a board has its seat, and no unit in hand; where there is no board there is no chief
+abbrev pub IsLedBy : Option CounterState → Option ChiefSeat → Type 0
+IsLedBy None None = Unit {0}
+IsLedBy None (Some chief) = ⊥
+IsLedBy (Some counter) None = ⊥
+IsLedBy (Some counter) (Some chief) = IsChiefOf counter.board chief × ((chief_view chief).hand ≡ 0)
+
 -- ---- all of them
+
+-- each of these boards has its chief, in its place
+pub record AreLedBy (boards : List (Option CounterState)) (chiefs : List (Option ChiefSeat)) : Type 0 where
+  pub all : length chiefs ≡ length boards
+  pub each : (place : ℕ) → IsLedBy (slice_index_or boards place None) (slice_index_or chiefs place None)
 
 -- so it is at each operator
 pub record AreCounted (boards : List (Option CounterState)) (d : DataflowState) : Type 0 where
@@ -191,15 +200,13 @@ pub record DisarmsOperator (op : ℕ) (old new : DataflowState) : Type 0 where
   pub here : (worker : ℕ) → IsWorkerOf old op worker → worker_state_at new.workers worker ≡ disarmed_at (worker_state_at old.workers worker)
 
 -- a board was made so, whose seats are dealt
-pub record IsMadeSo (counter : CounterState) (dealt : List WorkSeat) (opening : Opening) : Type 0 where
-  pub made : IsMade counter.board counter.chief dealt opening
+pub record IsMadeSo (counter : CounterState) (chief : ChiefSeat) (dealt : List WorkSeat) (opening : Opening) : Type 0 where
+  pub made : IsMade counter.board chief dealt opening
   pub none : counter.seats ≡ []
   pub room : opening.workers ≤ counter.room
 
--- all seats of a board are back, with no unit in hand, and have counted so many together
+-- all seats of a board's workers are back, with no unit in hand, and have counted so many together
 pub record HoldsSeats (counter : CounterState) (units : ℕ) : Type 0 where
-  pub chief : IsChiefOf counter.board counter.chief
-  pub empty : (chief_view counter.chief).hand ≡ 0
   pub own : All (IsSeatOf counter.board) counter.seats
   pub all : length counter.seats ≡ board_workers counter.board
   pub hands : All (λ seat. (work_view seat).hand ≡ 0) counter.seats

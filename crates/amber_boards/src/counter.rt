@@ -1,13 +1,13 @@
-//! The board of an operator's count, and how its workers are armed on it and disarmed. Over `Board` of `amber_board`, and the
-//! calls of `Dataflow` that arm and disarm one worker.
+//! The board of an operator's count, and how its workers are armed on it and disarmed. The chief of a board has a seat of its
+//! own, which stands apart from it. Over `Board` of `amber_board`, and the calls of `Dataflow` that arm and disarm one worker.
 
-ghost use Rattle.std.specs.Prelude.{◌≡◌, ◌+◌, ◌<◌, ◌≤◌, ℕ, All, IfOk, None, OnOk, false, length, true};
+ghost use Rattle.std.specs.Prelude.{◌≡◌, ◌+◌, ◌<◌, ◌≤◌, ℕ, All, IfOk, None, OnOk, Some, false, length, option_map, true};
 ghost use Rattle.amber_board.specs.Opening.{AreDealt, all_unassigned, all_with};
 ghost use Rattle.amber_board.specs.Seats.{target_of, work_view};
 ghost use Rattle.amber_board.specs.declared.TheConstants.{LARGEST_TARGET, MOST_WORKERS};
 ghost use Rattle.amber_dataflow.specs.Dataflow.{AreAllThere, MovesUnder, StandsUnder, has_finished, room_kept, seat_of, units_counted, worker_armed};
 ghost use Rattle.amber_rows.specs.Topology.{crew_of, worker_count};
-ghost use Rattle.amber_boards.specs.Boards.{AreForWorking, AreUnarmedAt, ArmsOperator, DisarmsOperator, HoldsSeats, IsCountedOn, IsMadeSo, Seating, StandsCounted};
+ghost use Rattle.amber_boards.specs.Boards.{AreForWorking, AreUnarmedAt, ArmsOperator, DisarmsOperator, HoldsSeats, IsCountedOn, IsLedBy, IsMadeSo, Seating, StandsCounted, board_at};
 
 use crate::target::Target;
 use amber_board::{Board, ChiefSeat, WorkSeat, close};
@@ -15,12 +15,11 @@ use amber_dataflow::Dataflow;
 use std::alloc::{AllocError, Global};
 use std::marker::Model;
 
-/// A board with its chief's seat, and a place for the seats of its workers, seen as a `CounterState`.
+/// A board with a place for the seats of its workers, seen as a `CounterState`.
 #[derive(Drop)]
 pub(crate) struct Counter {
     target: Target,
     board: Board,
-    chief: ChiefSeat,
     // None is here while the workers have them, and there is room for all.
     seats: Vec<WorkSeat>,
 }
@@ -34,24 +33,23 @@ impl Model for Counter {
     ghost view = { λ a. record {
       target = a.target;
       board = a.board;
-      chief = a.chief;
       seats = a.seats.items;
       room = vec_capacity a.seats;
     } };
 }
 
 impl Counter {
-    /// A board with so many units, all unassigned, and the seats of its workers.
+    /// A board with so many units, all unassigned, and the seats of its chief and of its workers.
     pub fn open(
         alloc: Global,
         target: Target,
         units: u64,
         workers: u32,
-    ) -> Result<(Counter, Vec<WorkSeat>), AllocError>
+    ) -> Result<(Counter, ChiefSeat, Vec<WorkSeat>), AllocError>
         requires units { (1 ≤ units) × (units ≤ LARGEST_TARGET) }
         requires workers { (1 ≤ workers) × (workers ≤ MOST_WORKERS) }
         ensures made { IfOk result
-            (λ made. IsMadeSo made.0 made.1.items (all_unassigned units workers)) }
+            (λ made. IsMadeSo made.0 made.1 made.2.items (all_unassigned units workers)) }
         ensures target { IfOk result (λ made. made.0.target ≡ target) }
     {
         let (board, chief, dealt) = Board::new(alloc, units, workers)?;
@@ -60,9 +58,9 @@ impl Counter {
             Counter {
                 target,
                 board,
-                chief,
                 seats,
             },
+            chief,
             dealt,
         ))
     }
@@ -74,12 +72,12 @@ impl Counter {
         units: u64,
         workers: u32,
         worker: u32,
-    ) -> Result<(Counter, Vec<WorkSeat>), AllocError>
+    ) -> Result<(Counter, ChiefSeat, Vec<WorkSeat>), AllocError>
         requires units { (1 ≤ units) × (units ≤ LARGEST_TARGET) }
         requires workers { (1 ≤ workers) × (workers ≤ MOST_WORKERS) }
         requires worker { worker < workers }
         ensures made { IfOk result
-            (λ made. IsMadeSo made.0 made.1.items (all_with worker units workers)) }
+            (λ made. IsMadeSo made.0 made.1 made.2.items (all_with worker units workers)) }
         ensures target { IfOk result (λ made. made.0.target ≡ target) }
     {
         let (board, chief, dealt) = Board::for_one(alloc, units, workers, worker)?;
@@ -88,9 +86,9 @@ impl Counter {
             Counter {
                 target,
                 board,
-                chief,
                 seats,
             },
+            chief,
             dealt,
         ))
     }
@@ -103,17 +101,31 @@ impl Counter {
     }
 
     // Closes the board, whose seats are all back.
-    fn close(self)
-        requires { (units : ℕ) × HoldsSeats self units }
+    fn close(self, chief: ChiefSeat)
+        requires seats { (units : ℕ) × HoldsSeats self units }
+        requires led { IsLedBy (Some self) (Some chief) }
         ensures { (units : ℕ) → HoldsSeats self units → units ≤ target_of self.board }
     {
         let Counter {
             target: _,
             board,
-            chief,
             seats,
         } = self;
         let _totals = close(board, chief, seats);
+    }
+}
+
+/// The board of an operator among these, by the operators' numbers, where there is one.
+pub(crate) fn find_board(counters: &[Option<Counter>], op: u32) -> Option<&Board>
+    ensures { option_map (λ board. board.now) result
+        ≡ option_map (λ counter. counter.board) (board_at counters.now op) }
+{
+    if op == 0 {
+        return None;
+    }
+    match counters.get(op as usize - 1) {
+        Some(Some(counter)) => Some(counter.board()),
+        Some(None) | None => None,
     }
 }
 
@@ -184,16 +196,17 @@ fn take_seats(counter: &mut Counter, dataflow: &mut Dataflow, op: u32)
 }
 
 /// Disarms an operator's workers and closes their board: they have counted no more units than it had.
-pub(crate) fn disarm_operator(counter: Counter, dataflow: &mut Dataflow, op: u32)
+pub(crate) fn disarm_operator(counter: Counter, chief: ChiefSeat, dataflow: &mut Dataflow, op: u32)
     requires workers { AreAllThere dataflow.old }
     requires some { 0 < op }
     requires there { op ≤ length dataflow.old.flow }
     requires counted { IsCountedOn counter op dataflow.old }
+    requires led { IsLedBy (Some counter) (Some chief) }
     requires stand { StandsCounted op dataflow.old }
     ensures disarms { DisarmsOperator op dataflow.old dataflow.new }
     ensures within { units_counted dataflow.old op ≤ target_of counter.board }
 {
     let mut counter = counter;
     take_seats(&mut counter, dataflow, op);
-    counter.close();
+    counter.close(chief);
 }

@@ -12,8 +12,10 @@
 
 pub mod boards;
 mod counter;
+pub mod lent;
 pub mod target;
 
 pub use boards::Boards;
+pub use lent::LentBoards;
 pub use std::alloc::AllocError as NoMemory;
 pub use target::Target;

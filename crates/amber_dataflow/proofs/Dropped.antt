@@ -1,5 +1,5 @@
 -- The row before which a worker is held is dropped.
-use Rattle.std.proofs.Common.{◌≡◌, ◌≢◌, refl, sym, ap, ◌∙◌, ℕ, zero, suc, ◌<◌, ◌≤◌, List, [], ◌∷◌, length, drop, set, eqb, Bool, true, false, None, if◌then◌else◌, is_some, inl, inr, arith, length-set}
+use Rattle.std.proofs.Common.{◌≡◌, refl, sym, ap, ◌∙◌, ℕ, zero, suc, ◌<◌, ◌≤◌, List, [], ◌∷◌, length, drop, set, eqb, Bool, true, false, None, if◌then◌else◌, is_some, inl, inr, arith, length-set}
 use Rattle.std.proofs.lemmas.Bool.{cases_lt, eq-eqb, false≢true, ne_eqb}
 use Rattle.std.proofs.lemmas.List.{drop_all}
 use Rattle.amber_rows.specs.Lists.{first_of}

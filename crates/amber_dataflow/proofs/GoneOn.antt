@@ -10,7 +10,7 @@ use Rattle.amber_worker.specs.WorkerState.{WorkerState, is_armed}
 use Rattle.amber_dataflow.specs.AtWork.{AreJoinedAt, KeepsPosition, context_in, is_counted, worker_state_at}
 
 -- where each stands then
-pub stands-again : (query : Query) (start : State) (old new : List WorkerState) (positions : ℕ → Position) → AreJoinedAt query start old positions
+pub stands-again : (query : Query) (start : State) (old new : List WorkerState) (positions : ℕ → Position) (at : AreJoinedAt query start old positions)
     → ((worker : ℕ) → worker < crew_of query.flow → is_counted query start worker ≡ is_armed (worker_state_at old worker)) → length new ≡ length old
     → ((worker : ℕ) → KeepsPosition (worker_state_at old worker) (worker_state_at new worker))
     → (worker : ℕ) → (q : Position) × (worker < crew_of query.flow → IsAtPosition (context_in at.at_positions.bases query start worker) (worker_state_at new worker) (position_at start.positions worker) q)

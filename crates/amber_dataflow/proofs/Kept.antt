@@ -1,6 +1,5 @@
 -- What the calls of all workers keep, as the code has it: the workers stand in a slice of a `Vec`, which comes back.
-use Rattle.std.proofs.Common.{◌≡◌, ◌≢◌, ◌⊎◌, inl, inr, refl, sym, ap, subst, ◌∙◌, ℕ, zero, suc, ◌+◌, ◌-◌, ◌<◌, ◌≤◌, ◌^◌, eqb, nat_eq, sum_by, All, List, [], ◌∷◌, ◌++◌, length, map, take, drop, Bool, true, false, if◌then◌else◌, Result, Ok, Err, None, Option, unwrap_or, append-nil, arith}
-use Rattle.std.specs.List.{slice_get}
+use Rattle.std.proofs.Common.{◌≡◌, ◌≢◌, ◌⊎◌, inl, inr, refl, sym, ap, subst, ◌∙◌, ℕ, zero, suc, ◌+◌, ◌<◌, ◌≤◌, ◌^◌, eqb, sum_by, All, List, [], ◌∷◌, ◌++◌, length, map, take, drop, Bool, true, false, if◌then◌else◌, Result, Ok, Err, None, Option, unwrap_or, append-nil, arith}
 use Rattle.std.specs.Result.{IfOk}
 use Rattle.std.proofs.lemmas.Bool.{eq-eqb, ne_eqb}
 use Rattle.std.proofs.lemmas.List.{drop_all, length-map, map-append, take_all}
@@ -21,13 +20,12 @@ use Rattle.amber_meaning.specs.Stops.{op_numbers}
 use Rattle.amber_meaning.proofs.Crews.{op-within, worker-known}
 use Rattle.amber_meaning.proofs.Numbers.{among, among-first, among-more}
 use Rattle.amber_worker.specs.AtPosition.{placement_of}
-use Rattle.amber_worker.specs.Changes.{at_leg_start, resumed_at}
 use Rattle.amber_board.specs.declared.types.Board.{Board}
 use Rattle.amber_worker.specs.Counting.{IsBoardOf}
 use Rattle.amber_worker.specs.WorkerState.{IsFree, WorkerState, is_armed, needs_unit, steps_made}
 use Rattle.amber_dataflow.specs.Answers.{IsGathered, ShowAll, ShowWorkers}
-use Rattle.amber_dataflow.specs.AtWork.{AreAtWork, GoesOn, HaveFinished, IsCrewUnder, IsHeldAt, KeepsPosition, MakesStepAt, MakesTurnsAt, state_reached, steps_by, worker_state_at}
-use Rattle.amber_dataflow.specs.Dataflow.{AreAllThere, AreFree, DataflowState, HaveDoneNothing, IsAnswerOf, IsDataflow, IsFirst, IsHeldNow, MadeStep, MovesUnder, ShowAt, StandAgain, StandsUnder, TurnsAt, all_resumed, leg_begun, handed_out, has_finished, has_room, is_armed_at, is_held, is_paused, is_short, have_all_finished, journal_of, rows_emitted, seat_of, step_count, turned_of, units_counted, constant_put, when_put, worker_begun, worker_resumed, worker_set, worker_watching}
+use Rattle.amber_dataflow.specs.AtWork.{AreAtWork, GoesOn, HaveFinished, IsCrewUnder, IsHeldAt, MakesStepAt, MakesTurnsAt, state_reached, worker_state_at}
+use Rattle.amber_dataflow.specs.Dataflow.{AreAllThere, AreFree, DataflowState, HaveDoneNothing, IsAnswerOf, IsDataflow, IsFirst, IsHeldNow, MadeStep, MovesUnder, ShowAt, StandsUnder, TurnsAt, leg_begun, handed_out, has_finished, has_room, is_armed_at, is_held, is_paused, is_short, have_all_finished, journal_of, rows_emitted, seat_of, step_count, turned_of, units_counted, constant_put, when_put, worker_begun, worker_set, worker_watching}
 use Rattle.amber_dataflow.specs.Parts.{without_journal}
 use Rattle.amber_dataflow.proofs.Answered.{at-work-show, some-crew}
 use Rattle.amber_dataflow.proofs.Crews.{at-each}

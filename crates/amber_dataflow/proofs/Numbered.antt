@@ -1,11 +1,10 @@
 -- What is listed by number, and read at a number.
-use Rattle.std.proofs.Common.{None, ◌≡◌, refl, sym, ap, ◌∙◌, ℕ, zero, suc, ◌+◌, ◌<◌, ◌≤◌, List, [], ◌∷◌, ◌++◌, length, map, Some, unwrap_or, inl, inr, length-append, add-one, arith}
+use Rattle.std.proofs.Common.{◌≡◌, refl, sym, ap, ◌∙◌, ℕ, zero, suc, ◌+◌, ◌<◌, ◌≤◌, List, [], ◌∷◌, ◌++◌, length, map, Some, inl, inr, length-append, add-one, arith}
 use Rattle.std.specs.List.{slice_get}
 use Rattle.std.proofs.lemmas.List.{length-map, map-append}
 use Rattle.std.proofs.lemmas.Bool.Decides.{eqb_tells}
 use Rattle.amber_rows.specs.Lists.{nth, numbers_below}
 use Rattle.amber_rows.specs.declared.flow.Operator.{Operator}
-use Rattle.amber_meaning.specs.State.{Arms, no_arms}
 use Rattle.amber_meaning.specs.Stops.{op_numbers}
 use Rattle.amber_meaning.proofs.Lists.{nth-next}
 

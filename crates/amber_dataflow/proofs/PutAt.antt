@@ -1,29 +1,17 @@
 -- Another constant or another condition at an operator, worker by worker.
-use Rattle.std.proofs.Common.{None, Option, ◌≡◌, ◌≢◌, refl, sym, ap, subst, ◌∙◌, ℕ, zero, suc, ◌+◌, ◌<◌, ◌≤◌, eqb, List, [], ◌∷◌, ◌++◌, length, map, take, Bool, true, false, if◌then◌else◌, inl, inr, add-one, arith}
+use Rattle.std.proofs.Common.{Option, ◌≡◌, ◌≢◌, refl, ap, ◌∙◌, ℕ, zero, suc, ◌<◌, eqb, List, [], ◌∷◌, length, map, Bool, true, false, if◌then◌else◌, arith}
 use Rattle.std.proofs.lemmas.Bool.{eq-eqb, ne_eqb}
-use Rattle.std.proofs.lemmas.Bool.Decides.{eqb_tells}
-use Rattle.std.proofs.lemmas.List.{map-append, take_all, length-map}
-use Rattle.std.proofs.lemmas.Grind.{take_at_read}
-use Rattle.amber_rows.specs.Topology.{crew_of, op_of, workers_of}
-use Rattle.amber_rows.specs.FlowRules.{IsFlow}
-use Rattle.amber_rows.specs.Lists.{numbers_below}
 use Rattle.amber_rows.specs.declared.value.Value.{Value}
 use Rattle.amber_rows.specs.declared.cond.Cond.{Cond}
-use Rattle.amber_log.specs.Grammar.{AreEntries, AreParts}
-use Rattle.amber_lines.specs.Moving.{orders_in}
-use Rattle.amber_meaning.specs.Legal.{IsWorked, Query, assignment_in, entries_of}
-use Rattle.amber_meaning.specs.Position.{Position, origin}
-use Rattle.amber_meaning.specs.Replay.{after_leg}
-use Rattle.amber_meaning.specs.Rules.{Leads, Orders}
-use Rattle.amber_meaning.specs.State.{State, arms_at, emitted_by, have_finished, let_go, position_at, restraint_released, steps_in}
-use Rattle.amber_meaning.proofs.OneState.{position-get_or}
-use Rattle.amber_worker.specs.AtPosition.{Context, IsAtPosition, Shows, placement_of}
-use Rattle.amber_worker.specs.Changes.{ShowsSet, StandsAtLeg, at_leg_start, with_value, with_when}
-use Rattle.amber_worker.specs.WorkerState.{WorkerState, steps_made}
-use Rattle.amber_worker.proofs.Commands.{shows-set, stands-at_leg, stands-watched}
-use Rattle.amber_dataflow.specs.AtWork.{AreAtWork, context_in, emitted_at, state_reached, steps_by, worker_state_at}
-use Rattle.amber_dataflow.specs.Dataflow.{AreAllThere, DataflowState, FirstHaveFinished, HaveDoneNothing, StandAt, leg_begun, handed_out, has_finished, have_all_finished, journal_of, leg_parts, rows_emitted, step_count, constant_put, when_put, worker_begun, worker_set, worker_watching}
-use Rattle.amber_dataflow.specs.Parts.{parts_from, without_journal}
+use Rattle.amber_log.specs.Grammar.{AreEntries}
+use Rattle.amber_meaning.specs.Position.{Position}
+use Rattle.amber_meaning.specs.Rules.{Leads}
+use Rattle.amber_worker.specs.AtPosition.{Context, IsAtPosition}
+use Rattle.amber_worker.specs.Changes.{ShowsSet, with_value, with_when}
+use Rattle.amber_worker.specs.WorkerState.{WorkerState}
+use Rattle.amber_worker.proofs.Commands.{shows-set, stands-watched}
+use Rattle.amber_dataflow.specs.AtWork.{worker_state_at}
+use Rattle.amber_dataflow.specs.Dataflow.{worker_set, worker_watching}
 use Rattle.amber_dataflow.proofs.Renewed.{HasItsEnds}
 
 -- ---- another constant

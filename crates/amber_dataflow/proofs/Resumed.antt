@@ -1,15 +1,12 @@
 -- Who was paused goes on: where all stand then, and what is read of them.
-use Rattle.std.proofs.Common.{◌≡◌, refl, sym, ap, subst, ◌∙◌, ℕ, zero, suc, ◌<◌, List, [], ◌∷◌, length, map, Bool, true, false, if◌then◌else◌}
+use Rattle.std.proofs.Common.{◌≡◌, refl, ap, ◌∙◌, ℕ, zero, suc, List, [], ◌∷◌, map, Bool, true, false, if◌then◌else◌}
 use Rattle.std.specs.List.{list_all}
 use Rattle.std.proofs.lemmas.List.{length-map}
 use Rattle.amber_rows.specs.Topology.{workers_of}
-use Rattle.amber_meaning.specs.Legal.{Query}
-use Rattle.amber_meaning.specs.Position.{Position, Restraint}
-use Rattle.amber_meaning.specs.State.{State}
 use Rattle.amber_worker.specs.Changes.{resumed_at}
 use Rattle.amber_worker.specs.WorkerState.{WorkerState, steps_made}
 use Rattle.amber_dataflow.specs.AtWork.{KeepsPosition, worker_state_at}
-use Rattle.amber_dataflow.specs.Dataflow.{AreAllThere, AreArmed, DataflowState, IsDataflow, StandAgain, StandAt, all_resumed, has_finished, have_all_finished, is_held, is_paused, rows_emitted, seat_of, step_count, worker_resumed}
+use Rattle.amber_dataflow.specs.Dataflow.{AreAllThere, AreArmed, DataflowState, IsDataflow, StandAgain, all_resumed, has_finished, have_all_finished, is_held, is_paused, rows_emitted, seat_of, step_count, worker_resumed}
 use Rattle.amber_dataflow.proofs.Emitted.{emitted-same}
 use Rattle.amber_dataflow.proofs.GoneOn.{stands-again}
 use Rattle.amber_dataflow.proofs.Renewed.{HasItsEnds, renewed}

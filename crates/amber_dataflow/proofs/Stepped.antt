@@ -1,19 +1,17 @@
 -- Turns of one worker, and then its links settled again: all are at work.
-use Rattle.std.proofs.Common.{◌≡◌, ◌≢◌, ◌⊎◌, refl, sym, ap, subst, ◌∙◌, ℕ, suc, ◌+◌, ◌<◌, List, [], ◌∷◌, length, get_or, set, nat_eq, Bool, Option, None, true, if◌then◌else◌, inl, inr, arith, length-set}
+use Rattle.std.proofs.Common.{◌≡◌, ◌≢◌, ◌⊎◌, refl, sym, ap, subst, ◌∙◌, ℕ, suc, ◌+◌, ◌<◌, List, [], ◌∷◌, length, get_or, set, nat_eq, Bool, Option, true, if◌then◌else◌, inl, inr, arith, length-set}
 use Rattle.std.specs.List.{list_any}
 use Rattle.std.proofs.lemmas.Bool.{ne_eqb}
 use Rattle.amber_meaning.specs.Legal.{Query}
 use Rattle.amber_meaning.specs.Position.{Position}
 use Rattle.amber_meaning.specs.State.{State}
-use Rattle.amber_link.specs.Sides.{Pairwise}
 use Rattle.amber_board.specs.declared.types.Board.{Board}
-use Rattle.amber_worker.specs.AtPosition.{HasSameEnds}
 use Rattle.amber_worker.specs.Counting.{IsBoardOf, IsSameSeat, mine_in}
 use Rattle.amber_worker.specs.Links.{HaveSentNothing}
-use Rattle.amber_worker.specs.Turning.{HaveMoreCome, MakesTurns, WritesStep, other_entries}
+use Rattle.amber_worker.specs.Turning.{MakesTurns, WritesStep, other_entries}
 use Rattle.amber_worker.specs.Steps.{held_at}
 use Rattle.amber_worker.specs.Turning.{MakesStep}
-use Rattle.amber_worker.specs.WorkerState.{WorkerState, is_armed, needs_unit, steps_made}
+use Rattle.amber_worker.specs.WorkerState.{WorkerState, is_armed, steps_made}
 use Rattle.amber_worker.proofs.StepFacts.{step-steps, step-writes}
 use Rattle.amber_dataflow.specs.AtWork.{AreAtWork, AreJoinedAt, GoesOn, IsCrewUnder, IsJoinedCrew, IsHeldAt, MakesStepAt, MakesTurnsAt, MovesOnly, SendsTo, StayPut, WritesHolds, is_counted, steps_by, worker_state_at}
 use Rattle.amber_dataflow.specs.Passing.{AreSameBesides, Come, IsSettledAt, Settled}

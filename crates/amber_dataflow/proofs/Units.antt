@@ -1,5 +1,5 @@
 -- The units that an operator's workers have counted.
-use Rattle.std.proofs.Common.{◌≡◌, ◌≢◌, refl, sym, ap, ◌∙◌, ℕ, ◌+◌, ◌≤◌, List, [], ◌∷◌, sum_by, true, arith}
+use Rattle.std.proofs.Common.{◌≡◌, ◌≢◌, refl, sym, ap, ◌∙◌, ℕ, ◌+◌, ◌≤◌, List, [], ◌∷◌, true, arith}
 use Rattle.std.proofs.lemmas.List.Sums.{sum_by-cons}
 use Rattle.amber_rows.specs.Topology.{op_of, workers_of}
 use Rattle.amber_rows.specs.declared.flow.Operator.{Operator}

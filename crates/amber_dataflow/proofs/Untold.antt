@@ -1,9 +1,7 @@
 -- Turns of a worker that is told nothing.
-use Rattle.std.proofs.Common.{◌≡◌, ℕ, ◌+◌, ◌⊎◌, ◌==◌, ◌&&◌, ◌||◌, List, [], ◌∷◌, ◌++◌, Option, None, Some, not, Bool, true, false, Result, Ok, Err, if◌then◌else◌, refl, sym, ap, ◌∙◌, subst, inl, inr, append-nil, append_assoc, arith}
-use Rattle.std.specs.Prelude.{filter, replicate}
-use Rattle.std.specs.Option.{is_some}
+use Rattle.std.proofs.Common.{◌≡◌, ◌+◌, ◌&&◌, ◌||◌, List, [], ◌∷◌, ◌++◌, None, not, Bool, true, false, Result, Ok, Err, if◌then◌else◌, refl, sym, ap, ◌∙◌, subst, append-nil, append_assoc}
+use Rattle.std.specs.Prelude.{replicate}
 use Rattle.std.specs.Result.{IfOk, OnOk}
-use Rattle.std.proofs.lemmas.Bool.{false≢true}
 use Rattle.std.proofs.lemmas.List.{replicate-append-replicate}
 use Rattle.std.proofs.lemmas.List.Elements.{filter-append}
 use Rattle.amber_log.specs.declared.entry.Entry.{Entry}
@@ -11,16 +9,15 @@ use Rattle.amber_log.specs.declared.entry.Entry.TheVariants as entry
 use Rattle.amber_link.specs.Links.{has_some}
 use Rattle.amber_link.specs.Sides.{have_all_ended}
 use Rattle.amber_worker.specs.AtPosition.{HasSameEnds, KeepsUnder}
-use Rattle.amber_worker.specs.Links.{HaveSentNothing}
 use Rattle.amber_worker.specs.Steps.{held_at}
 use Rattle.amber_worker.specs.Turning.{HasTurned, IsNextTurn, MakesTurn, MakesTurns, TurnsUnder, other_entries, tells_steps}
-use Rattle.amber_worker.specs.WorkerState.{WorkerState, has_ready, is_armed, is_starved, must_hold, needs_unit, steps_made}
+use Rattle.amber_worker.specs.WorkerState.{WorkerState, has_ready, is_armed, is_starved, must_hold, needs_unit}
 use Rattle.amber_worker.specs.declared.turn.Turn.{Turn}
 use Rattle.amber_worker.specs.declared.turn.Turn.TheVariants as turn
-use Rattle.amber_worker.proofs.ManyTurns.{makes-armed, makes-same, makes-then, makes-turn, same-step, steps_in, turned-rows, turned-steps}
+use Rattle.amber_worker.proofs.ManyTurns.{makes-turn, same-step}
 use Rattle.amber_worker.proofs.Selves.{turns-uncounted}
 use Rattle.amber_worker.proofs.StepFacts.{step-writes}
-use Rattle.amber_worker.proofs.TurnCases.{ends-by, pauses-by, turn_by}
+use Rattle.amber_worker.proofs.TurnCases.{turn_by}
 use Rattle.amber_dataflow.specs.AtWork.{WritesHolds}
 
 -- ---- one turn

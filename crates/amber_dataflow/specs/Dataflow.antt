@@ -19,8 +19,7 @@ use Rattle.amber_board.specs.declared.types.WorkSeat.{WorkSeat}
 use Rattle.amber_worker.specs.Changes.{armed_at, at_leg_start, disarmed_at, held_dropped, resumed_at, row_held, with_value}
 use Rattle.amber_worker.specs.Counting.{IsSameSeat}
 use Rattle.amber_worker.specs.Turning.{WritesStep}
-use Rattle.amber_worker.specs.WorkerState.{WorkerState, needs_unit, next_turn}
-use Rattle.amber_worker.specs.declared.turn.Turn.TheVariants as turn
+use Rattle.amber_worker.specs.WorkerState.{WorkerState, needs_unit}
 use Rattle.amber_dataflow.specs.Passing.{AreSameBesides}
 use Rattle.amber_dataflow.specs.AtWork.{AreAtWork, AreJoinedAt, WritesHolds, emitted_at, is_counted, state_reached, steps_by, units_at, worker_state_at}
 use Rattle.amber_dataflow.specs.Parts.{parts_from, without_journal}

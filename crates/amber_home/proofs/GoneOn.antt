@@ -17,7 +17,7 @@ use Rattle.amber_dataflow.specs.AtWork.{AreJoinedAt, context_in, emitted_at, ste
 use Rattle.amber_dataflow.specs.Dataflow.{DataflowState, has_room, rows_emitted, seat_of, units_counted}
 use Rattle.amber_dataflow.proofs.Linked.{joined-still}
 use Rattle.amber_dataflow.proofs.Steps.{steps-cons}
-use Rattle.amber_boards.specs.Boards.{CounterState, HasSeat, IsCountedAt, IsCountedOn, IsWorkerOf, board_at}
+use Rattle.amber_boards.specs.Boards.{AreLedBy, CounterState, HasSeat, IsCountedAt, IsCountedOn, IsWorkerOf, board_at}
 use Rattle.amber_home.specs.Asked.{Asked}
 use Rattle.amber_home.specs.Going.{AreReady}
 use Rattle.amber_home.specs.HomeState.{HomeState, query_of, rest_state, runs_to_end}
@@ -135,8 +135,6 @@ module _ (arms : List Asked) (old new : DataflowState) (boards : List (Option Co
       let inside = (was op worker mine).0 in
       no-seat (worker_state_at old.workers worker).seat (worker_state_at new.workers worker).seat (unarmed worker (was op worker mine)) (turns worker inside).seat
   counted-on op (Some counter) is on = record {
-    chief = on.chief;
-    empty = on.empty;
     workers = on.workers ∙ ap (λ f. worker_count f op) (sym flow);
     none = on.none;
     room = subst (λ f. worker_count f op ≤ counter.room) (sym flow) on.room;
@@ -193,6 +191,7 @@ module _ (e : HomeState) (old new : Crew) (most : ℕ) (lent : IsLent e old) (ma
   lent-on few =
       let next = joined-on (query_of e) (start e old lent) old.workers.items new.workers.items lent.workers.positions lent.workers.at made.all most made.each (under e old lent) in
       record {
+        led = subst (λ boards. AreLedBy boards new.chiefs.items) (sym made.boards) made.led;
         workers = record { positions = next.0; at = next.1; few = few };
         arms = lent.arms;
         in_force = lent.in_force;

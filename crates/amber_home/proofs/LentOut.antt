@@ -12,7 +12,7 @@ use Rattle.amber_dataflow.specs.Parts.{parts_from}
 use Rattle.amber_dataflow.specs.Passing.{AreSameBesides}
 use Rattle.amber_dataflow.proofs.AllSettled.{back-parts, back-steps}
 use Rattle.amber_dataflow.proofs.Standing.{stand-worked}
-use Rattle.amber_boards.specs.Boards.{CounterState}
+use Rattle.amber_boards.specs.Boards.{AreLedBy, CounterState}
 use Rattle.amber_boards.specs.declared.target.Target.{Target}
 use Rattle.amber_home.specs.Asked.{Asked, IsAskedOf, IsCountOf, IsInForce, asked_at, no_asked}
 use Rattle.amber_home.specs.HomeState.{HomeState, IsWorkedLeg, counts_in, is_lent, is_open, has_leg_crew, query_of, rest_state, runs_to_end, state_of}
@@ -104,10 +104,10 @@ module _ (e : HomeState) (live : LiveState) where
 
   -- and they
   pub crew-lent : (now : Phase) → IsHome (record e { phase = now }) live → is_open now ≡ true → counts_in now ≡ Armed → live.dataflow.flow ≡ e.flow → (crew : Crew)
-      → crew.workers.items ≡ live.dataflow.workers → crew.boards ≡ live.boards
+      → crew.workers.items ≡ live.dataflow.workers → crew.boards ≡ live.boards → AreLedBy crew.boards crew.chiefs.items
       → IsLent (record e { phase = phase.Lent (runs_to_end now); parts = [] }) crew
   unfolding step_count
-  crew-lent now home within armed flow crew workers-are boards-are =
+  crew-lent now home within armed flow crew workers-are boards-are led =
       let leg = leg-armed e live now home within armed in
       let to_end = runs_to_end now in
       let few = leg.leg.few in
@@ -122,6 +122,7 @@ module _ (e : HomeState) (live : LiveState) where
         ready =
             subst (λ (boards : List (Option CounterState)). AreReady live.arms boards (record { flow = e.flow; workers = crew.workers.items })) (sym boards-are)
             (subst (λ (d : DataflowState). AreReady live.arms live.boards d) (λ i. record { flow = flow i; workers = sym workers-are i }) leg.stand);
+        led = led;
       }
 
   pub parts-lent : (now : Phase) → is_open now ≡ true → open_parts now live ≡ parts_from 0 live.dataflow.workers

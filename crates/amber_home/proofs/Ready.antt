@@ -162,8 +162,6 @@ module _ (boards : List (Option CounterState)) (old new : DataflowState) (worker
   counted-turned inside op (Some counter) is on =
       let still = units-still counter op inside on in
       record {
-        chief = on.chief;
-        empty = on.empty;
         workers = on.workers ∙ ap (λ (f : List Operator). worker_count f op) (sym turns.flow);
         none = on.none;
         room = subst (λ (f : List Operator). worker_count f op ≤ counter.room) (sym turns.flow) on.room;

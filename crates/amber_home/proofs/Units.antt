@@ -113,8 +113,6 @@ module _ (old new : DataflowState) (keep : KeepUnits old new) where
     counted-at : (op : ℕ) (counter : Option CounterState) → IsCountedAt counter op old → IsCountedAt counter op new
     counted-at op None unarmed = λ worker own. seat-kept worker ∙ unarmed worker (subst (λ (f : List Operator). worker < crew_of f) keep.flow own.0, ap (λ (f : List Operator). op_of f worker) (sym keep.flow) ∙ own.1)
     counted-at op (Some counter) on = record {
-      chief = on.chief;
-      empty = on.empty;
       workers = on.workers ∙ ap (λ (f : List Operator). worker_count f op) (sym keep.flow);
       none = on.none;
       room = subst (λ (f : List Operator). worker_count f op ≤ counter.room) (sym keep.flow) on.room;

@@ -1,7 +1,7 @@
 //! What is in force at one operator. Over `Target`, and `Change` of `amber_log`, which says what a command
 //! asks for.
 
-ghost use Rattle.std.specs.Prelude.{◌≡◌, IfOk, None, option_map, option_to_list};
+ghost use Rattle.std.specs.Prelude.{◌≡◌, IfOk, None, is_some, option_map, option_to_list};
 ghost use Rattle.amber_meaning.specs.State.{first_constants, put};
 ghost use Rattle.amber_home.specs.Asked.{asked_changed, asked_left, is_reached, no_asked, stands_after, without_asked};
 
@@ -71,6 +71,13 @@ impl Armed {
         ensures { option_map (λ cond. cond.now) result ≡ self.now.when }
     {
         self.when.as_ref()
+    }
+
+    /// Whether a condition to stop at is armed.
+    pub fn has_condition(&self) -> bool
+        ensures { result ≡ is_some self.now.when }
+    {
+        self.when.is_some()
     }
 
     /// The filter's constant, if the operator is one.

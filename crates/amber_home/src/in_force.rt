@@ -77,6 +77,13 @@ impl InForce {
         self.arms.iter().any(|armed| armed.count().is_some())
     }
 
+    /// Whether a condition to stop at is armed at any operator.
+    pub fn has_condition(&self) -> bool
+        ensures { result ≡ list_any (λ asked. is_some asked.when) self.now }
+    {
+        self.arms.iter().any(|armed| armed.has_condition())
+    }
+
     /// An operator's count, if one is armed there.
     pub fn count_at(&self, op: u32) -> Option<Target>
         ensures { result ≡ (asked_at self.now op).count }

@@ -33,6 +33,7 @@ module _ (away : HomeState) (crew : Crew) (lent : IsLent away crew) (turns : ℕ
 
   pub lent-ready : AreReadyFor turns crew
   lent-ready = record {
+    led = lent.led;
     each = λ worker there.
         let inside : worker < crew_of away.flow = rw (← lent.workers.at.at_positions.all) there in (
           (let one = sum-member crew.workers.items worker in let own = own-turns worker inside in omega arith),

@@ -2,7 +2,7 @@
 use Rattle.std.specs.Prelude.{◌≡◌, ℕ, ◌==◌, ◌<◌, List, Option, None, Some, false, length, slice_index, slice_index_or, if◌then◌else◌}
 use Rattle.std.specs.Borrow.{Bor}
 use Rattle.amber_board.specs.declared.types.Board.{Board}
-use Rattle.amber_boards.specs.Boards.{CounterState}
+use Rattle.amber_boards.specs.Boards.{AreLedBy, CounterState}
 use Rattle.amber_worker.specs.WorkerState.{WorkerState}
 use Rattle.amber_dataflow.specs.AtWork.{worker_state_at}
 use Rattle.amber_home.specs.Lent.{board_of}
@@ -36,8 +36,9 @@ abbrev pub AreOf : List ℕ → List Driver → List WorkerState → Type 0
 AreOf owners drivers crew = (place : ℕ) (d : Driver) → place < length crew
     → worker_placed (slice_index_or drivers (slice_index owners place) d) place ≡ Some (worker_state_at crew place)
 
--- workers that are away may make so many turns each, on the boards of their operators
+-- workers that are away may make so many turns each, on the boards of their operators, whose chiefs have no unit in hand
 pub record AreReadyFor (turns : ℕ) (crew : Crew) : Type 0 where
+  pub led : AreLedBy crew.boards crew.chiefs.items
   pub each : (worker : ℕ) → worker < length crew.workers.items
       → MayTurn turns (board_of crew.boards (worker_state_at crew.workers.items worker).op) (Some (worker_state_at crew.workers.items worker))
 

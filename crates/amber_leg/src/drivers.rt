@@ -12,7 +12,7 @@ use crate::done::{begin_round, end_round};
 use crate::driver::{Driver, drive};
 use crate::owners::owners_of;
 use amber_board::Board;
-use amber_boards::Boards;
+use amber_boards::LentBoards;
 use amber_home::Crew;
 use amber_mail::Gate;
 use amber_worker::Worker;
@@ -118,7 +118,7 @@ fn drive_all<R: Threads + Sync, G: Gate + Sync>(
 fn boards_of<'a>(
     alloc: Global,
     workers: &[Worker],
-    boards: &'a Boards,
+    boards: &'a LentBoards,
 ) -> Result<Vec<Option<&'a Board>>, AllocError>
     ensures { IfOk result (λ found. AreBoardsOf boards.now workers.now found.items) }
 {

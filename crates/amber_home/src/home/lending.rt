@@ -35,8 +35,8 @@ impl Home {
         Ok(())
     }
 
-    /// Hands out all workers of the leg that is open, whose counts are armed, with the boards of these. Until they come
-    /// back the home can do nothing else. It takes no memory.
+    /// Hands out all workers of the leg that is open, whose counts are armed, with the boards of these and their chiefs.
+    /// Until they come back the home can do nothing else. It takes no memory.
     pub fn lend(&mut self, alloc: Global) -> Crew
         requires within { is_open self.old.phase ≡ true }
         requires armed { counts_in self.old.phase ≡ Counts.Armed }
@@ -54,14 +54,16 @@ impl Home {
         self.phase = Phase::Lent {
             to_end: self.phase.runs_to_end(),
         };
+        let (boards, chiefs) = mem::replace(&mut self.boards, Boards::new(alloc)).lend();
         Crew {
             workers: self.dataflow.lend(alloc),
-            boards: mem::replace(&mut self.boards, Boards::new(alloc)),
+            boards,
+            chiefs,
         }
     }
 
-    /// Takes workers of the leg in again, with its boards, wherever they stand by now. What they have sent may still be on
-    /// its way: nothing can be done but `settle`. It takes no memory.
+    /// Takes workers of the leg in again, with its boards and their chiefs, whose hands are empty, wherever they stand by now.
+    /// What they have sent may still be on its way: nothing can be done but `settle`. It takes no memory.
     pub fn take_back(&mut self, crew: Crew)
         requires away { is_lent self.old.phase ≡ true }
         requires crew { IsLent self.old crew }
@@ -72,7 +74,7 @@ impl Home {
         } }
     {
         self.back = crew.workers;
-        self.boards = crew.boards;
+        self.boards = Boards::take_back(crew.boards, crew.chiefs);
         self.phase = Phase::Unsettled {
             to_end: self.phase.runs_to_end(),
         };

@@ -139,6 +139,25 @@ impl Home {
         self.arms.has_count()
     }
 
+    /// Whether a condition to stop at is in force at an operator.
+    pub fn has_condition(&self) -> bool
+        requires there { has_crew self.now.phase ≡ true }
+        ensures none { result ≡ false → (op : ℕ)
+            → (arms_at (state_of self.now) op).when ≡ None }
+        ensures some { result ≡ true → (op : ℕ)
+            × (is_some (arms_at (state_of self.now) op).when ≡ true) }
+    {
+        self.arms.has_condition()
+    }
+
+    /// The rows after which an operator pauses, where its pause is in force.
+    pub fn pause_at(&self, op: u32) -> Option<u64>
+        requires there { has_crew self.now.phase ≡ true }
+        ensures { result ≡ (arms_at (state_of self.now) op).pause }
+    {
+        self.arms.pause_at(op)
+    }
+
     /// The log of the run so far.
     pub fn log(&self) -> &Log
         ensures log { result.now ≡ self.now.log }

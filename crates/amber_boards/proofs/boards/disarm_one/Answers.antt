@@ -6,11 +6,11 @@ use Rattle.amber_boards.specs.Boards.{CounterState, IsCountedAt, IsWithin}
 use Rattle.amber_boards.proofs.Refilled.{disarmed-unarmed, rows-within}
 use Rattle.amber_boards.proofs.boards.disarm_one.Goals as goal
 
-pub returns-in-Some-clause-unarmed : goal.returns-in-Some-clause-unarmed
-returns-in-Some-clause-unarmed c = disarmed-unarmed c.args.op c.args.dataflow.now c.disarm_operator.new.dataflow c.disarm_operator.ensures.disarms
+pub returns-clause-unarmed : goal.returns-clause-unarmed
+returns-clause-unarmed c = disarmed-unarmed c.args.op c.args.dataflow.now c.disarm_operator.new.dataflow c.disarm_operator.ensures.disarms
 
-pub returns-in-Some-clause-within : goal.returns-in-Some-clause-within
-returns-in-Some-clause-within c =
+pub returns-clause-within : goal.returns-clause-within
+returns-clause-within c =
     let old = c.args.dataflow.now in
     let new = c.disarm_operator.new.dataflow in
     subst (λ b. IsWithin (option_map (λ (k : CounterState). k.target) b) (rows_emitted new c.args.op)) (sym c.in-Some.is)

@@ -130,9 +130,12 @@ returns-clause-counted c =
     let target = c.in_ok-counter.ensures.target in
     let count = c.worker_count-workers.ensures.count ∙ ap (λ f. worker_count f c.op_of-op.result) (c.flow-3.ensures ∙ sym disarms.change.flow) in
     subst (λ n. IsCountedOn c.in_ok-counter.counter n new) op
-    (counted-now c.in_ok-counter.counter c.in_ok-counter.dealt.items (all_with place units c.worker_count-workers.result) c.op_of-op.result mid new c.in_ok-counter.ensures.made count arms
+    (counted-now c.in_ok-counter.counter c.in_ok-counter.chief c.in_ok-counter.dealt.items (all_with place units c.worker_count-workers.result) c.op_of-op.result mid new c.in_ok-counter.ensures.made count arms
     (subst (λ t. IsSince t (rows_emitted mid c.op_of-op.result)) (c.requires.target ∙ sym target) both.0)
     (got.2 ∙ sym (ap (λ (t : Target). t.target + t.since) target)))
+
+pub returns-clause-led : goal.returns-clause-led
+returns-clause-led c = (c.in_ok-counter.ensures.made.made.chief, c.in_ok-counter.ensures.made.made.empty)
 
 pub returns-clause-fed : goal.returns-clause-fed
 returns-clause-fed c =

@@ -18,7 +18,6 @@ workers-init c =
       disarmed = changed-none op first (IsDisarmed first d) d;
       back = back-none c.counter.inside.board first d c.counter.inside.seats.items (ap (λ (x : CounterState). x.seats) c.counter.view_is ∙ c.requires.counted.none);
       board = refl;
-      chief = refl;
       target = refl;
       room = refl;
     }
@@ -107,7 +106,6 @@ workers-preserved c =
           c.args.counter.now c.requires.counted c.workers.counter-inside.board c.workers.counter-inside.seats.items c.disarm-seat.result c.workers.invariant.back
           c.disarm-seat.ensures.own c.disarm-seat.ensures.gives);
       board = c.workers.invariant.board;
-      chief = c.workers.invariant.chief;
       target = c.workers.invariant.target;
       room = c.push_reserved.ensures.capacity ∙ c.workers.invariant.room;
     }
@@ -135,5 +133,4 @@ returns-clause-seats c =
     ap (λ xs. (get_or xs (op - 1) one).workers) (c.get.ensures.operators ∙ c.flow-2.ensures) ∙ count-there d.flow op one c.requires.some c.requires.there in
     let whole : c.workers.place ≡ worker_count d.flow op = omega (arith, count, c.workers-test.false, c.workers.auto.place-end) in
     let same-board = c.workers.invariant.board ∙ ap (λ (x : CounterState). x.board) c.counter.view_is in
-    let same-chief = c.workers.invariant.chief ∙ ap (λ (x : CounterState). x.chief) c.counter.view_is in
-    holds-seats c.args.counter.now (the_view c.workers.counter-inside) op first c.workers.place d c.requires.counted same-board same-chief c.workers.invariant.back first-is whole
+    holds-seats c.args.counter.now (the_view c.workers.counter-inside) op first c.workers.place d c.requires.counted same-board c.workers.invariant.back first-is whole

@@ -10,7 +10,6 @@ invariant-workers l = record {
   disarmed : AreChanged l.op l.first l.place (IsDisarmed l.first l.initial.dataflow) l.initial.dataflow l.dataflow;
   back : AreBack l.counter-inside.board l.first l.place l.initial.dataflow l.counter-inside.seats.items;
   board : l.counter-inside.board ≡ l.initial.counter-inside.board;
-  chief : l.counter-inside.chief ≡ l.initial.counter-inside.chief;
   target : l.counter-inside.target ≡ l.initial.counter-inside.target;
   room : vec_capacity l.counter-inside.seats ≡ vec_capacity l.initial.counter-inside.seats;
 }

@@ -25,6 +25,7 @@ returns g c =
         boards = refl;
         each = λ worker there. (turned worker there).0.makes;
         own = λ worker there. (turned worker there).1;
+        led = c.requires.ready.led;
       };
       counted = record { each = λ worker there. (turned worker there).0 };
     }

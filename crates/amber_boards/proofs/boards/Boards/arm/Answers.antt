@@ -4,6 +4,7 @@ use Rattle.std.specs.Prelude.{option_map}
 use Rattle.std.proofs.lemmas.List.{length_push, map_push}
 use Rattle.amber_dataflow.specs.Dataflow.{rows_emitted}
 use Rattle.amber_boards.specs.Boards.{AreUnarmedAt, ChangesAt, CounterState, IsBelow, IsCountedAt, StandsCounted, targets_of}
+use Rattle.amber_boards.proofs.Led.{led-more, led-none}
 use Rattle.amber_boards.proofs.OneMoreArmed.{AreArmedTo, all-armed, all-counted, all-targets, armed-more, armed-none, armed-there, next-below, next-stands, next-unarmed, targets-kept}
 use Rattle.amber_boards.proofs.boards.Boards.arm.Goals as goal
 
@@ -11,6 +12,8 @@ pub operators-init : goal.operators-init
 operators-init c = record {
   long = ap length c.in_ok-counters.ensures.items;
   room = c.in_ok-counters.ensures.capacity;
+  led = led-none c.in_ok-counters.counters.items c.in_ok-chiefs.chiefs.items c.in_ok-counters.ensures.items c.in_ok-chiefs.ensures.items;
+  chiefs_room = c.in_ok-chiefs.ensures.capacity;
   targets = c.in_ok-targets.ensures.items ∙ ap targets_of (sym c.in_ok-counters.ensures.items);
   targets_long = ap length c.in_ok-targets.ensures.items;
   targets_room = c.in_ok-targets.ensures.capacity;
@@ -58,6 +61,15 @@ push_reserved-requires c =
 
 pub push_reserved-requires-in-operators : goal.push_reserved-requires-in-operators
 push_reserved-requires-in-operators c =
+    let long = c.operators.chiefs.ok.0 in
+    let all = c.operators.invariant.led.all in
+    let place = c.operators.invariant.long in
+    let room = c.operators.invariant.chiefs_room in
+    let less = c.operators-test.true in
+    omega arith
+
+pub push_reserved-requires-in-operators-2 : goal.push_reserved-requires-in-operators-2
+push_reserved-requires-in-operators-2 c =
     let long = c.operators.targets.ok.0 in
     let place = c.operators.invariant.targets_long in
     let room = c.operators.invariant.targets_room in
@@ -80,20 +92,23 @@ operators-preserved c =
     record {
       long = ap length c.push_reserved.ensures.items ∙ length_push items made ∙ ap (λ n. n + 1) before.long;
       room = subst (λ n. length counts ≤ n) (sym c.push_reserved.ensures.capacity) before.room;
-      targets = c.push_reserved-in-operators.ensures.items
+      led = rw (c.push_reserved.ensures.items, c.push_reserved-in-operators.ensures.items)
+          (led-more items c.operators.chiefs.items made c.in_ok-counter.chief before.led done.led);
+      chiefs_room = subst (λ n. length counts ≤ n) (sym c.push_reserved-in-operators.ensures.capacity) before.chiefs_room;
+      targets = c.push_reserved-in-operators-2.ensures.items
           ∙ ap (λ ts. ts ++ count ∷ []) before.targets
           ∙ ap (λ t. targets_of items ++ t ∷ []) (sym done.target)
           ∙ sym (map_push (option_map (λ (k : CounterState). k.target)) items made)
           ∙ ap targets_of (sym c.push_reserved.ensures.items);
-      targets_long = ap length c.push_reserved-in-operators.ensures.items ∙ length_push c.operators.targets.items count ∙ ap (λ n. n + 1) before.targets_long;
-      targets_room = subst (λ n. length counts ≤ n) (sym c.push_reserved-in-operators.ensures.capacity) before.targets_room;
+      targets_long = ap length c.push_reserved-in-operators-2.ensures.items ∙ length_push c.operators.targets.items count ∙ ap (λ n. n + 1) before.targets_long;
+      targets_room = subst (λ n. length counts ≤ n) (sym c.push_reserved-in-operators-2.ensures.capacity) before.targets_room;
       armed = subst (λ b. AreArmedTo counts b old new) (sym c.push_reserved.ensures.items)
           (armed-more counts items old mid before.armed new count made (ap (λ n. get_or counts n None) back) less
           (subst (λ n. ChangesAt (n + 1) mid new) back done.change) done.none (subst (λ n. IsCountedAt made (n + 1) new) back done.counted) done.target done.journals);
     }
 
 pub invariant_of-self : goal.invariant_of-self
-invariant_of-self c = targets-kept c.operators.targets.items c.operators.counters.items (sym c.operators.invariant.targets)
+invariant_of-self c = (targets-kept c.operators.targets.items c.operators.counters.items (sym c.operators.invariant.targets), c.operators.invariant.led)
 
 pub returns-clause-arms : goal.returns-clause-arms
 returns-clause-arms c = all-armed c.args.counts.now c.operators.counters.items c.args.dataflow.now c.operators.dataflow c.operators.invariant.armed

@@ -1,5 +1,5 @@
 -- The worker is there, and stands where it stood.
-use Rattle.std.proofs.Common.{◌≡◌, ◌<◌, true, ap, subst, sym, ◌∙◌, length}
+use Rattle.std.proofs.Common.{◌≡◌, ◌<◌, true, subst, sym, ◌∙◌, length}
 use Rattle.std.specs.Result.{OnErr, OnOk}
 use Rattle.amber_rows.specs.Topology.{crew_of}
 use Rattle.amber_worker.specs.WorkerState.{WorkerState}

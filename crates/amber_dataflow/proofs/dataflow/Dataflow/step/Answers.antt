@@ -1,8 +1,7 @@
 -- The first that has not finished makes a step, or none is left.
-use Rattle.std.proofs.Common.{◌≡◌, false, ◌<◌, ◌^◌, sym, ap, subst, ◌∙◌, length, take, drop, ◌++◌, arith}
+use Rattle.std.proofs.Common.{◌<◌, ◌^◌, sym, ap, subst, ◌∙◌, length, take, drop, ◌++◌, arith}
 use Rattle.std.specs.Option.{option_copied}
 use Rattle.amber_worker.specs.Counting.{IsBoardOf}
-use Rattle.amber_worker.specs.WorkerState.{WorkerState}
 use Rattle.amber_dataflow.specs.AtWork.{HaveFinished, worker_state_at}
 use Rattle.amber_dataflow.specs.Dataflow.{AreAllThere, AreFree, DataflowState, IsFirst, StandsUnder, StepsAt, has_finished, is_armed_at, is_short, seat_of, step_count}
 use Rattle.amber_dataflow.proofs.Kept.{crew-lent, does-back, fed-lent, few-lent, free-lent, kept-stepped, none-left, own-back, own-lent, turned-back}

@@ -2,6 +2,7 @@
 use Rattle.std.proofs.Common.{refl, sym, ap, subst, ◌∙◌, List, []}
 use Rattle.amber_meaning.specs.State.{steps_in}
 use Rattle.amber_rows.specs.declared.flow.Operator.{Operator}
+use Rattle.amber_boards.specs.Boards.{AreLedBy}
 use Rattle.amber_dataflow.specs.AtWork.{steps_by, turned_by}
 use Rattle.amber_dataflow.specs.Dataflow.{DataflowState}
 use Rattle.amber_dataflow.specs.Parts.{parts_from}
@@ -43,9 +44,10 @@ returns-clause-lent c =
     let within = opens i c.self.invariant c.args.self.now c.self.view_is c.requires.within in
     let armed = ap (λ (h : HomeState). counts_in h.phase) c.self.view_is ∙ c.requires.armed in
     let flow = ap (λ (d : DataflowState). d.flow) c.lend.ensures.none in
-    let crew : Crew = record { workers = c.lend.result; boards = c.replace.result } in
+    let crew : Crew = record { workers = c.lend.result; boards = c.lend-boards.result.0; chiefs = c.lend-boards.result.1 } in
     subst (λ (h : HomeState). IsLent h crew) (λ k. record (seen i) { flow = sym flow k; phase = phase.Lent (sym c.runs_to_end.ensures k); parts = []; turned = [] })
-    (crew-lent (record (seen i) { turned = [] }) (kept i) i.phase (home-driven [] c.self.invariant) within armed refl crew c.lend.ensures.workers c.replace.ensures.value)
+    (crew-lent (record (seen i) { turned = [] }) (kept i) i.phase (home-driven [] c.self.invariant) within armed refl crew c.lend.ensures.workers (c.lend-boards.ensures.boards ∙ c.replace.ensures.value)
+    (subst (λ boards. AreLedBy boards c.lend-boards.result.1.items) (sym c.lend-boards.ensures.boards) c.lend-boards.ensures.led))
 
 pub returns-clause-parts : goal.returns-clause-parts
 returns-clause-parts c =

@@ -17,10 +17,12 @@ invariant_of-self c =
     let crew = c.args.crew in
     let away : is_lent i.phase ≡ true = ap (λ (h : HomeState). is_lent h.phase) c.self.view_is ∙ c.requires.away in
     subst (λ to_end. IsHome (record (seen i) { phase = phase.Unsettled to_end; parts = parts_from 0 crew.workers.items; turned = turned_by crew.workers.items })
-    (record (kept i) { boards = crew.boards; back = crew.workers.items }))
+    (record (kept i) { boards = c.take_back.result; back = crew.workers.items }))
     (sym c.runs_to_end.ensures)
+    (subst (λ boards. IsHome (record (seen i) { phase = phase.Unsettled (runs_to_end i.phase); parts = parts_from 0 crew.workers.items; turned = turned_by crew.workers.items })
+    (record (kept i) { boards = boards; back = crew.workers.items })) (sym c.take_back.ensures)
     (home-driven (turned_by crew.workers.items)
-    (home-back (seen i) (kept i) i.phase c.self.invariant away crew (subst (λ (h : HomeState). IsLent h crew) (sym c.self.view_is) c.requires.crew)))
+    (home-back (seen i) (kept i) i.phase c.self.invariant away crew (subst (λ (h : HomeState). IsLent h crew) (sym c.self.view_is) c.requires.crew))))
 
 pub returns : goal.returns
 returns c =
