@@ -1,4 +1,5 @@
 pub mod Closing
+pub mod Coordinated
 pub mod CrewTurned
 pub mod Dealt
 pub mod Driven
