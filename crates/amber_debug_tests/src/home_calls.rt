@@ -241,6 +241,19 @@ pub fn shown(alloc: Global, home: &Home) -> Result<String, NoMemory> {
     text_of(alloc, &lines)
 }
 
+/// How many rows an operator's workers have emitted; 0 where there is no such operator.
+pub fn emitted(alloc: Global, home: &Home, op: u32) -> Result<u64, NoMemory> {
+    if !are_there(home) || op == 0 || home.flow().get().len() < op as usize {
+        return Ok(0);
+    }
+    let shown = home.inspect(alloc, op)?;
+    let mut rows = 0u64;
+    for view in shown.workers.get() {
+        rows = rows.saturating_add(view.out);
+    }
+    Ok(rows)
+}
+
 /// Whether all have finished.
 pub fn finished(home: &Home) -> bool {
     are_there(home) && home.have_finished()

@@ -10,7 +10,7 @@ use Rattle.amber_board.specs.declared.types.ChiefSeat.{ChiefSeat}
 use Rattle.amber_boards.specs.Boards.{AreLedBy, CounterState, IsLedBy}
 use Rattle.amber_boards.proofs.OneMoreArmed.{at-place}
 use Rattle.amber_rows.specs.declared.flow.Operator.{Operator}
-use Rattle.amber_leg.specs.Coordinating.{AreLed, AreOperatorBoards, AreSized, HaveSizes, Leads}
+use Rattle.amber_leg.specs.Coordinating.{AreLed, AreOperatorBoards, AreSized, HaveSizes, LeadsBoard}
 use Rattle.amber_leg.specs.Driving.{board_for}
 
 board-is : CounterState → Board
@@ -18,13 +18,13 @@ board-is counter = counter.board
 
 -- ---- one operator
 
-leads-of : (counter : Option CounterState) (chief : Option ChiefSeat) → IsLedBy counter chief → Leads (option_map (λ (c : CounterState). c.board) counter) chief
+leads-of : (counter : Option CounterState) (chief : Option ChiefSeat) → IsLedBy counter chief → LeadsBoard (option_map (λ (c : CounterState). c.board) counter) chief
 leads-of None None led = led
 leads-of None (Some chief) led = absurd led
 leads-of (Some counter) None led = absurd led
 leads-of (Some counter) (Some chief) led = led
 
-led-of : (counter : Option CounterState) (chief : Option ChiefSeat) → Leads (option_map (λ (c : CounterState). c.board) counter) chief → IsLedBy counter chief
+led-of : (counter : Option CounterState) (chief : Option ChiefSeat) → LeadsBoard (option_map (λ (c : CounterState). c.board) counter) chief → IsLedBy counter chief
 led-of None None leads = leads
 led-of None (Some chief) leads = absurd leads
 led-of (Some counter) None leads = absurd leads
@@ -42,7 +42,7 @@ module _ (boards : List (Option CounterState)) (found : List (Option (Bor Board)
 
   -- and past the last there is none
   past : (place : ℕ) → length found ≤ place → (chiefs : List (Option ChiefSeat)) → length chiefs ≡ length boards
-      → Leads (board_for found place) (get_or chiefs place None) × IsLedBy (get_or boards place None) (get_or chiefs place None)
+      → LeadsBoard (board_for found place) (get_or chiefs place None) × IsLedBy (get_or boards place None) (get_or chiefs place None)
   past place end chiefs same =
       let all = are.all in
       rw (get_or_past found place None end, get_or_past chiefs place None (omega arith), get_or_past boards place None (omega arith)) (tt, tt)
@@ -62,7 +62,7 @@ module _ (boards : List (Option CounterState)) (found : List (Option (Bor Board)
     all = led.all ∙ are.all;
     each = λ place.
         elim (cases_lt place (length found)) [
-          | inl less ↦ led-of (get_or boards place None) (get_or chiefs place None) (subst (λ board. Leads board (get_or chiefs place None)) (here place less) (led.each place))
+          | inl less ↦ led-of (get_or boards place None) (get_or chiefs place None) (subst (λ board. LeadsBoard board (get_or chiefs place None)) (here place less) (led.each place))
           | inr end ↦ (past place end chiefs (led.all ∙ are.all)).1
         ];
   }
@@ -78,13 +78,13 @@ module _ (boards : List (Option CounterState)) (found : List (Option (Bor Board)
 
 -- another chief at one place
 pub led-with : (boards : List (Option (Bor Board))) (chiefs : List (Option ChiefSeat)) (place : ℕ) (chief : Option ChiefSeat) → place < length chiefs → AreLed boards chiefs
-    → Leads (board_for boards place) chief → AreLed boards (set chiefs place chief)
+    → LeadsBoard (board_for boards place) chief → AreLed boards (set chiefs place chief)
 led-with boards chiefs place chief inside led leads = record {
   all = length-set chiefs place chief ∙ led.all;
   each = λ k.
       elim (eqb_tells k place) [
         | inl same ↦
-            subst (λ n. Leads (board_for boards n) (get_or (set chiefs place chief) n None)) (sym same.1)
+            subst (λ n. LeadsBoard (board_for boards n) (get_or (set chiefs place chief) n None)) (sym same.1)
             (rw (get_or-set_same chiefs place chief None inside) leads)
         | inr other ↦ rw (get_or-set_other chiefs place k chief None other.1) (led.each k)
       ];

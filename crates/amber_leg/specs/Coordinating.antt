@@ -31,13 +31,13 @@ pub record AreSized (flow : List Operator) (boards : List (Option (Bor Board))) 
   pub each : (op : ℕ) → 0 < op → op ≤ length boards → HasSize (worker_count flow op) (board_for boards (op - 1))
 
 -- the chief of a board, where there is one, has its seat and no unit in hand
-abbrev pub Leads : Option Board → Option ChiefSeat → Type 0
-Leads None None = Unit {0}
-Leads None (Some chief) = ⊥
-Leads (Some board) None = ⊥
-Leads (Some board) (Some chief) = IsChiefOf board chief × ((chief_view chief).hand ≡ 0)
+abbrev pub LeadsBoard : Option Board → Option ChiefSeat → Type 0
+LeadsBoard None None = Unit {0}
+LeadsBoard None (Some chief) = ⊥
+LeadsBoard (Some board) None = ⊥
+LeadsBoard (Some board) (Some chief) = IsChiefOf board chief × ((chief_view chief).hand ≡ 0)
 
 -- each of these boards has its chief, in its place
 pub record AreLed (boards : List (Option (Bor Board))) (chiefs : List (Option ChiefSeat)) : Type 0 where
   pub all : length chiefs ≡ length boards
-  pub each : (place : ℕ) → Leads (board_for boards place) (slice_index_or chiefs place None)
+  pub each : (place : ℕ) → LeadsBoard (board_for boards place) (slice_index_or chiefs place None)

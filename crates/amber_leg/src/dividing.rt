@@ -4,7 +4,7 @@ ghost use Rattle.std.specs.Prelude.{◌≡◌, ◌<◌, ◌≤◌, All, drop, le
 ghost use Rattle.std.specs.Option.{option_copied};
 ghost use Rattle.amber_principal.specs.declared.dividing.Need.TheVariants as need;
 ghost use Rattle.amber_rows.specs.Topology.{worker_count};
-ghost use Rattle.amber_leg.specs.Coordinating.{AreLed, AreSized, HasSize, Leads};
+ghost use Rattle.amber_leg.specs.Coordinating.{AreLed, AreSized, HasSize, LeadsBoard};
 
 use crate::desk::Desk;
 use crate::telling::{Teller, tell_order};
@@ -49,8 +49,8 @@ fn divide(
     requires some { 0 < op }
     requires there { op ≤ length flow.now }
     requires size { HasSize (worker_count flow.now op) (option_copied board) }
-    requires led { Leads (option_copied board) chief.old }
-    ensures led { Leads (option_copied board.entry) chief.new }
+    requires led { LeadsBoard (option_copied board) chief.old }
+    ensures led { LeadsBoard (option_copied board.entry) chief.new }
 {
     let Some(board) = board else {
         return None;
