@@ -19,7 +19,7 @@ pub few-set : (workers : List WorkerState) (number : ℕ) (now : WorkerState) �
 few-set workers number now inside made = let sum = sum-set workers number now inside in let steps = made.steps in omega arith
 
 module _ (e : HomeState) (old new : Crew) (lent : IsLent e old) (number : ℕ) (now : WorkerState) (inside : number < length old.workers.items)
-    (items : new.workers.items ≡ set old.workers.items number now) (boards : new.boards ≡ old.boards)
+    (items : new.workers.items ≡ set old.workers.items number now) (boards : new.boards ≡ old.boards) (chiefs : new.chiefs ≡ old.chiefs)
     (made : MakesTurns 40 (worker_state_at old.workers.items number) now) (own : IsBoardOf (board_of old.boards (op_of e.flow number)) now.seat) where
   all : length new.workers.items ≡ length old.workers.items
   all = ap length items ∙ length-set old.workers.items number now
@@ -43,6 +43,7 @@ module _ (e : HomeState) (old new : Crew) (lent : IsLent e old) (number : ℕ) (
         let known : worker < crew_of e.flow = rw (← lent.workers.at.at_positions.all) there in
         subst (λ (ws : List WorkerState). IsBoardOf (board_of old.boards (worker_state_at old.workers.items worker).op) (worker_state_at ws worker).seat) (sym items)
         (subst (λ op. IsBoardOf (board_of old.boards op) (worker_state_at (set old.workers.items number now) worker).seat) (sym (op-is e old lent worker known)) (seats worker known));
+    led = rw chiefs lent.led;
   }
 
   pub still-lent : steps_by old.workers.items + 40 ≤ e.most → IsLent e new

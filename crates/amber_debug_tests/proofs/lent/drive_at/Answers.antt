@@ -46,7 +46,7 @@ returns-clause-lent c =
     let was = c.index.ensures ∙ read-at crew.workers.items c.args.number c.index.result.now c.requires.there in
     let op : c.op-op.result ≡ op_of e.flow c.args.number = c.op-op.ensures ∙ ap (λ (w : WorkerState). w.op) was ∙ op-is e crew lent c.args.number inside in
     let drove = c.in_ok-drive_one.ensures in
-    still-lent e crew _ lent c.args.number c.drive_one.new.worker c.requires.there refl refl
+    still-lent e crew _ lent c.args.number c.drive_one.new.worker c.requires.there refl refl refl
     (subst (λ (w : WorkerState). MakesTurns 40 w c.drive_one.new.worker) is drove.made)
     (subst (λ board. IsBoardOf board c.drive_one.new.worker.seat) (c.board_at-board.ensures ∙ ap (board_of crew.boards) op) drove.own)
     c.requires.few
