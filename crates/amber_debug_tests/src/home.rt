@@ -2,8 +2,8 @@
 
 use crate::expected::expect_text;
 use crate::home_calls::{
-    answer, apply, close_leg, disarm_leg, finished, home_over, numbers, open_leg, run_leg, shown,
-    step, stops, take_answer, written,
+    answer, apply, close_leg, disarm_leg, finished, home_over, in_force, numbers, open_leg,
+    run_leg, shown, step, stops, take_answer, written,
 };
 use amber_home::{Home, NoMemory, Phase};
 use amber_log::Command;
@@ -88,6 +88,27 @@ fn a_filter_shows_what_was_asked_of_it(rt: HostRuntime) -> Result<(), Fail> {
     expect_text(
         asked_text(alloc, &mut home)?,
         "asked true\ninspect big filter\nconstant 3\npause 1\nworker 0 taken 0 rest 0 out 0 pending 0 ready\ncleared true\ninspect big filter\nconstant 3\nworker 0 taken 0 rest 0 out 0 pending 0 ready\n",
+    )
+}
+
+// ---- what is in force
+
+#[test]
+fn a_pause_and_a_condition_are_told(rt: HostRuntime) -> Result<(), Fail> {
+    let alloc = rt.alloc();
+    let mut home = home_over(&rt, alloc, "n\n2\n")?;
+    let before = in_force(alloc, &home)?;
+    let paused = apply(alloc, &mut home, &Command::Pause { op: 2, n: 3 })?;
+    let cond = Cond {
+        column: 1,
+        op: Cmp::Eq,
+        constant: Value::Int(2),
+    };
+    let watched = apply(alloc, &mut home, &Command::When { op: 2, cond })?;
+    let now = in_force(alloc, &home)?;
+    expect_text(
+        format!(in alloc; "{before} asked {paused} {watched} {now}")?,
+        "pause 0 condition false asked true true pause 3 condition true",
     )
 }
 

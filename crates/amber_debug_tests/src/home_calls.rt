@@ -241,17 +241,14 @@ pub fn shown(alloc: Global, home: &Home) -> Result<String, NoMemory> {
     text_of(alloc, &lines)
 }
 
-/// How many rows an operator's workers have emitted; 0 where there is no such operator.
-pub fn emitted(alloc: Global, home: &Home, op: u32) -> Result<u64, NoMemory> {
-    if !are_there(home) || op == 0 || home.flow().get().len() < op as usize {
-        return Ok(0);
+/// After how many rows the filter pauses, 0 where it does not, and whether a condition is in force anywhere.
+pub fn in_force(alloc: Global, home: &Home) -> Result<String, NoMemory> {
+    if !are_there(home) {
+        return Ok(String::new(alloc));
     }
-    let shown = home.inspect(alloc, op)?;
-    let mut rows = 0u64;
-    for view in shown.workers.get() {
-        rows = rows.saturating_add(view.out);
-    }
-    Ok(rows)
+    let rows = home.pause_at(2).unwrap_or(0);
+    let condition = home.has_condition();
+    format!(in alloc; "pause {rows} condition {condition}")
 }
 
 /// Whether all have finished.

@@ -6,8 +6,6 @@
 #[cfg(test)]
 mod away;
 #[cfg(test)]
-mod coordinated;
-#[cfg(test)]
 mod debug;
 #[cfg(test)]
 mod expected;

@@ -1,17 +1,13 @@
 -- Workers are dealt among drivers, from the last one on.
-use Rattle.std.proofs.Common.{◌≡◌, ◌≢◌, sym, ap, subst, ◌∙◌, ℕ, ◌+◌, ◌-◌, ◌<◌, ◌≤◌, List, All, length, set, take, slice_index, slice_index_or, nat_eq, Bool, true, false, Option, None, Some, Bor, if◌then◌else◌, inl, inr, length-set, arith}
-use Rattle.std.proofs.Math.ListN.{get_or-eq_default}
+use Rattle.std.proofs.Common.{◌≡◌, ◌≢◌, sym, ap, subst, ◌∙◌, ℕ, ◌+◌, ◌-◌, ◌<◌, ◌≤◌, List, length, set, take, slice_index, slice_index_or, None, Some, if◌then◌else◌, inl, inr, length-set, arith}
 use Rattle.std.proofs.lemmas.Bool.{cases_lt, eq-eqb, ne_eqb}
 use Rattle.std.proofs.lemmas.Bool.Decides.{eqb_tells}
 use Rattle.std.proofs.lemmas.List.{get_or-set_other, get_or-set_same, get_or-take, take-take}
 use Rattle.amber_dataflow.proofs.Split.{read-at}
 use Rattle.amber_worker.specs.WorkerState.{WorkerState}
 use Rattle.amber_dataflow.specs.AtWork.{worker_state_at}
-use Rattle.amber_board.specs.declared.types.Board.{Board}
-use Rattle.amber_home.specs.declared.crew.Crew.{Crew}
-use Rattle.amber_leg.specs.Dealing.{AreBoardsOf, AreDealtOut, AreReadyFor, dealt_place}
-use Rattle.amber_leg.specs.Driving.{MayDrive, board_for, worker_placed}
-use Rattle.amber_leg.specs.Slices.{MayTurn}
+use Rattle.amber_leg.specs.Dealing.{AreDealtOut, dealt_place}
+use Rattle.amber_leg.specs.Driving.{worker_placed}
 use Rattle.amber_leg.specs.declared.driver.Driver.{Driver}
 
 -- those with the greatest numbers are dealt, and the places of the others are empty
@@ -106,26 +102,3 @@ pub left-less : (crew left now : List WorkerState) (n m : ℕ) → left ≡ take
 left-less crew left now n m is one rest =
     rest ∙ ap (λ xs. take (m - 1) xs) is ∙ take-take (m - 1) m crew (omega arith)
     ∙ ap (λ k. take k crew) (let same : m - 1 ≡ n = omega (arith, one) in same)
-
--- ---- they may be driven
-
--- workers that were dealt may make the turns that they might make before
-pub may-dealt : (turns : ℕ) (owners : List ℕ) (crew : Crew) (drivers : List Driver) (found : List (Option (Bor Board))) → AreReadyFor turns crew → AreDealtOut owners crew.workers.items drivers
-    → AreBoardsOf crew.boards crew.workers.items found → All (MayDrive turns found) drivers
-may-dealt turns owners crew drivers found ready dealt are driver d less = record {
-  all = dealt.all driver d less ∙ sym are.all;
-  each = λ place.
-      elim (cases_lt place (length crew.workers.items)) [
-        | inl inside ↦
-            subst (λ x. MayTurn turns (board_for found place) x) (sym (dealt.each driver place d less inside))
-            (by place inside (nat_eq (slice_index owners place) driver))
-        | inr end ↦
-            subst (λ x. MayTurn turns (board_for found place) x)
-            (sym (get_or-eq_default (slice_index_or drivers driver d).workers.items None (let all = dealt.all driver d less in omega arith))) tt
-      ];
-}
-  where
-    by : (place : ℕ) → place < length crew.workers.items → (own : Bool)
-        → MayTurn turns (board_for found place) (if own then Some (worker_state_at crew.workers.items place) else None)
-    by place inside true = subst (λ board. MayTurn turns board (Some (worker_state_at crew.workers.items place))) (sym (are.each place inside)) (ready.each place inside)
-    by place inside false = tt

@@ -1,5 +1,4 @@
 pub mod Closing
-pub mod Coordinated
 pub mod CrewTurned
 pub mod Dealt
 pub mod Driven

@@ -1,19 +1,15 @@
 -- The workers of a leg are lent, make turns, come back, and are settled.
-use Rattle.std.proofs.Common.{◌≡◌, refl, sym, ap, subst, ◌∙◌, ℕ, suc, ◌+◌, ◌*◌, ◌<◌, ◌≤◌, ◌^◌, List, [], ◌∷◌, length, slice_index_or, true, Option, None, Some, inl, inr, arith}
+use Rattle.std.proofs.Common.{◌≡◌, refl, sym, ap, subst, ◌∙◌, ℕ, suc, ◌+◌, ◌*◌, ◌<◌, ◌≤◌, ◌^◌, List, [], ◌∷◌, length, slice_index_or, true, inl, inr, arith}
 use Rattle.std.specs.List.{sum, sum_by}
 use Rattle.std.proofs.Math.ListN.{get_or-eq_default, get_or-map}
 use Rattle.std.proofs.Math.Nat.{mul-le-mul_right}
 use Rattle.std.proofs.lemmas.Bool.{cases_lt}
 use Rattle.std.proofs.lemmas.List.Sums.{sum-map, sum_by-cons}
-use Rattle.std.specs.Prelude.{option_map}
-use Rattle.amber_rows.specs.Topology.{crew_of, worker_count}
-use Rattle.amber_rows.specs.declared.flow.Operator.{Operator}
-use Rattle.amber_boards.specs.Boards.{CounterState, IsCountedAt, board_at}
+use Rattle.amber_rows.specs.Topology.{crew_of}
 use Rattle.amber_meaning.specs.State.{steps_in}
 use Rattle.amber_worker.specs.Counting.{IsBoardOf}
 use Rattle.amber_worker.specs.WorkerState.{WorkerState}
 use Rattle.amber_dataflow.specs.AtWork.{no_worker_state, steps_by, turned_by, worker_state_at}
-use Rattle.amber_dataflow.specs.Dataflow.{DataflowState}
 use Rattle.amber_dataflow.specs.Parts.{parts_from}
 use Rattle.amber_dataflow.proofs.Steps.{steps-cons, sum-member}
 use Rattle.amber_home.specs.HomeState.{HomeState, IsWorkedLeg, counts_in, is_open, runs_to_end, state_of}
@@ -24,7 +20,6 @@ use Rattle.amber_home.specs.declared.phase.Phase.TheVariants as phase
 use Rattle.amber_home.proofs.Alike.{emitted-told, steps-told}
 use Rattle.amber_home.proofs.GoneOn.{lent-on, op-is, own-lent, steps-grow}
 use Rattle.amber_home.proofs.Homes.{open-is}
-use Rattle.amber_leg.specs.Coordinating.{HasSize, HaveSizes}
 use Rattle.amber_leg.specs.Dealing.{AreReadyFor, HaveCounted}
 use Rattle.amber_leg.specs.Leg.{MakesRound, turned_at}
 use Rattle.amber_leg.specs.Slices.{HasCounted}
@@ -46,18 +41,6 @@ module _ (away : HomeState) (crew : Crew) (lent : IsLent away crew) (turns : ℕ
           fits worker,
         );
   }
-
--- a board is for the workers of its operator, where its count is counted there
-size-of : (counter : Option CounterState) (op : ℕ) (d : DataflowState) → IsCountedAt counter op d → HasSize (worker_count d.flow op) (option_map (λ (c : CounterState). c.board) counter)
-size-of None op d counted = tt
-size-of (Some counter) op d counted = counted.workers
-
--- so are all that are lent
-pub have-sizes : (away : HomeState) (crew : Crew) (flow : List Operator) → IsLent away crew → flow ≡ away.flow → HaveSizes flow crew.boards
-have-sizes away crew flow lent same = rw same (record {
-  all = lent.ready.counted.all;
-  each = λ op some within. size-of (board_at crew.boards op) op (record { flow = away.flow; workers = crew.workers.items }) (lent.ready.counted.each op some within);
-})
 
 -- for how many turns a worker was driven, of a list of workers
 pub turned-here : (crew : List WorkerState) (worker : ℕ) → slice_index_or (turned_by crew) worker 0 ≡ (worker_state_at crew worker).turned

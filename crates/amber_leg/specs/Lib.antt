@@ -1,4 +1,3 @@
-pub mod Coordinating
 pub mod Dealing
 pub mod Driving
 pub mod Leg

@@ -37,9 +37,8 @@ fn looks_of(threads: u32) -> u32
     if threads == 1 { 0 } else { LOOKS }
 }
 
-// The slices of a round. Where a pause is in force there is one, since an operator may go on past it to the round's end. With
-// one thread there are few where a count is, since operators in front of a count that is reached go on to the end of the
-// round, and nobody tells them to pause.
+// The slices of a round. Where a pause is in force there is one, since none is seen before the round's end. With one thread
+// there are few where a count is, since operators in front of a count that is reached go on to the end of the round.
 fn passes_of(home: &Home, threads: u32) -> u64
     requires within { is_open home.now.phase ≡ true }
     ensures some { 1 ≤ result }

@@ -6,10 +6,9 @@ ghost use Rattle.amber_leg.specs.Driving.{HasDrivenAll, MayDrive, turns_of};
 use crate::budget::Budget;
 use crate::slices::{Pace, drive_place};
 use amber_board::Board;
-use amber_mail::{Gate, RingMail};
+use amber_mail::Gate;
 use amber_worker::Worker;
 use std::alloc::AllocError;
-use std::sync::atomic::{AtomicU64, Ordering};
 use std::thread::yield_now;
 
 // How often a thread lets others go on before it looks again.
@@ -19,8 +18,6 @@ const YIELDS: u32 = 64;
 #[derive(Drop)]
 pub(crate) struct Driver {
     pub workers: Vec<Option<Worker>>,
-    /// The mail of each, where there is a coordinator.
-    pub mails: Vec<Option<RingMail>>,
     // Whether one of them wanted memory that was not there.
     pub failed: bool,
 }
@@ -38,15 +35,7 @@ fn drive_slices<G: Gate>(
 {
     let mut pace = Pace::Stands;
     'places: for place in 0..boards.len() {
-        let mails = driver.mails.as_mut_slice();
-        match drive_place(
-            &mut driver.workers[place],
-            mails,
-            place,
-            boards[place],
-            gate,
-            most,
-        )? {
+        match drive_place(&mut driver.workers[place], boards[place], gate, most)? {
             Pace::Moves => pace = Pace::Moves,
             Pace::Waits if pace == Pace::Stands => pace = Pace::Waits,
             Pace::Waits | Pace::Stands => {}
@@ -88,14 +77,12 @@ fn drive_passes<G: Gate>(
     Ok(())
 }
 
-/// A driver's workers make the turns of a round, and then it is one of those that have ended. Where one of them wants memory
-/// that is not there the driver has failed.
+/// A driver's workers make the turns of a round. Where one of them wants memory that is not there the driver has failed.
 pub(crate) fn drive<G: Gate>(
     driver: &mut Driver,
     boards: &[Option<&Board>],
     gate: &G,
     budget: Budget,
-    ended: &AtomicU64,
 )
     requires may { MayDrive (turns_of budget) boards.now driver.old }
     ensures driven { driver.new.failed ≡ false → HasDrivenAll (turns_of budget)
@@ -104,5 +91,4 @@ pub(crate) fn drive<G: Gate>(
     if drive_passes(driver, boards, gate, budget).is_err() {
         driver.failed = true;
     }
-    ended.fetch_add(1, Ordering::SeqCst);
 }

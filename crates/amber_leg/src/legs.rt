@@ -46,8 +46,6 @@ fn drive_leg<R: Threads + Sync, G: Gate + Sync>(
 
 /// Runs a leg, up to a stop or to the end, on so many threads, 1 to 64: in rounds, in each of which every worker makes turns
 /// on one of the threads, side by side with the workers of the other threads, until a stop stands, or until all have finished.
-/// With more threads than one, and something in force to stop at, a coordinator on a thread of its own has all workers pause as
-/// soon as a stop is due, and divides the units of counts.
 /// Up to a stop nobody does anything where one stands already. No operator emits more rows than its count asks for, and past
 /// its pause none emits more than 1,024 rows a worker. The pauses and the counts that stand at the end of such a leg are
 /// taken away; who is held stays so until the next one. Each turn passes the gate, which may hold a thread for a while. Where

@@ -9,13 +9,6 @@
 //! stop stands. Where none does it makes one step by itself, so that each round gets on. In the
 //! end the leg stands in the home's log.
 //!
-//! With more threads than one, and with a pause, a count or a condition in force, a coordinator is
-//! beside the drivers in each round. It hears what the workers note, and tells all of them to pause
-//! as soon as somebody is held, an operator has emitted as many rows as its pause asks for, or a
-//! count has reached its target. Where a worker needs units of a count and has none, it divides
-//! those that nobody has, and calls back those that others don't use. What it hears are hints: it
-//! decides how soon a leg stops and who has units, and never whether a stop stands.
-//!
 //! Whatever the threads, the gate and the schedule: the log stays legal, a leg is closed as cut exactly where a stop stands, or
 //! to the end where all have finished, and as too long exactly where the run has made as many steps as it may and that is not
 //! so. A pause is seen at the end of a round, so that an operator goes past it by 1,024 rows a worker at most; a count stands at
@@ -28,11 +21,7 @@
 //! all nine workers have finished.
 #![tactic(auto)]
 
-mod beside;
 mod budget;
-mod coordinator;
-mod desk;
-mod dividing;
 mod done;
 mod driver;
 mod drivers;
@@ -43,8 +32,6 @@ mod owners;
 mod round;
 mod rounds;
 mod slices;
-mod telling;
-mod watching;
 
 pub use error::LegErr;
 pub use legs::leg;

@@ -1,5 +1,5 @@
-//! A round of a leg: all workers leave the home, make turns on threads, and come back. Over `Home`, `watching`, and
-//! `drive_crew` of `drivers`.
+//! A round of a leg: all workers leave the home, make turns on threads, and come back. Over `Home` and `drive_crew` of
+//! `drivers`.
 
 ghost use Rattle.std.specs.Prelude.{◌≡◌, ◌+◌, ◌*◌, ◌<◌, ◌≤◌, OnErr, OnOk, true};
 ghost use Rattle.amber_rows.specs.Topology.{crew_of};
@@ -10,9 +10,7 @@ ghost use Rattle.amber_leg.specs.Driving.{turns_of};
 ghost use Rattle.amber_leg.specs.Leg.{MakesRound, MayCount};
 
 use crate::budget::Budget;
-use crate::done::Done;
 use crate::drivers::drive_crew;
-use crate::watching::find_pauses;
 use amber_home::Home;
 use amber_mail::Gate;
 use std::alloc::{AllocError, Global};
@@ -27,7 +25,7 @@ pub(crate) fn round<R: Threads + Sync, G: Gate + Sync>(
     threads: u32,
     gate: &G,
     budget: Budget,
-    done: &mut Done,
+    done: &mut Vec<u64>,
 ) -> Result<(), AllocError>
     requires some { 0 < threads }
     requires within { is_open home.old.phase ≡ true }
@@ -39,15 +37,8 @@ pub(crate) fn round<R: Threads + Sync, G: Gate + Sync>(
     ensures err { OnErr result (home.new ≡ spent_at home.old) }
 {
     let _most = home.most();
-    let Ok(pauses) = find_pauses(alloc, home, threads) else {
-        home.give_up();
-        return Err(AllocError);
-    };
     let mut crew = home.lend(alloc);
-    let flow = home.flow();
-    match drive_crew(
-        rt, alloc, flow, &mut crew, threads, gate, budget, done, pauses,
-    ) {
+    match drive_crew(rt, alloc, &mut crew, threads, gate, budget, done) {
         Ok(()) => {
             home.take_back(crew);
             home.settle(alloc)

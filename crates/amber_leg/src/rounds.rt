@@ -2,12 +2,11 @@
 
 ghost use Rattle.std.specs.Prelude.{◌≡◌, ◌<◌, ◌≤◌, IfNone, IfOk, IfSome, OnErr, OnOk, [], true};
 ghost use Rattle.amber_meaning.specs.State.{steps_in};
-ghost use Rattle.amber_home.specs.HomeState.{FeedsLeg, IsEarly, MayClose, counts_in, is_open, runs_to_end, spent_at, state_of, stops_of_home};
+ghost use Rattle.amber_home.specs.HomeState.{IsEarly, MayClose, counts_in, is_open, runs_to_end, spent_at, state_of, stops_of_home};
 ghost use Rattle.amber_home.specs.declared.phase.Counts.TheVariants as counts;
 ghost use Rattle.amber_leg.specs.Leg.{DrivesRound, EndsRounds, GoesFurther, AddsUp, IsUndriven, MakesRoundAndStep, MayCount, MovesOn, StepsAlone, most_turned};
 
 use crate::budget::budget_of;
-use crate::done::Done;
 use crate::looking::look;
 use crate::round::round;
 use amber_home::Home;
@@ -16,20 +15,7 @@ use amber_mail::Gate;
 use std::alloc::{AllocError, Global};
 use std::thread::Threads;
 
-// With one thread units are handed to those whose turn it is. With more a coordinator divides them.
-fn feed(home: &mut Home, threads: u32, number: u64) -> Result<(), AllocError>
-    requires within { is_open home.old.phase ≡ true }
-    requires armed { counts_in home.old.phase ≡ counts.Armed }
-    ensures ok { OnOk result (FeedsLeg home.old home.new) }
-    ensures err { OnErr result (home.new ≡ spent_at home.old) }
-{
-    if threads > 1 {
-        return Ok(());
-    }
-    home.feed(number)
-}
-
-// Units are handed out, and then the workers make the turns of a round.
+// Units are handed to those whose turn it is, and then the workers make the turns of a round.
 fn feed_and_drive<R: Threads + Sync, G: Gate + Sync>(
     rt: &R,
     alloc: Global,
@@ -37,7 +23,7 @@ fn feed_and_drive<R: Threads + Sync, G: Gate + Sync>(
     threads: u32,
     gate: &G,
     number: u64,
-    done: &mut Done,
+    done: &mut Vec<u64>,
 ) -> Result<(), AllocError>
     requires some { 0 < threads }
     requires within { is_open home.old.phase ≡ true }
@@ -50,7 +36,7 @@ fn feed_and_drive<R: Threads + Sync, G: Gate + Sync>(
     ensures few { OnOk result (steps_in (state_of home.new) ≤ home.old.most) }
     ensures err { OnErr result (home.new ≡ spent_at home.old) }
 {
-    feed(home, threads, number)?;
+    home.feed(number)?;
     let budget = budget_of(home, threads);
     round(rt, alloc, home, threads, gate, budget, done)
 }
@@ -84,7 +70,7 @@ fn go_on<R: Threads + Sync, G: Gate + Sync>(
     threads: u32,
     gate: &G,
     number: u64,
-    done: &mut Done,
+    done: &mut Vec<u64>,
 ) -> Result<Option<Close>, AllocError>
     requires some { 0 < threads }
     requires within { is_open home.old.phase ≡ true }
@@ -135,7 +121,8 @@ pub(crate) fn go_rounds<R: Threads + Sync, G: Gate + Sync>(
     }) }
 {
     let left = home.most() - home.steps();
-    let mut done = Done::nothing(alloc);
+    // What each worker did in the round before: before the first one nothing is known.
+    let mut done = Vec::new(alloc);
     'rounds: for number in 0..left + 2 {
         if let Some(close) = go_on(rt, alloc, home, threads, gate, number, &mut done)? {
             return Ok(close);

@@ -1,4 +1,4 @@
-//! Slices of turns of one worker, who may have a mail. Over `Worker::drive` of `amber_worker`.
+//! Slices of turns of one worker. Over `Worker::drive` of `amber_worker`.
 
 ghost use Rattle.std.specs.Prelude.{◌+◌, ◌^◌, ◌<◌, ◌≤◌, OnOk};
 ghost use Rattle.std.specs.Option.{option_copied};
@@ -7,8 +7,8 @@ ghost use Rattle.amber_worker.specs.WorkerState.{steps_made};
 ghost use Rattle.amber_leg.specs.Slices.{HasCounted, HasTurnedSo, MayTurn};
 
 use amber_board::Board;
-use amber_mail::{Gate, RingMail, SilentMail};
-use amber_worker::{Drove, Turn, Worker};
+use amber_mail::{Gate, SilentMail};
+use amber_worker::{Turn, Worker};
 use std::alloc::AllocError;
 
 // After so many turns of a worker it is looked whether it still moves.
@@ -19,45 +19,15 @@ const LOOK: u32 = 64;
 pub(crate) enum Pace {
     /// It moved at the last one.
     Moves,
-    /// It can do nothing until a batch or a unit comes.
+    /// It can do nothing until a batch comes.
     Waits,
-    /// It makes no step more in this round: it has finished, or is held or paused.
+    /// It makes no step more in this round: it has finished, is held or paused, or has no unit.
     Stands,
-}
-
-// Turns of a worker under its mail, if it has one at its place of these.
-fn drive_turns<G: Gate>(
-    worker: &mut Worker,
-    mails: &mut [Option<RingMail>],
-    place: usize,
-    board: Option<&Board>,
-    gate: &G,
-    turns: u32,
-) -> Result<Drove, AllocError>
-    requires few { steps_made worker.old + turns ≤ 2 ^ 40 }
-    requires own { IsBoardOf (option_copied board) worker.old.seat }
-    requires fits { worker.old.turned + turns < 2 ^ 64 }
-    ensures made { OnOk result (HasCounted turns worker.old worker.new) }
-    ensures own { OnOk result (IsBoardOf (option_copied board.entry) worker.new.seat) }
-{
-    match mails.get_mut(place) {
-        Some(Some(mail)) => {
-            mail.count_looks_anew();
-            let drove = worker.drive(board, mail, gate, turns)?;
-            Ok(drove)
-        }
-        Some(None) | None => {
-            let drove = worker.drive(board, &mut SilentMail::new(), gate, turns)?;
-            Ok(drove)
-        }
-    }
 }
 
 // Turns of a worker, so many at most, and fewer where it does not move. The answer says how it stands then.
 fn drive_worker<G: Gate>(
     worker: &mut Worker,
-    mails: &mut [Option<RingMail>],
-    place: usize,
     board: Option<&Board>,
     gate: &G,
     most: u32,
@@ -71,31 +41,31 @@ fn drive_worker<G: Gate>(
     let mut left = most;
     'slices: while 0 < left {
         let turns = left.min(LOOK);
-        let drove = drive_turns(worker, mails, place, board, gate, turns)?;
+        let drove = worker.drive(board, &mut SilentMail::new(), gate, turns)?;
         match drove.last {
             Some(Turn::Moved) => left -= turns,
-            Some(Turn::Idle | Turn::Starved) | None => return Ok(Pace::Waits),
-            Some(Turn::Held | Turn::Paused | Turn::Ended) => return Ok(Pace::Stands),
+            Some(Turn::Idle) | None => return Ok(Pace::Waits),
+            Some(Turn::Held | Turn::Starved | Turn::Paused | Turn::Ended) => {
+                return Ok(Pace::Stands);
+            }
         }
     }
     Ok(Pace::Moves)
 }
 
-/// The same at a place where a worker may be, and its mail.
+/// The same at a place where a worker may be.
 pub(crate) fn drive_place<G: Gate>(
-    worker: &mut Option<Worker>,
-    mails: &mut [Option<RingMail>],
-    place: usize,
+    place: &mut Option<Worker>,
     board: Option<&Board>,
     gate: &G,
     most: u32,
 ) -> Result<Pace, AllocError>
-    requires may { MayTurn most (option_copied board) worker.old }
+    requires may { MayTurn most (option_copied board) place.old }
     ensures turned { OnOk result
-        (HasTurnedSo most (option_copied board.entry) worker.old worker.new) }
+        (HasTurnedSo most (option_copied board.entry) place.old place.new) }
 {
-    match worker {
-        Some(worker) => drive_worker(worker, mails, place, board, gate, most),
+    match place {
+        Some(worker) => drive_worker(worker, board, gate, most),
         None => Ok(Pace::Stands),
     }
 }

@@ -9,7 +9,7 @@ use Rattle.amber_home.specs.declared.phase.Phase.TheVariants as phase
 use Rattle.amber_home.proofs.Fed.{ok-and}
 use Rattle.amber_leg.specs.Driving.{turns_of}
 use Rattle.amber_leg.specs.Leg.{MakesRound}
-use Rattle.amber_leg.proofs.Rounded.{have-sizes, lent-again, lent-ready, makes-round, turned-here}
+use Rattle.amber_leg.proofs.Rounded.{lent-again, lent-ready, makes-round, turned-here}
 use Rattle.amber_leg.proofs.round.round.Goals as goal
 
 pub drive_crew-requires-clause-ready : goal.drive_crew-requires-clause-ready
@@ -24,20 +24,15 @@ drive_crew-requires-clause-ready g c κs within =
     let fits = c.requires.fits worker in
     omega (arith, was, fits))
 
-pub drive_crew-requires-clause-sized : goal.drive_crew-requires-clause-sized
-drive_crew-requires-clause-sized g c κs within =
-    let lend = c.lend-crew.ensures in
-    have-sizes c.lend-crew.new.self c.lend-crew.result c.flow-flow.result.now lend.lent c.flow-flow.ensures
-
 pub take_back-requires-clause-crew : goal.take_back-requires-clause-crew
 take_back-requires-clause-crew g c =
     let lend = c.lend-crew.ensures in
     subst (λ h. IsLent h c.drive_crew.new.crew) (sym lend.home)
     (lent-again (turns_of c.args.budget) c.args.home.now c.requires.within c.requires.armed c.lend-crew.result c.drive_crew.new.crew
-    (subst (λ h. IsLent h c.lend-crew.result) lend.home lend.lent) lend.parts lend.steps lend.worked c.requires.few c.in-Ok-drive_crew.ensures.made lend.turned c.in-Ok-drive_crew.ensures.counted)
+    (subst (λ h. IsLent h c.lend-crew.result) lend.home lend.lent) lend.parts lend.steps lend.worked c.requires.few c.in-Ok.ensures.made lend.turned c.in-Ok.ensures.counted)
 
-pub returns-in-Ok-drive_crew-clause-ok : goal.returns-in-Ok-drive_crew-clause-ok
-returns-in-Ok-drive_crew-clause-ok g c =
+pub returns-in-Ok-clause-ok : goal.returns-in-Ok-clause-ok
+returns-in-Ok-clause-ok g c =
     let lend = c.lend-crew.ensures in
     let old = c.args.home.now in
     let after = c.drive_crew.new.crew in
@@ -49,5 +44,5 @@ returns-in-Ok-drive_crew-clause-ok g c =
     is ∙ ap (λ (h : HomeState). record h { phase = phase.Open (runs_to_end h.phase) (counts_in h.phase) }) back in
     subst (MakesRound (turns_of c.args.budget) old) (sym so)
     (makes-round (turns_of c.args.budget) old c.requires.within c.requires.armed c.lend-crew.result after
-    (subst (λ h. IsLent h c.lend-crew.result) lend.home lend.lent) lend.parts lend.steps lend.worked c.requires.few c.in-Ok-drive_crew.ensures.made lend.turned c.in-Ok-drive_crew.ensures.counted (subst IsWorkedLeg so worked)))
+    (subst (λ h. IsLent h c.lend-crew.result) lend.home lend.lent) lend.parts lend.steps lend.worked c.requires.few c.in-Ok.ensures.made lend.turned c.in-Ok.ensures.counted (subst IsWorkedLeg so worked)))
     c.settle.ensures.ok c.settle.ensures.worked
