@@ -114,4 +114,11 @@ impl ChiefSeat {
     {
         self.hand
     }
+
+    /// How many workers' seats were made: those of all workers of its board.
+    pub fn workers(&self) -> u32
+        ensures { result ≡ (chief_view self.now).made }
+    {
+        self.workers
+    }
 }
