@@ -1,6 +1,6 @@
 //! Boards that are away, while others have the seats of their chiefs. Over `Counter` of `counter`.
 
-ghost use Rattle.std.specs.Prelude.{◌≡◌, option_map};
+ghost use Rattle.std.specs.Prelude.{None, ◌≡◌, option_map, slice_index_or};
 ghost use Rattle.amber_boards.specs.Boards.{board_at};
 
 use crate::counter::{Counter, find_board};
@@ -36,5 +36,16 @@ impl LentBoards {
             ≡ option_map (λ counter. counter.board) (board_at self.now op) }
     {
         find_board(self.counters.as_slice(), op)
+    }
+
+    /// The board at a place among those of all operators, which is one less than its operator's number, where there is one.
+    pub fn board_in(&self, place: usize) -> Option<&Board>
+        ensures { option_map (λ board. board.now) result
+            ≡ option_map (λ counter. counter.board) (slice_index_or self.now place None) }
+    {
+        match self.counters.get(place) {
+            Some(Some(counter)) => Some(counter.board()),
+            Some(None) | None => None,
+        }
     }
 }
