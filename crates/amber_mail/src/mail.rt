@@ -1,7 +1,7 @@
 //! What a worker is told, what it says, and where it looks. Rests on nothing but the definitions of
 //! `specs/Controls`.
 
-ghost use Rattle.std.specs.Prelude.{◌≡◌, ◌+◌, ◌<◌, ◌^◌, ℕ, List, Option, IfSome, if◌then◌else◌};
+ghost use Rattle.std.specs.Prelude.{◌≡◌, ◌+◌, ◌<◌, ◌^◌, ℕ, Bool, List, None, Option, IfSome, false, if◌then◌else◌};
 ghost use Rattle.amber_mail.specs.Controls.{answer_at, is_pause};
 
 /// What a coordinator tells a worker.
@@ -44,6 +44,9 @@ pub trait Mail {
     // is no control.
     ghost plan: { Self → Option (List (Option Control)) };
 
+    // Whether a look may be answered by a claim or a return.
+    ghost deals: { Self → Bool };
+
     /// The next control, if there is one.
     fn look(&mut self) -> Option<Control>
         requires { looks self.old + 1 < 2 ^ 64 }
@@ -52,7 +55,12 @@ pub trait Mail {
             ≡ (if is_pause result then pauses self.old + 1 else pauses self.old) }
         ensures plan { plan self.new ≡ plan self.old }
         ensures planned { IfSome (plan self.old)
-            (λ answers. result ≡ answer_at answers (looks self.old)) };
+            (λ answers. result ≡ answer_at answers (looks self.old)) }
+        ensures plain { deals self.old ≡ false → is_pause result ≡ false → result ≡ None };
+
+    /// Whether a look may be answered by a claim or a return. Where it may not no turn deals with units.
+    fn may_deal(&self) -> bool
+        ensures { result ≡ deals self.now };
 
     /// Whether somebody may hear its notes. Where nobody does none needs to be made.
     fn is_heard(&self) -> bool;

@@ -1,7 +1,7 @@
 //! Mails whose answers are known before: one that follows a plan, and one that never says anything.
 //! Both drop every note. Rests on the definitions of `specs/Controls`.
 
-ghost use Rattle.std.specs.Prelude.{◌≡◌, ◌≤◌, Some, []};
+ghost use Rattle.std.specs.Prelude.{◌≡◌, ◌≤◌, Some, [], false, true};
 ghost use Rattle.amber_mail.specs.Controls.{answer_at};
 
 use crate::mail::{Control, Mail, Note, is_pause};
@@ -73,6 +73,8 @@ impl Mail for PlannedMail {
 
     ghost plan = { λ mail. Some mail.plan };
 
+    ghost deals = { λ _. true };
+
     fn look(&mut self) -> Option<Control> {
         let answer = self.plan.answer_at(self.looked);
         self.looked += 1;
@@ -80,6 +82,10 @@ impl Mail for PlannedMail {
             self.paused += 1;
         }
         answer
+    }
+
+    fn may_deal(&self) -> bool {
+        true
     }
 
     fn is_heard(&self) -> bool {
@@ -114,10 +120,17 @@ impl Mail for SilentMail {
 
     ghost plan = { λ _. Some [] };
 
+    ghost deals = { λ _. false };
+
     #[inline(always)]
     fn look(&mut self) -> Option<Control> {
         self.looked += 1;
         None
+    }
+
+    #[inline(always)]
+    fn may_deal(&self) -> bool {
+        false
     }
 
     #[inline(always)]

@@ -2,7 +2,7 @@
 //! ends may be held by two threads. Rests on the rings of `rtrb`; whether one is empty or full is
 //! said as far as its end knows.
 
-ghost use Rattle.std.specs.Prelude.{◌≡◌, ◌+◌, ◌<◌, ◌≤◌, ◌^◌, None, [], ◌∷◌, ◌++◌, IfErr, IfNone, IfOk, IsOk, IsSome, OnErr, OnOk, if◌then◌else◌, length, option_to_list};
+ghost use Rattle.std.specs.Prelude.{◌≡◌, ◌+◌, ◌<◌, ◌≤◌, ◌^◌, true, None, [], ◌∷◌, ◌++◌, IfErr, IfNone, IfOk, IsOk, IsSome, OnErr, OnOk, if◌then◌else◌, length, option_to_list};
 ghost use mathlib.Core.List.{IsPrefix};
 ghost use Rattle.amber_mail.specs.Controls.{is_pause};
 ghost use Rattle.amber_mail.specs.Rings.{AreEnds, HandsOn, SameMail, SamePost, free_note_slots, free_slots, heard_notes, pauses_taken, sent_controls, sent_notes, taken_controls, waiting_controls, waiting_notes};
@@ -115,6 +115,8 @@ impl Mail for RingMail {
 
     ghost plan = { λ _. None };
 
+    ghost deals = { λ _. true };
+
     /// The first control that was not taken yet. `None` where none is known to wait.
     // A plan is never told, so what the trait says of plans is nothing here.
     #[inline]
@@ -140,6 +142,10 @@ impl Mail for RingMail {
             Ok(control) => Some(control),
             Err(_) => None,
         }
+    }
+
+    fn may_deal(&self) -> bool {
+        true
     }
 
     fn is_heard(&self) -> bool {

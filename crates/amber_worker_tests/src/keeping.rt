@@ -1,6 +1,6 @@
 //! A gate and mails that keep what they are handed, or act on a look. Over `amber_mail` and `Out` of `amber_link`.
 
-ghost use Rattle.std.specs.Prelude.{None, ◌≡◌};
+ghost use Rattle.std.specs.Prelude.{None, false, true, ◌≡◌};
 
 use amber_link::Out;
 use amber_mail::{Control, Gate, Mail, Note};
@@ -102,6 +102,8 @@ impl Mail for KeepingMail {
 
     ghost plan = { λ _. None };
 
+    ghost deals = { λ _. true };
+
     fn look(&mut self) -> Option<Control> {
         self.looked += 1;
         if self.looked == self.claims {
@@ -109,6 +111,10 @@ impl Mail for KeepingMail {
         } else {
             None
         }
+    }
+
+    fn may_deal(&self) -> bool {
+        true
     }
 
     fn is_heard(&self) -> bool {
@@ -149,12 +155,18 @@ impl Mail for SendingMail {
 
     ghost plan = { λ _. None };
 
+    ghost deals = { λ _. false };
+
     fn look(&mut self) -> Option<Control> {
         self.looked += 1;
         if self.looked == self.sends {
             self.out.send();
         }
         None
+    }
+
+    fn may_deal(&self) -> bool {
+        false
     }
 
     fn is_heard(&self) -> bool {
