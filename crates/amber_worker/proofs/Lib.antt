@@ -11,6 +11,7 @@ pub mod Journals
 pub mod Others
 pub mod KeptPosition
 pub mod ManyTurns
+pub mod Heeding
 pub mod CalmTurns
 pub mod Selves
 pub mod Drives

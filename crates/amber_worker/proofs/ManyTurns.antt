@@ -17,6 +17,7 @@ use Rattle.amber_link.proofs.LinkEnds.{carries-forwards}
 use Rattle.amber_link.proofs.SameEnds.{pairwise-weaker, senders-same}
 use Rattle.amber_link.proofs.SentOn.{on-keeps, sent_on-ends}
 use Rattle.amber_link.proofs.Sides.{pairwise-refl, pairwise-then}
+use Rattle.amber_worker.specs.Acting.{Acts}
 use Rattle.amber_worker.specs.AtPosition.{HasSameEnds, IsLookedAt, KeepsUnder, Output, Placement, SendAll, output_at, stream_to}
 use Rattle.amber_worker.specs.Driving.{HasSent}
 use Rattle.amber_worker.specs.Steps.{gone_on, held_at, with_go}
@@ -328,4 +329,24 @@ makes-turn told old new done keeps ends turns =
       rows = omega (arith, acted.taken, acted.emitted, rows, few);
       steps = omega (arith, acted.steps, steps, few);
       more = omega (arith, acted.steps, steps);
+    }
+
+-- what it is told is no turn
+pub makes-acts : (told : Option Control) (old new : WorkerState) → KeepsUnder (is_armed old) old new → HasSameEnds old new → Acts told old new → MakesTurns 0 old new
+makes-acts told old new keeps ends acts =
+    let acted = acts-self told old new acts in
+    record {
+      keeps = keeps;
+      ends = ends;
+      constants = acted.self.constants;
+      seat = acted.self.seat;
+      mine = acted.self.mine;
+      reserved = acted.self.reserved;
+      come = subst (λ ins. Pairwise HaveMoreCome old.ins ins) (sym acted.ins) (all-same old.ins);
+      taken = omega (arith, acted.taken);
+      emitted = omega (arith, acted.emitted);
+      batches = omega (arith, acted.batches);
+      rows = omega (arith, acted.taken, acted.emitted);
+      steps = omega (arith, acted.steps);
+      more = omega (arith, acted.steps);
     }

@@ -6,7 +6,7 @@ use Rattle.amber_link.specs.declared.downstreams.Downstream.{Downstream}
 use Rattle.amber_link.proofs.SameEnds.{receivers-same, senders-same}
 use Rattle.amber_log.specs.declared.entry.Entry.{Entry}
 use Rattle.amber_log.specs.declared.entry.Entry.TheVariants as entry
-use Rattle.amber_worker.specs.Acting.{DealsAt, IsDealingUnder, MayDeal, paused_at}
+use Rattle.amber_worker.specs.Acting.{Acts, DealsAt, IsDealingUnder, MayDeal, paused_at}
 use Rattle.amber_worker.specs.AtPosition.{HasSameEnds, IsLookedAt, KeepsUnder}
 use Rattle.amber_worker.specs.Counting.{with_back, with_grant}
 use Rattle.amber_worker.specs.Fields.{AreShort, rows_moved}
@@ -21,7 +21,7 @@ use Rattle.amber_worker.specs.declared.turn.Turn.{Turn}
 use Rattle.amber_worker.proofs.Dealt.{IsDealt, Keeps-claimed, Keeps-given, is-dealt}
 use Rattle.amber_worker.proofs.KeptPosition.{Keeps-refl, Keeps-then}
 use Rattle.amber_worker.proofs.Stills.{Keeps-paused_at}
-use Rattle.amber_worker.proofs.Turns.{ends-looked, ends-same, ends-then, ends-turn, keeps-looked, keeps-same, keeps-turn, unsent-looked, unsent-same, unsent-turn}
+use Rattle.amber_worker.proofs.Turns.{ends-looked, ends-same, ends-then, ends-turn, keeps-looked, keeps-same, keeps-turn, looked-none, unsent-looked, unsent-same, unsent-turn}
 
 -- ---- units are dealt with
 
@@ -85,6 +85,13 @@ not-paused (Some control.Claim) how old new done is turns =
 not-paused (Some control.Return) how old new done is turns =
     record { between = turns.between; acts = subst (λ h. DealsAt h old turns.between) is turns.deals; makes = turns.makes }
 
+-- what was dealt with is what it was told
+pub acts-dealt : (told : Option Control) (how : Dealing) (old new : WorkerState) → IsDealingUnder told old how → DealsAt how old new → Acts told old new
+acts-dealt None how old new is deals = subst (λ h. DealsAt h old new) is deals
+acts-dealt (Some control.Pause) how old new is deals = absurd is
+acts-dealt (Some control.Claim) how old new is deals = subst (λ h. DealsAt h old new) is deals
+acts-dealt (Some control.Return) how old new is deals = subst (λ h. DealsAt h old new) is deals
+
 -- ---- whatever a call answers
 
 either : {T E : Type 0} (r : Result T E) (P : T → Type 0) (Q C : Type 0) → ((x : T) → P x → C) → (Q → C) → IfOk r P → OnErr r Q → C
@@ -113,6 +120,11 @@ module _ {E : Type 0} (how : Dealing) (old new : WorkerState) (r : Result Turn E
       weaker (Ok done) turns = not-paused told how old new done is turns
       weaker (Err e) h = tt
 
+-- where nothing has changed a look has been made
+pub same-looked : {T E : Type 0} (r : Result T E) (old new : WorkerState) → OnErr r (new ≡ old) → OnErr r (IsLookedAt old new)
+same-looked (Ok x) old new h = tt
+same-looked (Err e) old new h = looked-none old new h
+
 -- what a pause leaves
 pub record IsPausedOr (old new : WorkerState) : Type 0 where
   pub armed : is_armed new ≡ is_armed old
@@ -120,7 +132,7 @@ pub record IsPausedOr (old new : WorkerState) : Type 0 where
   pub ends : HasSameEnds old new
   pub outs : new.outs ≡ old.outs
 
-paused-or : (w : WorkerState) → IsPausedOr w (paused_at w)
+pub paused-or : (w : WorkerState) → IsPausedOr w (paused_at w)
 paused-or w = by w.finished w.restraint.paused
   where
     by : (a b : Bool) → IsPausedOr w (if a || b then w else record w { restraint = record w.restraint { paused = true }; journal = w.journal ++ entry.Pause ∷ [] })

@@ -15,6 +15,7 @@ ghost use Rattle.amber_worker.specs.Changes.{ShowsSet, StandsAtLeg, StandsNew, a
 
 mod beginning;
 mod driven;
+mod heeding;
 mod linking;
 mod orders;
 mod standing;

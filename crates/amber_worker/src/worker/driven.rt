@@ -14,7 +14,7 @@ use crate::driving::{Drove, Noted, stops};
 use crate::turn::Turn;
 use amber_board::Board;
 use amber_link::send_all;
-use amber_mail::{Gate, Mail};
+use amber_mail::{Gate, Mail, is_pause};
 use std::alloc::AllocError;
 
 // After so many turns of a drive what waits is sent at the latest.
@@ -92,8 +92,17 @@ impl Worker {
             })) }
     {
         gate.pass(self.number(), self.turned().saturating_add(u64::from(made)));
+        let deals = mail.may_deal();
         let control = mail.look();
-        let turn = self.turn(board, control)?;
+        if deals {
+            let turn = self.turn(board, control)?;
+            return Ok(turn);
+        }
+        if is_pause(control) {
+            let turn = self.turn_paused()?;
+            return Ok(turn);
+        }
+        let turn = self.turn_untold(board)?;
         Ok(turn)
     }
 

@@ -1,6 +1,6 @@
 //! What a worker does that is told something, and the turn that it makes then. Rests on `make_turn` of `stepping`.
 
-ghost use Rattle.std.specs.Prelude.{IfNone, IfOk, IfSome, OnErr, Some, ◌≡◌, ◌^◌, ◌<◌};
+ghost use Rattle.std.specs.Prelude.{IfNone, IfOk, IfSome, None, OnErr, Some, ◌≡◌, ◌^◌, ◌<◌};
 ghost use Rattle.std.specs.Option.{option_copied};
 ghost use Rattle.amber_worker.specs.Acting.{IsDealingUnder, MayDeal, paused_at};
 ghost use Rattle.amber_worker.specs.AtPosition.{HasSameEnds, IsLookedAt, KeepsUnder};
@@ -22,6 +22,7 @@ impl Worker {
     // The worker is paused, where it has not finished, and makes no step.
     fn pause(&mut self) -> Result<Turn, AllocError>
         ensures ok { IfOk result (MakesTurn (paused_at self.old) self.new) }
+        ensures seat { self.new.seat ≡ self.old.seat }
         ensures err { OnErr result (self.new ≡ self.old) }
     {
         if self.finished {
@@ -36,24 +37,21 @@ impl Worker {
     }
 
     // What the worker does with its hand that is told this; nothing where it is told to pause.
-    #[inline(always)]
-    fn dealing_under(&self, control: Option<Control>) -> Option<Dealing>
-        ensures pause { IfNone result (control ≡ Some Control.Pause) }
-        ensures is { IfSome result (IsDealingUnder control self.now) }
+    pub(super) fn dealing_told(&self, control: Control) -> Option<Dealing>
+        ensures pause { IfNone result (control ≡ Control.Pause) }
+        ensures is { IfSome result (IsDealingUnder (Some control) self.now) }
         ensures may { IfSome result (λ how. MayDeal how self.now) }
-        ensures short { AreShort self.now.journal }
     {
         match control {
-            None => Some(Dealing::Nothing),
-            Some(Control::Pause) => None,
-            Some(Control::Claim) => {
+            Control::Pause => None,
+            Control::Claim => {
                 if self.seat.is_some() && !self.finished {
                     Some(Dealing::Claims)
                 } else {
                     Some(Dealing::Nothing)
                 }
             }
-            Some(Control::Return) => {
+            Control::Return => {
                 if hand_of(&self.seat) > 0 {
                     Some(Dealing::Returns)
                 } else {
@@ -61,6 +59,57 @@ impl Worker {
                 }
             }
         }
+    }
+
+    // The same, and nothing is done where nothing is told.
+    #[inline(always)]
+    fn dealing_under(&self, control: Option<Control>) -> Option<Dealing>
+        ensures pause { IfNone result (control ≡ Some Control.Pause) }
+        ensures is { IfSome result (IsDealingUnder control self.now) }
+        ensures may { IfSome result (λ how. MayDeal how self.now) }
+        ensures short { AreShort self.now.journal }
+    {
+        self.show_short();
+        match control {
+            None => Some(Dealing::Nothing),
+            Some(control) => self.dealing_told(control),
+        }
+    }
+
+    // What the entries of the journal move is little. It does nothing.
+    #[inline(always)]
+    fn show_short(&self)
+        ensures { AreShort self.now.journal }
+    {
+        let _journal = &self.journal;
+    }
+
+    // The turn of a worker that is told to pause, as `turn` makes it.
+    #[inline(always)]
+    pub(super) fn turn_paused(&mut self) -> Result<Turn, AllocError>
+        ensures keeps { KeepsUnder (is_armed self.old) self.old self.new }
+        ensures turned { IfOk result (TurnsUnder (Some Control.Pause) self.old self.new) }
+        ensures err { OnErr result (IsLookedAt self.old self.new) }
+        ensures ends { HasSameEnds self.old self.new }
+        ensures seat { self.new.seat ≡ self.old.seat }
+    {
+        self.show_short();
+        self.pause()
+    }
+
+    // The turn of a worker that is told nothing, as `turn` makes it. No call of it deals with units, so none is compiled into it.
+    #[inline(always)]
+    pub(super) fn turn_untold(&mut self, board: Option<&Board>) -> Result<Turn, AllocError>
+        requires few { steps_made self.old < 2 ^ 40 }
+        requires own { IsBoardOf (option_copied board) self.old.seat }
+        ensures own { IsBoardOf (option_copied board.entry) self.new.seat }
+        ensures keeps { KeepsUnder (is_armed self.old) self.old self.new }
+        ensures turned { IfOk result (TurnsUnder None self.old self.new) }
+        ensures err { OnErr result (IsLookedAt self.old self.new) }
+        ensures ends { HasSameEnds self.old self.new }
+    {
+        self.show_short();
+        self.make_turn(board, Dealing::Nothing)
     }
 
     /// Does what the worker is told, and makes one step, if there is one to make; the journal says what it did. The

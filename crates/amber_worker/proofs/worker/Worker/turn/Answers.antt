@@ -4,13 +4,8 @@ use Rattle.std.specs.Result.{IfOk, OnErr}
 use Rattle.amber_worker.specs.AtPosition.{IsLookedAt}
 use Rattle.amber_worker.specs.Turning.{TurnsUnder}
 use Rattle.amber_worker.specs.WorkerState.{WorkerState}
-use Rattle.amber_worker.proofs.Told.{ends-paused, ends-result, keeps-paused, keeps-result, turned-paused, turned-result, unsent-paused, unsent-result}
-use Rattle.amber_worker.proofs.Turns.{looked-none}
+use Rattle.amber_worker.proofs.Told.{ends-paused, ends-result, keeps-paused, keeps-result, same-looked, turned-paused, turned-result, unsent-paused, unsent-result}
 use Rattle.amber_worker.proofs.worker.Worker.turn.Goals as goal
-
-same-looked : {T E : Type 0} (r : Result T E) (old new : WorkerState) → OnErr r (new ≡ old) → OnErr r (IsLookedAt old new)
-same-looked (Ok x) old new h = tt
-same-looked (Err e) old new h = looked-none old new h
 
 -- it is told to pause
 
