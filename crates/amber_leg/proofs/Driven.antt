@@ -88,6 +88,10 @@ module _ (boards : List (Option (Bor Board))) where
     each = λ place. may-still all made next (board_for boards place) (worker_placed a place) (worker_placed b place) within (may.each place) (driven.each place);
   }
 
+-- and then who was told something did it
+pub driven-heeded : (boards : List (Option (Bor Board))) (n : ℕ) (a b c : Driver) → HasDrivenAll n boards a b → HasDrivenAll 0 boards b c → HasDrivenAll n boards a c
+driven-heeded boards n a b c one two = driven-more boards (n + 0) n a c (omega arith) (λ some. omega (arith, some)) (driven-then boards n 0 a b c one two)
+
 -- one pass more
 pub pass-more : (made passes slice : ℕ) → made < passes → made * slice + slice ≤ passes * slice
 pass-more made passes slice less = let all = mul-le-mul_right {m = made + 1} {n = passes} slice (omega arith) in omega (arith, all)

@@ -5,6 +5,8 @@ pub mod Driven
 pub mod Emitting
 pub mod Further
 pub mod Gathered
+pub mod Led
+pub mod ReadyOut
 pub mod Rounded
 pub mod Sliced
 pub mod Turned

@@ -7,7 +7,7 @@ use Rattle.amber_worker.specs.Driving.{CountsTurns, Driven}
 use Rattle.amber_worker.specs.Turning.{MakesTurns}
 use Rattle.amber_worker.specs.WorkerState.{WorkerState}
 use Rattle.amber_worker.proofs.ManyTurns.{makes-armed, makes-more, makes-same, makes-then}
-use Rattle.amber_leg.specs.Slices.{HasCounted}
+use Rattle.amber_leg.specs.Slices.{HasCounted, Heeds}
 
 -- a drive makes no more turns than it was asked for
 pub drives-most : (turns : List Driven) (most looks looked pauses paused : ℕ) (old new : WorkerState) → looked ≡ looks + length turns
@@ -64,3 +64,23 @@ counted-then m n a b c one two =
 
 pub counted-both : (m n most : ℕ) (a b c : WorkerState) → m + n ≤ most → (1 ≤ most → 1 ≤ m + n) → HasCounted m a b → HasCounted n b c → HasCounted most a c
 counted-both m n most a b c within some one two = counted-more (m + n) most a c within some (counted-then m n a b c one two)
+
+-- nothing was told
+pub heeds-none : (w : WorkerState) → Heeds w w
+heeds-none w = (makes-same w, record { turned = λ fits. omega arith; steps = omega arith })
+
+-- what was told is done behind the turns
+pub counted-heeds : (most : ℕ) (a b c : WorkerState) → a.turned + most < 2 ^ 64 → HasCounted most a b → Heeds b c → HasCounted most a c
+counted-heeds most a b c fits one heeds =
+    let within = one.within in
+    let more = one.more in
+    let steps = one.steps in
+    let is = heeds.1.turned (omega (arith, within, fits)) in
+    let after = heeds.1.steps in
+    record {
+      makes = makes-more (most + 0) most a c (omega arith) (makes-then most 0 a b c (makes-armed most a b one.makes) one.makes heeds.0);
+      some = λ some. let first = one.some some in omega (arith, is, first);
+      more = omega (arith, is, more);
+      within = omega (arith, is, within);
+      steps = omega (arith, is, steps, after);
+    }

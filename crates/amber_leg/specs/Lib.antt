@@ -1,3 +1,4 @@
+pub mod Coordinating
 pub mod Dealing
 pub mod Driving
 pub mod Leg

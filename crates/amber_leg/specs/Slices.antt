@@ -2,6 +2,7 @@
 use Rattle.std.specs.Prelude.{◌+◌, ◌^◌, ◌<◌, ◌≤◌, ℕ, Option, None, Some}
 use Rattle.amber_board.specs.declared.types.Board.{Board}
 use Rattle.amber_worker.specs.Counting.{IsBoardOf}
+use Rattle.amber_worker.specs.Driving.{CountsTurns}
 use Rattle.amber_worker.specs.Turning.{MakesTurns}
 use Rattle.amber_worker.specs.WorkerState.{WorkerState, steps_made}
 
@@ -12,6 +13,10 @@ pub record HasCounted (turns : ℕ) (old new : WorkerState) : Type 0 where
   pub more : old.turned ≤ new.turned
   pub within : new.turned ≤ old.turned + turns
   pub steps : steps_made new + old.turned ≤ steps_made old + new.turned
+
+-- a worker has done what it was told between two drives: no turn was made, nor counted
+abbrev pub Heeds : WorkerState → WorkerState → Type 0
+Heeds old new = MakesTurns 0 old new × CountsTurns 0 old new
 
 -- a worker, where there is one, may make so many turns: it has the seat of this board, if there is one, and has made few steps, and few
 -- turns

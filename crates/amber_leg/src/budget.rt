@@ -9,17 +9,32 @@ ghost use Rattle.amber_leg.specs.Leg.{most_late, most_turned};
 
 use amber_home::Home;
 
-// The turns of a slice.
-const SLICE: u64 = 1024;
+// The turns of a slice, and the slices of a round in which each worker can go on by itself.
+const FREE: Shape = Shape {
+    passes: 64,
+    slice: 1024,
+};
 
-// The slices of a round in which each worker can go on by itself.
-const PASSES: u64 = 64;
+// The same where a pause is in force. Threads that go side by side hear of it within a slice.
+const PAUSED: Shape = Shape {
+    passes: 1,
+    slice: 1024,
+};
 
-// The slices of a round on one thread where a count is in force.
-const COUNT_PASSES: u64 = 4;
+// The same on one thread, which hears of it between slices.
+const PAUSED_ALONE: Shape = Shape {
+    passes: 64,
+    slice: 16,
+};
 
 // How often a thread looks again whose workers all wait for workers of other threads.
 const LOOKS: u32 = 4;
+
+// The turns of a drive, after which it is looked whether the worker still moves, and what it has done is noted. Where a pause
+// is in force they are few, so that it is seen soon.
+const DRIVE: u32 = 64;
+
+const DRIVE_PAUSED: u32 = 16;
 
 /// The turns of a round: so many slices of each worker, one of each after the other, with so many turns in a slice; and how
 /// often in a row a thread looks again where none of its workers moves.
@@ -28,6 +43,10 @@ pub(crate) struct Budget {
     pub passes: u32,
     pub slice: u32,
     pub looks: u32,
+    /// The turns of a drive.
+    pub drive: u32,
+    /// On how many threads.
+    pub threads: u32,
 }
 
 // With one thread there is nobody to wait for.
@@ -37,21 +56,49 @@ fn looks_of(threads: u32) -> u32
     if threads == 1 { 0 } else { LOOKS }
 }
 
-// The slices of a round. Where a pause is in force there is one, since none is seen before the round's end. With one thread
-// there are few where a count is, since operators in front of a count that is reached go on to the end of the round.
-fn passes_of(home: &Home, threads: u32) -> u64
+// The turns of a drive.
+fn drive_of(home: &Home) -> u32
     requires within { is_open home.now.phase ≡ true }
-    ensures some { 1 ≤ result }
-    ensures few { result ≤ 64 }
-    ensures late { (op n : ℕ) → (arms_at (state_of home.now) op).pause ≡ Some n → result ≡ 1 }
 {
     if home.has_pause() {
-        return 1;
-    }
-    if threads == 1 && home.has_count() {
-        COUNT_PASSES
+        DRIVE_PAUSED
     } else {
-        PASSES
+        DRIVE
+    }
+}
+
+// So many slices, with so many turns in each.
+#[derive(Clone, Copy)]
+struct Shape {
+    passes: u64,
+    slice: u64,
+}
+
+// How the turns of a round are sliced.
+fn shape_of(home: &Home, threads: u32) -> Shape
+    requires within { is_open home.now.phase ≡ true }
+    ensures passes { (1 ≤ result.passes) × (result.passes ≤ 64) }
+    ensures slice { (1 ≤ result.slice) × (result.slice ≤ 1024) }
+    ensures late { (op n : ℕ) → (arms_at (state_of home.now) op).pause ≡ Some n
+        → result.passes * result.slice ≤ most_late }
+{
+    if !home.has_pause() {
+        return FREE;
+    }
+    if threads == 1 { PAUSED_ALONE } else { PAUSED }
+}
+
+// The same, or less, where a worker's share of the steps that are left is less.
+fn cut_to(share: u64, shape: Shape) -> Shape
+    requires some { (1 ≤ shape.passes) × (1 ≤ shape.slice) }
+    ensures share { result.passes * result.slice ≤ share }
+    ensures passes { result.passes ≤ shape.passes }
+    ensures slice { result.slice ≤ shape.slice }
+    ensures some { 1 ≤ share → 1 ≤ result.passes * result.slice }
+{
+    Shape {
+        passes: (share / shape.slice).max(1).min(shape.passes),
+        slice: share.min(shape.slice),
     }
 }
 
@@ -66,14 +113,18 @@ pub(crate) fn budget_of(home: &Home, threads: u32) -> Budget
     ensures within { turns_of result ≤ most_turned }
     ensures late { (op n : ℕ) → (arms_at (state_of home.now) op).pause ≡ Some n
         → turns_of result ≤ most_late }
+    ensures threads { result.threads ≡ threads }
 {
     let left = home.most() - home.steps();
     let flow = home.flow();
     let _operators = flow.get();
     let share = left / u64::from(flow.workers());
+    let cut = cut_to(share, shape_of(home, threads));
     Budget {
-        passes: (share / SLICE).max(1).min(passes_of(home, threads)) as u32,
-        slice: share.min(SLICE) as u32,
+        passes: cut.passes as u32,
+        slice: cut.slice as u32,
         looks: looks_of(threads),
+        drive: drive_of(home),
+        threads,
     }
 }

@@ -1,12 +1,14 @@
-//! The workers that one thread drives, and their turns in a round. Over `slices`.
+//! The workers that one thread drives, and their turns in a round. Over `slices` and `PauseMail`.
 
 ghost use Rattle.std.specs.Prelude.{◌≡◌, OnOk, false};
 ghost use Rattle.amber_leg.specs.Driving.{HasDrivenAll, MayDrive, turns_of};
 
 use crate::budget::Budget;
+use crate::pause_mail::PauseMail;
+use crate::signals::Signals;
 use crate::slices::{Pace, drive_place};
 use amber_board::Board;
-use amber_mail::Gate;
+use amber_mail::{Gate, RingMail};
 use amber_worker::Worker;
 use std::alloc::AllocError;
 use std::thread::yield_now;
@@ -18,24 +20,57 @@ const YIELDS: u32 = 64;
 #[derive(Drop)]
 pub(crate) struct Driver {
     pub workers: Vec<Option<Worker>>,
+    // Their ends of the mails, in the same places, where somebody hears them and tells them something.
+    pub ends: Vec<Option<RingMail>>,
     // Whether one of them wanted memory that was not there.
     pub failed: bool,
 }
 
-// A slice of each worker of a driver, one after the other. The answer is that of the worker that is furthest from standing.
-fn drive_slices<G: Gate>(
+// A mail over the end in this place, if there is one, which is taken out.
+fn take_mail<'a>(
+    ends: &mut Vec<Option<RingMail>>,
+    place: usize,
+    signals: &'a Signals,
+) -> Option<PauseMail<'a>> {
+    match ends.get_mut(place)?.take() {
+        Some(ring) => Some(PauseMail::new(ring, signals)),
+        None => None,
+    }
+}
+
+// Puts its end back.
+fn put_mail(ends: &mut Vec<Option<RingMail>>, place: usize, mail: Option<PauseMail<'_>>) {
+    if let Some(mail) = mail {
+        if let Some(end) = ends.get_mut(place) {
+            *end = Some(mail.into_ring());
+        }
+    }
+}
+
+/// A slice of each worker of a driver, one after the other. The answer is that of the worker that is furthest from standing.
+pub(crate) fn drive_slices<G: Gate>(
     driver: &mut Driver,
     boards: &[Option<&Board>],
     gate: &G,
-    most: u32,
+    budget: Budget,
+    signals: &Signals,
 ) -> Result<Pace, AllocError>
-    requires may { MayDrive most boards.now driver.old }
-    ensures driven { OnOk result (HasDrivenAll most boards.now
+    requires may { MayDrive budget.slice boards.now driver.old }
+    ensures driven { OnOk result (HasDrivenAll budget.slice boards.now
         driver.old driver.new) }
 {
     let mut pace = Pace::Stands;
     'places: for place in 0..boards.len() {
-        match drive_place(&mut driver.workers[place], boards[place], gate, most)? {
+        let mut mail = take_mail(&mut driver.ends, place, signals);
+        let stands = drive_place(
+            &mut driver.workers[place],
+            &mut mail,
+            boards[place],
+            gate,
+            budget,
+        )?;
+        put_mail(&mut driver.ends, place, mail);
+        match stands {
             Pace::Moves => pace = Pace::Moves,
             Pace::Waits if pace == Pace::Stands => pace = Pace::Waits,
             Pace::Waits | Pace::Stands => {}
@@ -58,6 +93,7 @@ fn drive_passes<G: Gate>(
     boards: &[Option<&Board>],
     gate: &G,
     budget: Budget,
+    signals: &Signals,
 ) -> Result<(), AllocError>
     requires may { MayDrive (turns_of budget) boards.now driver.old }
     ensures driven { OnOk result (HasDrivenAll (turns_of budget)
@@ -65,7 +101,7 @@ fn drive_passes<G: Gate>(
 {
     let mut looks = 0;
     'passes: for made in 0..budget.passes {
-        match drive_slices(driver, boards, gate, budget.slice)? {
+        match drive_slices(driver, boards, gate, budget, signals)? {
             Pace::Moves => looks = 0,
             Pace::Waits if looks < budget.looks && made + 1 < budget.passes => {
                 looks += 1;
@@ -83,12 +119,13 @@ pub(crate) fn drive<G: Gate>(
     boards: &[Option<&Board>],
     gate: &G,
     budget: Budget,
+    signals: &Signals,
 )
     requires may { MayDrive (turns_of budget) boards.now driver.old }
     ensures driven { driver.new.failed ≡ false → HasDrivenAll (turns_of budget)
         boards.now driver.old driver.new }
 {
-    if drive_passes(driver, boards, gate, budget).is_err() {
+    if drive_passes(driver, boards, gate, budget, signals).is_err() {
         driver.failed = true;
     }
 }

@@ -1,27 +1,48 @@
-//! Workers that are dealt among drivers, driven side by side, one driver a thread, and put back
-//! in their order. Over `drive` of `driver`, over `owners` and over `done`.
+//! Workers that are dealt among drivers, driven side by side, and put back in their order. Over `drive_beside` of `beside`,
+//! over `owners` and over `done`.
 
 ghost use Rattle.std.specs.Prelude.{◌≡◌, ◌<◌, ◌≤◌, ℕ, All, IfOk, OnOk, [], false, is_some, length, replicate, slice_index, slice_index_or, true, vec_capacity, vec_len};
 ghost use Rattle.amber_home.specs.Lent.{MakeTurns};
-ghost use Rattle.amber_leg.specs.Dealing.{AreBoardsOf, AreDealtOut, AreOf, AreReadyFor, HaveCounted, HaveDriven, HaveNotFailed};
-ghost use Rattle.amber_leg.specs.Driving.{MayDrive, turns_of, worker_placed};
+ghost use Rattle.amber_leg.specs.Coordinating.{AreBoardsIn};
+ghost use Rattle.amber_leg.specs.Dealing.{AreBoardsOf, AreDealtOut, AreOf, AreReadyFor, HaveCounted, HaveNotFailed};
+ghost use Rattle.amber_leg.specs.Driving.{turns_of, worker_placed};
 ghost use Rattle.amber_leg.specs.declared.driver.Driver.{Driver as OneDriver};
 
+use crate::beside::drive_beside;
 use crate::budget::Budget;
+use crate::desk::Desk;
 use crate::done::{begin_round, end_round};
-use crate::driver::{Driver, drive};
+use crate::driver::Driver;
 use crate::owners::owners_of;
+use crate::watch::Watch;
 use amber_board::Board;
 use amber_boards::LentBoards;
 use amber_home::Crew;
-use amber_mail::Gate;
+use amber_mail::{Gate, RingMail};
 use amber_worker::Worker;
 use std::alloc::{AllocError, Global};
-use std::thread;
 use std::thread::Threads;
 
-// A driver with so many places, all empty.
-fn empty_driver(alloc: Global, places: usize) -> Result<Driver, AllocError>
+// The ends of the mails of those workers that a driver owns, in their places; none where nobody has one.
+fn ends_of(
+    alloc: Global,
+    ends: &mut Vec<Option<RingMail>>,
+    owners: &[usize],
+    driver: usize,
+) -> Result<Vec<Option<RingMail>>, AllocError> {
+    let mut own = Vec::with_capacity(alloc, ends.len())?;
+    'workers: for (end, owner) in ends.iter_mut().zip(owners.iter()) {
+        own.push(if *owner == driver { end.take() } else { None })?;
+    }
+    Ok(own)
+}
+
+// A driver with so many places, all empty, and these ends.
+fn empty_driver(
+    alloc: Global,
+    ends: Vec<Option<RingMail>>,
+    places: usize,
+) -> Result<Driver, AllocError>
     ensures { IfOk result (λ driver. driver.workers.items ≡ replicate places None) }
 {
     let mut workers = Vec::with_capacity(alloc, places)?;
@@ -30,19 +51,26 @@ fn empty_driver(alloc: Global, places: usize) -> Result<Driver, AllocError>
     }
     Ok(Driver {
         workers,
+        ends,
         failed: false,
     })
 }
 
-// So many drivers, each with so many places, all empty.
-fn empty_drivers(alloc: Global, drivers: usize, places: usize) -> Result<Vec<Driver>, AllocError>
+// So many drivers, each with so many places, all empty, and the ends of those that it owns.
+fn empty_drivers(
+    alloc: Global,
+    ends: &mut Vec<Option<RingMail>>,
+    owners: &[usize],
+    drivers: usize,
+) -> Result<Vec<Driver>, AllocError>
     ensures long { IfOk result (λ made. length made.items ≡ drivers) }
-    ensures empty { IfOk result
-        (λ made. All (λ driver. driver.workers.items ≡ replicate places None) made.items) }
+    ensures empty { IfOk result (λ made. All (λ driver. driver.workers.items
+        ≡ replicate (length owners.now) None) made.items) }
 {
     let mut made = Vec::with_capacity(alloc, drivers)?;
-    'drivers: for _driver in 0..drivers {
-        made.push_reserved(empty_driver(alloc, places)?);
+    'drivers: for driver in 0..drivers {
+        let own = ends_of(alloc, ends, owners, driver)?;
+        made.push_reserved(empty_driver(alloc, own, owners.len())?);
     }
     Ok(made)
 }
@@ -92,28 +120,6 @@ fn has_any_failed(drivers: &[Driver]) -> bool
     drivers.iter().any(|driver| driver.failed)
 }
 
-// All drivers drive their workers side by side, each on a thread of its own where threads can be had.
-fn drive_all<R: Threads + Sync, G: Gate + Sync>(
-    rt: &R,
-    drivers: &mut [Driver],
-    boards: &[Option<&Board>],
-    gate: &G,
-    budget: Budget,
-)
-    requires some { 0 < length drivers.old }
-    requires may { All (MayDrive (turns_of budget) boards.now) drivers.old }
-    ensures driven { HaveDriven (turns_of budget) boards.now
-        drivers.old drivers.new }
-{
-    let threads = drivers.len();
-    thread::for_each_mut(
-        rt,
-        drivers,
-        threads,
-        &|_, driver| { drive(driver, boards, gate, budget) },
-    );
-}
-
 // The board of each worker's operator, if it has one.
 fn boards_of<'a>(
     alloc: Global,
@@ -129,9 +135,44 @@ fn boards_of<'a>(
     Ok(found)
 }
 
+// The boards of all operators, in their places.
+fn boards_in<'a>(
+    alloc: Global,
+    boards: &'a LentBoards,
+    operators: usize,
+) -> Result<Vec<Option<&'a Board>>, AllocError>
+    requires { operators ≡ length boards.now }
+    ensures { IfOk result (λ found. AreBoardsIn boards.now found.items) }
+{
+    let mut found = Vec::with_capacity(alloc, operators)?;
+    'operators: for place in 0..operators {
+        found.push_reserved(boards.board_in(place));
+    }
+    Ok(found)
+}
+
+// The desk of a coordinator for these workers, and their ends of mails where it is to have a thread of its own; neither where
+// nothing is watched for.
+fn open_desk(
+    alloc: Global,
+    watch: Option<Watch>,
+    workers: &[Worker],
+    alone: bool,
+) -> Result<(Option<Desk>, Vec<Option<RingMail>>), AllocError> {
+    let Some(watch) = watch else {
+        return Ok((None, Vec::new(alloc)));
+    };
+    let mut desk = Desk::open(alloc, watch.pauses, workers)?;
+    if alone {
+        return Ok((Some(desk), Vec::new(alloc)));
+    }
+    let ends = desk.open_mails(alloc)?;
+    Ok((Some(desk), ends))
+}
+
 /// Each worker makes the turns of a round, on so many threads, but on no more than there are
 /// workers. They are dealt by what each did in the round before; `done` has that, and then what
-/// each did in this one.
+/// each did in this one. Where something is watched for a coordinator is beside them.
 ///
 /// # Errors
 ///
@@ -140,27 +181,38 @@ pub(crate) fn drive_crew<R: Threads + Sync, G: Gate + Sync>(
     rt: &R,
     alloc: Global,
     crew: &mut Crew,
-    threads: u32,
+    watch: Option<Watch>,
     gate: &G,
     budget: Budget,
     done: &mut Vec<u64>,
 ) -> Result<(), AllocError>
-    requires some { 0 < threads }
+    requires some { 0 < budget.threads }
     requires ready { AreReadyFor (turns_of budget) crew.old }
     ensures made { OnOk result (MakeTurns (turns_of budget) crew.old crew.new) }
     ensures counted { OnOk result (HaveCounted (turns_of budget)
         crew.old.workers.items crew.new.workers.items) }
 {
     let count = crew.workers.len();
-    let wanted = (threads as usize).min(count).max(1);
+    let wanted = (budget.threads as usize).min(count).max(1);
     let chosen = owners_of(alloc, done.as_slice(), count, wanted)?;
     let owners = chosen.as_slice();
     begin_round(done, crew.workers.as_slice())?;
-    let mut made = empty_drivers(alloc, wanted, count)?;
+    let (mut desk, mut ends) = open_desk(alloc, watch, crew.workers.as_slice(), wanted == 1)?;
+    let mut made = empty_drivers(alloc, &mut ends, owners, wanted)?;
     let boards = boards_of(alloc, crew.workers.as_slice(), &crew.boards)?;
+    let all = boards_in(alloc, &crew.boards, crew.chiefs.len())?;
     let drivers = made.as_mut_slice();
     deal(&mut crew.workers, owners, drivers);
-    drive_all(rt, drivers, boards.as_slice(), gate, budget);
+    drive_beside(
+        rt,
+        drivers,
+        boards.as_slice(),
+        gate,
+        budget,
+        &mut desk,
+        crew.chiefs.as_mut_slice(),
+        all.as_slice(),
+    );
     if has_any_failed(drivers) {
         return Err(AllocError);
     }

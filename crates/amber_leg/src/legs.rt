@@ -48,8 +48,9 @@ fn drive_leg<R: Threads + Sync, G: Gate + Sync>(
 /// on one of the threads, side by side with the workers of the other threads, until a stop stands, or until all have finished.
 /// Up to a stop nobody does anything where one stands already. No operator emits more rows than its count asks for, and past
 /// its pause none emits more than 1,024 rows a worker. The pauses and the counts that stand at the end of such a leg are
-/// taken away; who is held stays so until the next one. Each turn passes the gate, which may hold a thread for a while. Where
-/// a thread can't be had its workers make their turns on the caller's.
+/// taken away; who is held stays so until the next one. Each turn passes the gate, which may hold a thread for a while, and so
+/// does the coordinator, as the number behind the last worker's, after whatever it has told a worker. Where a thread can't be
+/// had its workers make their turns on the caller's.
 ///
 /// # Errors
 ///

@@ -9,9 +9,16 @@
 //! stop stands. Where none does it makes one step by itself, so that each round gets on. In the
 //! end the leg stands in the home's log.
 //!
+//! Where a pause, a count or a condition is in force a coordinator is beside the workers. It hears
+//! what they note, has all of them paused as soon as a stop is seen, and has the units of a count
+//! divided among those that need some. On several threads it has one of its own; on one it has a
+//! turn behind each slice of the workers, and the round ends where all would be paused, so that
+//! such a run is the same whenever it is made. What it hears are hints: whatever it hears, the chief of each board leads it still, with no unit in
+//! hand.
+//!
 //! Whatever the threads, the gate and the schedule: the log stays legal, a leg is closed as cut exactly where a stop stands, or
 //! to the end where all have finished, and as too long exactly where the run has made as many steps as it may and that is not
-//! so. A pause is seen at the end of a round, so that an operator goes past it by 1,024 rows a worker at most; a count stands at
+//! so. An operator goes past a pause by 1,024 rows a worker at most, which is a round where one is in force; a count stands at
 //! exactly its target. At home no more steps are made than each worker is driven for turns, but for as many as there are
 //! workers; and the steps of a leg are no more than those made at home and the turns of all workers together.
 //!
@@ -21,17 +28,26 @@
 //! all nine workers have finished.
 #![tactic(auto)]
 
+mod alternating;
+mod beside;
 mod budget;
+mod coordinator;
+mod desk;
+mod dividing;
 mod done;
 mod driver;
 mod drivers;
 pub mod error;
+mod known;
 mod legs;
 mod looking;
 mod owners;
+mod pause_mail;
 mod round;
 mod rounds;
+mod signals;
 mod slices;
+mod watch;
 
 pub use error::LegErr;
 pub use legs::leg;

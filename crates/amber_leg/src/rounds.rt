@@ -38,7 +38,7 @@ fn feed_and_drive<R: Threads + Sync, G: Gate + Sync>(
 {
     home.feed(number)?;
     let budget = budget_of(home, threads);
-    round(rt, alloc, home, threads, gate, budget, done)
+    round(rt, alloc, home, gate, budget, done)
 }
 
 // Where nobody is held and no stop stands, whoever was paused goes on, and the first worker that has not finished makes a step.

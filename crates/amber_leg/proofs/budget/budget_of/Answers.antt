@@ -1,6 +1,6 @@
 -- A flow has workers, and a turn is left to each where as many steps are.
 use Rattle.std.proofs.Common.{◌-◌, ◌/◌, ◌<◌, ◌≤◌, ℕ, sym, subst, ap, ◌∙◌, arith}
-use Rattle.std.proofs.Math.Nat.{le-div_iff_mul-le, one-le-mul}
+use Rattle.std.proofs.Math.Nat.{le-div_iff_mul-le}
 use Rattle.amber_rows.specs.Topology.{crew_of}
 use Rattle.amber_dataflow.proofs.Answered.{some-crew}
 use Rattle.amber_leg.proofs.budget.budget_of.Goals as goal
@@ -18,6 +18,4 @@ returns-clause-some c enough =
     let workers = c.from.ensures ∙ c.workers.ensures ∙ ap crew_of c.flow-flow.ensures in
     let some : 0 < c.from.result = subst (λ n. 0 < n) (sym (c.from.ensures ∙ c.workers.ensures)) (some-crew c.flow-flow.result.now c.get-operators.ensures.flow) in
     let share = one-left (c.most.result - c.steps.result) c.from.result some (omega (arith, workers, enough, c.most.ensures.most, c.steps.ensures.steps)) in
-    let slice : 1 ≤ c.min-2.result = omega (arith, share, c.min-2.ensures) in
-    let passes : 1 ≤ c.min.result = omega (arith, c.passes_of.ensures.some, c.min.ensures, c.max.ensures) in
-    one-le-mul passes slice
+    c.cut_to-cut.ensures.some share

@@ -4,7 +4,7 @@ use Rattle.amber_leg.proofs.drivers.empty_drivers.Given as goal
 
 abbrev pub invariant-drivers : goal.invariant-drivers
 invariant-drivers l = record {
-  long : length l.made.items ≡ l._driver;
-  empty : All (λ driver. driver.workers.items ≡ replicate l.places None) l.made.items;
+  long : length l.made.items ≡ l.driver;
+  empty : All (λ one. one.workers.items ≡ replicate (length l.owners) None) l.made.items;
   room : l.drivers ≤ vec_capacity l.made;
 }

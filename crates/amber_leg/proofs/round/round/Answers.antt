@@ -29,10 +29,10 @@ take_back-requires-clause-crew g c =
     let lend = c.lend-crew.ensures in
     subst (λ h. IsLent h c.drive_crew.new.crew) (sym lend.home)
     (lent-again (turns_of c.args.budget) c.args.home.now c.requires.within c.requires.armed c.lend-crew.result c.drive_crew.new.crew
-    (subst (λ h. IsLent h c.lend-crew.result) lend.home lend.lent) lend.parts lend.steps lend.worked c.requires.few c.in-Ok.ensures.made lend.turned c.in-Ok.ensures.counted)
+    (subst (λ h. IsLent h c.lend-crew.result) lend.home lend.lent) lend.parts lend.steps lend.worked c.requires.few c.in-Ok-drive_crew.ensures.made lend.turned c.in-Ok-drive_crew.ensures.counted)
 
-pub returns-in-Ok-clause-ok : goal.returns-in-Ok-clause-ok
-returns-in-Ok-clause-ok g c =
+pub returns-in-Ok-drive_crew-clause-ok : goal.returns-in-Ok-drive_crew-clause-ok
+returns-in-Ok-drive_crew-clause-ok g c =
     let lend = c.lend-crew.ensures in
     let old = c.args.home.now in
     let after = c.drive_crew.new.crew in
@@ -44,5 +44,5 @@ returns-in-Ok-clause-ok g c =
     is ∙ ap (λ (h : HomeState). record h { phase = phase.Open (runs_to_end h.phase) (counts_in h.phase) }) back in
     subst (MakesRound (turns_of c.args.budget) old) (sym so)
     (makes-round (turns_of c.args.budget) old c.requires.within c.requires.armed c.lend-crew.result after
-    (subst (λ h. IsLent h c.lend-crew.result) lend.home lend.lent) lend.parts lend.steps lend.worked c.requires.few c.in-Ok.ensures.made lend.turned c.in-Ok.ensures.counted (subst IsWorkedLeg so worked)))
+    (subst (λ h. IsLent h c.lend-crew.result) lend.home lend.lent) lend.parts lend.steps lend.worked c.requires.few c.in-Ok-drive_crew.ensures.made lend.turned c.in-Ok-drive_crew.ensures.counted (subst IsWorkedLeg so worked)))
     c.settle.ensures.ok c.settle.ensures.worked

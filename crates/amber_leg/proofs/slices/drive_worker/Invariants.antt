@@ -7,8 +7,8 @@ use Rattle.amber_leg.proofs.slices.drive_worker.Given as goal
 
 abbrev pub invariant-slices : goal.invariant-slices
 invariant-slices g l = record {
-  within : l.left ≤ l.most;
-  made : HasCounted (l.most - l.left) l.initial.worker l.worker;
+  within : l.left ≤ l.budget.slice;
+  made : HasCounted (l.budget.slice - l.left) l.initial.worker l.worker;
   own : IsBoardOf (option_copied l.initial.board) l.worker.seat;
 }
 

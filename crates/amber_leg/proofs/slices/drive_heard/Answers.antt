@@ -1,0 +1,22 @@
+-- Turns of a drive, and what was told.
+use Rattle.std.proofs.Common.{arith}
+use Rattle.amber_leg.proofs.Sliced.{counted-drive, counted-heeds, drives-most}
+use Rattle.amber_leg.proofs.slices.drive_heard.Goals as goal
+
+pub returns-then-branch-clause-made : goal.returns-then-branch-clause-made
+returns-then-branch-clause-made g c =
+    let drove = c.in_ok-drove.ensures in
+    let driven = drove.drives.driven in
+    counted-heeds c.args.turns c.args.worker.now c.drive.new.self c.heed_told.new.worker c.requires.fits
+    (counted-drive _ c.args.turns c.args.worker.now c.drive.new.self c.requires.fits drove.within drove.some drove.counts
+    (drives-most drove.drives.turns c.args.turns _ _ _ _ c.args.worker.now c.drive.new.self driven.looks driven.pauses (omega (arith, drove.within, drove.drives.tells.turns_made)) drove.makes))
+    c.in_ok-heed_told.ensures.heeds
+
+pub returns-clause-made : goal.returns-clause-made
+returns-clause-made g c =
+    let drove = c.in_ok-drove.ensures in
+    let driven = drove.drives.driven in
+    counted-heeds c.args.turns c.args.worker.now c.drive.new.self c.heed_told.new.worker c.requires.fits
+    (counted-drive _ c.args.turns c.args.worker.now c.drive.new.self c.requires.fits drove.within drove.some drove.counts
+    (drives-most drove.drives.turns c.args.turns _ _ _ _ c.args.worker.now c.drive.new.self driven.looks driven.pauses (omega (arith, drove.within, drove.drives.tells.turns_made)) drove.makes))
+    c.in_ok-heed_told.ensures.heeds

@@ -1,0 +1,58 @@
+//! The coordinator beside the workers of a round: it hears what they note, has all paused as soon as a stop is seen, and has
+//! units divided among those that need some. Over `Desk` and `divide_all`.
+
+ghost use Rattle.amber_leg.specs.Coordinating.{AreLedOn};
+
+use crate::desk::Desk;
+use crate::dividing::divide_all;
+use crate::signals::Signals;
+use amber_board::{Board, ChiefSeat};
+use amber_mail::Gate;
+use std::thread::yield_now;
+
+// After so many turns the coordinator ends in any case.
+const TURNS: u32 = 1_048_576;
+
+/// Hears what the workers have noted: all are to be paused where a stop is seen, and else units are divided. Each board's
+/// chief leads it still, with no unit in hand, whatever was heard. The answer is whether anything was.
+pub(crate) fn attend(
+    desk: &mut Desk,
+    chiefs: &mut [Option<ChiefSeat>],
+    boards: &[Option<&Board>],
+) -> bool
+    requires led { AreLedOn boards.now chiefs.old }
+    ensures led { AreLedOn boards.now chiefs.new }
+{
+    let heard = desk.hear();
+    if desk.is_due() {
+        desk.pause_all();
+    }
+    if !desk.is_pausing() {
+        divide_all(desk, chiefs, boards);
+    }
+    heard
+}
+
+/// Turns of the coordinator, until so many drivers have come home, or for 1,048,576 turns.
+pub(crate) fn coordinate<G: Gate>(
+    desk: &mut Desk,
+    chiefs: &mut [Option<ChiefSeat>],
+    boards: &[Option<&Board>],
+    gate: &G,
+    signals: &Signals,
+    drivers: usize,
+)
+    requires led { AreLedOn boards.now chiefs.old }
+    ensures led { AreLedOn boards.now chiefs.new }
+{
+    'turns: for _ in 0..TURNS {
+        if signals.have_come_home(drivers) {
+            return;
+        }
+        let heard = attend(desk, chiefs, boards);
+        let told = desk.tell(gate, signals);
+        if !heard && !told {
+            yield_now();
+        }
+    }
+}
