@@ -1,1 +1,2 @@
 pub mod StillLent
+mod Scans

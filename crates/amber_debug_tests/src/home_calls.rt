@@ -5,7 +5,7 @@ ghost use Rattle.amber_log.specs.Grammar.{ends_over};
 ghost use Rattle.amber_home.specs.HomeState.{counts_in, has_crew, is_done_at_rest, is_open};
 
 use crate::journals::entries_text;
-use crate::query::{files_of, query};
+use crate::query::{files_of, query, query_by};
 use amber_home::{Counts, Home, NoMemory, Phase};
 use amber_leg::leg;
 use amber_log::{Close, Command, Item, Leg, fits};
@@ -37,6 +37,22 @@ pub fn home_of<R: Threads + Sync>(
     let flow = query(alloc)?;
     let files = files_of(alloc, file)?;
     let home = Home::new(rt, alloc, flow, files, batch, u64::from(most), 1)?;
+    Ok(home)
+}
+
+/// The home of the query with so many workers for the scan, with 10 rows in a batch and at most 10,000 steps.
+pub fn home_with<R: Threads + Sync>(
+    rt: &R,
+    alloc: Global,
+    file: &str,
+    scans: u32,
+) -> Result<Home, Fail>
+    requires some { 0 < scans }
+    requires few { scans ≤ 16 }
+{
+    let flow = query_by(alloc, scans)?;
+    let files = files_of(alloc, file)?;
+    let home = Home::new(rt, alloc, flow, files, 10, 10_000, 1)?;
     Ok(home)
 }
 
@@ -233,10 +249,18 @@ pub fn written(alloc: Global, home: &Home) -> Result<String, NoMemory> {
 
 /// What the filter shows.
 pub fn shown(alloc: Global, home: &Home) -> Result<String, NoMemory> {
+    shown_at(alloc, home, 2)
+}
+
+/// What one of the first two operators shows.
+pub fn shown_at(alloc: Global, home: &Home, op: u32) -> Result<String, NoMemory>
+    requires some { 1 ≤ op }
+    requires there { op ≤ 2 }
+{
     if !are_there(home) || home.flow().get().len() < 2 {
         return Ok(String::new(alloc));
     }
-    let shown = home.inspect(alloc, 2)?;
+    let shown = home.inspect(alloc, op)?;
     let lines = inspect_lines(alloc, home.flow(), &shown)?;
     text_of(alloc, &lines)
 }

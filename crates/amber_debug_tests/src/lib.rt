@@ -6,6 +6,8 @@
 #[cfg(test)]
 mod away;
 #[cfg(test)]
+mod coordinated;
+#[cfg(test)]
 mod debug;
 #[cfg(test)]
 mod expected;

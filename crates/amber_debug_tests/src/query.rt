@@ -1,6 +1,6 @@
 //! One query, the numbers of a file that are 2 or more: a scan, a filter and a sink; and its file.
 
-ghost use Rattle.std.specs.Prelude.{◌≡◌, ◌++◌, ◌∷◌, [], codes, length, IfOk, OnOk};
+ghost use Rattle.std.specs.Prelude.{◌≡◌, ◌<◌, ◌≤◌, ◌++◌, ◌∷◌, [], codes, length, IfOk, OnOk};
 ghost use Rattle.amber_meaning.specs.Plain.{scan_count};
 
 use amber_rows::{
@@ -27,13 +27,19 @@ fn columns(alloc: Global) -> Result<Schema, NoMemory>
     Ok(Schema::new(columns))
 }
 
-// Appends an operator with one worker.
-fn add(alloc: Global, operators: &mut Vec<Operator>, id: &str, what: What) -> Result<(), NoMemory>
+// Appends an operator with so many workers.
+fn add(
+    alloc: Global,
+    operators: &mut Vec<Operator>,
+    id: &str,
+    what: What,
+    workers: u32,
+) -> Result<(), NoMemory>
     ensures { OnOk result (operators.new.items ≡ operators.old.items ++ record {
       id = id.now;
       what = what;
       schema = record { name = codes "n"; kind = ColKind.Int } ∷ [];
-      workers = 1;
+      workers = workers;
     } ∷ []) }
 {
     let id = text(alloc, id)?;
@@ -42,18 +48,27 @@ fn add(alloc: Global, operators: &mut Vec<Operator>, id: &str, what: What) -> Re
         id,
         what,
         schema,
-        workers: 1,
+        workers,
     })?;
     Ok(())
 }
 
-/// The workflow.
+/// The workflow, with one worker for each operator.
 pub fn query(alloc: Global) -> Result<Flow, NoMemory>
+    ensures { IfOk result (λ flow. scan_count flow ≡ 1) }
+{
+    query_by(alloc, 1)
+}
+
+/// The same with so many workers for the scan, 1 to 16.
+pub fn query_by(alloc: Global, scans: u32) -> Result<Flow, NoMemory>
+    requires some { 0 < scans }
+    requires few { scans ≤ 16 }
     ensures { IfOk result (λ flow. scan_count flow ≡ 1) }
 {
     let mut operators = Vec::new(alloc);
     let file = text(alloc, "n.csv")?;
-    add(alloc, &mut operators, "all", What::Scan { file })?;
+    add(alloc, &mut operators, "all", What::Scan { file }, scans)?;
     let cond = Cond {
         column: 1,
         op: Cmp::Ge,
@@ -64,8 +79,9 @@ pub fn query(alloc: Global) -> Result<Flow, NoMemory>
         &mut operators,
         "big",
         What::Filter { input: 1, cond },
+        1,
     )?;
-    add(alloc, &mut operators, "out", What::Sink { input: 2 })?;
+    add(alloc, &mut operators, "out", What::Sink { input: 2 }, 1)?;
     Ok(Flow::new(operators))
 }
 
